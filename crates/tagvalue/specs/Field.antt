@@ -1,0 +1,48 @@
+-- Module 1, field reading: "the first `=`, then the first separator after it. Before `=` is the tag text ..; between them the value,
+-- maybe empty. Else no field." The reasons for none are looked for in the Rust's order.
+use Prim.Native.Nat.{ℕ, _+_}
+use mathlib.Core.List.{List, [], _∷_, _++_}
+use lib.ListN.{take, drop}
+use Rattle.tagvalue.specs.Find.{findIn}
+use Rattle.tagvalue.specs.Number.{tagOf}
+use Rattle.tagvalue.specs.declared.Found.{Found}
+use Rattle.tagvalue.specs.declared.Found.the-variants.{At, Nothing}
+use Rattle.tagvalue.specs.declared.Number.{Number}
+use Rattle.tagvalue.specs.declared.Number.the-variants.{Worth, NoNumber}
+use Rattle.tagvalue.specs.declared.Cursor.{Cursor}
+use Rattle.tagvalue.specs.declared.Field.{Field}
+use Rattle.tagvalue.specs.declared.Cause.the-variants.{NoEquals, NoSeparator, BadTag}
+use Rattle.tagvalue.specs.declared.FieldRead.{FieldRead}
+use Rattle.tagvalue.specs.declared.FieldRead.the-variants.{Read, Unreadable}
+
+-- "before `=` is the tag text": the `=` stands q bytes from the field's start, and the value has n bytes
+unfoldable pub withTag : ℕ → ℕ → ℕ → Number → FieldRead
+withTag at q n NoNumber = Unreadable BadTag at
+withTag at q n (Worth tag) =
+    Read (record { first = at; tag = tag; place = at + (q + 1); length = n; next = record { at = at + (q + 1) + n + 1 } })
+
+-- "then the first separator after it"
+unfoldable pub withSeparator : ℕ → List ℕ → ℕ → Found → FieldRead
+withSeparator at s q Nothing = Unreadable NoSeparator at
+withSeparator at s q (At n) = withTag at q n (tagOf (take q s))
+
+-- "the first `=`"
+unfoldable pub withEquals : ℕ → ℕ → List ℕ → Found → FieldRead
+withEquals at separator s Nothing = Unreadable NoEquals at
+withEquals at separator s (At q) = withSeparator at s q (findIn separator 0 (drop (q + 1) s))
+
+-- the field at the start of s, a part of a message that stands at the place `at` of it
+unfoldable pub fieldFrom : ℕ → ℕ → List ℕ → FieldRead
+fieldFrom at separator s = withEquals at separator s (findIn 61 0 s)
+
+-- "from a place": the field of a message at a cursor
+unfoldable pub fieldAt : ℕ → List ℕ → Cursor → FieldRead
+fieldAt separator message c = fieldFrom (c .at) separator (drop (c .at) message)
+
+-- a field as bytes: tag text, `=`, value, separator
+abbrev pub fieldBytes : ℕ → List ℕ → List ℕ → List ℕ
+fieldBytes separator text value = text ++ (61 ∷ (value ++ (separator ∷ [])))
+
+-- the bytes of a field's value
+unfoldable pub valueOf : List ℕ → Field → List ℕ
+valueOf message f = take (f .length) (drop (f .place) message)

@@ -1,0 +1,17 @@
+pub mod Choice
+pub mod Text
+pub mod Find
+pub mod FindLaws
+pub mod Number
+pub mod CheckSum
+pub mod NumberLaws
+pub mod Decimal
+pub mod DecimalLaws
+pub mod Field
+pub mod FieldLaws
+pub mod FieldTextLaws
+pub mod Fields
+pub mod FieldsLaws
+pub mod Standard
+pub mod StandardLaws
+pub mod Examples
