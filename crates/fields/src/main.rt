@@ -105,26 +105,12 @@ fn unreadable(cause: Cause, place: usize) {
     }
 }
 
-// The value of a field that was read in this message.
-fn value_of(message: &[u8], f: Field) -> &[u8] {
-    let from = f.place;
-    let length = f.length;
-    if message.len() < from {
-        return &message[..0];
-    }
-    if message.len() - from < length {
-        return &message[..0];
-    }
-    let to = from + length;
-    &message[from..to]
-}
-
 // One field in a line, with a mark where its tag was read before.
 fn show(message: &[u8], f: Field, tags: &[u32; 1024], count: usize) {
     place_column(f.first);
     io::print_decimal(1, wide(f.tag));
     io::write_all(1, b"=");
-    io::write_all(1, value_of(message, f));
+    io::write_all(1, tagvalue::value_of(message, f));
     if let Found::At(_) = first_read(tags, count, f.tag) {
         io::write_all(1, b"   <- tag ");
         io::print_decimal(1, wide(f.tag));
@@ -146,7 +132,7 @@ fn verify(message: &[u8], f: Field, body: usize, says: Number) {
     let sum = tagvalue::sum_of(&message[..first]);
     agreement(
         b"CheckSum",
-        tagvalue::checksum_of(value_of(message, f)),
+        tagvalue::checksum_of(tagvalue::value_of(message, f)),
         sum as usize,
     );
 }
@@ -173,7 +159,7 @@ fn fields(message: &[u8]) {
         if f.tag == 9 {
             let next = f.next;
             body = next.at;
-            says = tagvalue::number_of(value_of(message, f));
+            says = tagvalue::number_of(tagvalue::value_of(message, f));
         }
         if f.tag == 10 {
             verify(message, f, body, says);

@@ -4,10 +4,11 @@ use mathlib.Core.List.{List, [], _∷_, _++_}
 use Prim.Native.Nat.{ℕ, _+_, _-_, _≤_, _<_}
 use native.Mathlib.Omega.{arith}
 use lib.ListN.{length, take, drop, length-drop, drop-of-length-le}
+use lib.Seq.{take-all, take-nil}
 use Rattle.tagvalue.specs.Find.{findIn}
 use Rattle.tagvalue.specs.FindLaws.{find-in}
 use Rattle.tagvalue.specs.Number.{tagOf}
-use Rattle.tagvalue.specs.Field.{fieldFrom, fieldAt, withEquals, withSeparator, withTag}
+use Rattle.tagvalue.specs.Field.{fieldFrom, fieldAt, valueOf, withEquals, withSeparator, withTag}
 use Rattle.tagvalue.specs.declared.Found.{Found}
 use Rattle.tagvalue.specs.declared.Found.the-variants.{At, Nothing}
 use Rattle.tagvalue.specs.declared.Number.{Number}
@@ -39,3 +40,13 @@ module _ (at separator : ℕ) (s : List ℕ) where
 pub past-end : (separator : ℕ) (message : List ℕ) (c : Cursor) → length message ≤ c .at → fieldAt separator message c ≡ Unreadable NoEquals (c .at)
 unfolding fieldAt fieldFrom withEquals findIn
 past-end separator message c h = rw (drop-of-length-le message h)
+
+-- the value of a field, wherever the message ends
+module _ (message : List ℕ) (f : Field) where
+  pub value-past : length message < f .place → valueOf message f ≡ []
+  unfolding valueOf
+  value-past h = rw (drop-of-length-le message {i = f .place} (omega arith)) (take-nil (f .length))
+
+  pub value-cut : length message - f .place < f .length → valueOf message f ≡ drop (f .place) message
+  unfolding valueOf
+  value-cut h = take-all (f .length) (drop (f .place) message) (omega (arith, length-drop (f .place) message))

@@ -8,7 +8,7 @@ ghost use Rattle.tagvalue.specs.Find.{findIn};
 ghost use Rattle.tagvalue.specs.Number.{numberOf, tagOf};
 ghost use Rattle.tagvalue.specs.CheckSum.{sumOf, checksumOf, checksumDigits};
 ghost use Rattle.tagvalue.specs.Decimal.{decimal, writtenAt, answerAt};
-ghost use Rattle.tagvalue.specs.Field.{fieldFrom, fieldAt};
+ghost use Rattle.tagvalue.specs.Field.{fieldFrom, fieldAt, valueOf};
 
 pub enum Found {
     At(usize),
@@ -230,4 +230,21 @@ impl Cursor {
         }
         field_from(at, &message[at..], separator)
     }
+}
+
+// The bytes of a field's value. A field that was not read in this message has what lies within it.
+pub fn value_of(message: &[u8], field: Field) -> &[u8]
+    ensures { λ r. ⌜ now r ≡ valueOf (now (message .entry)) field ⌝ }
+{
+    let place = field.place;
+    let length = field.length;
+    if message.len() < place {
+        return &message[..0];
+    }
+    let left = message.len() - place;
+    if left < length {
+        return &message[place..];
+    }
+    let end = place + length;
+    &message[place..end]
 }

@@ -1,0 +1,3 @@
+pub mod Integrity
+pub mod IntegrityLaws
+pub mod Examples

@@ -1,0 +1,130 @@
+// integrity: whether a message's frame is sound, before anything else is read (11 to 14).
+// It looks at four fields and knows no dictionary; what it answers is all that later reading needs of them.
+use tagvalue::Cursor;
+use tagvalue::Field;
+use tagvalue::FieldRead;
+use tagvalue::Number;
+ghost use mathlib.Core.Path.{_≡_};
+ghost use Rattle.integrity.specs.Integrity.{integrityOf, lengthAgrees, sumAgrees};
+
+// How to read: the separator of fields, and whether unknown user-defined tags are refused.
+pub struct Config {
+    pub separator: u8,
+    pub validate: bool,
+}
+
+// Why a message is garbled.
+pub enum GarbledReason {
+    Malformed,
+    InvalidBeginString,
+    InvalidBodyLength,
+    InvalidMsgType,
+    InvalidChecksum,
+}
+
+// The fields that were verified; reading goes on behind MsgType.
+pub struct Verified {
+    pub begin_string: Field,
+    pub body_length: Field,
+    pub checksum: Field,
+    pub msg_type: Field,
+}
+
+pub enum Integrity {
+    Sound(Verified),
+    Garbled(GarbledReason),
+}
+
+fn wide(n: u32) -> usize
+    ensures { λ r. ⌜ r ≡ n ⌝ }
+{
+    n as usize
+}
+
+fn widened(byte: u8) -> u32
+    ensures { λ r. ⌜ r ≡ byte ⌝ }
+{
+    byte as u32
+}
+
+// "The message length is the place after field 2, plus that number, plus 7."
+fn length_agrees(message: &[u8], body_length: Field) -> bool
+    ensures { λ r. ⌜ r ≡ lengthAgrees (now (message .entry)) «body_length» ⌝ }
+{
+    let next = body_length.next;
+    let after = next.at;
+    let Number::Worth(n) = tagvalue::number_of(tagvalue::value_of(message, body_length)) else {
+        return false;
+    };
+    if message.len() < after {
+        return false;
+    }
+    let left = message.len() - after;
+    if left < 7 {
+        return false;
+    }
+    left - 7 == wide(n)
+}
+
+// "Where its value is three digits it equals the sum mod 256 of all bytes before it."
+fn sum_agrees(message: &[u8], checksum: Field) -> bool
+    ensures { λ r. ⌜ r ≡ sumAgrees (now (message .entry)) checksum ⌝ }
+{
+    let first = checksum.first;
+    let Number::Worth(n) = tagvalue::checksum_of(tagvalue::value_of(message, checksum)) else {
+        return true;
+    };
+    if message.len() < first {
+        return n == widened(tagvalue::sum_of(message));
+    }
+    n == widened(tagvalue::sum_of(&message[..first]))
+}
+
+// The checks in their order: 11, 12, 12, 14, 14, 13.
+pub fn verify(message: &[u8], config: Config) -> Integrity
+    ensures { λ r. ⌜ r ≡ integrityOf (config .separator) (now (message .entry)) ⌝ }
+{
+    let separator = config.separator;
+    let start = Cursor { at: 0 };
+    let FieldRead::Read(begin_string) = start.next_field(message, separator) else {
+        return Integrity::Garbled(GarbledReason::InvalidBeginString);
+    };
+    if begin_string.tag != 8 {
+        return Integrity::Garbled(GarbledReason::InvalidBeginString);
+    }
+    let second = begin_string.next;
+    let FieldRead::Read(body_length) = second.next_field(message, separator) else {
+        return Integrity::Garbled(GarbledReason::InvalidBodyLength);
+    };
+    if body_length.tag != 9 {
+        return Integrity::Garbled(GarbledReason::InvalidBodyLength);
+    }
+    if !length_agrees(message, body_length) {
+        return Integrity::Garbled(GarbledReason::InvalidBodyLength);
+    }
+    let last = Cursor {
+        at: message.len() - 7,
+    };
+    let FieldRead::Read(checksum) = last.next_field(message, separator) else {
+        return Integrity::Garbled(GarbledReason::InvalidChecksum);
+    };
+    if checksum.tag != 10 {
+        return Integrity::Garbled(GarbledReason::InvalidChecksum);
+    }
+    if !sum_agrees(message, checksum) {
+        return Integrity::Garbled(GarbledReason::InvalidChecksum);
+    }
+    let third = body_length.next;
+    let FieldRead::Read(msg_type) = third.next_field(message, separator) else {
+        return Integrity::Garbled(GarbledReason::InvalidMsgType);
+    };
+    if msg_type.tag != 35 {
+        return Integrity::Garbled(GarbledReason::InvalidMsgType);
+    }
+    Integrity::Sound(Verified {
+        begin_string,
+        body_length,
+        checksum,
+        msg_type,
+    })
+}
