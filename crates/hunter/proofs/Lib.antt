@@ -1,0 +1,5 @@
+pub mod Loops
+pub mod Places
+pub mod BodyStages
+pub mod HeadStages
+pub mod Moves
