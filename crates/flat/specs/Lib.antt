@@ -1,0 +1,5 @@
+pub mod Check
+pub mod CheckLaws
+pub mod Prepared
+pub mod Stands
+pub mod Examples

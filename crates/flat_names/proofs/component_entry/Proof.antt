@@ -1,0 +1,11 @@
+-- `component_entry` meets its contract.
+use mathlib.Core.Path.{refl}
+use Rattle.flat_names.specs.Index.{componentEntry}
+use Rattle.flat_names.proofs.component_entry.Statement.{statement}
+use Rattle.flat_names.proofs.component_entry.Tie as tie
+
+returns : tie.Need-returns
+returns c = unfold componentEntry in refl
+
+pub component-entry-spec : {M : Type 1} → statement M
+component-entry-spec = tie.close (tie.spec returns)

@@ -1,0 +1,4 @@
+pub mod Record
+pub mod Records
+pub mod RecordLaws
+pub mod RecordsLaws

@@ -1,0 +1,11 @@
+-- `fresh` meets its contract.
+use mathlib.Core.Path.{refl}
+use Rattle.flat_steps.specs.Step.{opens}
+use Rattle.flat_steps.proofs.fresh.Statement.{statement}
+use Rattle.flat_steps.proofs.fresh.Tie as tie
+
+returns : tie.Need-returns
+returns c = unfold opens in refl
+
+pub fresh-spec : {M : Type 1} → statement M
+fresh-spec = tie.close (tie.spec returns)

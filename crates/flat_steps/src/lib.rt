@@ -1,0 +1,353 @@
+// flat_steps: what one record of a dictionary does to what the records before it left, 31 to 37 in number order.
+// It looks names up in the lent index and changes nothing there: what a record makes known is handed back as a note.
+use flat_names::Component;
+use flat_names::Looked;
+use flat_names::Note;
+use flat_names::Placed;
+use flat_records::Record;
+ghost use mathlib.Core.Path.{_≡_};
+ghost use lib.ListN.{length};
+ghost use Rattle.flat_names.specs.Index.{looksAt};
+ghost use Rattle.flat_steps.specs.Step.{stepOf, atEnd, depthOf, opened, opens, deeper, grown, heldWith, standsFor, onTag, onComponent, onMessage, onField, onItem, onGroup, onClose, closesOwner, closesGroup};
+
+// The answer to a dictionary. A place is that of a record's first byte, or the dictionary's length.
+pub enum Checked {
+    Passes,
+    TooLong,
+    BadRecord(u16),
+    NoComponent(u16),
+    UnknownTag(u32),
+    EmptyGroup(u32),
+    TooDeep(u16),
+    Twice(u16),
+    TooManyItems(u16),
+}
+
+// An open group, and how many items had been counted when it opened, itself included.
+pub struct Group {
+    pub tag: u32,
+    pub since: u16,
+}
+
+// The open groups, the innermost first.
+pub enum Groups {
+    NoGroup,
+    OneGroup(Group),
+    TwoGroups(Group, Group),
+    ThreeGroups(Group, Group, Group),
+    FourGroups(Group, Group, Group, Group),
+}
+
+// What a component holds that is not empty: nothing, one component only, or something else.
+pub enum Held {
+    Empty,
+    Only(u16),
+    Several,
+}
+
+pub enum Owner {
+    OfComponent(u16),
+    OfMessage,
+}
+
+// What is open, counted so far.
+pub struct Open {
+    pub owner: Owner,
+    pub place: u16,
+    pub items: u16,
+    pub depth: u16,
+    pub held: Held,
+    pub groups: Groups,
+}
+
+pub enum State {
+    TopLevel,
+    Inside(Open),
+}
+
+pub enum Step {
+    Refuses(Checked),
+    Goes(State, Note),
+}
+
+fn depth_of(groups: Groups) -> u64
+    ensures { λ r. ⌜ r ≡ depthOf groups ⌝ }
+{
+    match groups {
+        Groups::NoGroup => 0,
+        Groups::OneGroup(_) => 1,
+        Groups::TwoGroups(_, _) => 2,
+        Groups::ThreeGroups(_, _, _) => 3,
+        Groups::FourGroups(_, _, _, _) => 4,
+    }
+}
+
+fn open_group(group: Group, groups: Groups) -> Groups
+    ensures { λ r. ⌜ r ≡ opened group groups ⌝ }
+{
+    match groups {
+        Groups::NoGroup => Groups::OneGroup(group),
+        Groups::OneGroup(a) => Groups::TwoGroups(group, a),
+        Groups::TwoGroups(a, b) => Groups::ThreeGroups(group, a, b),
+        Groups::ThreeGroups(a, b, c) => Groups::FourGroups(group, a, b, c),
+        Groups::FourGroups(a, b, c, d) => Groups::FourGroups(a, b, c, d),
+    }
+}
+
+fn deeper_of(a: u16, b: u16) -> u16
+    ensures { λ r. ⌜ r ≡ deeper a b ⌝ }
+{
+    if a < b {
+        return b;
+    }
+    a
+}
+
+fn grow(thing: Open, items: u16, depth: u16, held: Held, groups: Groups) -> Open
+    ensures { λ r. ⌜ r ≡ grown thing items depth held groups ⌝ }
+{
+    let owner = thing.owner;
+    Open {
+        owner,
+        place: thing.place,
+        items,
+        depth,
+        held,
+        groups,
+    }
+}
+
+fn hold(held: Held, component: Component) -> Held
+    ensures { λ r. ⌜ r ≡ heldWith held component ⌝ }
+{
+    if component.items == 0 {
+        return held;
+    }
+    match held {
+        Held::Empty => Held::Only(component.stands),
+        Held::Only(_) => Held::Several,
+        Held::Several => Held::Several,
+    }
+}
+
+fn stands_for(number: u16, held: Held) -> u16
+    ensures { λ r. ⌜ r ≡ standsFor number held ⌝ }
+{
+    match held {
+        Held::Only(other) => other,
+        Held::Empty => number,
+        Held::Several => number,
+    }
+}
+
+fn on_tag(index: &[u16], state: State, place: u16, tag: u32) -> Step
+    requires { ⌜ length (now index) ≡ 96150 ⌝ }
+    ensures { λ r. ⌜ r ≡ onTag (looksAt (now (index .entry))) state place tag ⌝ }
+{
+    let State::TopLevel = state else {
+        return Step::Refuses(Checked::BadRecord(place));
+    };
+    if flat_names::tag_known(index, tag) {
+        return Step::Goes(State::TopLevel, Note::Unchanged);
+    }
+    Step::Goes(State::TopLevel, Note::KnowsTag(place, tag))
+}
+
+fn fresh(owner: Owner, place: u16) -> Open
+    ensures { λ r. ⌜ r ≡ opens owner place ⌝ }
+{
+    Open {
+        owner,
+        place,
+        items: 0,
+        depth: 0,
+        held: Held::Empty,
+        groups: Groups::NoGroup,
+    }
+}
+
+fn on_component(index: &[u16], state: State, place: u16, number: u16) -> Step
+    requires { ⌜ length (now index) ≡ 96150 ⌝ }
+    ensures { λ r. ⌜ r ≡ onComponent (looksAt (now (index .entry))) state place number ⌝ }
+{
+    let State::TopLevel = state else {
+        return Step::Refuses(Checked::BadRecord(place));
+    };
+    let Looked::Missing = flat_names::component_of(index, number) else {
+        return Step::Refuses(Checked::Twice(place));
+    };
+    Step::Goes(
+        State::Inside(fresh(Owner::OfComponent(number), place)),
+        Note::Unchanged,
+    )
+}
+
+fn on_message(index: &[u16], state: State, place: u16, msgtype: u64) -> Step
+    requires { ⌜ length (now index) ≡ 96150 ⌝ }
+    ensures { λ r. ⌜ r ≡ onMessage (looksAt (now (index .entry))) state place msgtype ⌝ }
+{
+    let State::TopLevel = state else {
+        return Step::Refuses(Checked::BadRecord(place));
+    };
+    let Placed::Nowhere = flat_names::message_of(index, msgtype) else {
+        return Step::Refuses(Checked::Twice(place));
+    };
+    Step::Goes(
+        State::Inside(fresh(Owner::OfMessage, place)),
+        Note::NamesMessage(place, msgtype),
+    )
+}
+
+fn on_field(index: &[u16], state: State, place: u16, tag: u32) -> Step
+    requires { ⌜ length (now index) ≡ 96150 ⌝ }
+    ensures { λ r. ⌜ r ≡ onField (looksAt (now (index .entry))) state place tag ⌝ }
+{
+    let State::Inside(thing) = state else {
+        return Step::Refuses(Checked::BadRecord(place));
+    };
+    if !flat_names::tag_known(index, tag) {
+        return Step::Refuses(Checked::UnknownTag(tag));
+    }
+    if 1024 <= thing.items {
+        return Step::Refuses(Checked::TooManyItems(place));
+    }
+    let groups = thing.groups;
+    Step::Goes(
+        State::Inside(grow(thing, thing.items + 1, thing.depth, Held::Several, groups)),
+        Note::Unchanged,
+    )
+}
+
+fn on_item(index: &[u16], state: State, place: u16, number: u16) -> Step
+    requires { ⌜ length (now index) ≡ 96150 ⌝ }
+    ensures { λ r. ⌜ r ≡ onItem (looksAt (now (index .entry))) state place number ⌝ }
+{
+    let State::Inside(thing) = state else {
+        return Step::Refuses(Checked::BadRecord(place));
+    };
+    let Looked::Closed(component) = flat_names::component_of(index, number) else {
+        return Step::Refuses(Checked::NoComponent(number));
+    };
+    let groups = thing.groups;
+    let held = thing.held;
+    let depth = depth_of(groups) + chains::wide(component.depth);
+    if 4 < depth {
+        return Step::Refuses(Checked::TooDeep(place));
+    }
+    let items = chains::wide(thing.items) + chains::wide(component.items);
+    if 1024 < items {
+        return Step::Refuses(Checked::TooManyItems(place));
+    }
+    let deepest = deeper_of(thing.depth, depth as u16);
+    let holds = hold(held, component);
+    Step::Goes(
+        State::Inside(grow(thing, items as u16, deepest, holds, groups)),
+        Note::Unchanged,
+    )
+}
+
+fn on_group(index: &[u16], state: State, place: u16, tag: u32) -> Step
+    requires { ⌜ length (now index) ≡ 96150 ⌝ }
+    ensures { λ r. ⌜ r ≡ onGroup (looksAt (now (index .entry))) state place tag ⌝ }
+{
+    let State::Inside(thing) = state else {
+        return Step::Refuses(Checked::BadRecord(place));
+    };
+    if !flat_names::tag_known(index, tag) {
+        return Step::Refuses(Checked::UnknownTag(tag));
+    }
+    let groups = thing.groups;
+    let depth = depth_of(groups) + 1;
+    if 4 < depth {
+        return Step::Refuses(Checked::TooDeep(place));
+    }
+    if 1024 <= thing.items {
+        return Step::Refuses(Checked::TooManyItems(place));
+    }
+    let items = thing.items + 1;
+    let deepest = deeper_of(thing.depth, depth as u16);
+    let inner = open_group(Group { tag, since: items }, groups);
+    Step::Goes(
+        State::Inside(grow(thing, items, deepest, Held::Several, inner)),
+        Note::Unchanged,
+    )
+}
+
+fn close_owner(thing: Open) -> Step
+    ensures { λ r. ⌜ r ≡ closesOwner thing (thing .owner) ⌝ }
+{
+    let owner = thing.owner;
+    let Owner::OfComponent(number) = owner else {
+        return Step::Goes(State::TopLevel, Note::Unchanged);
+    };
+    let held = thing.held;
+    let component = Component {
+        number,
+        place: thing.place,
+        items: thing.items,
+        depth: thing.depth,
+        stands: stands_for(number, held),
+    };
+    Step::Goes(State::TopLevel, Note::ClosesComponent(component))
+}
+
+fn close_group(thing: Open, group: Group, groups: Groups) -> Step
+    ensures { λ r. ⌜ r ≡ closesGroup thing group groups ⌝ }
+{
+    if thing.items == group.since {
+        return Step::Refuses(Checked::EmptyGroup(group.tag));
+    }
+    let held = thing.held;
+    Step::Goes(
+        State::Inside(grow(thing, thing.items, thing.depth, held, groups)),
+        Note::Unchanged,
+    )
+}
+
+fn on_close(state: State, place: u16) -> Step
+    ensures { λ r. ⌜ r ≡ onClose state place ⌝ }
+{
+    let State::Inside(thing) = state else {
+        return Step::Refuses(Checked::BadRecord(place));
+    };
+    let groups = thing.groups;
+    match groups {
+        Groups::NoGroup => close_owner(thing),
+        Groups::OneGroup(a) => close_group(thing, a, Groups::NoGroup),
+        Groups::TwoGroups(a, b) => close_group(thing, a, Groups::OneGroup(b)),
+        Groups::ThreeGroups(a, b, c) => close_group(thing, a, Groups::TwoGroups(b, c)),
+        Groups::FourGroups(a, b, c, d) => close_group(thing, a, Groups::ThreeGroups(b, c, d)),
+    }
+}
+
+// What a record does in the state that the records before it left.
+pub fn step_of(index: &[u16], state: State, place: u16, read: Record) -> Step
+    requires { ⌜ length (now index) ≡ 96150 ⌝ }
+    ensures { λ r. ⌜ r ≡ stepOf (looksAt (now (index .entry))) state place read ⌝ }
+{
+    match read {
+        Record::KnownTag(tag) => on_tag(index, state, place, tag),
+        Record::OpensComponent(number) => on_component(index, state, place, number),
+        Record::OpensMessage(msgtype) => on_message(index, state, place, msgtype),
+        Record::FieldItem(tag, _) => on_field(index, state, place, tag),
+        Record::ComponentItem(number, _) => on_item(index, state, place, number),
+        Record::OpensGroup(tag, _) => on_group(index, state, place, tag),
+        Record::Closes => on_close(state, place),
+    }
+}
+
+pub fn at_end(index: &[u16], state: State, size: u16) -> Checked
+    requires { ⌜ length (now index) ≡ 96150 ⌝ }
+    ensures { λ r. ⌜ r ≡ atEnd (looksAt (now (index .entry))) state size ⌝ }
+{
+    let State::TopLevel = state else {
+        return Checked::BadRecord(size);
+    };
+    let Looked::Closed(_) = flat_names::component_of(index, 0) else {
+        return Checked::NoComponent(0);
+    };
+    let Looked::Closed(_) = flat_names::component_of(index, 1) else {
+        return Checked::NoComponent(1);
+    };
+    Checked::Passes
+}
