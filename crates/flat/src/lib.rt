@@ -60,7 +60,12 @@ fn walk(dictionary: &[u8], index: &mut [u16]) -> Checked
             RecordRead::Bad => {
                 return Checked::BadRecord(at as u16);
             }
-            RecordRead::Whole(read, next) => match flat_steps::step_of(index, state, at as u16, read) {
+            RecordRead::Whole(read, next) => match flat_steps::step_of(
+                index,
+                state,
+                at as u16,
+                read,
+            ) {
                 Step::Refuses(checked) => {
                     return checked;
                 }
