@@ -1,5 +1,5 @@
 -- The check over the lent index answers as the check does, and leaves in the index what the dictionary names.
-use mathlib.Core.Path.{_≡_, refl}
+use mathlib.Core.Path.{_≡_, refl, sym, ap, subst}
 use mathlib.Core.Bool.{Bool, true, false}
 use mathlib.Core.List.{List, _++_}
 use Prim.Native.Nat.{ℕ, _+_, _*_, _≤_, _<_}
@@ -19,7 +19,7 @@ use Rattle.flat.specs.Check.{preparedOf}
 use Rattle.flat_names.specs.Index.{looksAt, noted}
 use Rattle.flat_names.specs.Agreement.{Agrees, knows-tag, closes-component, names-message, clear-agrees}
 use Rattle.flat_steps.specs.declared.Checked.{Checked}
-use Rattle.flat_steps.specs.declared.Checked.the-variants.{TooLong}
+use Rattle.flat_steps.specs.declared.Checked.the-variants.{Passes, TooLong}
 use Rattle.flat_names.specs.declared.Looked.{Looked}
 use Rattle.flat_names.specs.declared.Looked.the-variants.{Closed, Missing}
 use Rattle.flat_names.specs.declared.Placed.{Placed}
@@ -196,6 +196,14 @@ module _ (d index : List ℕ) where
   unfolding preparedOf tooLong
   prepared-short h = rw (le-ltb 60000 (length d) h)
 
+  prepared-over : tooLong d ≡ true → preparedOf d index ≡ outcome TooLong index
+  unfolding preparedOf
+  prepared-over e = rw e
+
+  stored : (out : List ℕ) → outcome Passes out ≡ preparedOf d index → out ≡ storeOf (preparedOf d index)
+  unfolding storeOf
+  stored out h = ap storeOf h
+
 pub check-long : (d : List ℕ) → 60000 < length d → checkOf d ≡ TooLong
 unfolding checkOf readOf tooLong answerOf
 check-long d h = rw (lt-ltb 60000 (length d) h)
@@ -218,3 +226,13 @@ module _ (d index : List ℕ) (size : length index ≡ 96150) where
   pub prepared-names : tooLong d ≡ false → (b : ℕ) × Agrees (storeOf (preparedOf d index)) (storeOf (readOf d)) b
   unfolding preparedOf readOf
   prepared-names short = rw short (same-store (walked looksAt noted (recordsFrom d 0) TopLevel (replicate 6144 0 ++ drop 6144 index)) (walked looksIn named (recordsFrom d 0) TopLevel noNames) (same-walk short))
+
+  -- after a check that passes, the lent index answers every look-up as the dictionary's names do
+  pub passes-agrees : (out : List ℕ) → outcome Passes out ≡ preparedOf d index → (b : ℕ) × Agrees out (storeOf (readOf d)) b
+  passes-agrees out h = go (tooLong d) refl
+    where
+      go : (t : Bool) → tooLong d ≡ t → (b : ℕ) × Agrees out (storeOf (readOf d)) b
+      go true e =
+          let long : preparedOf d index ≡ outcome TooLong index = prepared-over d index e in
+          let z : _≡_ {A = ℕ} 0 1 = cc in absurd (omega arith)
+      go false e = subst (λ (x : List ℕ). (b : ℕ) × Agrees x (storeOf (readOf d)) b) (sym (stored d index out h)) (prepared-names e)
