@@ -20,4 +20,5 @@ pub mod Theorem
 pub mod PlainTags
 pub mod PlainTagsLaws
 pub mod TagsMeant
+pub mod KnownTags
 pub mod Examples

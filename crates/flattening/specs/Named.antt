@@ -98,7 +98,7 @@ kept-step bytes final (whole place Closes rest) at names again e p = close-stops
 kept-step bytes final (whole place (KnownTag tag) rest) at names again e p =
     let n = next-of bytes at place (KnownTag tag) rest e in
     let g = tag-goes final place rest names tag p in
-    kept-then (kept-same (g .1) (g .2)) (again rest (n .next) (g .0) (omega arith) (n .there) (g .3))
+    kept-then (kept-same (g .components) (g .messages)) (again rest (n .next) (g .later) (omega arith) (n .there) (g .passes))
 kept-step bytes final (whole place (OpensComponent number) rest) at names again e p =
     let n = next-of bytes at place (OpensComponent number) rest e in
     let g = component-opens final place rest names number p in
@@ -137,7 +137,7 @@ standard-step bytes final (whole place Closes rest) at names again e p = close-s
 standard-step bytes final (whole place (KnownTag tag) rest) at names again e p =
     let n = next-of bytes at place (KnownTag tag) rest e in
     let g = tag-goes final place rest names tag p in
-    again rest (n .next) (g .0) (omega arith) (n .there) (g .3)
+    again rest (n .next) (g .later) (omega arith) (n .there) (g .passes)
 standard-step bytes final (whole place (OpensComponent number) rest) at names again e p =
     let n = next-of bytes at place (OpensComponent number) rest e in
     let g = component-opens final place rest names number p in

@@ -52,7 +52,7 @@ module _ (d : List ℕ) (passes : checkOf d ≡ Passes) where
     abbrev pub made : List ℕ
     made = storeOf (preparedOf d index)
 
-    agreeing : (b : ℕ) × Agrees made (storeOf (readOf d)) b
+    pub agreeing : (b : ℕ) × Agrees made (storeOf (readOf d)) b
     agreeing = prepared-names d index size short
 
     pub dictionary-meant : Meant d (componentAt made) (storeOf (readOf d)) noNames [] (declarationsOf (recordsFrom d 0))

@@ -6,7 +6,7 @@ use mathlib.Core.List.{List, [], _∷_}
 use Prim.Native.Nat.{ℕ, zero, suc, _+_, _-_, _*_, _≤_, _<_}
 use native.Mathlib.Omega.{arith}
 use lib.Dec.{eqb, ltb}
-use borrow.Author.Tests.{ltb-false}
+use borrow.Author.Tests.{ltb-false, eqb-true}
 use Rattle.tagvalue.specs.Choice.{pick}
 use Rattle.flat_records.specs.Records.{Records, ends, bad, whole}
 use Rattle.flat_records.specs.declared.Record.{Record}
@@ -49,6 +49,14 @@ refused checked n e = let same : checked ≡ Passes = cc in absurd (n same)
 unfoldable pub noteOf : Open → Owner → Note
 noteOf o (OfComponent number) = ClosesComponent (record { number = number; place = o .place; items = o .items; depth = o .depth; stands = standsFor number (o .held) })
 noteOf o OfMessage = Unchanged
+
+-- what a known tag does: the names have it, once, and nothing else is new
+pub record TagGoes (final : Names) (rest : Records) (names : Names) (tag : ℕ) : Type 0 where
+  pub later : Names
+  pub components : later .components ≡ names .components
+  pub messages : later .messages ≡ names .messages
+  pub tags : (t : ℕ) → isKnown (later .tags) t ≡ pick (eqb t tag) true (isKnown (names .tags) t)
+  pub passes : Passing final rest TopLevel later
 
 module _ (final : Names) (place : ℕ) (rest : Records) (names : Names) where
   abbrev goesOn : State → Note → Outcome Names
@@ -141,13 +149,17 @@ module _ (final : Names) (place : ℕ) (rest : Records) (names : Names) where
         go (FourGroups a b c d) g q = inr (ThreeGroups b c d, (ap depthOf g ∙ (unfold depthOf in refl)), group-closes a (ThreeGroups b c d) (unfold closesInnermost in q))
 
   -- at top level: a known tag, a component or a message that opens, and no item
-  pub tag-goes : (tag : ℕ) → Passing final (whole place (KnownTag tag) rest) TopLevel names → (later : Names) × (later .components ≡ names .components) × (later .messages ≡ names .messages) × Passing final rest TopLevel later
-  unfolding walked stepOf onTag atTop looksIn onStep named
-  tag-goes tag e = go (isKnown (names .tags) tag) e
+  pub tag-goes : (tag : ℕ) → Passing final (whole place (KnownTag tag) rest) TopLevel names → TagGoes final rest names tag
+  unfolding walked stepOf onTag atTop looksIn onStep named isKnown
+  tag-goes tag e = go (isKnown (names .tags) tag) refl e
     where
-      go : (k : Bool) → onStep names (Goes TopLevel (pick k Unchanged (KnowsTag place tag))) goesOn ≡ outcome Passes final → (later : Names) × (later .components ≡ names .components) × (later .messages ≡ names .messages) × Passing final rest TopLevel later
-      go true q = (names, refl, refl, q)
-      go false q = (record { tags = tag ∷ names .tags; components = names .components; messages = names .messages }, refl, refl, q)
+      go : (k : Bool) → isKnown (names .tags) tag ≡ k → onStep names (Goes TopLevel (pick k Unchanged (KnowsTag place tag))) goesOn ≡ outcome Passes final → TagGoes final rest names tag
+      go true k q = record { later = names; components = refl; messages = refl; tags = λ t. again t (eqb t tag) refl; passes = q }
+        where
+          again : (t : ℕ) (b : Bool) → eqb t tag ≡ b → isKnown (names .tags) t ≡ pick b true (isKnown (names .tags) t)
+          again t true e = ap (isKnown (names .tags)) (eqb-true t tag e) ∙ k
+          again t false e = refl
+      go false k q = record { later = record { tags = tag ∷ names .tags; components = names .components; messages = names .messages }; components = refl; messages = refl; tags = λ t. refl; passes = q }
 
   pub component-opens : (number : ℕ) → Passing final (whole place (OpensComponent number) rest) TopLevel names → (componentIn (names .components) number ≡ Missing) × Passing final rest (Inside (opens (OfComponent number) place)) names
   unfolding walked stepOf onComponent atTop looksIn

@@ -197,7 +197,7 @@ module _ (bytes : List ℕ) (components : ℕ → Looked) (final : Names) (sure 
   meant-step (whole place (KnownTag tag) rest) at names defined again e p known =
       let n = next-of bytes at place (KnownTag tag) rest e in
       let g = tag-goes final place rest names tag p in
-      tag-meant names (g .0) defined tag (declarationsOf rest) (g .2) (again rest (n .next) (g .0) defined (omega arith) (n .there) (g .3) (known-as names (g .0) defined (g .1) known))
+      tag-meant names (g .later) defined tag (declarationsOf rest) (g .messages) (again rest (n .next) (g .later) defined (omega arith) (n .there) (g .passes) (known-as names (g .later) defined (g .components) known))
   meant-step (whole place (OpensComponent number) rest) at names defined again e p known =
       let n = next-of bytes at place (OpensComponent number) rest e in
       let g = component-opens final place rest names number p in

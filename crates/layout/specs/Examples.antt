@@ -6,7 +6,7 @@ use mathlib.Core.Bool.{Bool, true, false}
 use Prim.Native.Nat.{ℕ, _+_}
 use Prim.Native.String.{String}
 use Rattle.tagvalue.specs.Text.{bytes}
-use Rattle.layout.specs.Layout.{Layout, end, field, group, followedBy, positionFrom, positionIn, Group, none, entries, groupSince, groupOf, delimiterOf, requiredTags, items, larger, depth}
+use Rattle.layout.specs.Layout.{Layout, end, field, group, followedBy, firstOf, positionFrom, positionIn, Group, none, entries, groupSince, groupOf, delimiterOf, requiredTags, items, larger, depth}
 use Rattle.layout.specs.Tree.{Nodes, nothing, fieldItem, componentItem, groupItem, Message, Dictionary, holdsTag, knows, plainFields, headerTags, trailerTags, flattened, sameBytes, Choice, noMessage, laidOut, messageOf, layoutOf}
 use Rattle.layout.specs.Table.{stride, mark, rowsFrom, nextSibling, rowAt, siblingsWithin, siblingsFrom, stopOf, siblings, positionAmong, positionOf, laterGroup, groupAmong, groupWithin, firstAmong, delimiterAt, firstRequired, nextRequired}
 use Rattle.layout.specs.declared.Level.{Level}
@@ -62,7 +62,7 @@ unfolding flattened followedBy
 flattening = refl
 
 positions : map (λ (tag : ℕ). positionIn tag order) (38 ∷ 78 ∷ 58 ∷ 79 ∷ 5001 ∷ []) ≡ At 0 ∷ At 1 ∷ At 2 ∷ Nowhere ∷ Nowhere ∷ []
-unfolding positionIn positionFrom
+unfolding positionIn positionFrom firstOf
 positions = refl
 
 -- 58 twice, plain; 78 as a group, then plain, then as a group again, then plain
@@ -71,7 +71,7 @@ twice = field 58 false (group 78 false (field 79 false end) (field 78 true (fiel
 
 -- "its position is the first, its group the last, and each required mark counts at its own place"
 twice-positions : map (λ (tag : ℕ). positionIn tag twice) (58 ∷ 78 ∷ 79 ∷ []) ≡ At 0 ∷ At 1 ∷ Nowhere ∷ []
-unfolding positionIn positionFrom
+unfolding positionIn positionFrom firstOf
 twice-positions = refl
 
 groups : map (λ (tag : ℕ). groupOf tag twice) (78 ∷ 58 ∷ 79 ∷ []) ≡ entries (field 80 false end) ∷ none ∷ none ∷ []
@@ -111,7 +111,7 @@ level first last = record { first = first; end = last }
 
 -- looking up in it: the message's own level, the entries of 78, those of 539, and levels that pass the table
 table-positions : map {B = Position × Position × Position} (λ (l : Level). (positionOf orderTable l 58, positionOf orderTable l 539, positionOf orderTable l 525)) (level 0 8 ∷ level 2 7 ∷ level 5 7 ∷ level 7 100 ∷ level 8 8 ∷ []) ≡ (At 2, Nowhere, Nowhere) ∷ (Nowhere, At 2, Nowhere) ∷ (Nowhere, Nowhere, At 1) ∷ (At 0, Nowhere, Nowhere) ∷ (Nowhere, Nowhere, Nowhere) ∷ []
-unfolding positionOf positionAmong siblings siblingsFrom siblingsWithin stopOf rowAt nextSibling
+unfolding positionOf positionAmong firstOf siblings siblingsFrom siblingsWithin stopOf rowAt nextSibling
 table-positions = refl
 
 table-groups : map {B = Nested × Nested × Nested} (λ (l : Level). (groupWithin orderTable l 78, groupWithin orderTable l 539, groupWithin orderTable l 58)) (level 0 8 ∷ level 2 7 ∷ level 5 7 ∷ []) ≡ (Within (level 2 7), NoGroup, NoGroup) ∷ (NoGroup, Within (level 5 7), NoGroup) ∷ (NoGroup, NoGroup, NoGroup) ∷ []
@@ -128,5 +128,5 @@ table-required = refl
 
 -- a link that doesn't rise ends the level, and words that make no whole row are no row
 odd-tables : map (λ (table : List ℕ). positionOf table (level 0 9) 2) ((1 ∷ 0 ∷ 0 ∷ 0 ∷ 2 ∷ 0 ∷ 0 ∷ 2 ∷ []) ∷ (1 ∷ 0 ∷ 0 ∷ 1 ∷ 2 ∷ 0 ∷ 0 ∷ []) ∷ (1 ∷ 0 ∷ 0 ∷ 1 ∷ 2 ∷ 0 ∷ 0 ∷ 0 ∷ []) ∷ [] ∷ []) ≡ Nowhere ∷ Nowhere ∷ At 1 ∷ Nowhere ∷ []
-unfolding positionOf positionAmong siblings siblingsFrom siblingsWithin stopOf rowAt nextSibling
+unfolding positionOf positionAmong firstOf siblings siblingsFrom siblingsWithin stopOf rowAt nextSibling
 odd-tables = refl

@@ -23,11 +23,20 @@ followedBy end after = after
 followedBy (field tag required rest) after = field tag required (followedBy rest after)
 followedBy (group tag required inner rest) after = group tag required inner (followedBy rest after)
 
--- "its position is the first": counted among the level's own items, the first of which has the position `at`
+-- "its position is the first"
+unfoldable pub firstOf : Position → Position → Position
+firstOf (At position) other = At position
+firstOf Nowhere other = other
+
+-- where an item of a tag stands that has the position `at`
+abbrev pub itemAt : ℕ → ℕ → ℕ → Position
+itemAt tag at t = pick (eqb t tag) (At at) Nowhere
+
+-- counted among the level's own items, the first of which has the position `at`
 unfoldable pub positionFrom : ℕ → ℕ → Layout → Position
 positionFrom tag at end = Nowhere
-positionFrom tag at (field t required rest) = pick (eqb t tag) (At at) (positionFrom tag (at + 1) rest)
-positionFrom tag at (group t required inner rest) = pick (eqb t tag) (At at) (positionFrom tag (at + 1) rest)
+positionFrom tag at (field t required rest) = firstOf (itemAt tag at t) (positionFrom tag (at + 1) rest)
+positionFrom tag at (group t required inner rest) = firstOf (itemAt tag at t) (positionFrom tag (at + 1) rest)
 
 unfoldable pub positionIn : ℕ → Layout → Position
 positionIn tag layout = positionFrom tag 0 layout

@@ -8,7 +8,7 @@ use mathlib.Core.Bool.{Bool, true, false}
 use lib.ListN.{length, getD}
 use lib.Dec.{eqb, ltb}
 use Rattle.tagvalue.specs.Choice.{pick}
-use Rattle.layout.specs.Layout.{Layout, end, field, group, items}
+use Rattle.layout.specs.Layout.{Layout, end, field, group, items, firstOf, itemAt}
 use Rattle.layout.specs.declared.Level.{Level}
 use Rattle.layout.specs.declared.Position.{Position}
 use Rattle.layout.specs.declared.Position.the-variants.{At, Nowhere}
@@ -82,7 +82,7 @@ siblings table level = siblingsFrom table (level .first) (stopOf table level)
 -- "its position is the first"
 unfoldable pub positionAmong : ℕ → ℕ → List Row → Position
 positionAmong tag at [] = Nowhere
-positionAmong tag at (row ∷ rows) = pick (eqb (row .tag) tag) (At at) (positionAmong tag (at + 1) rows)
+positionAmong tag at (row ∷ rows) = firstOf (itemAt tag at (row .tag)) (positionAmong tag (at + 1) rows)
 
 unfoldable pub positionOf : List ℕ → Level → ℕ → Position
 positionOf table level tag = positionAmong tag 0 (siblings table level)

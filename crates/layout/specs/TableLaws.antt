@@ -9,6 +9,7 @@ use lib.ListN.{length, getD}
 use lib.Dec.{eqb, ltb}
 use borrow.Author.Tests.{eq-eqb, ne-eqb, lt-ltb, le-ltb, ltb-true, ltb-false}
 use Rattle.tagvalue.specs.Choice.{pick, pick-same}
+use Rattle.layout.specs.Layout.{firstOf}
 use Rattle.layout.specs.Table.{Row, tagAt, requiredAt, groupAt, linkAt, nextSibling, rowAt, siblingsWithin, siblingsFrom, stopOf, siblings, positionAmong, positionOf, inside, laterGroup, groupAmong, groupWithin, firstAmong, delimiterAt, requiredAmong, firstRequired, nextRequired}
 use Rattle.layout.specs.declared.Level.{Level}
 use Rattle.layout.specs.declared.Position.the-variants.{At, Nowhere}
@@ -79,11 +80,11 @@ module _ (table : List ℕ) (at stop : ℕ) where
 
   module _ (tag position : ℕ) where
     pub position-hit : at < stop → tagAt table at ≡ tag → positionAmong tag position left ≡ At position
-    unfolding positionAmong rowAt
+    unfolding positionAmong rowAt firstOf
     position-hit h e = rw (walk-on table at stop h, eq-eqb _ _ e)
 
     pub position-miss : at < stop → (tagAt table at ≡ tag → ⊥) → positionAmong tag position left ≡ positionAmong tag (position + 1) leftAfter
-    unfolding positionAmong rowAt
+    unfolding positionAmong rowAt firstOf
     position-miss h e = rw (walk-on table at stop h, ne-eqb _ _ e)
 
     pub position-end : stop ≤ at → positionAmong tag position left ≡ Nowhere
