@@ -1,0 +1,54 @@
+-- From a message's bytes to the end of its header: integrity, the fields that it verified, and the rest of the header.
+use Prim.Native.Nat.{ℕ}
+use mathlib.Core.List.{List, [], _∷_}
+use mathlib.Core.Bool.{Bool, true, false}
+use lib.ListN.{take, drop}
+use lib.Dec.{eqb}
+use Rattle.tagvalue.specs.Choice.{pick}
+use Rattle.tagvalue.specs.Fields.{Fields, fieldsFrom}
+use Rattle.tagvalue.specs.declared.Field.{Field}
+use Rattle.integrity.specs.Integrity.{integrityOf}
+use Rattle.integrity.specs.declared.Integrity.{Integrity}
+use Rattle.integrity.specs.declared.Integrity.the-variants.{Sound, Garbled}
+use Rattle.integrity.specs.declared.Verified.{Verified}
+use Rattle.records.specs.Records.{blank, stored}
+use Rattle.records.specs.declared.Record.{Record}
+use Rattle.builder.specs.declared.Answer.{Answer}
+use Rattle.builder.specs.declared.Answer.the-variants.{Garbled as garbled}
+use Rattle.builder.specs.Parts.{Reading, ended, refused, recordOf}
+use Rattle.builder.specs.Header.{headerFrom}
+
+-- the fields that were verified, in the order in which they were read
+unfoldable pub verifiedRecords : Verified → List Record
+verifiedRecords v = stored (recordOf 1 (v .«msg_type»)) (stored (recordOf 1 (v .«body_length»)) (stored (recordOf 1 (v .«begin_string»)) []))
+
+-- "a 1,025th field read" is 21, and three are read by then
+abbrev pub roomBehind : ℕ
+roomBehind = 1021
+
+unfoldable pub headerOf : List ℕ → ℕ → List ℕ → Verified → Reading
+headerOf tags separator message v = headerFrom tags (fieldsFrom separator message (v .«msg_type» .next)) roomBehind (verifiedRecords v)
+
+-- the header and the verified CheckSum, or why reading was refused
+pub data Start : Type 0 where
+  started : Field → Fields → ℕ → List Record → Field → Start
+  unsound : Answer → Start
+
+unfoldable pub withChecksum : Field → Reading → Start
+withChecksum checksum (ended f rest room records) = started f rest room records checksum
+withChecksum checksum (refused answer) = unsound answer
+
+unfoldable pub startedBy : List ℕ → ℕ → List ℕ → Integrity → Start
+startedBy tags separator message (Sound v) = withChecksum (v .checksum) (headerOf tags separator message v)
+startedBy tags separator message (Garbled reason) = unsound (garbled reason)
+
+unfoldable pub startOf : List ℕ → ℕ → List ℕ → Start
+startOf tags separator message = startedBy tags separator message (integrityOf separator message)
+
+-- MsgType is the value that was stored last under 35
+unfoldable pub msgTypeRecord : List Record → Record
+msgTypeRecord [] = blank
+msgTypeRecord (r ∷ rs) = pick (eqb (r .tag) 35) r (msgTypeRecord rs)
+
+unfoldable pub valueAt : List ℕ → Record → List ℕ
+valueAt message r = take (r .length) (drop (r .place) message)

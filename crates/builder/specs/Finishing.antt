@@ -1,0 +1,83 @@
+-- The records of header, body and trailer stand one behind the other, so what is left of a message after its header is what the code leaves.
+use mathlib.Core.Path.{_≡_, refl, sym, ap, _∙_}
+use mathlib.Core.List.{List, [], _∷_, _++_, append-assoc}
+use Prim.Native.Nat.{ℕ, suc, _+_, _-_, _/_, _≤_, _<_}
+use native.Mathlib.Omega.{arith}
+use lib.ListN.{length}
+use Rattle.tagvalue.specs.Fields.{Fields, field, fieldsFrom}
+use Rattle.tagvalue.specs.declared.Field.{Field}
+use Rattle.records.specs.Records.{recordsOf, stored}
+use Rattle.records.specs.RecordLaws.{between-end}
+use Rattle.records.specs.declared.Record.{Record}
+use Rattle.builder.specs.declared.Answer.{Answer}
+use Rattle.builder.specs.declared.Answer.the-variants.{TooManyFields}
+use Rattle.builder.specs.declared.Progress.{Progress}
+use Rattle.builder.specs.declared.PartRead.{PartRead}
+use Rattle.builder.specs.declared.PartRead.the-variants.{At, Refused}
+use Rattle.builder.specs.declared.TrailerRead.{TrailerRead}
+use Rattle.builder.specs.declared.TrailerRead.the-variants.{Stopped, Unstopped, TooManyFields as Crowded}
+use Rattle.builder.specs.declared.Stop.the-variants.{At as stops, Nowhere}
+use Rattle.builder.specs.declared.Finished.{Finished}
+use Rattle.builder.specs.declared.Finished.the-variants.{Whole, Refused as RefusedWhole}
+use Rattle.builder.specs.Parts.{Reading, recordOf, partOf, partTold, Kept}
+use Rattle.builder.specs.RunLaws.{between-split}
+use Rattle.builder.specs.GroupReading.{front-is, front-parts}
+use Rattle.builder.specs.Trailer.{Trailer, trailerFrom, trailerTold, trailerCounts}
+use Rattle.builder.specs.Message.{afterTrailer, afterBody, finishTold}
+
+-- a part that ends where it starts is empty
+pub part-empty : (n : ℕ) (words : List ℕ) → partOf n n words ≡ []
+unfolding partOf
+part-empty n words = between-end n n (recordsOf words) (omega arith)
+
+pub stopped-counts : (from : ℕ) (trailer : TrailerRead) (stop : Field) (all : ℕ) → trailer ≡ Stopped stop all → trailerCounts from trailer ≡ all
+unfolding trailerCounts
+stopped-counts from trailer stop all e = rw e
+
+pub unstopped-counts : (from : ℕ) (trailer : TrailerRead) (all : ℕ) → trailer ≡ Unstopped all → trailerCounts from trailer ≡ all
+unfolding trailerCounts
+unstopped-counts from trailer all e = rw e
+
+module _ (separator : ℕ) (message : List ℕ) (header : ℕ) (checksum : Field) (body : Reading) (entry read : List ℕ) (before : partOf 0 header read ≡ partOf 0 header entry) where
+  -- the body was refused
+  pub finish-refused : (reading : PartRead) (answer : Answer) → reading ≡ Refused answer → partTold separator message header reading read ≡ body → finishTold header (RefusedWhole answer) read ≡ afterBody (partOf 0 header entry) checksum body
+  unfolding partTold finishTold afterBody
+  finish-refused reading answer e told =
+      let b : body ≡ _ = sym told ∙ ap (λ (r : PartRead). partTold separator message header r read) e in
+      rw (b, before)
+
+  module _ (reading : PartRead) (f : Field) (p : Progress) (e : reading ≡ At f p) (told : partTold separator message header reading read ≡ body) (starts : header ≤ p .records)
+      (r : Record) (is : r ≡ recordOf 3 checksum) (kept exit : List ℕ) (count : ℕ) (keeps : Kept read kept (p .records) (p .records) r count) (front : partOf 0 (p .records) exit ≡ partOf 0 (p .records) kept)
+      (trailer : TrailerRead) (taken : trailerTold trailer (p .records) exit ≡ trailerFrom (field f (fieldsFrom separator message (f .next))) (p .room + 1) (partOf (p .records) count kept)) where
+    left : afterBody (partOf 0 header entry) checksum body ≡ afterTrailer (partOf 0 header entry) (partOf header (p .records) read) (trailerTold trailer (p .records) exit)
+    unfolding partTold afterBody stored
+    left =
+        let b : body ≡ _ = sym told ∙ ap (λ (q : PartRead). partTold separator message header q read) e in
+        let one : p .room + 1 ≡ suc (p .room) = omega arith in
+        let first : partOf (p .records) count kept ≡ recordOf 3 checksum ∷ [] = keeps .part ∙ rw (part-empty (p .records) read, is) in
+        rw (b, taken, one, first)
+
+    -- the parts stand one behind the other
+    parts : (all : ℕ) → p .records ≤ all → partOf 0 all exit ≡ partOf 0 header entry ++ (partOf header (p .records) read ++ partOf (p .records) all exit)
+    unfolding partOf
+    parts all h =
+        between-split (recordsOf exit) 0 (p .records) all (omega arith) h
+        ∙ ap (λ (l : List Record). l ++ partOf (p .records) all exit) (front ∙ keeps .before ∙ between-split (recordsOf read) 0 header (p .records) (omega arith) starts ∙ ap (λ (l : List Record). l ++ partOf header (p .records) read) before)
+        ∙ append-assoc (partOf 0 header entry) (partOf header (p .records) read) (partOf (p .records) all exit)
+
+    -- the header's records are where they were
+    header-stays : partOf 0 header exit ≡ partOf 0 header entry
+    unfolding partOf
+    header-stays = front-parts (recordsOf exit) (recordsOf read) header (p .records) starts (sym (front-is (p .records) (recordsOf exit)) ∙ front ∙ keeps .before ∙ front-is (p .records) (recordsOf read)) ∙ before
+
+    pub finish-stopped : (stop : Field) (all : ℕ) → trailer ≡ Stopped stop all → p .records ≤ all → finishTold header (Whole (stops stop) all) exit ≡ afterBody (partOf 0 header entry) checksum body
+    unfolding finishTold afterTrailer trailerTold
+    finish-stopped stop all t h = sym (left ∙ rw (t, parts all h))
+
+    pub finish-unstopped : (all : ℕ) → trailer ≡ Unstopped all → p .records ≤ all → finishTold header (Whole Nowhere all) exit ≡ afterBody (partOf 0 header entry) checksum body
+    unfolding finishTold afterTrailer trailerTold
+    finish-unstopped all t h = sym (left ∙ rw (t, parts all h))
+
+    pub finish-crowded : trailer ≡ Crowded → finishTold header (RefusedWhole TooManyFields) exit ≡ afterBody (partOf 0 header entry) checksum body
+    unfolding finishTold afterTrailer trailerTold
+    finish-crowded t = sym (left ∙ rw (t, header-stays))

@@ -1,0 +1,72 @@
+-- From a message's bytes to its answer and its records, by what a dictionary means: integrity, header, body and trailer in turn.
+use Prim.Native.Nat.{ℕ, suc}
+use mathlib.Core.List.{List, [], _∷_, _++_}
+use mathlib.Core.Bool.{Bool, true, false}
+use lib.Dec.{leb}
+use Rattle.tagvalue.specs.Choice.{pick}
+use Rattle.tagvalue.specs.Fields.{Fields, field}
+use Rattle.tagvalue.specs.declared.Field.{Field}
+use Rattle.layout.specs.Layout.{Layout}
+use Rattle.layout.specs.Tree.{Dictionary, headerTags, trailerTags, Choice, noMessage, laidOut, layoutOf}
+use Rattle.records.specs.declared.Record.{Record}
+use Rattle.groups.specs.Reading.{accepted, layoutRules}
+use Rattle.required.specs.Checking.{layoutDemands}
+use Rattle.builder.specs.declared.Answer.{Answer}
+use Rattle.builder.specs.declared.Answer.the-variants.{Valid, InvalidMsgType, TooManyFields}
+use Rattle.builder.specs.declared.Stop.{Stop}
+use Rattle.builder.specs.declared.Stop.the-variants.{At, Nowhere}
+use Rattle.builder.specs.declared.Finished.{Finished}
+use Rattle.builder.specs.declared.Finished.the-variants.{Whole, Refused}
+use Rattle.builder.specs.Answer.{numberOf}
+use Rattle.builder.specs.Parts.{Reading, ended, refused, recordOf, partOf}
+use Rattle.builder.specs.Trailer.{Trailer, stopped, unstopped, crowded, trailerFrom}
+use Rattle.builder.specs.Beginning.{Start, started, unsound, startOf, msgTypeRecord, valueAt}
+use Rattle.builder.specs.Body.{bodyFrom}
+use Rattle.builder.specs.Kinds.{bodyOf}
+
+-- the answer, the records that are shown with it, and what stopped the trailer
+pub record Outcome : Type 0 where
+  pub answer : Answer
+  pub records : List Record
+  pub stop : Stop
+
+-- "1 to 4 also header records"; 10 to 14 and 21: "no records"
+unfoldable pub shownWith : Answer → List Record → List Record
+shownWith answer header = pick (leb 1 (numberOf answer)) (pick (leb (numberOf answer) 4) header []) []
+
+unfoldable pub refusal : Answer → List Record → Outcome
+refusal answer header = record { answer = answer; records = shownWith answer header; stop = Nowhere }
+
+-- what the code answers behind a header of so many records, with the words that it leaves
+unfoldable pub finishTold : ℕ → Finished → List ℕ → Outcome
+finishTold header (Whole stop count) words = record { answer = Valid; records = partOf 0 count words; stop = stop }
+finishTold header (Refused answer) words = refusal answer (partOf 0 header words)
+
+unfoldable pub finishCounts : Finished → ℕ
+finishCounts (Whole stop count) = count
+finishCounts (Refused answer) = 0
+
+-- "Records .. stand in part and map order, each count followed by its entries"
+unfoldable pub afterTrailer : List Record → List Record → Trailer → Outcome
+afterTrailer header body (stopped f trailer) = record { answer = Valid; records = header ++ (body ++ trailer); stop = At f }
+afterTrailer header body (unstopped trailer) = record { answer = Valid; records = header ++ (body ++ trailer); stop = Nowhere }
+afterTrailer header body crowded = refusal TooManyFields header
+
+-- "The verified CheckSum stands first in the trailer."
+unfoldable pub afterBody : List Record → Field → Reading → Outcome
+afterBody header checksum (refused answer) = refusal answer header
+afterBody header checksum (ended f rest room body) = afterTrailer header body (trailerFrom (field f rest) (suc room) (recordOf 3 checksum ∷ []))
+
+module _ (dictionary : Dictionary) (validate : Bool) where
+  -- "and then MsgType must be in the dictionary, else 3"
+  unfoldable pub afterType : Field → Fields → ℕ → List Record → Field → Choice → Outcome
+  afterType f rest room header checksum noMessage = refusal (InvalidMsgType (msgTypeRecord header .place) (msgTypeRecord header .length)) header
+  afterType f rest room header checksum (laidOut layout) =
+      afterBody header checksum (bodyFrom (bodyOf (layoutRules (accepted validate (dictionary .known))) layoutDemands (trailerTags dictionary) layout) (field f rest) (suc room) [])
+
+  unfoldable pub afterHeader : List ℕ → Start → Outcome
+  afterHeader message (unsound answer) = refusal answer []
+  afterHeader message (started f rest room header checksum) = afterType f rest room header checksum (layoutOf dictionary (valueAt message (msgTypeRecord header)))
+
+  unfoldable pub messageRead : ℕ → List ℕ → Outcome
+  messageRead separator message = afterHeader message (startOf (headerTags dictionary) separator message)

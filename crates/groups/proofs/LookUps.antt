@@ -1,0 +1,80 @@
+-- Each way that looking a tag up goes: one law for each return of `accepted`, `opens` and `kind_of`.
+use mathlib.Core.Path.{_≡_, refl}
+use mathlib.Core.Bool.{Bool, true, false, not}
+use mathlib.Core.List.{List}
+use Prim.Native.Nat.{ℕ, _≤_, _<_}
+use lib.Dec.{eqb}
+use borrow.Author.Tests.{le-leb, lt-leb, lt-ltb, le-ltb}
+use Rattle.tagvalue.specs.Choice.{pick, pick-same}
+use Rattle.integrity.specs.declared.Config.{Config}
+use Rattle.layout.specs.Tree.{holdsTag}
+use Rattle.layout.specs.Table.{positionOf, groupWithin, delimiterAt}
+use Rattle.layout.specs.declared.Level.{Level}
+use Rattle.layout.specs.declared.Position.the-variants.{At, Nowhere}
+use Rattle.layout.specs.declared.Nested.the-variants.{Within, NoGroup}
+use Rattle.layout.specs.declared.FirstTag.the-variants.{First, NoTag}
+use Rattle.groups.specs.Groups.{isDelimiter, opens, plain, count, joins, wrong, ends, counting, declared, kindOf}
+use Rattle.groups.specs.Reading.{accepted, openedBy, tableRules, opensAt, kindAt}
+use Rattle.groups.specs.declared.Group.{Group}
+
+module _ (validate : Bool) (known : List ℕ) (tag : ℕ) where
+  pub validated : validate ≡ true → accepted validate known tag ≡ false
+  unfolding accepted
+  validated v = rw v
+
+  pub not-user-defined : tag < 5000 → accepted validate known tag ≡ false
+  unfolding accepted
+  not-user-defined h = rw (lt-ltb _ _ h) (pick-same validate false)
+
+  pub unknown : validate ≡ false → 5000 ≤ tag → accepted validate known tag ≡ not (holdsTag tag known)
+  unfolding accepted
+  unknown v h = rw (v, le-ltb _ _ h) (turned (holdsTag tag known))
+    where
+      turned : (b : Bool) → pick b false true ≡ not b
+      turned true = refl
+      turned false = refl
+
+module _ (table : List ℕ) (level : Level) (tag : ℕ) where
+  pub no-delimiter : delimiterAt table level ≡ NoTag → opensAt table level tag ≡ false
+  unfolding opensAt isDelimiter
+  no-delimiter e = rw e
+
+  pub one-delimiter : (delimiter : ℕ) → delimiterAt table level ≡ First delimiter → opensAt table level tag ≡ eqb delimiter tag
+  unfolding opensAt isDelimiter
+  one-delimiter delimiter e = rw e
+
+-- the delimiter test is the rules' own
+pub opens-table : (validate : Bool) (table known : List ℕ) (level : Level) (tag : ℕ) → opens (tableRules validate table known) level tag ≡ opensAt table level tag
+unfolding opens tableRules opensAt
+opens-table validate table known level tag = refl
+
+module _ (config : Config) (table known : List ℕ) (group : Group) (last tag : ℕ) where
+  pub kind-delimiter : opensAt table (group .level) tag ≡ true → kindAt config table known group last tag ≡ ends
+  unfolding kindAt kindOf opens tableRules opensAt
+  kind-delimiter o = rw o
+
+  module _ (o : opensAt table (group .level) tag ≡ false) where
+    pub kind-user : positionOf table (group .level) tag ≡ Nowhere → accepted (config .validate) known tag ≡ true → kindAt config table known group last tag ≡ joins
+    unfolding kindAt kindOf opens tableRules opensAt declared
+    kind-user p a = rw (o, p, a)
+
+    pub kind-other : positionOf table (group .level) tag ≡ Nowhere → accepted (config .validate) known tag ≡ false → kindAt config table known group last tag ≡ ends
+    unfolding kindAt kindOf opens tableRules opensAt declared
+    kind-other p a = rw (o, p, a)
+
+    module _ (position : ℕ) (p : positionOf table (group .level) tag ≡ At position) where
+      pub kind-wrong : position ≤ last → kindAt config table known group last tag ≡ wrong
+      unfolding kindAt kindOf opens tableRules opensAt declared
+      kind-wrong h = rw (o, p, le-leb _ _ h)
+
+      pub kind-plain : last < position → groupWithin table (group .level) tag ≡ NoGroup → kindAt config table known group last tag ≡ plain position
+      unfolding kindAt kindOf opens tableRules opensAt declared counting openedBy
+      kind-plain h g = rw (o, p, lt-leb _ _ h, g)
+
+      pub kind-count : last < position → (inner : Level) → groupWithin table (group .level) tag ≡ Within inner → group .depth < 4 → kindAt config table known group last tag ≡ count inner position
+      unfolding kindAt kindOf opens tableRules opensAt declared counting openedBy
+      kind-count h inner g d = rw (o, p, lt-leb _ _ h, g, lt-ltb _ _ d)
+
+      pub kind-deep : last < position → (inner : Level) → groupWithin table (group .level) tag ≡ Within inner → 4 ≤ group .depth → kindAt config table known group last tag ≡ plain position
+      unfolding kindAt kindOf opens tableRules opensAt declared counting openedBy
+      kind-deep h inner g d = rw (o, p, lt-leb _ _ h, g, le-ltb _ _ d)

@@ -1,0 +1,7 @@
+pub mod Groups
+pub mod Reading
+pub mod GroupLaws
+pub mod ReadingLaws
+pub mod Alike
+pub mod Meaning
+pub mod Examples

@@ -1,0 +1,4 @@
+pub mod Records
+pub mod WordLaws
+pub mod RecordLaws
+pub mod Examples

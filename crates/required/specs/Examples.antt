@@ -1,0 +1,65 @@
+-- P6 and P8, and the order of the check, from the field behind the count on: a table under one statement that antt computes.
+use mathlib.Core.Path.{_≡_, refl}
+use mathlib.Core.List.{List, [], _∷_, map}
+use mathlib.Core.Bool.{true, false}
+use Prim.Native.Nat.{ℕ, _-_}
+use Prim.Native.String.{String}
+use Rattle.tagvalue.specs.Text.{bytes}
+use Rattle.tagvalue.specs.Find.{findIn}
+use Rattle.tagvalue.specs.Number.{isDigit, allDigits, worth, numberOf, nonZero, tagOf}
+use Rattle.tagvalue.specs.Field.{fieldFrom, fieldAt, withEquals, withSeparator, withTag}
+use Rattle.tagvalue.specs.Fields.{followedBy, fieldsWithin, fieldsFrom}
+use Rattle.layout.specs.Layout.{Layout, end, field, group, firstOf, positionFrom, positionIn, groupSince, groupOf, delimiterOf, requiredTags}
+use Rattle.layout.specs.Tree.{holdsTag}
+use Rattle.records.specs.Records.{stored}
+use Rattle.records.specs.declared.Record.{Record}
+use Rattle.groups.specs.Groups.{isDelimiter, opens, counting, declared, kindOf, run, inEntry, decide, recordOf, Outcome, ended, refused, moved, walk}
+use Rattle.groups.specs.Reading.{numberOfRefusal, valuesOfRefusal, accepted, openedAs, layoutRules, joinedList, listStore}
+use Rattle.required.specs.Required.{orElse, has, fieldsLack, before, shallow, runLacks, nestedLack, entriesLack, opensEntry, entryLack, runLack}
+use Rattle.required.specs.Checking.{numberOfLack, valuesOfLack, layoutDemands}
+use Rattle.required.specs.declared.Lack.{Lack}
+
+abbrev Told : Type 0
+Told = ℕ × (List ℕ)
+
+unfoldable answer : Lack → Told
+answer lack = (numberOfLack lack, valuesOfLack lack)
+
+-- "After a body group ends": what was read is checked, a refusal stands
+unfoldable checked : Layout → Outcome (List Record) (List Record) → Told
+checked layout (ended f rest room rs) = answer (runLack layoutDemands 4 layout 78 1 rs)
+checked layout (refused refusal rs) = (numberOfRefusal refusal, valuesOfRefusal refusal)
+
+unfoldable verdict : Layout → String → Told
+verdict layout text =
+    checked layout (walk (layoutRules (accepted false [])) listStore 100 (run layout 78 1 0 ∷ []) [] (fieldsFrom 1 (bytes text) (record { at = 0 })))
+
+-- "group 78 (79 and 80 required; group 539 with 524 required, 525)"
+abbrev allocations : Layout
+allocations = field 79 true (field 80 true (group 539 false (field 524 true (field 525 false end)) end))
+
+-- a group with two groups in it, each of which asks for a field; 85 is required behind them, and 79 at its second place only
+abbrev two : Layout
+two = field 79 false (group 81 false (field 82 false (field 83 true end)) (group 91 false (field 92 false (field 93 true end)) (field 79 true (field 85 true end))))
+
+abbrev table : List ((Layout × String) × Told)
+table =
+    ((allocations, "79=A|80=5|10=000|"), (0, []))
+    ∷ ((allocations, "79=A|58=x|10=000|"), (4, 80 ∷ 78 ∷ []))
+    ∷ ((allocations, "79=A|80=5|80=6|10=000|"), (2, 80 ∷ 78 ∷ []))
+    ∷ ((allocations, "79=A|80=5|79=B|10=000|"), (4, 80 ∷ 78 ∷ []))
+    ∷ ((allocations, "79=A|539=1|524=p|10=000|"), (4, 80 ∷ 78 ∷ []))
+    ∷ ((allocations, "79=A|539=1|525=p|10=000|"), (2, 525 ∷ 539 ∷ []))
+    ∷ ((allocations, "79=A|5001=x|80=5|5001=y|10=000|"), (0, []))
+    ∷ ((two, "79=A|81=1|82=x|91=1|92=y|85=z|10=000|"), (4, 83 ∷ 81 ∷ []))
+    ∷ ((two, "79=A|81=1|82=x|83=x|91=1|92=y|85=z|10=000|"), (4, 93 ∷ 91 ∷ []))
+    ∷ ((two, "79=A|81=1|82=x|83=x|82=x|91=1|92=y|85=z|10=000|"), (4, 83 ∷ 81 ∷ []))
+    ∷ ((two, "79=A|81=1|82=x|91=1|92=y|10=000|"), (4, 85 ∷ 78 ∷ []))
+    ∷ ((two, "79=A|81=1|82=x|83=x|85=z|79=B|10=000|"), (4, 85 ∷ 78 ∷ []))
+    ∷ ((two, "79=A|91=1|92=y|85=z|79=B|10=000|"), (4, 93 ∷ 91 ∷ []))
+    ∷ ((two, "79=A|85=z|79=B|85=z|10=000|"), (0, []))
+    ∷ []
+
+all-hold : map (λ row. verdict (row .0 .0) (row .0 .1)) table ≡ map (λ row. row .1) table
+unfolding verdict checked answer numberOfLack valuesOfLack layoutDemands runLack entryLack opensEntry entriesLack nestedLack runLacks shallow before fieldsLack has orElse requiredTags numberOfRefusal valuesOfRefusal layoutRules openedAs accepted joinedList listStore walk moved decide inEntry kindOf declared counting opens isDelimiter recordOf positionIn positionFrom firstOf groupOf groupSince delimiterOf holdsTag stored fieldsFrom fieldsWithin followedBy fieldAt fieldFrom withEquals withSeparator withTag findIn tagOf nonZero numberOf isDigit allDigits worth
+all-hold = refl

@@ -1,0 +1,5 @@
+pub mod Required
+pub mod Checking
+pub mod RequiredLaws
+pub mod Meaning
+pub mod Examples
