@@ -1,0 +1,96 @@
+-- `put_field` meets its contract: the row that is found is cut out for the new one, or the run moves behind it.
+use mathlib.Core.Path.{_≡_, refl, sym, ap, _∙_}
+use mathlib.Core.Logic.{⊎-elim}
+use mathlib.Core.Bool.{Bool, true, false}
+use mathlib.Core.List.{List, [], _∷_, _++_, append-assoc, append-nil}
+use Prim.Native.Nat.{ℕ, zero, suc, _+_, _-_, _*_, _^_, _≤_, _<_}
+use native.Mathlib.Omega.{arith}
+use borrow.Author.Needs.{needs}
+use lib.ListN.{length, getD, take, drop, set, length-set}
+use Rattle.maps.specs.Rows.{rowsFrom, findFrom, runEndFrom}
+use Rattle.message.specs.Changes.{after, Cuttable, changedAt, fieldPlace, Ready, putAt}
+use Rattle.message.specs.ChangeLaws.{put-place, able-place, put-last, able-last}
+use Rattle.message.specs.StoreLaws.{find-within}
+use Rattle.message.proofs.put_field.Statement.{statement}
+use Rattle.message.proofs.put_field.Tie as tie
+
+cast-t17 : tie.Need-cast-t17
+cast-t17 c = let pre = c .before .before .before .pre in omega (arith, pre .small)
+
+find-row-requires : tie.Need-find-row-requires
+find-row-requires c κs = let pre = c .before .before .before .before .pre in (pre .forwards, omega (arith, pre .last, pre .few), pre .whole)
+
+at-is : (c : tie.After-find-row) → c .find-row .result ≡ fieldPlace (c .before .before .before .before .before .args .span) (c .before .before .before .before .before .args .tag) (c .before .before .before .before .before .args .words .now)
+unfolding fieldPlace
+at-is c = c .find-row .ensures
+
+add-t21 : tie.Need-add-t21
+add-t21 c = let pre = c .before .before .before .before .before .before .pre in omega (arith, pre .last, pre .few)
+
+add-t22 : tie.Need-add-t22
+add-t22 c = let pre = c .before .before .before .before .before .before .pre in omega (arith, pre .last, pre .few)
+
+add-t23 : tie.Need-add-t23
+add-t23 c = let pre = c .before .before .before .before .before .before .pre in omega (arith, pre .last, pre .few)
+
+slice-aggregate-cut-rows : tie.Need-slice-aggregate-cut-rows
+slice-aggregate-cut-rows c = search needs
+
+cut-rows-requires : tie.Need-cut-rows-requires
+cut-rows-requires c κs = able-place _ _ _ _ _ _ (c .before .before .before .before .before .before .before .before .before .pre) _ (at-is (c .before .before .before .before)) (c .before .before .before .if1 .taken)
+
+same-length : tie.Need-same-length
+same-length c = search needs
+
+same-length-2 : tie.Need-same-length-2
+same-length-2 c = search needs
+
+returns : tie.Need-returns
+returns c = c .before .before .before .before .cut-rows .ensures ∙ put-place _ _ _ _ _ _ _ (at-is (c .before .before .before .before .before .before .before .before .before)) (c .before .before .before .before .before .before .before .before .if1 .taken)
+
+find-row-requires-2 : tie.Need-find-row-requires-2
+find-row-requires-2 c κs = let pre = c .before .before .before .before .before .before .before .pre in (pre .forwards, omega (arith, pre .last, pre .few), pre .whole)
+
+run-end-requires : tie.Need-run-end-requires
+run-end-requires c κs = let s = c .before .before .before .before .before .before .before .before .before in (omega (arith, find-within 2 1 (s .args .tag) (s .args .span .from) (s .args .span .to) (s .args .words .now) (s .pre .forwards), c .before .find-row2 .ensures), omega (arith, s .pre .last, s .pre .few), s .pre .whole)
+
+slice-aggregate-cut-rows-2 : tie.Need-slice-aggregate-cut-rows-2
+slice-aggregate-cut-rows-2 c = search needs
+
+add-cut-rows : tie.Need-add-cut-rows
+add-cut-rows c = let pre = c .before .before .before .before .before .before .before .before .before .before .before .before .before .pre in omega (arith, pre .counted)
+
+cut-rows-requires-2 : tie.Need-cut-rows-requires-2
+cut-rows-requires-2 c κs = able-last _ _ _ _ _ _ _ _ _ (at-is (c .before .before .before .before .before .before .before .before)) (c .before .before .before .before .before .before .before .if1 .left) (c .before .before .before .before .before .find-row2 .ensures) (c .before .before .before .run-end .ensures) (c .before .before .before .before .before .before .before .before .before .before .before .before .before .pre)
+
+same-length-3 : tie.Need-same-length-3
+same-length-3 c = search needs
+
+same-length-4 : tie.Need-same-length-4
+same-length-4 c = search needs
+
+returns-2 : tie.Need-returns-2
+returns-2 c = c .before .before .before .before .cut-rows2 .ensures ∙ put-last _ _ _ _ _ _ _ _ _ (at-is (c .before .before .before .before .before .before .before .before .before .before .before .before .before)) (c .before .before .before .before .before .before .before .before .before .before .before .before .if1 .left) (c .before .before .before .before .before .before .before .before .before .before .find-row2 .ensures) (c .before .before .before .before .before .before .before .before .run-end .ensures)
+
+pub put-field-spec : {M : Type 1} → statement M
+put-field-spec =
+    tie.close
+    (tie.spec
+    cast-t17
+    find-row-requires
+    add-t21
+    add-t22
+    add-t23
+    slice-aggregate-cut-rows
+    cut-rows-requires
+    same-length
+    same-length-2
+    returns
+    find-row-requires-2
+    run-end-requires
+    slice-aggregate-cut-rows-2
+    add-cut-rows
+    cut-rows-requires-2
+    same-length-3
+    same-length-4
+    returns-2)

@@ -1,0 +1,151 @@
+-- `remove` meets its contract: the row that is found is cut out; where none is found nothing is held.
+use mathlib.Core.Path.{_≡_, refl, sym, ap, _∙_}
+use mathlib.Core.Logic.{⊎-elim}
+use mathlib.Core.Bool.{Bool, true, false}
+use mathlib.Core.List.{List, [], _∷_, _++_, append-assoc, append-nil}
+use Prim.Native.Nat.{ℕ, zero, suc, _+_, _-_, _*_, _^_, _≤_, _<_}
+use native.Mathlib.Omega.{arith}
+use borrow.Author.Needs.{needs}
+use lib.ListN.{length, getD, take, drop, set, length-set}
+use borrow.Author.Tests.{eq-eqb}
+use Rattle.maps.specs.Rows.{rowsFrom, findFrom}
+use Rattle.lent.specs.Lent.{isMessage, fieldsIn}
+use Rattle.lent.specs.Meaning.{messageIn}
+use Rattle.message.specs.Changes.{after, spanOf, partOf, fieldTotal, storing, removing, putAt, Ready, fieldPlace}
+use Rattle.message.specs.declared.Span.{Span}
+use Rattle.maps.specs.Map.{holds, withoutField}
+use Rattle.message.specs.Changes.{withPart, Cuttable, changedAt}
+use Rattle.message.specs.ChangeLaws.{located-no, located-at, no-message, remove-none, remove-on}
+use Rattle.message.specs.StoreLaws.{In, lent-in, fields-now, span-grows, is-held, is-absent, remove-leaves, remove-fields}
+use Rattle.message.proofs.remove.Statement.{statement}
+use Rattle.message.proofs.remove.Tie as tie
+
+locate-requires : tie.Need-locate-requires
+locate-requires c κs = search needs
+
+enum-known-span : tie.Need-enum-known-span
+enum-known-span c = search needs
+
+enum-told : tie.Need-enum-told
+enum-told c = search needs
+
+same-length : tie.Need-same-length
+same-length c = search needs
+
+same-length-2 : tie.Need-same-length-2
+same-length-2 c = search needs
+
+returns : tie.Need-returns
+returns c = unfold removing in sym (no-message _ _ _ (located-no _ _ _ (sym (c .before .before .locate .ensures) ∙ c .enum-told .given .1)))
+
+-- what was located is the part of the message that is lent
+is-at : (c : tie.After-known-told) → (isMessage (c .before .before .before .before .before .before .before .before .args .words .now) (c .before .before .before .before .before .before .before .before .args .values .now) ≡ true) × (c .before .span .given .0 .0 ≡ spanOf (c .before .before .before .before .before .before .before .before .args .part) (messageIn (c .before .before .before .before .before .before .before .before .args .words .now) (c .before .before .before .before .before .before .before .before .args .values .now)))
+is-at c = located-at _ _ _ _ (sym (c .before .before .before .locate .ensures) ∙ c .before .span .given .1)
+
+in-at : (c : tie.After-known-told) → In (c .before .before .before .before .before .before .before .before .args .words .now) (c .before .before .before .before .before .before .before .before .args .values .now) (c .before .before .before .before .before .before .before .before .args .part) (messageIn (c .before .before .before .before .before .before .before .before .args .words .now) (c .before .before .before .before .before .before .before .before .args .values .now))
+in-at c = lent-in _ _ _ (is-at c .0)
+
+find-row-requires : tie.Need-find-row-requires
+find-row-requires c κs = let k = c .before in let g = span-grows _ _ _ _ (in-at k) in rw (is-at k .1) (g .0, omega (arith, g .1, g .2), in-at k .sized .whole)
+
+found-at : (c : tie.After-find-row) → let s = spanOf (c .before .before .before .before .before .before .before .before .before .before .args .part) (messageIn (c .before .before .before .before .before .before .before .before .before .before .args .words .now) (c .before .before .before .before .before .before .before .before .before .before .args .values .now)) in c .find-row .result ≡ findFrom 1 1 (c .before .before .before .before .before .before .before .before .before .before .args .tag) (s .from) (rowsFrom (s .to - s .from) (s .from) (c .before .before .before .before .before .before .before .before .before .before .args .words .now))
+found-at c = rw (is-at (c .before .before) .1) at (c .find-row .ensures)
+
+same-length-3 : tie.Need-same-length-3
+same-length-3 c = search needs
+
+same-length-4 : tie.Need-same-length-4
+same-length-4 c = search needs
+
+returns-2 : tie.Need-returns-2
+returns-2 c = let k = c .before .before .before in sym (remove-none _ _ _ _ (is-at k .0) (is-absent _ _ _ _ (in-at k) _ _ (found-at (c .before)) (rw (is-at k .1) at (c .if1 .taken))))
+
+held-at : (c : tie.Else1) → holds (c .before .before .before .before .before .before .before .before .before .before .before .args .tag) (partOf (c .before .before .before .before .before .before .before .before .before .before .before .args .part) (messageIn (c .before .before .before .before .before .before .before .before .before .before .before .args .words .now) (c .before .before .before .before .before .before .before .before .before .before .before .args .values .now))) ≡ true
+held-at c = let k = c .before .before .before in is-held _ _ _ _ (in-at k) _ _ (found-at (c .before)) (rw (is-at k .1) at (c .if1 .left))
+
+fields-in-requires : tie.Need-fields-in-requires
+fields-in-requires c κs = let k = c .before .before .before .before in let g = span-grows _ _ _ _ (in-at k) in let e = is-at k .1 in (omega arith, rw e (g .2), in-at k .sized .whole)
+
+fields-at : (c : tie.After-fields-in) → c .fields-in .result ≡ fieldTotal (messageIn (c .before .before .before .before .before .before .before .before .before .before .before .before .before .args .words .now) (c .before .before .before .before .before .before .before .before .before .before .before .before .before .args .values .now))
+fields-at c =
+    let k = c .before .before .before .before .before in
+    c .fields-in .ensures
+    ∙ ap (λ (s : Span). fieldsIn 1 (rowsFrom (s .count - 0) 0 (c .before .before .before .before .before .before .before .before .before .before .before .before .before .args .words .now))) (is-at k .1)
+    ∙ fields-now _ _ _ _ (in-at k)
+
+fields-left : (c : tie.After-fields-in) → fieldTotal (withPart (c .before .before .before .before .before .before .before .before .before .before .before .before .before .args .part) (withoutField (c .before .before .before .before .before .before .before .before .before .before .before .before .before .args .tag) (partOf (c .before .before .before .before .before .before .before .before .before .before .before .before .before .args .part) (messageIn (c .before .before .before .before .before .before .before .before .before .before .before .before .before .args .words .now) (c .before .before .before .before .before .before .before .before .before .before .before .before .before .args .values .now)))) (messageIn (c .before .before .before .before .before .before .before .before .before .before .before .before .before .args .words .now) (c .before .before .before .before .before .before .before .before .before .before .before .before .before .args .values .now))) + 1 ≡ c .fields-in .result
+fields-left c = remove-fields _ _ _ _ (in-at (c .before .before .before .before .before)) _ _ (found-at (c .before .before .before)) (held-at (c .before .before)) ∙ sym (fields-at c)
+
+fields-less : (c : tie.After-fields-in) → c .fields-in .result - 1 ≡ fieldTotal (withPart (c .before .before .before .before .before .before .before .before .before .before .before .before .before .args .part) (withoutField (c .before .before .before .before .before .before .before .before .before .before .before .before .before .args .tag) (partOf (c .before .before .before .before .before .before .before .before .before .before .before .before .before .args .part) (messageIn (c .before .before .before .before .before .before .before .before .before .before .before .before .before .args .words .now) (c .before .before .before .before .before .before .before .before .before .before .before .before .before .args .values .now)))) (messageIn (c .before .before .before .before .before .before .before .before .before .before .before .before .before .args .words .now) (c .before .before .before .before .before .before .before .before .before .before .before .before .before .args .values .now)))
+fields-less c = omega (arith, fields-left c)
+
+row-at : (c : tie.After-fields-in) → c .before .before .before .find-row .result + 1 < 2 ^ 64
+row-at c =
+    let k = c .before .before .before .before .before in
+    let g = span-grows _ _ _ _ (in-at k) in
+    let t = rw (is-at k .1) at (c .before .before .if1 .left) in
+    omega (arith, t, g .1, g .2)
+
+add-cut-rows : tie.Need-add-cut-rows
+add-cut-rows c = omega (arith, row-at c)
+
+add-t25 : tie.Need-add-t25
+add-t25 c = omega (arith, row-at c)
+
+add-t26 : tie.Need-add-t26
+add-t26 c = omega (arith, row-at c)
+
+array-share-prefix-no-words : tie.Need-array-share-prefix-no-words
+array-share-prefix-no-words c = search needs
+
+slice-aggregate-cut-rows : tie.Need-slice-aggregate-cut-rows
+slice-aggregate-cut-rows c = search needs
+
+array-share-prefix-no-bytes : tie.Need-array-share-prefix-no-bytes
+array-share-prefix-no-bytes c = search needs
+
+slice-aggregate-cut-rows-2 : tie.Need-slice-aggregate-cut-rows-2
+slice-aggregate-cut-rows-2 c = search needs
+
+sub-cut-rows : tie.Need-sub-cut-rows
+sub-cut-rows c = let f = fields-left (c .before .before .before .before) in omega (arith, f)
+
+cut-rows-requires : tie.Need-cut-rows-requires
+cut-rows-requires c κs = let f = c .before .before .before .before in let k = f .before .before .before .before .before in rw (is-at k .1, fields-less f) (remove-leaves _ _ _ _ (in-at k) _ _ (found-at (f .before .before .before)) (held-at (f .before .before)) .able)
+
+same-length-5 : tie.Need-same-length-5
+same-length-5 c = search needs
+
+same-length-6 : tie.Need-same-length-6
+same-length-6 c = search needs
+
+returns-3 : tie.Need-returns-3
+returns-3 c = let f = c .before .before .before .before .before .before .before .before .before in let k = f .before .before .before .before .before in rw (is-at k .1, fields-less f) at (c .before .before .before .before .cut-rows .ensures) ∙ remove-leaves _ _ _ _ (in-at k) _ _ (found-at (f .before .before .before)) (held-at (f .before .before)) .done ∙ sym (remove-on _ _ _ _ (is-at k .0) (held-at (f .before .before)))
+
+pub remove-spec : {M : Type 1} → statement M
+remove-spec =
+    tie.close
+    (tie.spec
+    locate-requires
+    enum-known-span
+    enum-told
+    same-length
+    same-length-2
+    returns
+    find-row-requires
+    same-length-3
+    same-length-4
+    returns-2
+    fields-in-requires
+    add-cut-rows
+    add-t25
+    add-t26
+    array-share-prefix-no-words
+    slice-aggregate-cut-rows
+    array-share-prefix-no-bytes
+    slice-aggregate-cut-rows-2
+    sub-cut-rows
+    cut-rows-requires
+    same-length-5
+    same-length-6
+    returns-3)

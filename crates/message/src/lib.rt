@@ -1,0 +1,253 @@
+// message: FIX messages made and changed by calls. It says what a message means in no other words than maps; `lent` says what may be lent,
+// `maps` moves rows and bytes. No operation demands anything of what is lent: where it is no message the answer is 27.
+ghost use mathlib.Core.Path.{_≡_};
+ghost use mathlib.Core.Bool.{true, false};
+ghost use Prim.Native.Nat.{_+_, _-_, _*_, _≤_, _<_};
+ghost use lib.ListN.{length};
+ghost use lib.Dec.{leb};
+ghost use Rattle.message.specs.Changes.{locatedIn, Cuttable, changedAt, Ready, putAt, after, emptying, storing, removing};
+
+pub enum Part {
+    Header,
+    Body,
+    Trailer,
+}
+
+// What a call that changes a message answers: 0, 27, 41, 42, 21.
+pub enum Change {
+    Made,
+    NoMessage,
+    NotStorable,
+    NoRun,
+    TooManyFields,
+}
+
+// The rows of a part's map, and how many rows there are in all.
+pub struct Span {
+    pub from: usize,
+    pub to: usize,
+    pub count: usize,
+}
+
+pub enum Located {
+    At(Span),
+    Nowhere,
+}
+
+// Rows that are taken out, from `from` to `to`; those from `kept` on come back behind what follows up to `until`.
+pub struct Cut {
+    pub from: usize,
+    pub to: usize,
+    pub kept: usize,
+    pub until: usize,
+    pub count: usize,
+}
+
+// Where a part of the message stands that is lent, if it is one.
+pub fn locate(words: &[u32], values: &[u8], part: Part) -> Located
+    ensures { λ r. ⌜ r ≡ locatedIn part (now (words .entry)) (now (values .entry)) ⌝ }
+{
+    if !lent::is_message(words, values) {
+        return Located::Nowhere;
+    }
+    let count = lent::row_count(words);
+    let first = maps::end_of(words, 0, 1, count);
+    let body = first + 1;
+    let second = maps::end_of(words, 0, body, count);
+    let trailer = second + 1;
+    match part {
+        Part::Header => {
+            return Located::At(Span {
+                from: 1,
+                to: first,
+                count,
+            });
+        }
+        Part::Body => {
+            return Located::At(Span {
+                from: body,
+                to: second,
+                count,
+            });
+        }
+        Part::Trailer => {
+            return Located::At(Span {
+                from: trailer,
+                to: count,
+                count,
+            });
+        }
+    }
+}
+
+// Whether values of a size have room beside others.
+fn fits(left: usize, more: usize) -> bool
+    ensures { λ r. ⌜ r ≡ leb (left + more) 8192 ⌝ }
+{
+    if 8192 < left {
+        return false;
+    }
+    more <= 8192 - left
+}
+
+// Cuts, moves and inserts rows with their values, unless that is refused: 41, 42, 21.
+pub fn cut_rows(
+    words: &mut [u32],
+    values: &mut [u8],
+    cut: Cut,
+    rows: &[u32],
+    added: usize,
+    bytes: &[u8],
+    whole: bool,
+    fields: usize,
+) -> Change
+    requires { ⌜ Cuttable (now words) (now values) cut (now rows) added fields ⌝ }
+    ensures { λ r. ⌜ after r (now (words .exit)) (now (values .exit)) ≡ changedAt cut (now (rows .entry)) added (now (bytes .entry)) whole fields (now (words .entry)) (now (values .entry)) ⌝ }
+{
+    let from = cut.from;
+    let to = cut.to;
+    let kept = cut.kept;
+    let until = cut.until;
+    let count = cut.count;
+    let first = maps::size_between(words, 0, from);
+    let second = maps::size_between(words, 0, to);
+    let third = maps::size_between(words, 0, kept);
+    let fourth = maps::size_between(words, 0, until);
+    let used = maps::size_between(words, 0, count);
+    if !fits(
+        first + (fourth - second) + (second - third) + (used - fourth),
+        bytes.len(),
+    ) {
+        return Change::NotStorable;
+    }
+    if !whole {
+        return Change::NoRun;
+    }
+    if 1024 < fields {
+        return Change::TooManyFields;
+    }
+    let left = from + (until - to) + (to - kept) + (count - until);
+    maps::splice_words(
+        words,
+        4 * from + 1,
+        4 * to + 1,
+        4 * kept + 1,
+        4 * until + 1,
+        4 * count + 1,
+        rows,
+    );
+    words[0] = (left + added) as u32;
+    maps::splice_bytes(values, first, second, third, fourth, used, bytes);
+    Change::Made
+}
+
+// Stores a field in the map whose rows stand from `from` to `to`: in its place, or last and in front of the run that waited for it.
+pub fn put_field(
+    words: &mut [u32],
+    values: &mut [u8],
+    span: Span,
+    tag: u32,
+    value: &[u8],
+    fields: usize,
+) -> Change
+    requires { ⌜ Ready (now words) (now values) span tag (now value) fields ⌝ }
+    ensures { λ r. ⌜ after r (now (words .exit)) (now (values .exit)) ≡ putAt span tag (now (value .entry)) fields (now (words .entry)) (now (values .entry)) ⌝ }
+{
+    let from = span.from;
+    let to = span.to;
+    let count = span.count;
+    let row = [1u32, 1, tag, value.len() as u32];
+    let at = maps::find_row(words, 1, 1, tag, from, to);
+    if at < to {
+        let place = Cut {
+            from: at,
+            to: at + 1,
+            kept: at + 1,
+            until: at + 1,
+            count,
+        };
+        return cut_rows(words, values, place, &row[..], 1, value, true, fields);
+    }
+    let first = maps::find_row(words, 2, 1, tag, from, to);
+    let last = maps::run_end(words, 1, tag, first, to);
+    let run = Cut {
+        from: first,
+        to: last,
+        kept: first,
+        until: to,
+        count,
+    };
+    cut_rows(words, values, run, &row[..], 1, value, true, fields + 1)
+}
+
+// Makes what is lent an empty message.
+pub fn empty(words: &mut [u32], values: &mut [u8]) -> Change
+    ensures { λ r. ⌜ after r (now (words .exit)) (now (values .exit)) ≡ emptying (now (words .entry)) (now (values .entry)) ⌝ }
+{
+    if words.len() != 8205 {
+        return Change::NoMessage;
+    }
+    if values.len() != 8192 {
+        return Change::NoMessage;
+    }
+    let heads = [2u32, 0, 1, 0, 2, 0, 2, 0, 2, 0, 3, 0];
+    let no_bytes = [0u8; 1];
+    maps::splice_words(words, 1, 1, 1, 1, 1, &heads[..]);
+    words[0] = 3;
+    maps::splice_bytes(values, 0, 0, 0, 0, 0, &no_bytes[..0]);
+    Change::Made
+}
+
+// Stores a field in a part of a message.
+pub fn store(words: &mut [u32], values: &mut [u8], part: Part, tag: u32, value: &[u8]) -> Change
+    ensures { λ r. ⌜ after r (now (words .exit)) (now (values .exit)) ≡ storing part tag (now (value .entry)) (now (words .entry)) (now (values .entry)) ⌝ }
+{
+    let Located::At(span) = locate(words, values, part) else {
+        return Change::NoMessage;
+    };
+    if tag == 0 {
+        return Change::NotStorable;
+    }
+    if 8192 < value.len() {
+        return Change::NotStorable;
+    }
+    let count = span.count;
+    let fields = lent::fields_in(words, 1, 0, count);
+    put_field(words, values, span, tag, value, fields)
+}
+
+// Removes a field from a part of a message; a run that hung on it stays.
+pub fn remove(words: &mut [u32], values: &mut [u8], part: Part, tag: u32) -> Change
+    ensures { λ r. ⌜ after r (now (words .exit)) (now (values .exit)) ≡ removing part tag (now (words .entry)) (now (values .entry)) ⌝ }
+{
+    let Located::At(span) = locate(words, values, part) else {
+        return Change::NoMessage;
+    };
+    let from = span.from;
+    let to = span.to;
+    let count = span.count;
+    let at = maps::find_row(words, 1, 1, tag, from, to);
+    if to <= at {
+        return Change::Made;
+    }
+    let fields = lent::fields_in(words, 1, 0, count);
+    let no_words = [0u32; 1];
+    let no_bytes = [0u8; 1];
+    let place = Cut {
+        from: at,
+        to: at + 1,
+        kept: at + 1,
+        until: at + 1,
+        count,
+    };
+    cut_rows(
+        words,
+        values,
+        place,
+        &no_words[..0],
+        0,
+        &no_bytes[..0],
+        true,
+        fields - 1,
+    )
+}
