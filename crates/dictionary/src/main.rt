@@ -1,5 +1,5 @@
-// dictionary: checks the flat dictionary on standard input and says the answer's number and value. With arguments it checks once more for
-// each, which is what the check is timed with.
+// dictionary: checks the flat dictionary on standard input and says the answer's number and value. It checks once more for each
+// word of its command line, which is what the check is timed with.
 
 fn answered(dictionary: &[u8], n: usize) -> flat_steps::Checked {
     if dictionary.len() < n {
