@@ -4,6 +4,7 @@
 real      known tags, then messages of fields, a component and a group each, up to about so many bytes; it passes
 doubling  5,000 components, each holding the one before twice, all empty; it lacks component 1's use and passes
 chain     7,500 components, each holding the one before
+deep      1,024 components, each holding a field and the one before, and a message of the last: what the build's stack is measured with
 """
 import struct
 import sys
@@ -49,8 +50,17 @@ def chain(size):
     return out[:size]
 
 
+def deep(size):
+    out = b"".join(known(t) for t in (1, 8, 9, 10, 35))
+    out += component(0) + field(8) + field(9) + field(35) + CLOSE + component(1) + field(10) + CLOSE
+    out += component(2) + field(1) + CLOSE
+    for number in range(3, 1026):
+        out += component(number) + field(1) + item(number - 1) + CLOSE
+    return (out + message(b"0") + item(1025) + CLOSE)[:size]
+
+
 if __name__ == "__main__":
-    kinds = {"real": real, "doubling": doubling, "chain": chain}
+    kinds = {"real": real, "doubling": doubling, "chain": chain, "deep": deep}
     if len(sys.argv) != 3 or sys.argv[1] not in kinds:
         sys.exit(__doc__)
     sys.stdout.buffer.write(kinds[sys.argv[1]](int(sys.argv[2])))

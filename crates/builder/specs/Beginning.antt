@@ -13,10 +13,10 @@ use Rattle.integrity.specs.declared.Integrity.the-variants.{Sound, Garbled}
 use Rattle.integrity.specs.declared.Verified.{Verified}
 use Rattle.records.specs.Records.{blank, stored}
 use Rattle.records.specs.declared.Record.{Record}
-use Rattle.builder.specs.declared.Answer.{Answer}
-use Rattle.builder.specs.declared.Answer.the-variants.{Garbled as garbled}
-use Rattle.builder.specs.Parts.{Reading, ended, refused, recordOf}
-use Rattle.builder.specs.Header.{headerFrom}
+use Rattle.parts.specs.declared.Answer.{Answer}
+use Rattle.parts.specs.declared.Answer.the-variants.{Garbled as garbled}
+use Rattle.parts.specs.Parts.{Reading, ended, refused, recordOf}
+use Rattle.parts.specs.Header.{headerFrom}
 
 -- the fields that were verified, in the order in which they were read
 unfoldable pub verifiedRecords : Verified → List Record

@@ -9,20 +9,20 @@ use Rattle.tagvalue.specs.declared.Field.{Field}
 use Rattle.records.specs.Records.{recordsOf, stored}
 use Rattle.records.specs.RecordLaws.{between-end}
 use Rattle.records.specs.declared.Record.{Record}
-use Rattle.builder.specs.declared.Answer.{Answer}
-use Rattle.builder.specs.declared.Answer.the-variants.{TooManyFields}
-use Rattle.builder.specs.declared.Progress.{Progress}
-use Rattle.builder.specs.declared.PartRead.{PartRead}
-use Rattle.builder.specs.declared.PartRead.the-variants.{At, Refused}
-use Rattle.builder.specs.declared.TrailerRead.{TrailerRead}
-use Rattle.builder.specs.declared.TrailerRead.the-variants.{Stopped, Unstopped, TooManyFields as Crowded}
+use Rattle.parts.specs.declared.Answer.{Answer}
+use Rattle.parts.specs.declared.Answer.the-variants.{TooManyFields}
+use Rattle.parts.specs.declared.Progress.{Progress}
+use Rattle.parts.specs.declared.PartRead.{PartRead}
+use Rattle.parts.specs.declared.PartRead.the-variants.{At, Refused}
+use Rattle.parts.specs.declared.TrailerRead.{TrailerRead}
+use Rattle.parts.specs.declared.TrailerRead.the-variants.{Stopped, Unstopped, TooManyFields as Crowded}
 use Rattle.builder.specs.declared.Stop.the-variants.{At as stops, Nowhere}
 use Rattle.builder.specs.declared.Finished.{Finished}
 use Rattle.builder.specs.declared.Finished.the-variants.{Whole, Refused as RefusedWhole}
-use Rattle.builder.specs.Parts.{Reading, recordOf, partOf, partTold, Kept}
-use Rattle.builder.specs.RunLaws.{between-split}
-use Rattle.builder.specs.GroupReading.{front-is, front-parts}
-use Rattle.builder.specs.Trailer.{Trailer, trailerFrom, trailerTold, trailerCounts}
+use Rattle.parts.specs.Parts.{Reading, recordOf, partOf, partTold, Kept}
+use Rattle.body.specs.RunLaws.{between-split}
+use Rattle.body.specs.GroupReading.{front-is, front-parts}
+use Rattle.parts.specs.Trailer.{Trailer, trailerFrom, trailerTold, trailerCounts}
 use Rattle.builder.specs.Message.{afterTrailer, afterBody, finishTold}
 
 -- a part that ends where it starts is empty

@@ -7,22 +7,22 @@ use Rattle.tagvalue.specs.Choice.{pick}
 use Rattle.tagvalue.specs.Fields.{Fields, field}
 use Rattle.tagvalue.specs.declared.Field.{Field}
 use Rattle.layout.specs.Layout.{Layout}
-use Rattle.layout.specs.Tree.{Dictionary, headerTags, trailerTags, Choice, noMessage, laidOut, layoutOf}
+use Rattle.layout.specs.Tree.{Dictionary, knows, headerTags, trailerTags, Choice, noMessage, laidOut, layoutOf}
 use Rattle.records.specs.declared.Record.{Record}
 use Rattle.groups.specs.Reading.{accepted, layoutRules}
 use Rattle.required.specs.Checking.{layoutDemands}
-use Rattle.builder.specs.declared.Answer.{Answer}
-use Rattle.builder.specs.declared.Answer.the-variants.{Valid, InvalidMsgType, TooManyFields}
+use Rattle.parts.specs.declared.Answer.{Answer}
+use Rattle.parts.specs.declared.Answer.the-variants.{Valid, InvalidMsgType, TooManyFields}
 use Rattle.builder.specs.declared.Stop.{Stop}
 use Rattle.builder.specs.declared.Stop.the-variants.{At, Nowhere}
 use Rattle.builder.specs.declared.Finished.{Finished}
 use Rattle.builder.specs.declared.Finished.the-variants.{Whole, Refused}
-use Rattle.builder.specs.Answer.{numberOf}
-use Rattle.builder.specs.Parts.{Reading, ended, refused, recordOf, partOf}
-use Rattle.builder.specs.Trailer.{Trailer, stopped, unstopped, crowded, trailerFrom}
+use Rattle.parts.specs.Answer.{numberOf}
+use Rattle.parts.specs.Parts.{Reading, ended, refused, recordOf, partOf}
+use Rattle.parts.specs.Trailer.{Trailer, stopped, unstopped, crowded, trailerFrom}
 use Rattle.builder.specs.Beginning.{Start, started, unsound, startOf, msgTypeRecord, valueAt}
-use Rattle.builder.specs.Body.{bodyFrom}
-use Rattle.builder.specs.Kinds.{bodyOf}
+use Rattle.body.specs.Body.{bodyFrom}
+use Rattle.body.specs.Kinds.{bodyOf}
 
 -- the answer, the records that are shown with it, and what stopped the trailer
 pub record Outcome : Type 0 where
@@ -62,7 +62,7 @@ module _ (dictionary : Dictionary) (validate : Bool) where
   unfoldable pub afterType : Field → Fields → ℕ → List Record → Field → Choice → Outcome
   afterType f rest room header checksum noMessage = refusal (InvalidMsgType (msgTypeRecord header .place) (msgTypeRecord header .length)) header
   afterType f rest room header checksum (laidOut layout) =
-      afterBody header checksum (bodyFrom (bodyOf (layoutRules (accepted validate (dictionary .known))) layoutDemands (trailerTags dictionary) layout) (field f rest) (suc room) [])
+      afterBody header checksum (bodyFrom (bodyOf (layoutRules (accepted validate (knows dictionary))) layoutDemands (trailerTags dictionary) layout) (field f rest) (suc room) [])
 
   unfoldable pub afterHeader : List ℕ → Start → Outcome
   afterHeader message (unsound answer) = refusal answer []

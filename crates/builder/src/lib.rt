@@ -1,72 +1,43 @@
-// builder: from a message's bytes to its answer and its records. Header, body and trailer are read one field at a time.
-// It reads through look-ups only, keeps records through `records` only, and never looks at a dictionary's bytes.
-use groups::Group;
-use groups::Reading;
-use groups::Refusal;
+// builder: from a message's bytes to its answer and its records: integrity, header, MsgType's layout, body and trailer in turn.
+// It reads a dictionary through the index and the tables that are made of it, and keeps records through `records` only.
+use flattening::MessageTable;
+use flattening::tags;
+use flattening::tags::TagList;
 use integrity::Config;
-use integrity::GarbledReason;
+use integrity::Integrity;
+use integrity::Verified;
 use layout::Level;
-use layout::Nested;
-use layout::Position;
+use parts::Answer;
+use parts::PartRead;
+use parts::Progress;
+use parts::TrailerRead;
 use records::Record;
-use records::Standing;
-use required::Lack;
-use tagvalue::Cause;
-use tagvalue::Cursor;
 use tagvalue::Field;
-use tagvalue::FieldRead;
 ghost use mathlib.Core.Path.{_≡_};
-ghost use mathlib.Core.List.{[]};
-ghost use Prim.Native.Nat.{suc, _+_, _≤_, _<_, _/_, _^_};
-ghost use lib.ListN.{length};
+ghost use mathlib.Core.List.{[], _++_};
+ghost use Prim.Native.Nat.{suc, _+_, _-_, _*_, _≤_, _<_, _/_, _^_};
+ghost use lib.ListN.{length, take, replicate};
+ghost use Rattle.flat_names.specs.Index.{tagAt};
 ghost use Rattle.tagvalue.specs.Fields.{field, fieldsFrom};
-ghost use Rattle.tagvalue.specs.Field.{fieldAt};
-ghost use Rattle.required.specs.Checking.{tableDemands};
-ghost use Rattle.builder.specs.Parts.{recordOf, partOf, Kept, nextOf, partTold, Stays};
-ghost use Rattle.builder.specs.Header.{headerFrom};
-ghost use Rattle.records.specs.Records.{stored};
 ghost use Rattle.groups.specs.ReadingLaws.{Inside};
 ghost use Rattle.groups.specs.Reading.{tableRules};
-ghost use Rattle.builder.specs.Kinds.{answerOf, meantBy, kindOf, runFrom, bodyOf};
-ghost use Rattle.builder.specs.Body.{nextFrom, withRun, bodyFrom, RunEnd, Dropped, Opened};
-ghost use Rattle.builder.specs.Message.{afterBody, finishTold, finishCounts};
-ghost use Rattle.builder.specs.Trailer.{trailerFrom, trailerTold, trailerCounts};
+ghost use Rattle.required.specs.Checking.{tableDemands};
+ghost use Rattle.flattening.specs.Meaning.{dictionaryOf};
+ghost use Rattle.layout.specs.Tree.{layoutOf, trailerTags};
+ghost use Rattle.parts.specs.Parts.{partOf};
+ghost use Rattle.body.specs.Kinds.{bodyOf};
+ghost use Rattle.body.specs.Body.{bodyFrom};
+ghost use Rattle.builder.specs.Beginning.{verifiedRecords, startOf, msgTypeRecord, valueAt};
+ghost use Rattle.builder.specs.Message.{afterBody, afterType, finishTold, finishCounts, messageRead};
+ghost use Rattle.builder.specs.Reading.{VerifiedInside, startTold, HeaderEnds, Begins, Prepared, standardTags, readTold, shownCount};
+ghost use Rattle.builder.specs.Build.{isInvalid, checkedRead, buildOf, builtTold};
+ghost use Rattle.flat.specs.Check.{checkOf};
+ghost use mathlib.Core.Bool.{true, false};
 
-const CHECKSUM: u32 = 10;
+const MSG_TYPE: u32 = 35;
 
-// The answer to a message. Numbers are a tag and the tag of its group, or the place and length of a value.
-pub enum Answer {
-    Valid,
-    InvalidField(u32),
-    InvalidOrderInGroup(u32, u32),
-    InvalidMsgType(usize, usize),
-    RequiredFieldMissing(u32, u32),
-    Malformed(Cause, usize),
-    Garbled(GarbledReason),
-    TooLong,
-    TooManyFields,
-    InvalidSeparator,
-    TooFewRecords,
-}
-
-// How many fields may still be read, and how many records there are.
-pub struct Progress {
-    pub room: usize,
-    pub records: usize,
-}
-
-// A part ends at a field that is read already, or reading was refused.
-pub enum PartRead {
-    At(Field, Progress),
-    Refused(Answer),
-}
-
-// The trailer stops at a CheckSum or where no field can be read; the number is that of all records.
-pub enum TrailerRead {
-    Stopped(Field, usize),
-    Unstopped(usize),
-    TooManyFields,
-}
+// How many fields may be read behind the three that are verified: a 1,025th is too many.
+const ROOM: usize = 1021;
 
 // The CheckSum that stopped the trailer, where one did.
 pub enum Stop {
@@ -87,370 +58,52 @@ pub enum Finished {
     Refused(Answer),
 }
 
-// Where a run comes in: behind its count, among so many records.
-pub struct Opening {
+// A header was read, or reading was refused before its end.
+pub enum Begun {
+    Header(Headed),
+    Refused(Answer),
+}
+
+// What was read: the answer, the CheckSum that stopped the trailer, and how many records are shown.
+pub struct Read {
+    pub answer: Answer,
+    pub stop: Stop,
     pub records: usize,
-    pub place: usize,
 }
 
-// What a tag is to the body: a field of the layout or an accepted one, a count, or neither.
-enum BodyKind {
-    Plain,
-    Counts(Level),
-    Other,
-}
-
-enum Next {
-    Got(Field),
-    Missing(Answer),
-}
-
-// A field's record in one of the parts.
-fn record_of(part: u32, field: Field) -> Record
-    requires { ⌜ (field .place < 2 ^ 32) × (field .length < 2 ^ 32) ⌝ }
-    ensures { λ r. ⌜ r ≡ recordOf part field ⌝ }
-{
-    Record {
-        part,
-        depth: 0,
-        number: 0,
-        tag: field.tag,
-        place: field.place as u32,
-        length: field.length as u32,
-    }
-}
-
-// Stores a record in the last map, whose records start at an index; answers how many records there are then.
-fn keep(words: &mut [u32], from: usize, records: usize, stored: Record) -> usize
-    requires { ⌜ (from ≤ records) × (records < length (now words) / 6) ⌝ }
-    ensures { λ r. ⌜ Kept (now (words .entry)) (now (words .exit)) from records stored r ⌝ }
-{
-    match records::store(words, records, from, records, stored) {
-        Standing::At(_) => records,
-        Standing::Nowhere => records + 1,
-    }
-}
-
-// The next field, where one can be read and there is room for it.
-fn next_field(message: &[u8], config: Config, cursor: Cursor, room: usize) -> Next
-    ensures { λ r. ⌜ r ≡ nextOf room (fieldAt (config .separator) (now (message .entry)) cursor) ⌝ }
-{
-    match cursor.next_field(message, config.separator) {
-        FieldRead::Unreadable(cause, place) => Next::Missing(Answer::Malformed(cause, place)),
-        FieldRead::Read(field) => {
-            if room == 0 {
-                return Next::Missing(Answer::TooManyFields);
-            }
-            Next::Got(field)
-        }
-    }
-}
-
-// The rest of the header, behind the fields that were verified.
-pub fn read_header(
-    message: &[u8],
-    config: Config,
-    header_tags: &[u32],
-    cursor: Cursor,
-    words: &mut [u32],
-    progress: Progress,
-) -> PartRead
-    requires { ⌜ (length (now message) < 2 ^ 32) × (progress .records + progress .room ≤ length (now words) / 6) ⌝ }
-    ensures { λ r. ⌜ partTold (config .separator) (now (message .entry)) 0 r (now (words .exit)) ≡ headerFrom (now («header_tags» .entry)) (fieldsFrom (config .separator) (now (message .entry)) cursor) (progress .room) (partOf 0 (progress .records) (now (words .entry))) ⌝ }
-    ensures { λ r. ⌜ Stays (now (message .entry)) (now (words .entry)) (now (words .exit)) 0 (progress .room) r ⌝ }
-{
-    let mut at = cursor;
-    let mut room = progress.room;
-    let mut records = progress.records;
-    loop {
-        match next_field(message, config, at, room) {
-            Next::Missing(answer) => {
-                return PartRead::Refused(answer);
-            }
-            Next::Got(field) => {
-                room -= 1;
-                if !layout::holds(header_tags, field.tag) {
-                    return PartRead::At(field, Progress { room, records });
-                }
-                records = keep(words, 0, records, record_of(records::HEADER, field));
-                at = field.next;
-            }
-        }
-    }
-}
-
-// With validation off, unknown user-defined tags are the body's too.
-fn kind_of(config: Config, table: &[u32], known: &[u32], level: Level, tag: u32) -> BodyKind
-    ensures { λ r. ⌜ meantBy r ≡ kindOf (tableRules (config .validate) (now (table .entry)) (now (known .entry))) level tag ⌝ }
-{
-    let Position::At(_) = layout::position_of(table, level, tag) else {
-        if groups::accepted(config, known, tag) {
-            return BodyKind::Plain;
-        }
-        return BodyKind::Other;
-    };
-    let Nested::Within(inner) = layout::group_of(table, level, tag) else {
-        return BodyKind::Plain;
-    };
-    BodyKind::Counts(inner)
-}
-
-// Stores a field of the body and reads the next.
-fn read_plain(
-    message: &[u8],
-    config: Config,
-    plain: Field,
-    words: &mut [u32],
-    from: usize,
-    progress: Progress,
-) -> PartRead
-    requires { ⌜ (length (now message) < 2 ^ 32) × (Inside (now message) plain) × (from ≤ progress .records) × (progress .records + progress .room < length (now words) / 6) ⌝ }
-    ensures { λ r. ⌜ partTold (config .separator) (now (message .entry)) from r (now (words .exit)) ≡ nextFrom (fieldsFrom (config .separator) (now (message .entry)) (plain .next)) (progress .room) (stored (recordOf 2 plain) (partOf from (progress .records) (now (words .entry)))) ⌝ }
-    ensures { λ r. ⌜ Stays (now (message .entry)) (now (words .entry)) (now (words .exit)) from (progress .room) r ⌝ }
-{
-    let records = keep(
-        words,
-        from,
-        progress.records,
-        record_of(records::BODY, plain),
-    );
-    match next_field(message, config, plain.next, progress.room) {
-        Next::Missing(answer) => PartRead::Refused(answer),
-        Next::Got(field) => PartRead::At(
-            field,
-            Progress {
-                room: progress.room - 1,
-                records,
-            },
-        ),
-    }
-}
-
-// A refusal of a run as the answer to the message.
-fn answer_of(refusal: Refusal) -> Answer
-    ensures { λ r. ⌜ r ≡ answerOf refusal ⌝ }
-{
-    match refusal {
-        Refusal::Malformed(cause, place) => Answer::Malformed(cause, place),
-        Refusal::TooManyFields => Answer::TooManyFields,
-        Refusal::InvalidOrderInGroup(tag, group) => Answer::InvalidOrderInGroup(tag, group),
-    }
-}
-
-// Where the run ends that starts at a place.
-fn run_end(words: &[u32], place: usize, records: usize) -> usize
-    requires { ⌜ (place ≤ records) × (records ≤ length (now words) / 6) ⌝ }
-    ensures { λ r. ⌜ RunEnd (now (words .entry)) place records r ⌝ }
-{
-    let mut end = place;
-    while end < records {
-        let found = records::record_at(words, end);
-        if found.depth == 0 {
-            return end;
-        }
-        end += 1;
-    }
-    end
-}
-
-// Takes the run out that starts at a place; answers how many records are left.
-fn drop_run(words: &mut [u32], place: usize, records: usize) -> usize
-    requires { ⌜ (place ≤ records) × (records ≤ length (now words) / 6) ⌝ }
-    ensures { λ r. ⌜ Dropped (now (words .entry)) (now (words .exit)) place records r ⌝ }
-{
-    let gone = run_end(words, place, records) - place;
-    records::remove(words, records, place, gone);
-    records - gone
-}
-
-// Stores a count in the last map, whose records start at an index, and makes way for its run. "A second run replaces the first."
-fn open_run(words: &mut [u32], from: usize, records: usize, stored: Record) -> Opening
-    requires { ⌜ (from ≤ records) × (records < length (now words) / 6) ⌝ }
-    ensures { λ r. ⌜ Opened (now (words .entry)) (now (words .exit)) from records stored r ⌝ }
-{
-    match records::store(words, records, from, records, stored) {
-        Standing::At(i) => {
-            let place = i + 1;
-            Opening {
-                records: drop_run(words, place, records),
-                place,
-            }
-        }
-        Standing::Nowhere => Opening {
-            records: records + 1,
-            place: records + 1,
-        },
-    }
-}
-
-// Stores a count and reads its run; the entries must hold their required fields.
-fn read_group(
-    message: &[u8],
-    config: Config,
-    table: &[u32],
-    known: &[u32],
-    inner: Level,
-    count: Field,
-    words: &mut [u32],
-    from: usize,
-    progress: Progress,
-) -> PartRead
-    requires { ⌜ (length (now message) < 2 ^ 32) × (Inside (now message) count) × (from ≤ progress .records) × (progress .records + progress .room < length (now words) / 6) × (length (now words) < 2 ^ 32) ⌝ }
-    ensures { λ r. ⌜ partTold (config .separator) (now (message .entry)) from r (now (words .exit)) ≡ withRun (recordOf 2 count) (partOf from (progress .records) (now (words .entry))) (runFrom (tableRules (config .validate) (now (table .entry)) (now (known .entry))) (tableDemands (now (table .entry))) inner (count .tag) (fieldsFrom (config .separator) (now (message .entry)) (count .next)) (progress .room)) ⌝ }
-    ensures { λ r. ⌜ Stays (now (message .entry)) (now (words .entry)) (now (words .exit)) from (progress .room) r ⌝ }
-{
-    let opening = open_run(
-        words,
-        from,
-        progress.records,
-        record_of(records::BODY, count),
-    );
-    let group = Group {
-        level: inner,
-        tag: count.tag,
-        depth: 1,
-    };
-    let start = groups::Progress {
-        room: progress.room,
-        records: opening.records,
-        place: opening.place,
-    };
-    match groups::read_run(
-        message,
-        config,
-        table,
-        known,
-        group,
-        count.next,
-        words,
-        start,
-    ) {
-        Reading::Refused(refusal) => PartRead::Refused(answer_of(refusal)),
-        Reading::At(field, run) => {
-            match required::check_run(words, table, group, opening.place, run.place) {
-                Lack::Missing(tag, group_tag) => PartRead::Refused(Answer::RequiredFieldMissing(
-                    tag,
-                    group_tag,
-                )),
-                Lack::Complete => PartRead::At(
-                    field,
-                    Progress {
-                        room: run.room,
-                        records: run.records,
-                    },
-                ),
-            }
-        }
-    }
-}
-
-// The body, from the field that ended the header on. "The first other field must be a trailer tag, else 1."
-pub fn read_body(
-    message: &[u8],
-    config: Config,
-    table: &[u32],
-    known: &[u32],
-    trailer_tags: &[u32],
-    level: Level,
-    first: Field,
-    words: &mut [u32],
-    from: usize,
-    progress: Progress,
-) -> PartRead
-    requires { ⌜ (length (now message) < 2 ^ 32) × (Inside (now message) first) × (from ≤ progress .records) × (progress .records + progress .room < length (now words) / 6) × (length (now words) < 2 ^ 32) ⌝ }
-    ensures { λ r. ⌜ partTold (config .separator) (now (message .entry)) from r (now (words .exit)) ≡ bodyFrom (bodyOf (tableRules (config .validate) (now (table .entry)) (now (known .entry))) (tableDemands (now (table .entry))) (now («trailer_tags» .entry)) level) (field first (fieldsFrom (config .separator) (now (message .entry)) (first .next))) (suc (progress .room)) (partOf from (progress .records) (now (words .entry))) ⌝ }
-    ensures { λ r. ⌜ Stays (now (message .entry)) (now (words .entry)) (now (words .exit)) from (suc (progress .room)) r ⌝ }
-{
-    let mut reading = PartRead::At(first, progress);
-    loop {
-        let PartRead::At(field, so_far) = reading else {
-            return reading;
-        };
-        match kind_of(config, table, known, level, field.tag) {
-            BodyKind::Plain => {
-                reading = read_plain(message, config, field, words, from, so_far);
-            }
-            BodyKind::Counts(inner) => {
-                reading = read_group(
-                    message,
-                    config,
-                    table,
-                    known,
-                    inner,
-                    field,
-                    words,
-                    from,
-                    so_far,
-                );
-            }
-            BodyKind::Other => {
-                if layout::holds(trailer_tags, field.tag) {
-                    return reading;
-                }
-                return PartRead::Refused(Answer::InvalidField(field.tag));
-            }
-        }
-    }
-}
-
-// The trailer, from the field that ended the body on. The verified CheckSum stands in it already, and counts where no other stops it.
-pub fn read_trailer(
-    message: &[u8],
-    config: Config,
-    first: Field,
-    words: &mut [u32],
-    from: usize,
-    progress: Progress,
-) -> TrailerRead
-    requires { ⌜ (length (now message) < 2 ^ 32) × (Inside (now message) first) × (from ≤ progress .records) × (progress .records + progress .room ≤ length (now words) / 6) ⌝ }
-    ensures { λ r. ⌜ trailerTold r from (now (words .exit)) ≡ trailerFrom (field first (fieldsFrom (config .separator) (now (message .entry)) (first .next))) (progress .room + 1) (partOf from (progress .records) (now (words .entry))) ⌝ }
-    ensures { λ r. ⌜ (from ≤ trailerCounts from r) × (trailerCounts from r ≤ progress .records + progress .room) ⌝ }
-    ensures { λ r. ⌜ partOf 0 from (now (words .exit)) ≡ partOf 0 from (now (words .entry)) ⌝ }
-{
-    let mut field = first;
-    let mut room = progress.room;
-    let mut records = progress.records;
-    loop {
-        if field.tag == CHECKSUM {
-            return TrailerRead::Stopped(field, records);
-        }
-        if room == 0 {
-            return TrailerRead::TooManyFields;
-        }
-        room -= 1;
-        records = keep(words, from, records, record_of(records::TRAILER, field));
-        let next = field.next;
-        let FieldRead::Read(read) = next.next_field(message, config.separator) else {
-            return TrailerRead::Unstopped(records);
-        };
-        field = read;
-    }
+// What a build answers. So many records are shown, and over so many of the lent ones is written, with blank ones behind those that are
+// shown: over all of them, or over none.
+pub struct Built {
+    pub answer: Answer,
+    pub stop: Stop,
+    pub records: usize,
+    pub written: usize,
 }
 
 // Body and trailer, from the field that ended the header on. The header's records stay, whatever the answer is.
-pub fn finish(
+fn finish(
     message: &[u8],
     config: Config,
     table: &[u32],
-    known: &[u32],
+    index: &[u16; 96150],
     trailer_tags: &[u32],
     level: Level,
     headed: Headed,
     words: &mut [u32],
 ) -> Finished
     requires { ⌜ (length (now message) < 2 ^ 32) × (Inside (now message) (headed .stop)) × (Inside (now message) (headed .checksum)) × (headed .progress .records + headed .progress .room < length (now words) / 6) × (length (now words) < 2 ^ 32) ⌝ }
-    ensures { λ r. ⌜ finishTold (headed .progress .records) r (now (words .exit)) ≡ afterBody (partOf 0 (headed .progress .records) (now (words .entry))) (headed .checksum) (bodyFrom (bodyOf (tableRules (config .validate) (now (table .entry)) (now (known .entry))) (tableDemands (now (table .entry))) (now («trailer_tags» .entry)) level) (field (headed .stop) (fieldsFrom (config .separator) (now (message .entry)) (headed .stop .next))) (suc (headed .progress .room)) []) ⌝ }
+    ensures { λ r. ⌜ finishTold (headed .progress .records) r (now (words .exit)) ≡ afterBody (partOf 0 (headed .progress .records) (now (words .entry))) (headed .checksum) (bodyFrom (bodyOf (tableRules (config .validate) (now (table .entry)) (tagAt (now (index .entry)))) (tableDemands (now (table .entry))) (now («trailer_tags» .entry)) level) (field (headed .stop) (fieldsFrom (config .separator) (now (message .entry)) (headed .stop .next))) (suc (headed .progress .room)) []) ⌝ }
     ensures { λ r. ⌜ finishCounts r ≤ length (now (words .entry)) / 6 ⌝ }
 {
     let begun = headed.progress;
     let first = headed.stop;
     let checksum = headed.checksum;
     let header = begun.records;
-    match read_body(
+    match body::read_body(
         message,
         config,
         table,
-        known,
+        index,
         trailer_tags,
         level,
         first,
@@ -461,16 +114,282 @@ pub fn finish(
         PartRead::Refused(answer) => Finished::Refused(answer),
         PartRead::At(field, so_far) => {
             let from = so_far.records;
-            let records = keep(words, from, from, record_of(records::TRAILER, checksum));
+            let records = parts::keep(
+                words,
+                from,
+                from,
+                parts::record_of(records::TRAILER, checksum),
+            );
             let progress = Progress {
                 room: so_far.room,
                 records,
             };
-            match read_trailer(message, config, field, words, from, progress) {
+            match parts::read_trailer(message, config, field, words, from, progress) {
                 TrailerRead::Stopped(stop, count) => Finished::Whole(Stop::At(stop), count),
                 TrailerRead::Unstopped(count) => Finished::Whole(Stop::Nowhere, count),
                 TrailerRead::TooManyFields => Finished::Refused(Answer::TooManyFields),
             }
         }
+    }
+}
+
+// The fields that were verified stand first in the header; answers how many records they make.
+fn keep_verified(words: &mut [u32], verified: Verified) -> usize
+    requires { ⌜ (3 ≤ length (now words) / 6) × VerifiedInside verified ⌝ }
+    ensures { λ r. ⌜ (partOf 0 r (now (words .exit)) ≡ verifiedRecords verified) × (r ≤ 3) ⌝ }
+{
+    let begin_string = parts::record_of(records::HEADER, verified.begin_string);
+    let body_length = parts::record_of(records::HEADER, verified.body_length);
+    let msg_type = parts::record_of(records::HEADER, verified.msg_type);
+    let first = parts::keep(words, 0, 0, begin_string);
+    let second = parts::keep(words, 0, first, body_length);
+    parts::keep(words, 0, second, msg_type)
+}
+
+// Integrity, and the header behind the fields that it verified.
+fn begin(message: &[u8], config: Config, header_tags: &[u32], words: &mut [u32]) -> Begun
+    requires { ⌜ (length (now message) < 2 ^ 32) × (length (now words) ≡ 6150) ⌝ }
+    ensures { λ r. ⌜ startTold (config .separator) (now (message .entry)) r (now (words .exit)) ≡ startOf (now («header_tags» .entry)) (config .separator) (now (message .entry)) ⌝ }
+    ensures { λ r. ⌜ Begins (now (message .entry)) (now (words .exit)) r ⌝ }
+{
+    match integrity::verify(message, config) {
+        Integrity::Garbled(reason) => Begun::Refused(Answer::Garbled(reason)),
+        Integrity::Sound(verified) => {
+            let msg_type = verified.msg_type;
+            let behind = msg_type.next;
+            let checksum = verified.checksum;
+            let kept = Progress {
+                room: ROOM,
+                records: keep_verified(words, verified),
+            };
+            match parts::read_header(message, config, header_tags, behind, words, kept) {
+                PartRead::Refused(answer) => Begun::Refused(answer),
+                PartRead::At(stop, progress) => Begun::Header(Headed {
+                    stop,
+                    progress,
+                    checksum,
+                }),
+            }
+        }
+    }
+}
+
+// MsgType is the value that was stored last under 35.
+fn msg_type_of(words: &[u32], count: usize) -> Record
+    requires { ⌜ count ≤ length (now words) / 6 ⌝ }
+    ensures { λ r. ⌜ r ≡ msgTypeRecord (partOf 0 count (now (words .entry))) ⌝ }
+{
+    let mut i: usize = 0;
+    while i < count {
+        let found = records::record_at(words, i);
+        if found.tag == MSG_TYPE {
+            return found;
+        }
+        i += 1;
+    }
+    records::record_at(words, words.len())
+}
+
+// Body and trailer by the layout of MsgType, which must be in the dictionary. The dictionary passed its check, which left the index.
+fn read_headed(
+    message: &[u8],
+    config: Config,
+    dictionary: &[u8],
+    index: &[u16; 96150],
+    trailer_tags: &[u32],
+    headed: Headed,
+    words: &mut [u32],
+) -> Finished
+    requires { ⌜ (length (now message) < 2 ^ 32) × (length (now words) ≡ 6150) × HeaderEnds (now message) (now words) headed × Prepared (now dictionary) (now index) × (now «trailer_tags» ≡ trailerTags (dictionaryOf (now dictionary))) ⌝ }
+    ensures { λ r. ⌜ finishTold (headed .progress .records) r (now (words .exit)) ≡ afterType (dictionaryOf (now (dictionary .entry))) (config .validate) (headed .stop) (fieldsFrom (config .separator) (now (message .entry)) (headed .stop .next)) (headed .progress .room) (partOf 0 (headed .progress .records) (now (words .entry))) (headed .checksum) (layoutOf (dictionaryOf (now (dictionary .entry))) (valueAt (now (message .entry)) (msgTypeRecord (partOf 0 (headed .progress .records) (now (words .entry)))))) ⌝ }
+    ensures { λ r. ⌜ finishCounts r ≤ 1025 ⌝ }
+{
+    let progress = headed.progress;
+    let msg_type = msg_type_of(words, progress.records);
+    let place = msg_type.place as usize;
+    let length = msg_type.length as usize;
+    let mut table = [0u32; 4096];
+    match flattening::message_table(
+        dictionary,
+        index,
+        &message[place..place + length],
+        &mut table,
+    ) {
+        MessageTable::Rows(rows) => finish(
+            message,
+            config,
+            &table[..],
+            index,
+            trailer_tags,
+            Level {
+                first: 0,
+                end: rows,
+            },
+            headed,
+            words,
+        ),
+        _ => Finished::Refused(Answer::InvalidMsgType(place, length)),
+    }
+}
+
+// "1 to 4 also header records": how many of them are shown with a refusal.
+fn shown_with(answer: Answer, header: usize) -> usize
+    ensures { λ r. ⌜ r ≡ shownCount answer header ⌝ }
+{
+    let number = parts::number_of(answer);
+    if number < 1 {
+        return 0;
+    }
+    if 4 < number {
+        return 0;
+    }
+    header
+}
+
+// The header's tags (0) or the trailer's (1), from a dictionary that passed its check, which left the index; answers how many there are.
+fn tags_of(dictionary: &[u8], index: &[u16; 96150], number: u16, list: &mut [u32; 1024]) -> usize
+    requires { ⌜ Prepared (now dictionary) (now index) × (number ≤ 1) × (length (now list) ≡ 1024) ⌝ }
+    ensures { λ r. ⌜ (take r (now (list .exit)) ≡ standardTags number (dictionaryOf (now (dictionary .entry)))) × (r ≤ length (now (list .exit))) ⌝ }
+{
+    match tags::plain_tags(dictionary, index, number, list) {
+        TagList::Listed(count) => count,
+        TagList::Unlisted => 0,
+    }
+}
+
+// Reads a message by a dictionary that passed its check, which left the index.
+fn read_message(
+    message: &[u8],
+    config: Config,
+    dictionary: &[u8],
+    index: &[u16; 96150],
+    words: &mut [u32],
+) -> Read
+    requires { ⌜ (length (now message) < 2 ^ 32) × (length (now words) ≡ 6150) × Prepared (now dictionary) (now index) ⌝ }
+    ensures { λ r. ⌜ readTold r (now (words .exit)) ≡ messageRead (dictionaryOf (now (dictionary .entry))) (config .validate) (config .separator) (now (message .entry)) ⌝ }
+    ensures { λ r. ⌜ r .records ≤ 1025 ⌝ }
+{
+    let mut header_tags = [0u32; 1024];
+    let mut trailer_tags = [0u32; 1024];
+    let headers = tags_of(dictionary, index, 0, &mut header_tags);
+    let trailers = tags_of(dictionary, index, 1, &mut trailer_tags);
+    match begin(message, config, &header_tags[..headers], words) {
+        Begun::Refused(answer) => Read {
+            answer,
+            stop: Stop::Nowhere,
+            records: 0,
+        },
+        Begun::Header(headed) => {
+            let header = headed.progress;
+            match read_headed(
+                message,
+                config,
+                dictionary,
+                index,
+                &trailer_tags[..trailers],
+                headed,
+                words,
+            ) {
+                Finished::Whole(stop, count) => Read {
+                    answer: Answer::Valid,
+                    stop,
+                    records: count,
+                },
+                Finished::Refused(answer) => Read {
+                    answer,
+                    stop: Stop::Nowhere,
+                    records: shown_with(answer, header.records),
+                },
+            }
+        }
+    }
+}
+
+// The dictionary is checked, and then the message is read by it.
+fn read_checked(message: &[u8], config: Config, dictionary: &[u8], words: &mut [u32]) -> Read
+    requires { ⌜ (length (now message) < 2 ^ 32) × (length (now words) ≡ 6150) ⌝ }
+    ensures { λ r. ⌜ readTold r (now (words .exit)) ≡ checkedRead (now (message .entry)) config (now (dictionary .entry)) (checkOf (now (dictionary .entry))) ⌝ }
+    ensures { λ r. ⌜ r .records ≤ 1025 ⌝ }
+{
+    let mut index = [0u16; 96150];
+    let checked = flat::prepare(dictionary, &mut index);
+    if flat::number_of(checked) != 0 {
+        return Read {
+            answer: Answer::BadDictionary(checked),
+            stop: Stop::Nowhere,
+            records: 0,
+        };
+    }
+    read_message(message, config, dictionary, &index, words)
+}
+
+// "all lent past them are zero"
+fn blank(words: &mut [u32], records: usize)
+    requires { ⌜ (length (now words) ≡ 6150) × (records ≤ 1025) ⌝ }
+    ensures { λ _. ⌜ now (words .exit) ≡ take (6 * records) (now (words .entry)) ++ replicate (6150 - 6 * records) 0 ⌝ }
+{
+    let mut i = 6 * records;
+    while i < words.len() {
+        words[i] = 0;
+        i += 1;
+    }
+}
+
+// 22: the separator is `=` or a digit.
+fn is_invalid(separator: u8) -> bool
+    ensures { λ r. ⌜ r ≡ isInvalid separator ⌝ }
+{
+    if separator == 61 {
+        return true;
+    }
+    if separator < 48 {
+        return false;
+    }
+    separator < 58
+}
+
+// Nothing was written over the lent records.
+fn untouched(answer: Answer) -> Built
+    ensures { λ r. ⌜ r ≡ record { answer = answer; stop = Stop.Nowhere; records = 0; written = 0 } ⌝ }
+{
+    Built {
+        answer,
+        stop: Stop::Nowhere,
+        records: 0,
+        written: 0,
+    }
+}
+
+// Builds a message from its bytes: its answer, and its records in the words. So many records are lent to be filled from them.
+pub fn build(
+    message: &[u8],
+    config: Config,
+    dictionary: &[u8],
+    lent: usize,
+    words: &mut [u32; 6150],
+) -> Built
+    ensures { λ r. ⌜ builtTold r (now (words .exit)) ≡ buildOf (now (message .entry)) config (now (dictionary .entry)) lent (now (words .entry)) ⌝ }
+{
+    // Only where the array is made a slice does the proof learn its length.
+    let records = &mut words[..];
+    if is_invalid(config.separator) {
+        return untouched(Answer::InvalidSeparator);
+    }
+    if lent < 1024 {
+        return untouched(Answer::TooFewRecords);
+    }
+    if 8192 < message.len() {
+        return untouched(Answer::TooLong);
+    }
+    let read = read_checked(message, config, dictionary, records);
+    let answer = read.answer;
+    let stop = read.stop;
+    let count = read.records;
+    blank(records, count);
+    Built {
+        answer,
+        stop,
+        records: count,
+        written: lent,
     }
 }

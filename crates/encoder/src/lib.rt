@@ -1,5 +1,5 @@
-// encoder: a message as bytes (22, 43, 20, 21, 23). It judges the message that is lent, sets its BodyLength and CheckSum, and writes it in
-// one pass over its rows; it keeps nothing and demands nothing of what is lent.
+// encoder: a message as bytes. It writes what a lent message holds in one pass over its rows, with the CheckSum behind it (27, 23); `encoding`
+// judges a message first and sets its BodyLength. It keeps nothing and demands nothing of what is lent.
 use message::Located;
 use message::Part;
 use message::Span;
@@ -66,7 +66,7 @@ fn is_chosen(which: u32, tag: u32) -> bool
 }
 
 // How many bytes a row takes when it is written.
-fn row_bytes(words: &[u32], row: usize) -> usize
+pub fn row_bytes(words: &[u32], row: usize) -> usize
     requires { ⌜ (row < 2051) × (length (now words) ≡ 8205) ⌝ }
     ensures { λ r. ⌜ r ≡ rowBytes (rowAt (now (words .entry)) row) ⌝ }
     ensures { λ r. ⌜ r < 8589934592 ⌝ }
@@ -79,7 +79,7 @@ fn row_bytes(words: &[u32], row: usize) -> usize
     0
 }
 
-fn bytes_between(words: &[u32], from: usize, to: usize) -> usize
+pub fn bytes_between(words: &[u32], from: usize, to: usize) -> usize
     requires { ⌜ (from ≤ to) × (to ≤ 2051) × (length (now words) ≡ 8205) ⌝ }
     ensures { λ r. ⌜ r ≡ bytesIn (rowsFrom (to - from) from (now (words .entry))) ⌝ }
     ensures { λ r. ⌜ r ≤ 2051 * 8589934592 ⌝ }
@@ -110,7 +110,7 @@ fn is_uncounted(words: &[u32], row: usize) -> bool
     true
 }
 
-fn has_uncounted(words: &[u32], to: usize) -> bool
+pub fn has_uncounted(words: &[u32], to: usize) -> bool
     requires { ⌜ (to ≤ 2051) × (length (now words) ≡ 8205) ⌝ }
     ensures { λ r. ⌜ r ≡ uncounted [] (rowsFrom (to - 0) 0 (now (words .entry))) ⌝ }
 {

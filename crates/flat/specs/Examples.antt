@@ -56,7 +56,7 @@ least = joined (component 0 ∷ close ∷ component 1 ∷ close ∷ [])
 
 -- the dictionary of 01's examples: "header 8 9 35 34 49; trailer 93 89 10; message `0` with 112; message `D` with 38, group 78 (79 and
 -- 80 required; group 539 with 524 required, 525), 58"
-abbrev examples : List ℕ
+abbrev pub examples : List ℕ
 examples =
     joined (
     tag 8 ∷ tag 9 ∷ tag 35 ∷ tag 34 ∷ tag 49 ∷ tag 93 ∷ tag 89 ∷ tag 10 ∷ tag 112 ∷ tag 38 ∷ tag 78 ∷ tag 79 ∷ tag 80 ∷ tag 539 ∷ tag 524 ∷ tag 525 ∷ tag 58
@@ -148,6 +148,10 @@ table =
 answers : map (λ (row : Row). numberOf (checkOf (row .0)) ∷ valuesOf (checkOf (row .0))) table ≡ map (λ (row : Row). row .1 ∷ row .2) table
 unfolding checkOf numberOf valuesOf readOf answerOf tooLong walked onStep isKnown componentIn messageIn looksIn named noNames stepOf onTag onComponent onMessage onField onItem onGroup onClose closesInnermost closesGroup closesOwner atTop inside closedBefore knownBefore notEmpty notTooDeep notTooMany onceComponent onceMessage standsFor heldWith heldAlso grown opens opened deeper depthOf present atEnd recordsFrom recordsWithin followedBy recordAt recordFrom withKind withBody bodyOf knownTag opensComponent opensMessage fieldItem componentItem opensGroup withTag withMark zeroFilled bodyLength lowFirst
 answers = refl
+
+pub examples-pass : numberOf (checkOf examples) ≡ 0
+unfolding checkOf numberOf readOf answerOf tooLong walked onStep isKnown componentIn messageIn looksIn named noNames stepOf onTag onComponent onMessage onField onItem onGroup onClose closesInnermost closesGroup closesOwner atTop inside closedBefore knownBefore notEmpty notTooDeep notTooMany onceComponent onceMessage standsFor heldWith heldAlso grown opens opened deeper depthOf present atEnd recordsFrom recordsWithin followedBy recordAt recordFrom withKind withBody bodyOf knownTag opensComponent opensMessage fieldItem componentItem opensGroup withTag withMark zeroFilled bodyLength lowFirst
+examples-pass = refl
 
 -- 30: one byte over 60,000, whatever it holds
 over-long : checkOf (replicate 60001 0) ≡ TooLong

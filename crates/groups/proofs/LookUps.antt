@@ -7,7 +7,6 @@ use lib.Dec.{eqb}
 use borrow.Author.Tests.{le-leb, lt-leb, lt-ltb, le-ltb}
 use Rattle.tagvalue.specs.Choice.{pick, pick-same}
 use Rattle.integrity.specs.declared.Config.{Config}
-use Rattle.layout.specs.Tree.{holdsTag}
 use Rattle.layout.specs.Table.{positionOf, groupWithin, delimiterAt}
 use Rattle.layout.specs.declared.Level.{Level}
 use Rattle.layout.specs.declared.Position.the-variants.{At, Nowhere}
@@ -17,7 +16,7 @@ use Rattle.groups.specs.Groups.{isDelimiter, opens, plain, count, joins,
 use Rattle.groups.specs.Reading.{accepted, openedBy, tableRules, opensAt, kindAt}
 use Rattle.groups.specs.declared.Group.{Group}
 
-module _ (validate : Bool) (known : List ℕ) (tag : ℕ) where
+module _ (validate : Bool) (known : ℕ → Bool) (tag : ℕ) where
   pub validated : validate ≡ true → accepted validate known tag ≡ false
   unfolding accepted
   validated v = rw v
@@ -26,9 +25,9 @@ module _ (validate : Bool) (known : List ℕ) (tag : ℕ) where
   unfolding accepted
   not-user-defined h = rw (lt-ltb _ _ h) (pick-same validate false)
 
-  pub unknown : validate ≡ false → 5000 ≤ tag → accepted validate known tag ≡ not (holdsTag tag known)
+  pub unknown : validate ≡ false → 5000 ≤ tag → accepted validate known tag ≡ not (known tag)
   unfolding accepted
-  unknown v h = rw (v, le-ltb _ _ h) (turned (holdsTag tag known))
+  unknown v h = rw (v, le-ltb _ _ h) (turned (known tag))
     where
       turned : (b : Bool) → pick b false true ≡ not b
       turned true = refl
@@ -44,11 +43,11 @@ module _ (table : List ℕ) (level : Level) (tag : ℕ) where
   one-delimiter delimiter e = rw e
 
 -- the delimiter test is the rules' own
-pub opens-table : (validate : Bool) (table known : List ℕ) (level : Level) (tag : ℕ) → opens (tableRules validate table known) level tag ≡ opensAt table level tag
+pub opens-table : (validate : Bool) (table : List ℕ) (known : ℕ → Bool) (level : Level) (tag : ℕ) → opens (tableRules validate table known) level tag ≡ opensAt table level tag
 unfolding opens tableRules opensAt
 opens-table validate table known level tag = refl
 
-module _ (config : Config) (table known : List ℕ) (group : Group) (last tag : ℕ) where
+module _ (config : Config) (table : List ℕ) (known : ℕ → Bool) (group : Group) (last tag : ℕ) where
   pub kind-delimiter : opensAt table (group .level) tag ≡ true → kindAt config table known group last tag ≡ ends
   unfolding kindAt kindOf opens tableRules opensAt
   kind-delimiter o = rw o

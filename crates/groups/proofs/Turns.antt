@@ -65,12 +65,12 @@ module _ {L : Type 0} (rules : Rules L) (level : L) (depth last tag : ℕ) (inne
       go false e = declared-below (rules .position level tag) e
 
 -- a refusal is told as it came
-pub left-refused : (message : List ℕ) (config : Config) (table known : List ℕ) (stack : List (Frame Level)) (reading : Reading) (words : List ℕ) (refusal : Refusal) → reading ≡ Refused refusal →
+pub left-refused : (message : List ℕ) (config : Config) (table : List ℕ) (known : ℕ → Bool) (stack : List (Frame Level)) (reading : Reading) (words : List ℕ) (refusal : Refusal) → reading ≡ Refused refusal →
     toldBy (config .separator) message reading words ≡ going (tableRules (config .validate) table known) (config .separator) message stack reading words
 unfolding toldBy going
 left-refused message config table known stack reading words refusal e = rw e
 
-module _ (message : List ℕ) (config : Config) (table known : List ℕ) (group : Group) where
+module _ (message : List ℕ) (config : Config) (table : List ℕ) (known : ℕ → Bool) (group : Group) where
   -- what is left of an entry, and of a run
   abbrev pub entryLeft : ℕ → ℕ → ℕ → Reading → List ℕ → Outcome Memory (List ℕ)
   entryLeft number last start reading words = going (tableRules (config .validate) table known) (config .separator) message (entry (group .level) (group .tag) (group .depth) number last start ∷ []) reading words
@@ -167,17 +167,17 @@ module _ (message : List ℕ) (config : Config) (table known : List ℕ) (group 
     unfolding going toldBy
     left-over o n = rw e (sym (run-over _ _ _ _ _ _ _ _ _ _ (opens-table (config .validate) table known (group .level) (f .tag) ∙ o) n))
 
-pub count-below : (config : Config) (table known : List ℕ) (group : Group) (last tag : ℕ) (kind : CodeKind) (inner : Level) (position : ℕ) → meant kind ≡ kindAt config table known group last tag → kind ≡ Count inner position → group .depth < 4
+pub count-below : (config : Config) (table : List ℕ) (known : ℕ → Bool) (group : Group) (last tag : ℕ) (kind : CodeKind) (inner : Level) (position : ℕ) → meant kind ≡ kindAt config table known group last tag → kind ≡ Count inner position → group .depth < 4
 unfolding meant kindAt
 count-below config table known group last tag kind inner position k q = kind-below _ _ _ _ _ inner position (sym k ∙ ap meant q)
 
 -- where a run ended, and where an entry did
-pub run-follows : (message : List ℕ) (config : Config) (table known : List ℕ) (group : Group) (cursor : Cursor) (progress : Progress) (words : List ℕ) → Fits message progress → (reading : Reading) (words₁ : List ℕ) →
+pub run-follows : (message : List ℕ) (config : Config) (table : List ℕ) (known : ℕ → Bool) (group : Group) (cursor : Cursor) (progress : Progress) (words : List ℕ) → Fits message progress → (reading : Reading) (words₁ : List ℕ) →
     toldBy (config .separator) message reading words₁ ≡ runOf message config table known group cursor progress words → Follows message (progress .room) reading
 unfolding runOf
 run-follows message config table known group cursor progress words fits reading words₁ e = told-follows _ _ message _ cursor progress words fits reading words₁ e
 
-pub entry-follows : (message : List ℕ) (config : Config) (table known : List ℕ) (group : Group) (number : ℕ) (delimiter : Field) (progress : Progress) (words : List ℕ) → FitsAt message delimiter progress → (reading : Reading) (words₁ : List ℕ) →
+pub entry-follows : (message : List ℕ) (config : Config) (table : List ℕ) (known : ℕ → Bool) (group : Group) (number : ℕ) (delimiter : Field) (progress : Progress) (words : List ℕ) → FitsAt message delimiter progress → (reading : Reading) (words₁ : List ℕ) →
     toldBy (config .separator) message reading words₁ ≡ entryOf message config table known group number delimiter progress words → Follows message (progress .room) reading
 unfolding entryOf addedWords memory further
 entry-follows message config table known group number delimiter progress words fits reading words₁ e =
@@ -204,7 +204,7 @@ stored-follows separator message c f progress stored k reading h fits e q =
     rw (q, ← stored-room progress stored k e) (next-follows separator message c stored (stored-fits message f progress stored k h fits e))
 
 -- the entries after a count that was stored
-pub count-follows : (message : List ℕ) (config : Config) (table known : List ℕ) (group : Group) (f : Field) (progress stored : Progress) (words : List ℕ) → FitsAt message f progress → stored ≡ further 1 progress → (reading : Reading) (words₁ : List ℕ) →
+pub count-follows : (message : List ℕ) (config : Config) (table : List ℕ) (known : ℕ → Bool) (group : Group) (f : Field) (progress stored : Progress) (words : List ℕ) → FitsAt message f progress → stored ≡ further 1 progress → (reading : Reading) (words₁ : List ℕ) →
     toldBy (config .separator) message reading words₁ ≡ runOf message config table known group (f .next) stored words → Follows message (progress .room) reading
 count-follows message config table known group f progress stored words fits e reading words₁ t =
     rw (← stored-room progress stored 1 e) (run-follows message config table known group (f .next) stored words (stored-fits message f progress stored 1 (omega arith) fits e) reading words₁ t)

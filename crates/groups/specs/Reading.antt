@@ -13,7 +13,6 @@ use Rattle.tagvalue.specs.declared.FieldRead.{FieldRead}
 use Rattle.tagvalue.specs.declared.FieldRead.the-variants.{Read, Unreadable}
 use Rattle.integrity.specs.declared.Config.{Config}
 use Rattle.layout.specs.Layout.{Layout, Group as LayoutGroup, none as no-group, entries, positionIn, groupOf, delimiterOf}
-use Rattle.layout.specs.Tree.{holdsTag}
 use Rattle.layout.specs.Table.{positionOf, groupWithin, delimiterAt}
 use Rattle.layout.specs.declared.Level.{Level}
 use Rattle.layout.specs.declared.Nested.{Nested}
@@ -44,15 +43,15 @@ valuesOfRefusal TooManyFields = []
 valuesOfRefusal (InvalidOrderInGroup tag group) = tag ∷ group ∷ []
 
 -- "with validation off, tags of 5000 and above that the dictionary lacks"
-unfoldable pub accepted : Bool → List ℕ → ℕ → Bool
-accepted validate known tag = pick validate false (pick (ltb tag 5000) false (pick (holdsTag tag known) false true))
+unfoldable pub accepted : Bool → (ℕ → Bool) → ℕ → Bool
+accepted validate known tag = pick validate false (pick (ltb tag 5000) false (pick (known tag) false true))
 
 unfoldable pub openedBy : Nested → Opened Level
 openedBy NoGroup = none
 openedBy (Within level) = opened level
 
 -- levels looked up in a table
-unfoldable pub tableRules : Bool → List ℕ → List ℕ → Rules Level
+unfoldable pub tableRules : Bool → List ℕ → (ℕ → Bool) → Rules Level
 tableRules validate table known = record { delimiter = delimiterAt table; position = positionOf table; group = λ level tag. openedBy (groupWithin table level tag); accepts = accepted validate known }
 
 unfoldable pub openedAs : LayoutGroup → Opened Layout
@@ -74,7 +73,7 @@ meant Joins = joins
 meant Wrong = wrong
 meant Ends = ends
 
-unfoldable pub kindAt : Config → List ℕ → List ℕ → Group → ℕ → ℕ → Kind Level
+unfoldable pub kindAt : Config → List ℕ → (ℕ → Bool) → Group → ℕ → ℕ → Kind Level
 kindAt config table known group last tag = kindOf (tableRules (config .validate) table known) (group .level) (group .depth) last tag
 
 -- records as a list: a new one comes last, and what joins an entry is stored in the entry's own map
@@ -144,7 +143,7 @@ module _ (separator : ℕ) (message : List ℕ) where
   toldBy (At f progress) words = ended f (fieldsFrom separator message (f .next)) (progress .room) (memory progress words)
   toldBy (Refused refusal) words = refused refusal words
 
-module _ (message : List ℕ) (config : Config) (table known : List ℕ) where
+module _ (message : List ℕ) (config : Config) (table : List ℕ) (known : ℕ → Bool) where
   -- the entries of a group, from the field behind its count on
   unfoldable pub runOf : Group → Cursor → Progress → List ℕ → Outcome Memory (List ℕ)
   runOf group cursor progress words =

@@ -12,6 +12,7 @@ use tagvalue::Cursor;
 use tagvalue::Field;
 use tagvalue::FieldRead;
 ghost use mathlib.Core.Path.{_≡_};
+ghost use Rattle.flat_names.specs.Index.{tagAt};
 ghost use Prim.Native.Nat.{_<_, _^_};
 ghost use Rattle.tagvalue.specs.Field.{fieldAt};
 ghost use Rattle.groups.specs.Groups.{recordOf};
@@ -61,8 +62,8 @@ enum Kind {
 }
 
 // With validation off, a user-defined tag that the dictionary lacks.
-pub fn accepted(config: Config, known: &[u32], tag: u32) -> bool
-    ensures { λ r. ⌜ r ≡ accepted (config .validate) (now (known .entry)) tag ⌝ }
+pub fn accepted(config: Config, index: &[u16; 96150], tag: u32) -> bool
+    ensures { λ r. ⌜ r ≡ accepted (config .validate) (tagAt (now (index .entry))) tag ⌝ }
 {
     if config.validate {
         return false;
@@ -70,7 +71,9 @@ pub fn accepted(config: Config, known: &[u32], tag: u32) -> bool
     if tag < USER_DEFINED {
         return false;
     }
-    !layout::holds(known, tag)
+    // Only where the array is made a slice does the proof learn its length.
+    let entries = &index[..];
+    !flat_names::tag_known(entries, tag)
 }
 
 // The tag is the level's delimiter.
@@ -86,19 +89,19 @@ pub fn opens(table: &[u32], level: Level, tag: u32) -> bool
 fn kind_of(
     config: Config,
     table: &[u32],
-    known: &[u32],
+    index: &[u16; 96150],
     group: Group,
     last: usize,
     tag: u32,
 ) -> Kind
-    ensures { λ r. ⌜ meant r ≡ kindAt config (now (table .entry)) (now (known .entry)) group last tag ⌝ }
+    ensures { λ r. ⌜ meant r ≡ kindAt config (now (table .entry)) (tagAt (now (index .entry))) group last tag ⌝ }
 {
     let level = group.level;
     if opens(table, level, tag) {
         return Kind::Ends;
     }
     let Position::At(position) = layout::position_of(table, level, tag) else {
-        if accepted(config, known, tag) {
+        if accepted(config, index, tag) {
             return Kind::Joins;
         }
         return Kind::Ends;
@@ -187,14 +190,14 @@ pub fn read_run(
     message: &[u8],
     config: Config,
     table: &[u32],
-    known: &[u32],
+    index: &[u16; 96150],
     group: Group,
     cursor: Cursor,
     words: &mut [u32],
     progress: Progress,
 ) -> Reading
     requires { ⌜ Fits (now message) progress ⌝ }
-    ensures { λ r. ⌜ toldBy (config .separator) (now (message .entry)) r (now (words .exit)) ≡ runOf (now (message .entry)) config (now (table .entry)) (now (known .entry)) group cursor progress (now (words .entry)) ⌝ }
+    ensures { λ r. ⌜ toldBy (config .separator) (now (message .entry)) r (now (words .exit)) ≡ runOf (now (message .entry)) config (now (table .entry)) (tagAt (now (index .entry))) group cursor progress (now (words .entry)) ⌝ }
 {
     let mut reading = next_field(message, config, cursor, progress);
     let mut number: u32 = 0;
@@ -213,7 +216,7 @@ pub fn read_run(
             message,
             config,
             table,
-            known,
+            index,
             group,
             number,
             field,
@@ -228,7 +231,7 @@ pub fn read_entry(
     message: &[u8],
     config: Config,
     table: &[u32],
-    known: &[u32],
+    index: &[u16; 96150],
     group: Group,
     number: u32,
     delimiter: Field,
@@ -236,7 +239,7 @@ pub fn read_entry(
     progress: Progress,
 ) -> Reading
     requires { ⌜ FitsAt (now message) delimiter progress ⌝ }
-    ensures { λ r. ⌜ toldBy (config .separator) (now (message .entry)) r (now (words .exit)) ≡ entryOf (now (message .entry)) config (now (table .entry)) (now (known .entry)) group number delimiter progress (now (words .entry)) ⌝ }
+    ensures { λ r. ⌜ toldBy (config .separator) (now (message .entry)) r (now (words .exit)) ≡ entryOf (now (message .entry)) config (now (table .entry)) (tagAt (now (index .entry))) group number delimiter progress (now (words .entry)) ⌝ }
 {
     let start = progress.place;
     let begun = add(words, progress, record_of(group.depth, number, delimiter));
@@ -248,7 +251,7 @@ pub fn read_entry(
         };
         let next = field.next;
         let record = record_of(group.depth, number, field);
-        match kind_of(config, table, known, group, last, field.tag) {
+        match kind_of(config, table, index, group, last, field.tag) {
             Kind::Plain(position) => {
                 let stored = add(words, so_far, record);
                 reading = next_field(message, config, next, stored);
@@ -261,7 +264,7 @@ pub fn read_entry(
                     tag: field.tag,
                     depth: group.depth + 1,
                 };
-                reading = read_run(message, config, table, known, nested, next, words, stored);
+                reading = read_run(message, config, table, index, nested, next, words, stored);
                 last = position;
             }
             Kind::Joins => {

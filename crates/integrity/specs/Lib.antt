@@ -1,3 +1,4 @@
 pub mod Integrity
 pub mod IntegrityLaws
+pub mod VerifiedLaws
 pub mod Examples

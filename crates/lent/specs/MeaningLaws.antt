@@ -37,7 +37,7 @@ unfolding opened openValues valuesIn
 opened-values zero maps = refl
 opened-values (suc n) maps = opened-values n maps
 
-opened-length : (n : ℕ) (maps : List Map) → length (opened n maps) ≡ n + length maps
+pub opened-length : (n : ℕ) (maps : List Map) → length (opened n maps) ≡ n + length maps
 unfolding opened
 opened-length zero maps = omega arith
 opened-length (suc n) maps = omega (arith, opened-length n maps)
@@ -129,7 +129,7 @@ open-all before (row k l t x ∷ rows) values a room =
         rw e (open-entry before rows l t x values deep (rw e at (again 0 r)))
 
 -- the rows below a part change nothing about the parts
-parts-below : (m : Map) (l p : ℕ) (rest : List Row) → (p ≡ 0 → ⊥) → partsFrom p (laid (l + 1) m ++ rest) ≡ partsFrom p rest
+pub parts-below : (m : Map) (l p : ℕ) (rest : List Row) → (p ≡ 0 → ⊥) → partsFrom p (laid (l + 1) m ++ rest) ≡ partsFrom p rest
 unfolding laid partsFrom nextPart levelOf
 parts-below end l p rest some = refl
 parts-below (field t v more) l p rest some =
@@ -232,14 +232,21 @@ outermost-only [] rows values some one r v = absurd (omega arith)
 outermost-only (m ∷ []) rows values some one r v = (sym (append-nil (laid 0 m)) ∙ r, sym (append-nil (valuesIn m)) ∙ v)
 outermost-only (m ∷ n ∷ maps) rows values some one r v = absurd (omega arith)
 
-pub means : (words values : List ℕ) → Held words values → Means words values (messageIn words values)
-unfolding messageIn deepest
-means words values h =
-    let l = h .laid in
+-- what is laid out has the rows and the values of the map that it means
+pub laid-means : (words values : List ℕ) → Laid words values
+    → (rowsOf words ≡ laid 0 (outermost (openIn (rowsOf words) values))) × (take (sizes (rowsOf words)) values ≡ valuesIn (outermost (openIn (rowsOf words) values)))
+unfolding deepest
+laid-means words values l =
     let o = open-all [] (rowsOf words) values (l .allowed) (omega (arith, l .within, l .store)) in
     let u = outermost-only (openIn (rowsOf words) values) _ _ (o .some) (o .high) (o .same-rows) (o .same-values) in
-    let p = parts-of (outermost (openIn (rowsOf words) values)) (rw (u .0) (h .parts)) in
-    record { rows = sym (u .0) ∙ ap (laid 0) p; texts = sym (u .1) ∙ ap valuesIn p }
+    (sym (u .0), sym (u .1))
+
+pub means : (words values : List ℕ) → Held words values → Means words values (messageIn words values)
+unfolding messageIn
+means words values h =
+    let u = laid-means words values (h .laid) in
+    let p = parts-of (outermost (openIn (rowsOf words) values)) (rw (← (u .0)) (h .parts)) in
+    record { rows = u .0 ∙ ap (laid 0) p; texts = u .1 ∙ ap valuesIn p }
 
 -- two lent layouts of one message are the same layout: the same rows, and the same values. What stands past them is no part of it.
 pub same-layout : (words values words′ values′ : List ℕ) → Held words values → Held words′ values′ → messageIn words values ≡ messageIn words′ values′

@@ -1,5 +1,5 @@
 // maps: field maps in lent words and bytes. It finds rows and cuts, moves and inserts them; it knows no tag's meaning and refuses nothing
-// by number. Only `message` calls it: its functions may ask that the words are whole.
+// by number. Only `lent`, `message`, `encoder` and `taking` call it: its functions may ask that the words are whole.
 ghost use mathlib.Core.Path.{_≡_};
 ghost use mathlib.Core.List.{_++_, []};
 ghost use mathlib.Core.Bool.{true, false};
@@ -146,7 +146,7 @@ fn copy_words(source: &[u32], target: &mut [u32])
 }
 
 // Writes a part of one slice at a place of another, and answers where the next part goes.
-fn put_words(target: &mut [u32], at: usize, source: &[u32], from: usize, to: usize) -> usize
+pub fn put_words(target: &mut [u32], at: usize, source: &[u32], from: usize, to: usize) -> usize
     requires { ⌜ (from ≤ to) × (to ≤ length (now source)) × (at + (to - from) ≤ length (now target)) ⌝ }
     ensures { λ r. ⌜ r ≡ at + (to - from) ⌝ }
     ensures { λ _. ⌜ now (target .exit) ≡ writtenAt at (part from to (now (source .entry))) (now (target .entry)) ⌝ }
@@ -155,7 +155,7 @@ fn put_words(target: &mut [u32], at: usize, source: &[u32], from: usize, to: usi
     at + (to - from)
 }
 
-fn put_bytes(target: &mut [u8], at: usize, source: &[u8], from: usize, to: usize) -> usize
+pub fn put_bytes(target: &mut [u8], at: usize, source: &[u8], from: usize, to: usize) -> usize
     requires { ⌜ (from ≤ to) × (to ≤ length (now source)) × (at + (to - from) ≤ length (now target)) ⌝ }
     ensures { λ r. ⌜ r ≡ at + (to - from) ⌝ }
     ensures { λ _. ⌜ now (target .exit) ≡ writtenAt at (part from to (now (source .entry))) (now (target .entry)) ⌝ }

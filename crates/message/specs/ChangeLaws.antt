@@ -12,7 +12,7 @@ use Rattle.maps.specs.Map.{Map, end, entry, valuesIn, holds, withoutField, stor
 use Rattle.maps.specs.Rows.{laid, flat, part, padded, spliced, rowsFrom, findFrom, runEndFrom}
 use Rattle.lent.specs.Lent.{isMessage}
 use Rattle.lent.specs.Meaning.{Message, parts, wordsOf, valuesOf, messageIn}
-use Rattle.message.specs.Changes.{After, after, placeOf, Cuttable, cutSize, cutWords, cutValues, changedAt, ofMessage, partOf, withPart, judged, noFields, emptying, storing, removing, spanOf, locatedIn, fieldRow, fieldPlace, runPlace, runStop, oneRow, runLast, putAt, Ready}
+use Rattle.message.specs.Changes.{After, after, placeOf, Cuttable, cutSize, cutWords, cutValues, changedAt, ofMessage, partOf, withPart, judged, noFields, ofStore, emptying, storing, removing, spanOf, locatedIn, fieldRow, fieldPlace, runPlace, runStop, oneRow, runLast, putAt, Ready}
 use Rattle.message.specs.PlaceLaws.{place-grows}
 use Rattle.message.specs.declared.Change.the-variants.{Made, NoMessage, NotStorable, NoRun, TooManyFields}
 use Rattle.message.specs.declared.Cut.{Cut}
@@ -144,13 +144,13 @@ empty-values values left e = e
 
 module _ (words values : List ℕ) where
   pub empty-short : (length words ≡ 8205 → ⊥) → emptying words values ≡ after NoMessage words values
-  unfolding emptying
+  unfolding emptying ofStore
   empty-short h = rw (ne-eqb _ _ h)
 
   pub empty-store : length words ≡ 8205 → (length values ≡ 8192 → ⊥) → emptying words values ≡ after NoMessage words values
-  unfolding emptying
+  unfolding emptying ofStore
   empty-store h k = rw (eq-eqb _ _ h, ne-eqb _ _ k)
 
   pub empty-made : length words ≡ 8205 → length values ≡ 8192 → emptying words values ≡ after Made (wordsOf noFields) (valuesOf noFields)
-  unfolding emptying
+  unfolding emptying ofStore
   empty-made h k = rw (eq-eqb _ _ h, eq-eqb _ _ k)

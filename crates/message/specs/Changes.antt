@@ -7,7 +7,7 @@ use lib.ListN.{length, set}
 use lib.Dec.{eqb, leb, ltb}
 use Rattle.tagvalue.specs.Choice.{pick}
 use Rattle.maps.specs.Map.{Map, end, field, entry, holds, withoutField, stored, hung, fieldCount, valuesIn}
-use Rattle.maps.specs.Rows.{laid, rowsFrom, findFrom, runEndFrom, sizes, padded, spliced}
+use Rattle.maps.specs.Rows.{laid, flat, rowsFrom, findFrom, runEndFrom, sizes, padded, spliced}
 use Rattle.lent.specs.Lent.{isMessage}
 use Rattle.lent.specs.Meaning.{Message, parts, wordsOf, valuesOf, messageIn}
 use Rattle.message.specs.declared.Part.{Part}
@@ -49,14 +49,29 @@ valueTotal m = length (valuesIn (parts m))
 pub data After : Type 0 where
   after : Change → List ℕ → List ℕ → After
 
--- "judged by what it would leave: 41, 42, 21"; what is refused leaves everything as it was
-unfoldable pub judged : List ℕ → List ℕ → Bool → Message → After
-judged words values whole m =
-    pick (leb (valueTotal m) 8192)
+-- "judged by what it would leave: 41, 42, 21": the size of all values, whether a run is whole, the number of fields. What is refused
+-- leaves everything as it was.
+abbrev pub judgedBy : List ℕ → List ℕ → ℕ → Bool → ℕ → List ℕ → List ℕ → After
+judgedBy words values size whole fields left-words left-values =
+    pick (leb size 8192)
     (pick whole
-    (pick (leb (fieldTotal m) 1024) (after Made (wordsOf m) (valuesOf m)) (after TooManyFields words values))
+    (pick (leb fields 1024) (after Made left-words left-values) (after TooManyFields words values))
     (after NoRun words values))
     (after NotStorable words values)
+
+-- a map in the layout of what is lent, with zeros past it
+unfoldable pub mapWords : Map → List ℕ
+mapWords map = padded 8205 (length (laid 0 map) ∷ flat (laid 0 map))
+
+unfoldable pub mapValues : Map → List ℕ
+mapValues map = padded 8192 (valuesIn map)
+
+unfoldable pub judgedMap : List ℕ → List ℕ → Bool → ℕ → Map → After
+judgedMap words values whole fields map =
+    judgedBy words values (length (valuesIn map)) whole fields (mapWords map) (mapValues map)
+
+unfoldable pub judged : List ℕ → List ℕ → Bool → Message → After
+judged words values whole m = judgedBy words values (valueTotal m) whole (fieldTotal m) (wordsOf m) (valuesOf m)
 
 -- "27 first"
 unfoldable pub ofMessage : List ℕ → List ℕ → (Message → After) → After
@@ -66,11 +81,24 @@ ofMessage words values then = pick (isMessage words values) (then (messageIn wor
 unfoldable pub noFields : Message
 noFields = record { header = end; body = end; trailer = end }
 
-unfoldable pub emptying : List ℕ → List ℕ → After
-emptying words values =
+-- what is lent must have its lengths: 27
+unfoldable pub ofStore : List ℕ → List ℕ → After → After
+ofStore words values then =
     pick (eqb (length words) 8205)
-    (pick (eqb (length values) 8192) (after Made (wordsOf noFields) (valuesOf noFields)) (after NoMessage words values))
+    (pick (eqb (length values) 8192) then (after NoMessage words values))
     (after NoMessage words values)
+
+unfoldable pub emptying : List ℕ → List ℕ → After
+emptying words values = ofStore words values (after Made (wordsOf noFields) (valuesOf noFields))
+
+-- a new message: its header has 8 and then 35
+unfoldable pub newMessage : List ℕ → List ℕ → Message
+newMessage beginString messageType =
+    withPart Header (stored 35 messageType (stored 8 beginString end)) noFields
+
+unfoldable pub making : List ℕ → List ℕ → List ℕ → List ℕ → After
+making beginString messageType words values =
+    ofStore words values (judged words values true (newMessage beginString messageType))
 
 -- a field is stored in a part
 unfoldable pub storing : Part → ℕ → List ℕ → List ℕ → List ℕ → After
@@ -145,11 +173,7 @@ cutValues cut bytes words values =
 
 unfoldable pub changedAt : Cut → List ℕ → ℕ → List ℕ → Bool → ℕ → List ℕ → List ℕ → After
 changedAt cut rows added bytes whole fields words values =
-    pick (leb (cutSize words cut + length bytes) 8192)
-    (pick whole
-    (pick (leb fields 1024) (after Made (cutWords cut rows added words) (cutValues cut bytes words values)) (after TooManyFields words values))
-    (after NoRun words values))
-    (after NotStorable words values)
+    judgedBy words values (cutSize words cut + length bytes) whole fields (cutWords cut rows added words) (cutValues cut bytes words values)
 
 -- the row of a field in a part
 unfoldable pub fieldRow : ℕ → List ℕ → List ℕ

@@ -10,14 +10,14 @@ use lib.ListN.{length, take, drop, set, getD, replicate, length-append, length-t
 use lib.Seq.{take-at, drop-at, drop-cons}
 use lib.Dec.{leb, ltb, eqb}
 use Rattle.tagvalue.specs.Choice.{pick, pick-same}
-use Rattle.maps.specs.Map.{Map, end, field, entry, valuesIn, fieldCount, holdsAny}
+use Rattle.maps.specs.Map.{Map, end, field, entry, valuesIn}
 use Rattle.maps.specs.Rows.{Row, row, laid, flat, part, padded, rowAt, rowsFrom, levelOf, sizes, endFrom, spliced}
 use Rattle.lent.specs.Lent.{rowCount, rowsOf, isMessage}
 use Rattle.lent.specs.LentLaws.{Laid, Held, message-held}
 use Rattle.lent.specs.Meaning.{Message, parts, wordsOf, valuesOf, messageIn}
 use Rattle.lent.specs.MeaningLaws.{Means, means, flat-length, flat-append, rows-flat}
-use Rattle.message.specs.Changes.{After, after, placeOf, Cuttable, cutRows, cutSize, cutWords, cutValues, changedAt, partOf, withPart, fieldTotal, valueTotal, judged, spanOf}
-use Rattle.message.specs.LayoutLaws.{sizes-append, sizes-laid, rows-few}
+use Rattle.message.specs.Changes.{After, after, placeOf, Cuttable, cutRows, cutSize, cutWords, cutValues, changedAt, mapWords, mapValues, judgedMap}
+use Rattle.message.specs.LayoutLaws.{sizes-append, sizes-laid}
 use Rattle.message.specs.PlaceLaws.{rows-length, rows-part, part-rows, part-values, spliced-parts}
 use Rattle.message.specs.declared.Part.{Part}
 use Rattle.message.specs.declared.Part.the-variants.{Header, Body, Trailer}
@@ -112,28 +112,17 @@ module _ (words values : List ℕ) (cut : Cut) (a b c d e : List Row) (va vb vc 
   unfolding cutSize
   cut-size bytes = simp length-append (omega (arith, place-from, place-kept, place-to, place-until, place-count))
 
-  -- where a message has the rows and values that the cut leaves, the cut is judged and done as 01 says
-  module _ (m : Message) (x : List Row) (bytes : List ℕ) (rows : laid 0 (parts m) ≡ a ++ (d ++ (x ++ (c ++ e)))) (texts : valuesIn (parts m) ≡ va ++ (vd ++ (bytes ++ (vc ++ ve)))) where
-    pub cut-judged : (whole : Bool) → changedAt cut (flat x) (length x) bytes whole (fieldTotal m) words values ≡ judged words values whole m
-    unfolding changedAt judged valueTotal wordsOf valuesOf
+  -- where a map has the rows and values that the cut leaves, the cut is judged and done as 01 says
+  module _ (map : Map) (fields : ℕ) (few : fields ≤ 1024 → length (laid 0 map) ≤ 2051) (x : List Row) (bytes : List ℕ)
+      (rows : laid 0 map ≡ a ++ (d ++ (x ++ (c ++ e)))) (texts : valuesIn map ≡ va ++ (vd ++ (bytes ++ (vc ++ ve)))) where
+    pub cut-judged : (whole : Bool) → changedAt cut (flat x) (length x) bytes whole fields words values ≡ judgedMap words values whole fields map
+    unfolding changedAt judgedMap mapWords mapValues
     cut-judged whole = rw (cut-words x, cut-values bytes, cut-size bytes, ← rows, ← texts)
 
-    pub cut-able : Cuttable words values cut (flat x) (length x) (fieldTotal m)
-    unfolding fieldTotal
+    pub cut-able : Cuttable words values cut (flat x) (length x) fields
     cut-able =
         let l = k .laid-out in
-        let few : length (laid 0 (parts m)) ≤ 3 + 2 * (fieldCount (m .header) + (fieldCount (m .body) + fieldCount (m .trailer))) =
-        omega (
-          arith,
-          ap length (part-rows m),
-          length-append (laid 1 (m .header)) (row 2 0 2 0 ∷ (laid 1 (m .body) ++ (row 2 0 3 0 ∷ (laid 1 (m .trailer) ++ [])))),
-          length-append (laid 1 (m .body)) (row 2 0 3 0 ∷ (laid 1 (m .trailer) ++ [])),
-          length-append (laid 1 (m .trailer)) [],
-          few-rows 1 (m .header),
-          few-rows 1 (m .body),
-          few-rows 1 (m .trailer),
-        ) in
-        let sum : length (laid 0 (parts m)) ≡ length a + length d + length x + length c + length e = ap length rows ∙ simp length-append (omega arith) in
+        let sum : length (laid 0 map) ≡ length a + length d + length x + length c + length e = ap length rows ∙ simp length-append (omega arith) in
         record {
           whole = l .whole;
           store = l .store;
@@ -143,13 +132,6 @@ module _ (words values : List ℕ) (cut : Cut) (a b c d e : List Row) (va vb vc 
           last = omega (arith, k .until, k .count);
           few = omega (arith, k .count, cut-count, l .counted);
           four = flat-length x;
-          room = λ h. omega (arith, few, sum, h, k .from, k .kept, k .to, k .until, k .count);
+          room = λ h. omega (arith, few h, sum, k .from, k .kept, k .to, k .until, k .count);
           within = omega (arith, place-count, ap length (k .texts), length-append va (vb ++ (vc ++ (vd ++ ve))), length-append vb (vc ++ (vd ++ ve)), length-append vc (vd ++ ve), length-append vd ve, length-take (sizes (rowsOf words)) values, l .within);
         }
-      where
-        few-rows : (l : ℕ) (m : Map) → length (laid l m) ≤ 2 * fieldCount m
-        few-rows l m = by-any (holdsAny m) (rows-few l m)
-          where
-            by-any : (b : Bool) → length (laid l m) + pick b 1 0 ≤ 2 * fieldCount m → length (laid l m) ≤ 2 * fieldCount m
-            by-any true h = omega arith
-            by-any false h = omega arith

@@ -1,23 +1,18 @@
 -- Where a map's fields and runs stand in its rows. Each law is an induction over the map: rows that stand deeper are passed over, and what
 -- is found splits the map in front of it and behind it.
 use mathlib.Core.Path.{_≡_, refl, sym, ap, _∙_}
-use mathlib.Core.Bool.{Bool, true, false}
-use mathlib.Core.List.{List, [], _∷_, _++_, append-assoc, append-nil}
-use Prim.Native.Nat.{ℕ, zero, suc, _+_, _-_, _*_, _≤_, _<_}
+use mathlib.Core.Bool.{false}
+use mathlib.Core.List.{List, _∷_, _++_, append-assoc}
+use Prim.Native.Nat.{ℕ, suc, _+_, _<_}
 use native.Mathlib.Omega.{arith}
-use lib.ListN.{length, take, drop, length-append}
-use lib.Dec.{leb, ltb, eqb}
-use borrow.Author.Tests.{eqb-true, eq-eqb, ne-eqb, lt-leb, le-leb, lt-ltb, le-ltb}
-use Rattle.tagvalue.specs.Choice.{pick, pick-same}
-use Rattle.maps.specs.Map.{Map, end, field, entry, joined, holds, holdsAny, replaced, withoutField, leading, pastLeading, runOn, withoutRun, stored, hungOnCount, hungAlone, Looked, none, some, valueUnder, fieldCount, valuesIn}
-use Rattle.maps.specs.Rows.{Row, row, laid, levelOf, sizeOf, sizes, matches, findFrom, endFrom, inRun, runEndFrom}
-use Rattle.lent.specs.Lent.{isOwn, ownBelow, weight, fieldsIn}
-
-pub joined-end : (m : Map) → joined m end ≡ m
-unfolding joined
-joined-end end = refl
-joined-end (field t v rest) = ap (field t v) (joined-end rest)
-joined-end (entry s d own rest) = ap (entry s d own) (joined-end rest)
+use lib.ListN.{length, length-append}
+use lib.Dec.{eqb}
+use borrow.Author.Tests.{ne-eqb, lt-leb, lt-ltb}
+use Rattle.tagvalue.specs.Choice.{pick-same}
+use Rattle.maps.specs.Map.{Map, end, field, entry, joined, fieldCount, valuesIn}
+use Rattle.maps.specs.Rows.{Row, row, laid, levelOf, matches, findFrom, endFrom, inRun, runEndFrom}
+pub use Rattle.lent.specs.MeantLaws.{joined-end}
+pub use Rattle.lent.specs.LaidLaws.{sizes-append, sizes-laid}
 
 pub joined-assoc : (a b c : Map) → joined (joined a b) c ≡ joined a (joined b c)
 unfolding joined
@@ -45,35 +40,6 @@ unfolding joined fieldCount
 count-joined end b = omega arith
 count-joined (field t v rest) b = omega (arith, count-joined rest b)
 count-joined (entry s d own rest) b = omega (arith, count-joined rest b)
-
-pub sizes-append : (a b : List Row) → sizes (a ++ b) ≡ sizes a + sizes b
-unfolding sizes
-sizes-append [] b = omega arith
-sizes-append (r ∷ a) b = omega (arith, sizes-append a b)
-
--- the values of a map have the sizes that its rows say
-pub sizes-laid : (l : ℕ) (m : Map) → sizes (laid l m) ≡ length (valuesIn m)
-unfolding laid sizes sizeOf valuesIn
-sizes-laid l end = refl
-sizes-laid l (field t v rest) = omega (arith, sizes-laid l rest, length-append v (valuesIn rest))
-sizes-laid l (entry s d own rest) =
-    omega (arith, sizes-append (laid (l + 1) own) (laid l rest), sizes-laid (l + 1) own, sizes-laid l rest, length-append (valuesIn own) (valuesIn rest))
-
--- a map has at most two rows for each field that it counts
-pub rows-few : (l : ℕ) (m : Map) → length (laid l m) + pick (holdsAny m) 1 0 ≤ 2 * fieldCount m
-unfolding laid holdsAny fieldCount
-rows-few l end = omega arith
-rows-few l (field t v rest) = by-any (holdsAny rest) (rows-few l rest)
-  where
-    by-any : (b : Bool) → length (laid l rest) + pick b 1 0 ≤ 2 * fieldCount rest → suc (length (laid l rest)) + 1 ≤ 2 * (1 + fieldCount rest)
-    by-any true h = omega arith
-    by-any false h = omega arith
-rows-few l (entry s d own rest) = by-any (holdsAny own) (rows-few (l + 1) own) (rows-few l rest)
-  where
-    by-any : (b : Bool) → length (laid (l + 1) own) + pick b 1 0 ≤ 2 * fieldCount own → length (laid l rest) + pick (holdsAny rest) 1 0 ≤ 2 * fieldCount rest
-        → suc (length (laid (l + 1) own ++ laid l rest)) + pick (holdsAny rest) 1 0 ≤ 2 * (pick b 0 1 + fieldCount own + fieldCount rest)
-    by-any true h k = omega (arith, length-append (laid (l + 1) own) (laid l rest))
-    by-any false h k = omega (arith, length-append (laid (l + 1) own) (laid l rest))
 
 -- rows that stand deeper are passed over
 module _ (l : ℕ) where

@@ -5,4 +5,8 @@ pub mod PlaceLaws
 pub mod CutLaws
 pub mod ChangeLaws
 pub mod PartLaws
+pub mod FrameLaws
 pub mod StoreLaws
+pub mod NewLaws
+pub mod Examples
+pub mod FormedLaws

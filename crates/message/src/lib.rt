@@ -5,7 +5,7 @@ ghost use mathlib.Core.Bool.{true, false};
 ghost use Prim.Native.Nat.{_+_, _-_, _*_, _≤_, _<_};
 ghost use lib.ListN.{length};
 ghost use lib.Dec.{leb};
-ghost use Rattle.message.specs.Changes.{locatedIn, Cuttable, changedAt, Ready, putAt, after, emptying, storing, removing};
+ghost use Rattle.message.specs.Changes.{locatedIn, Cuttable, changedAt, Ready, putAt, after, emptying, making, storing, removing};
 
 pub enum Part {
     Header,
@@ -214,6 +214,24 @@ pub fn store(words: &mut [u32], values: &mut [u8], part: Part, tag: u32, value: 
     let count = span.count;
     let fields = lent::fields_in(words, 1, 0, count);
     put_field(words, values, span, tag, value, fields)
+}
+
+// Makes what is lent a new message, with a BeginString and a MsgType. What both don't fit is refused before anything is changed.
+pub fn new(words: &mut [u32], values: &mut [u8], begin_string: &[u8], message_type: &[u8]) -> Change
+    ensures { λ r. ⌜ after r (now (words .exit)) (now (values .exit)) ≡ making (now («begin_string» .entry)) (now («message_type» .entry)) (now (words .entry)) (now (values .entry)) ⌝ }
+{
+    if words.len() != 8205 {
+        return Change::NoMessage;
+    }
+    if values.len() != 8192 {
+        return Change::NoMessage;
+    }
+    if !fits(begin_string.len(), message_type.len()) {
+        return Change::NotStorable;
+    }
+    empty(words, values);
+    store(words, values, Part::Header, 8, begin_string);
+    store(words, values, Part::Header, 35, message_type)
 }
 
 // Removes a field from a part of a message; a run that hung on it stays.

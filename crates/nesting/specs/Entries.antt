@@ -22,11 +22,11 @@ pub data All (P : Record → Type 0) : List Record → Type 0 where
   all-more : {r : Record} {rs : List Record} → P r → All P rs → All P (r ∷ rs)
 
 module _ (P : Record → Type 0) where
-  all-append : {rs ss : List Record} → All P rs → All P ss → All P (rs ++ ss)
+  pub all-append : {rs ss : List Record} → All P rs → All P ss → All P (rs ++ ss)
   all-append all-none b = b
   all-append (all-more p a) b = all-more p (all-append a b)
 
-  all-stored : (r : Record) → P r → {rs : List Record} → All P rs → All P (stored r rs)
+  pub all-stored : (r : Record) → P r → {rs : List Record} → All P rs → All P (stored r rs)
   unfolding stored
   all-stored r q all-none = all-more q all-none
   all-stored r q (all-more {r = x} {rs = rs} p a) = go (eqb (x .depth) (r .depth)) (eqb (x .tag) (r .tag)) (all-stored r q a)
@@ -36,7 +36,7 @@ module _ (P : Record → Type 0) where
       go true false s = all-more p s
       go false t s = all-more p s
 
-all-map : {P Q : Record → Type 0} → ((r : Record) → P r → Q r) → {rs : List Record} → All P rs → All Q rs
+pub all-map : {P Q : Record → Type 0} → ((r : Record) → P r → Q r) → {rs : List Record} → All P rs → All Q rs
 all-map f all-none = all-none
 all-map f (all-more {r} p a) = all-more (f r p) (all-map f a)
 
@@ -61,7 +61,7 @@ module _ {L : Type 0} (rules : Rules L) where
   formed-deep (next-entry f g) = all-append _ (formed-deep f) (formed-deep g)
   formed-deep (starts o own) = all-more (own-deep own) all-none
   formed-deep (rises position f p l own) = all-append _ (formed-deep f) (all-more (own-deep own) all-none)
-  formed-deep (hangs entry c f g m) = all-append _ (formed-deep f) (all-map (deeper _) (formed-deep m))
+  formed-deep (hangs position c f p l own g m) = all-append _ (all-append _ (formed-deep f) (all-more (own-deep own) all-none)) (all-map (deeper _) (formed-deep m))
   formed-deep (user f p a own) = all-stored _ _ (own-deep own) (formed-deep f)
 
   -- the first record of an entry
@@ -90,7 +90,7 @@ module _ {L : Type 0} (rules : Rules L) where
   pub entry-starts : {level : L} {depth number last : ℕ} {entry : List Record} → Formed rules (fieldsOf level depth number last) entry → Starts level depth number entry
   entry-starts (starts {r = r} o own) = record { first = r; rest = []; is = refl; delimits = o; own = own }
   entry-starts (rises position f p l own) = starts-append _ (entry-starts f)
-  entry-starts (hangs entry c f g m) = starts-append _ (entry-starts f)
+  entry-starts (hangs position c f p l own g m) = starts-append _ (starts-append _ (entry-starts f))
   entry-starts (user {r = r} f p a own) = starts-stored r own (entry-starts f)
 
 -- a record is none of an entry's own with a tag
@@ -168,15 +168,23 @@ module _ {L : Type 0} (rules : Rules L) (first : (level : L) (tag : ℕ) → ope
   entry-below {level} {depth} (starts {r = r} o own) = all-more (below-at level depth r 0 (first level (r .tag) o)) all-none
   entry-below {level} {depth} (rises {last = last} position {r = r} f p l own) =
       all-append _ (all-map (λ x b. below-later level depth x last position l b) (entry-below f)) (all-more (below-at level depth r position p) all-none)
-  entry-below {level} {depth} {number} {last} (hangs entry c f g m) = all-append _ (entry-below f) (all-map (λ x d. below-deep level depth x last d) (formed-deep rules m))
+  entry-below {level} {depth} (hangs {last = last} position c f p l own g m) =
+      all-append _
+      (all-append _ (all-map (λ x b. below-later level depth x last position l b) (entry-below f)) (all-more (below-at level depth c position p) all-none))
+      (all-map (λ x d. below-deep level depth x position d) (formed-deep rules m))
   entry-below {level} {depth} {number} {last} (user {r = r} f p a own) = all-stored _ r (below-none level depth r last p) (entry-below f)
+
+  -- a declared tag that rises is none of the entry's own so far
+  pub entry-other : {level : L} {depth number last : ℕ} {entry : List Record} (position tag : ℕ) → Formed rules (fieldsOf level depth number last) entry → rules .position level tag ≡ At position → last < position → All (Other depth tag) entry
+  entry-other {level} {depth} {number} {last} position tag f p l = all-map (λ x b. other-later level depth x last position tag p l b) (entry-below f)
 
   -- "declared tags must rise", and a user tag is stored: within an entry no tag stands twice
   pub entry-once : {level : L} {depth number last : ℕ} {entry : List Record} → Formed rules (fieldsOf level depth number last) entry → Once depth entry
   entry-once (starts o own) = once-more (λ d. all-none) once-none
   entry-once {level} {depth} (rises {last = last} position {r = r} f p l own) =
       once-last depth r (all-map (λ x b. other-later level depth x last position (r .tag) p l b) (entry-below f)) (entry-once f)
-  entry-once {level} {depth} (hangs entry c f g m) = once-deep depth (entry-once f) (formed-deep rules m)
+  entry-once {level} {depth} (hangs {last = last} position c f p l own g m) =
+      once-deep depth (once-last depth c (all-map (λ x b. other-later level depth x last position (c .tag) p l b) (entry-below f)) (entry-once f)) (formed-deep rules m)
   entry-once {level} {depth} (user {r = r} f p a own) = once-stored depth r (own .deep) (entry-once f)
 
 opens-first : (layout : Layout) (tag : ℕ) → isDelimiter (delimiterOf layout) tag ≡ true → positionFrom tag 0 layout ≡ At 0

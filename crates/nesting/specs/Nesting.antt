@@ -73,11 +73,18 @@ module _ {L : Type 0} (rules : Rules L) where
       go false = declared-says level depth last tag (rules .position level tag) refl
 
   module _ (base : List Record) (bottom : L) (base-depth : ℕ) where
+    -- an entry, and a count that rises behind it
+    pub record Counted (level : L) (depth number last position : ℕ) (own : List Record) (c : Record) : Type 0 where
+      pub entry-formed : Formed rules (fieldsOf level depth number last) own
+      pub placed : rules .position level (c .tag) ≡ At position
+      pub rises-to : last < position
+      pub count-own : Own depth number c
+
     -- what is open, and the records so far
     pub data Open : List (Frame L) → List Record → Type 0 where
       first-run : {group entries : ℕ} (rs : List Record) → Formed rules (entriesOf bottom base-depth entries) rs → Open (run bottom group base-depth entries ∷ []) (base ++ rs)
-      nested-run : {level inner : L} {group depth number last entries : ℕ} {stack : List (Frame L)} (c : Record) (before own more : List Record) → Open (run level group depth number ∷ stack) before → Formed rules (fieldsOf level depth (number + 1) last) (own ++ (c ∷ [])) → rules .group level (c .tag) ≡ opened inner → Formed rules (entriesOf inner (depth + 1) entries) more →
-          Open (run inner (c .tag) (depth + 1) entries ∷ entry level group depth (number + 1) last (length before) ∷ run level group depth (number + 1) ∷ stack) ((before ++ (own ++ (c ∷ []))) ++ more)
+      nested-run : {level inner : L} {group depth number last position entries : ℕ} {stack : List (Frame L)} (c : Record) (before own more : List Record) → Open (run level group depth number ∷ stack) before → Counted level depth (number + 1) last position own c → rules .group level (c .tag) ≡ opened inner → Formed rules (entriesOf inner (depth + 1) entries) more →
+          Open (run inner (c .tag) (depth + 1) entries ∷ entry level group depth (number + 1) position (length before) ∷ run level group depth (number + 1) ∷ stack) ((before ++ (own ++ (c ∷ []))) ++ more)
       in-entry : {level : L} {group depth number last : ℕ} {stack : List (Frame L)} (before own : List Record) → Open (run level group depth number ∷ stack) before → Formed rules (fieldsOf level depth (number + 1) last) own →
           Open (entry level group depth (number + 1) last (length before) ∷ run level group depth (number + 1) ∷ stack) (before ++ own)
 
@@ -87,9 +94,9 @@ module _ {L : Type 0} (rules : Rules L) where
     close-entry own (nested-run c before entry-own more o f g m) e = rw (append-assoc (before ++ (entry-own ++ (c ∷ []))) more own) (nested-run c before entry-own (more ++ own) o f g (next-entry m e))
 
     -- a nested run is over, and belongs to its entry
-    close-run : {level inner : L} {group depth number last entries : ℕ} {stack : List (Frame L)} (c : Record) (before own more : List Record) → Open (run level group depth number ∷ stack) before → Formed rules (fieldsOf level depth (number + 1) last) (own ++ (c ∷ [])) → rules .group level (c .tag) ≡ opened inner → Formed rules (entriesOf inner (depth + 1) entries) more →
-        Open (entry level group depth (number + 1) last (length before) ∷ run level group depth (number + 1) ∷ stack) ((before ++ (own ++ (c ∷ []))) ++ more)
-    close-run c before own more o f g m = rw (append-assoc before (own ++ (c ∷ [])) more) (in-entry before ((own ++ (c ∷ [])) ++ more) o (hangs own c f g m))
+    close-run : {level inner : L} {group depth number last position entries : ℕ} {stack : List (Frame L)} (c : Record) (before own more : List Record) → Open (run level group depth number ∷ stack) before → Counted level depth (number + 1) last position own c → rules .group level (c .tag) ≡ opened inner → Formed rules (entriesOf inner (depth + 1) entries) more →
+        Open (entry level group depth (number + 1) position (length before) ∷ run level group depth (number + 1) ∷ stack) ((before ++ (own ++ (c ∷ []))) ++ more)
+    close-run c before own more o f g m = rw (append-assoc before (own ++ (c ∷ [])) more) (in-entry before ((own ++ (c ∷ [])) ++ more) o (hangs _ c (f .entry-formed) (f .placed) (f .rises-to) (f .count-own) g m))
 
     -- what a move leaves open
     data Goes (rs : List Record) (f : Field) : Move L → Type 0 where
@@ -116,7 +123,7 @@ module _ {L : Type 0} (rules : Rules L) where
             Open (run inner (f .tag) (depth + 1) 0 ∷ entry level group depth (number + 1) position (length before) ∷ run level group depth (number + 1) ∷ stack) ((before ++ own) ++ (recordOf depth (number + 1) f ∷ []))
         unfolding recordOf
         open-count inner position p l g =
-            let counted = nested-run (recordOf depth (number + 1) f) before own [] o (rises position fm p l (own-record depth (number + 1) f)) g no-entry in
+            let counted = nested-run (recordOf depth (number + 1) f) before own [] o (record { entry-formed = fm; placed = p; rises-to = l; count-own = own-record depth (number + 1) f }) g no-entry in
             rw (append-assoc before own (recordOf depth (number + 1) f ∷ [])) (rw (append-nil (before ++ (own ++ (recordOf depth (number + 1) f ∷ [])))) at counted)
 
         open-user : rules .position level (f .tag) ≡ Nowhere → rules .accepts (f .tag) ≡ true →

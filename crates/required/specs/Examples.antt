@@ -32,7 +32,7 @@ checked layout (refused refusal rs) = (numberOfRefusal refusal, valuesOfRefusal 
 
 unfoldable verdict : Layout → String → Told
 verdict layout text =
-    checked layout (walk (layoutRules (accepted false [])) listStore 100 (run layout 78 1 0 ∷ []) [] (fieldsFrom 1 (bytes text) (record { at = 0 })))
+    checked layout (walk (layoutRules (accepted false (λ (tag : ℕ). false))) listStore 100 (run layout 78 1 0 ∷ []) [] (fieldsFrom 1 (bytes text) (record { at = 0 })))
 
 -- "group 78 (79 and 80 required; group 539 with 524 required, 525)"
 abbrev allocations : Layout

@@ -4,8 +4,8 @@ use mathlib.Core.List.{[]}
 use Prim.Native.Nat.{ℕ, suc, _+_, _-_, _/_, _≤_, _<_, _^_}
 use native.Mathlib.Omega.{arith}
 use lib.ListN.{length}
-use Rattle.builder.specs.Parts.{Ends}
-use Rattle.builder.specs.Body.{bodyFrom}
+use Rattle.parts.specs.Parts.{Ends}
+use Rattle.body.specs.Body.{bodyFrom}
 use Rattle.builder.specs.Message.{finishCounts}
 use Rattle.builder.specs.Finishing.{part-empty, stopped-counts, unstopped-counts, finish-refused, finish-stopped, finish-unstopped, finish-crowded}
 use borrow.Author.Needs.{needs}
@@ -25,7 +25,7 @@ enum-known-field c = search needs
 abbrev body-of : tie.After-known-told2 → tie.After-read-body
 body-of c = c .before .before .before .before .before
 
-ends : (c : tie.After-known-told2) → let a = body-of c .before .before .before .before .before .before .before .before .before .before .args in Ends (a .message .now) (a .words .now) (a .headed .progress .records) (suc (a .headed .progress .room)) (c .before .field .given .0 .0) (c .before .field .given .0 .1 .0)
+ends : (c : tie.After-known-told2) → let a = body-of c .before .before .before .before .before .before .before .before .before .args in Ends (a .message .now) (a .words .now) (a .headed .progress .records) (suc (a .headed .progress .room)) (c .before .field .given .0 .0) (c .before .field .given .0 .1 .0)
 ends c = body-of c .read-body .ensures .1 .ends _ _ (c .before .field .given .1)
 
 words-kept : (c : tie.After-known-told2) → c .before .field .given .0 .1 .0 .records + c .before .field .given .0 .1 .0 .room < length (body-of c .read-body .last .1 .1 .1 .1 .1 .1 .1 .0) / 6
@@ -40,7 +40,7 @@ keep-requires c κs = (omega arith, omega (arith, words-kept (c .before .before)
 read-trailer-requires : tie.Need-read-trailer-requires
 read-trailer-requires c κs = let h = c .before .before .before in
     let k = h .before .before .before in
-    (body-of k .before .before .before .before .before .before .before .before .before .before .pre .0, ends k .inside, h .keep .ensures .grows, omega (arith, words-kept k, h .keep .ensures .by-one, h .keep .kept .0))
+    (body-of k .before .before .before .before .before .before .before .before .before .pre .0, ends k .inside, h .keep .ensures .grows, omega (arith, words-kept k, h .keep .ensures .by-one, h .keep .kept .0))
 
 enum-known-stop : tie.Need-enum-known-stop
 enum-known-stop c = search needs

@@ -7,6 +7,7 @@ use lib.ListN.{length}
 use borrow.Author.Needs.{needs}
 use borrow.Author.Tests.{not-true, not-false}
 use Rattle.tagvalue.specs.declared.Field.{Field}
+use Rattle.flat_names.specs.Index.{tagAt}
 use Rattle.groups.specs.Reading.{FitsAt, runOf, entryOf}
 use Rattle.groups.specs.ReadingLaws.{Follows, roomOf, makes-one, next-follows}
 use Rattle.groups.specs.declared.Progress.{Progress}
@@ -58,22 +59,22 @@ abbrev run-calls : ℕ → read-run-lts.Claims
 run-calls t = (next-field-reads.Asked, next-field-reads.Learnt, opens-reads.Asked, opens-reads.Learnt, read-entry-below t, read-entry.Post)
 
 abbrev read-entry-Inv-loop : read-entry-lts.InvT-loop
-read-entry-Inv-loop message config table known group number words₀ start reading₀ last₀ words reading last = (length words ≡ length words₀) × ((f : Field) (progress : Progress) → reading ≡ At f progress → FitsAt message f progress) × (entryLeft message config table known group number last₀ start reading₀ words₀ ≡ entryLeft message config table known group number last start reading words)
+read-entry-Inv-loop message config table index group number words₀ start reading₀ last₀ words reading last = (length words ≡ length words₀) × ((f : Field) (progress : Progress) → reading ≡ At f progress → FitsAt message f progress) × (entryLeft message config table (tagAt index) group number last₀ start reading₀ words₀ ≡ entryLeft message config table (tagAt index) group number last start reading words)
 
 abbrev read-entry-μ-loop : read-entry-lts.MeasureT-loop
-read-entry-μ-loop message config table known group number words₀ start reading₀ last₀ words reading last = roomOf reading
+read-entry-μ-loop message config table index group number words₀ start reading₀ last₀ words reading last = roomOf reading
 
 read-entry-record-of-requires : (t : ℕ) → read-entry-lts.Need-record-of-requires (entry-calls t) (read-entry-at t) read-entry.Post read-entry-Inv-loop read-entry-μ-loop
-read-entry-record-of-requires t c κs = let fits = c .before .before .before .before .before .pre .1 in (omega (arith, fits .short, fits .begins), omega (arith, fits .short, fits .ends))
+read-entry-record-of-requires t c κs = let fits = c .before .before .before .before .pre .1 in (omega (arith, fits .short, fits .begins), omega (arith, fits .short, fits .ends))
 
 read-entry-add-requires : (t : ℕ) → read-entry-lts.Need-add-requires (entry-calls t) (read-entry-at t) read-entry.Post read-entry-Inv-loop read-entry-μ-loop
-read-entry-add-requires t c κs = let fits = c .before .before .before .before .before .before .pre .1 in (omega (arith, fits .counted), omega (arith, fits .placed))
+read-entry-add-requires t c κs = let fits = c .before .before .before .before .before .pre .1 in (omega (arith, fits .counted), omega (arith, fits .placed))
 
 read-entry-next-field-requires : (t : ℕ) → read-entry-lts.Need-next-field-requires (entry-calls t) (read-entry-at t) read-entry.Post read-entry-Inv-loop read-entry-μ-loop
 read-entry-next-field-requires t c κs = search needs
 
 read-entry-loop-holds : (t : ℕ) → read-entry-lts.Need-loop-holds (entry-calls t) (read-entry-at t) read-entry.Post read-entry-Inv-loop read-entry-μ-loop
-read-entry-loop-holds t c = let fits = c .before .before .before .before .before .before .before .before .before .before .pre .1 in
+read-entry-loop-holds t c = let fits = c .before .before .before .before .before .before .before .before .before .pre .1 in
     (refl, stored-follows _ _ _ _ _ _ 1 _ (omega arith) fits (c .before .before .before .add .ensures .0) (c .next-field .ensures) .fits, refl)
 
 read-entry-enum-known-reading : (t : ℕ) → read-entry-lts.Need-enum-known-reading (entry-calls t) (read-entry-at t) read-entry.Post read-entry-Inv-loop read-entry-μ-loop
@@ -98,13 +99,13 @@ entry-loop t c = c .before .before .before
 entry-stands : (t : ℕ) (c : EntryField t) → entry-loop t c .loop .reading ≡ At (c .before .reading .given .0 .0) (c .before .reading .given .0 .1 .0)
 entry-stands t c = c .before .reading .given .1
 
-entry-fits : (t : ℕ) (c : EntryField t) → FitsAt (entry-loop t c .before .before .before .before .before .before .before .before .before .before .before .args .message .now) (c .before .reading .given .0 .0) (c .before .reading .given .0 .1 .0)
+entry-fits : (t : ℕ) (c : EntryField t) → FitsAt (entry-loop t c .before .before .before .before .before .before .before .before .before .before .args .message .now) (c .before .reading .given .0 .0) (c .before .reading .given .0 .1 .0)
 entry-fits t c = entry-loop t c .loop .inv .1 _ _ (entry-stands t c)
 
 -- the whole is what is left at the loop
-entry-whole : (t : ℕ) (l : EntryLoop t) → let a = l .before .before .before .before .before .before .before .before .before .before .before .args in
-    entryOf (a .message .now) (a .config) (a .table .now) (a .known .now) (a .group) (a .number) (a .delimiter) (a .progress) (a .words .now)
-    ≡ entryLeft (a .message .now) (a .config) (a .table .now) (a .known .now) (a .group) (a .number) (l .loop .last) (a .progress .place) (l .loop .reading) (l .loop .words)
+entry-whole : (t : ℕ) (l : EntryLoop t) → let a = l .before .before .before .before .before .before .before .before .before .before .args in
+    entryOf (a .message .now) (a .config) (a .table .now) (tagAt (a .index .now)) (a .group) (a .number) (a .delimiter) (a .progress) (a .words .now)
+    ≡ entryLeft (a .message .now) (a .config) (a .table .now) (tagAt (a .index .now)) (a .group) (a .number) (l .loop .last) (a .progress .place) (l .loop .reading) (l .loop .words)
 entry-whole t l =
     entry-starts _ _ _ _ _ _ _ _ _ _ _ _ _ (l .before .before .before .before .before .record-of .ensures) (l .before .before .before .before .add .ensures .0) (l .before .before .before .before .add .ensures .1) (l .before .next-field .ensures)
     ∙ l .loop .inv .2
@@ -129,17 +130,17 @@ read-entry-next-field-requires-2 t c κs = search needs
 
 -- where reading stands after each kind of field
 after-plain : (t : ℕ) (c : read-entry-lts.After-next-field2 (entry-calls t) (read-entry-at t) read-entry.Post read-entry-Inv-loop read-entry-μ-loop) → let k = c .before .before .before .before .before .before .before .before .before .before .before in
-    Follows (entry-loop t k .before .before .before .before .before .before .before .before .before .before .before .args .message .now) (k .before .reading .given .0 .1 .0 .room) (c .next-field2 .result)
+    Follows (entry-loop t k .before .before .before .before .before .before .before .before .before .before .args .message .now) (k .before .reading .given .0 .1 .0 .room) (c .next-field2 .result)
 after-plain t c =
     stored-follows _ _ _ _ _ _ 1 _ (omega arith) (entry-fits t (c .before .before .before .before .before .before .before .before .before .before .before)) (c .before .before .before .add2 .ensures .0) (c .next-field2 .ensures)
 
 after-user : (t : ℕ) (c : read-entry-lts.After-next-field3 (entry-calls t) (read-entry-at t) read-entry.Post read-entry-Inv-loop read-entry-μ-loop) → let k = c .before .before .before .before .before .before .before .before .before .before in
-    Follows (entry-loop t k .before .before .before .before .before .before .before .before .before .before .before .args .message .now) (k .before .reading .given .0 .1 .0 .room) (c .next-field3 .result)
+    Follows (entry-loop t k .before .before .before .before .before .before .before .before .before .before .args .message .now) (k .before .reading .given .0 .1 .0 .room) (c .next-field3 .result)
 after-user t c =
     stored-follows _ _ _ _ _ _ _ _ (makes-one _) (entry-fits t (c .before .before .before .before .before .before .before .before .before .before)) (c .before .before .before .join .ensures .0) (c .next-field3 .ensures)
 
 after-count : (t : ℕ) (c : read-entry-lts.After-read-run (entry-calls t) (read-entry-at t) read-entry.Post read-entry-Inv-loop read-entry-μ-loop) → let k = c .before .before .before .before .before .before .before .before .before .before .before .before .before in
-    Follows (entry-loop t k .before .before .before .before .before .before .before .before .before .before .before .args .message .now) (k .before .reading .given .0 .1 .0 .room) (c .read-run .result)
+    Follows (entry-loop t k .before .before .before .before .before .before .before .before .before .before .args .message .now) (k .before .reading .given .0 .1 .0 .room) (c .read-run .result)
 after-count t c = count-follows _ _ _ _ _ _ _ _ _ (entry-fits t (c .before .before .before .before .before .before .before .before .before .before .before .before .before)) (c .before .before .before .before .before .add3 .ensures .0) _ _ (c .read-run .ensures)
 
 read-entry-loop-less : (t : ℕ) → read-entry-lts.Need-loop-less (entry-calls t) (read-entry-at t) read-entry.Post read-entry-Inv-loop read-entry-μ-loop
@@ -165,7 +166,7 @@ read-entry-add-t33 t c = omega (arith, count-below _ _ _ _ _ _ _ _ _ (c .before 
 
 read-entry-read-run-requires : (t : ℕ) → read-entry-lts.Need-read-run-requires (entry-calls t) (read-entry-at t) read-entry.Post read-entry-Inv-loop read-entry-μ-loop
 read-entry-read-run-requires t c κs = let k = c .before .before .before .before .before .before .before .before .before .before .before .before in (
-  omega (arith, count-below _ _ _ _ _ _ _ _ _ (c .before .before .before .before .before .before .before .before .before .kind-of .ensures) (c .before .before .before .before .before .before .before .level .given .1), entry-loop t k .before .before .before .before .before .before .before .before .before .before .before .pre .0),
+  omega (arith, count-below _ _ _ _ _ _ _ _ _ (c .before .before .before .before .before .before .before .before .before .kind-of .ensures) (c .before .before .before .before .before .before .before .level .given .1), entry-loop t k .before .before .before .before .before .before .before .before .before .before .pre .0),
   stored-fits _ _ _ _ 1 (omega arith) (entry-fits t k) (c .before .before .before .before .add3 .ensures .0),
 )
 
@@ -224,16 +225,16 @@ read-entry-returns-3 t c = let k = c .before .before .before .before .before in
     left-ends _ _ _ _ _ _ _ _ _ _ (entry-stands t k) _ _ _ (c .before .before .kind-of .ensures) (c .enum-told4 .given .1) ∙ sym (entry-whole t (entry-loop t k))
 
 abbrev read-run-Inv-loop : read-run-lts.InvT-loop
-read-run-Inv-loop message config table known group words₀ reading₀ number₀ words reading number = (length words ≡ length words₀) × (number + roomOf reading ≤ roomOf reading₀) × ((f : Field) (progress : Progress) → reading ≡ At f progress → FitsAt message f progress) × (runLeft message config table known group number₀ reading₀ words₀ ≡ runLeft message config table known group number reading words)
+read-run-Inv-loop message config table index group words₀ reading₀ number₀ words reading number = (length words ≡ length words₀) × (number + roomOf reading ≤ roomOf reading₀) × ((f : Field) (progress : Progress) → reading ≡ At f progress → FitsAt message f progress) × (runLeft message config table (tagAt index) group number₀ reading₀ words₀ ≡ runLeft message config table (tagAt index) group number reading words)
 
 abbrev read-run-μ-loop : read-run-lts.MeasureT-loop
-read-run-μ-loop message config table known group words₀ reading₀ number₀ words reading number = roomOf reading
+read-run-μ-loop message config table index group words₀ reading₀ number₀ words reading number = roomOf reading
 
 read-run-next-field-requires : (t : ℕ) → read-run-lts.Need-next-field-requires (run-calls t) (read-run-at t) read-run.Post read-run-Inv-loop read-run-μ-loop
 read-run-next-field-requires t c κs = search needs
 
 read-run-loop-holds : (t : ℕ) → read-run-lts.Need-loop-holds (run-calls t) (read-run-at t) read-run.Post read-run-Inv-loop read-run-μ-loop
-read-run-loop-holds t c = let fits = c .before .before .before .before .before .pre .1 in
+read-run-loop-holds t c = let fits = c .before .before .before .before .pre .1 in
     (refl, omega arith, rw (c .next-field .ensures) (next-follows _ _ _ _ fits .fits), refl)
 
 read-run-enum-known-reading : (t : ℕ) → read-run-lts.Need-enum-known-reading (run-calls t) (read-run-at t) read-run.Post read-run-Inv-loop read-run-μ-loop
@@ -258,20 +259,20 @@ run-loop t c = c .before .before .before
 run-stands : (t : ℕ) (c : RunField t) → run-loop t c .loop .reading ≡ At (c .before .reading .given .0 .0) (c .before .reading .given .0 .1 .0)
 run-stands t c = c .before .reading .given .1
 
-run-fits : (t : ℕ) (c : RunField t) → FitsAt (run-loop t c .before .before .before .before .before .before .args .message .now) (c .before .reading .given .0 .0) (c .before .reading .given .0 .1 .0)
+run-fits : (t : ℕ) (c : RunField t) → FitsAt (run-loop t c .before .before .before .before .before .args .message .now) (c .before .reading .given .0 .0) (c .before .reading .given .0 .1 .0)
 run-fits t c = run-loop t c .loop .inv .2 _ _ (run-stands t c)
 
-run-whole : (t : ℕ) (l : RunLoop t) → let a = l .before .before .before .before .before .before .args in
-    runOf (a .message .now) (a .config) (a .table .now) (a .known .now) (a .group) (a .cursor) (a .progress) (a .words .now)
-    ≡ runLeft (a .message .now) (a .config) (a .table .now) (a .known .now) (a .group) (l .loop .number) (l .loop .reading) (l .loop .words)
+run-whole : (t : ℕ) (l : RunLoop t) → let a = l .before .before .before .before .before .args in
+    runOf (a .message .now) (a .config) (a .table .now) (tagAt (a .index .now)) (a .group) (a .cursor) (a .progress) (a .words .now)
+    ≡ runLeft (a .message .now) (a .config) (a .table .now) (tagAt (a .index .now)) (a .group) (l .loop .number) (l .loop .reading) (l .loop .words)
 run-whole t l = run-starts _ _ _ _ _ _ _ _ _ (l .before .next-field .ensures) ∙ l .loop .inv .3
 
 -- entries are fewer than the fields that could be read
 run-number : (t : ℕ) (c : RunField t) → run-loop t c .loop .number + 1 < 2 ^ 32
 run-number t c =
     let l = run-loop t c in
-    let fits = l .before .before .before .before .before .before .pre .1 in
-    let a = l .before .before .before .before .before .before .args in
+    let fits = l .before .before .before .before .before .pre .1 in
+    let a = l .before .before .before .before .before .args in
     let first = next-follows (a .config .separator) (a .message .now) (a .cursor) (a .progress) fits .falls in
     let here : roomOf (l .loop .reading) ≡ suc (c .before .reading .given .0 .1 .0 .room) = ap roomOf (run-stands t c) ∙ unfold roomOf in refl in
     omega (arith, l .loop .inv .1, fits .counted, ap roomOf (l .before .next-field .ensures), first)
@@ -300,10 +301,10 @@ read-run-add-number : (t : ℕ) → read-run-lts.Need-add-number (run-calls t) (
 read-run-add-number t c = omega (arith, run-number t (c .before .before))
 
 read-run-read-entry-requires : (t : ℕ) → read-run-lts.Need-read-entry-requires (run-calls t) (read-run-at t) read-run.Post read-run-Inv-loop read-run-μ-loop
-read-run-read-entry-requires t c κs = (omega (arith, run-loop t (c .before .before .before) .before .before .before .before .before .before .pre .0), run-fits t (c .before .before .before))
+read-run-read-entry-requires t c κs = (omega (arith, run-loop t (c .before .before .before) .before .before .before .before .before .pre .0), run-fits t (c .before .before .before))
 
 after-entry : (t : ℕ) (c : read-run-lts.After-read-entry (run-calls t) (read-run-at t) read-run.Post read-run-Inv-loop read-run-μ-loop) → let k = c .before .before .before .before in
-    Follows (run-loop t k .before .before .before .before .before .before .args .message .now) (k .before .reading .given .0 .1 .0 .room) (c .read-entry .result)
+    Follows (run-loop t k .before .before .before .before .before .args .message .now) (k .before .reading .given .0 .1 .0 .room) (c .read-entry .result)
 after-entry t c = entry-follows _ _ _ _ _ _ _ _ _ (run-fits t (c .before .before .before .before)) _ _ (c .read-entry .ensures)
 
 read-run-loop-less : (t : ℕ) → read-run-lts.Need-loop-less (run-calls t) (read-run-at t) read-run.Post read-run-Inv-loop read-run-μ-loop

@@ -10,7 +10,7 @@ use lib.ListN.{length, getD, take, drop, set, length-set}
 use Rattle.maps.specs.Rows.{rowsFrom, findFrom, runEndFrom}
 use Rattle.message.specs.Changes.{after, Cuttable, changedAt, fieldPlace, Ready, putAt}
 use Rattle.message.specs.ChangeLaws.{put-place, able-place, put-last, able-last}
-use Rattle.message.specs.StoreLaws.{find-within}
+use Rattle.message.specs.FrameLaws.{find-within}
 use Rattle.message.proofs.put_field.Statement.{statement}
 use Rattle.message.proofs.put_field.Tie as tie
 

@@ -120,7 +120,7 @@ same-length-6 : tie.Need-same-length-6
 same-length-6 c = search needs
 
 returns-3 : tie.Need-returns-3
-returns-3 c = let f = c .before .before .before .before .before .before .before .before .before in let k = f .before .before .before .before .before in rw (is-at k .1, fields-less f) at (c .before .before .before .before .cut-rows .ensures) ∙ remove-leaves _ _ _ _ (in-at k) _ _ (found-at (f .before .before .before)) (held-at (f .before .before)) .done ∙ sym (remove-on _ _ _ _ (is-at k .0) (held-at (f .before .before)))
+returns-3 c = let f = c .before .before .before .before .before .before .before .before .before in let k = f .before .before .before .before .before in rw (is-at k .1, fields-less f) at (c .before .before .before .before .cut-rows .ensures) ∙ remove-leaves _ _ _ _ (in-at k) _ _ (found-at (f .before .before .before)) (held-at (f .before .before)) .done true ∙ sym (remove-on _ _ _ _ (is-at k .0) (held-at (f .before .before)))
 
 pub remove-spec : {M : Type 1} → statement M
 remove-spec =

@@ -1,0 +1,9 @@
+pub mod Body
+pub mod BodyLaws
+pub mod Kinds
+pub mod KindLaws
+pub mod RunLaws
+pub mod RunWords
+pub mod GroupReading
+pub mod BodyReading
+pub mod Meaning

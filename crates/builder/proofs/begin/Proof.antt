@@ -1,0 +1,88 @@
+-- `begin` meets its contract: integrity verifies the first fields, and the rest of the header is read behind them. Each return cites the law
+-- of its way; every field that was read lies in the message, MsgType and CheckSum too.
+use mathlib.Core.Path.{_≡_, sym, _∙_}
+use native.Mathlib.Omega.{arith}
+use Rattle.integrity.specs.Integrity.{integrityOf}
+use Rattle.integrity.specs.declared.Integrity.the-variants.{Sound}
+use Rattle.parts.specs.PartLaws.{read-inside}
+use Rattle.builder.specs.MsgTypeLaws.{msg-type-inside}
+use Rattle.integrity.specs.VerifiedLaws.{verified-read}
+use Rattle.builder.specs.BeginningLaws.{verified-inside, start-garbled, start-refused, start-headed, header-ended, begins-refused, begins-headed}
+use borrow.Author.Needs.{needs}
+use Rattle.builder.proofs.begin.Statement.{statement}
+use Rattle.builder.proofs.begin.Tie as tie
+
+verify-requires : tie.Need-verify-requires
+verify-requires c κs = search needs
+
+enum-known-reason : tie.Need-enum-known-reason
+enum-known-reason c = search needs
+
+enum-known-verified : tie.Need-enum-known-verified
+enum-known-verified c = search needs
+
+-- the frame is sound
+sound : (c : tie.After-known-told2) → let a = c .before .before .before .before .before .before .before .args in integrityOf (a .config .separator) (a .message .now) ≡ Sound (c .before .verified .given .0 .0)
+sound c = sym (c .before .before .before .verify .ensures) ∙ c .before .verified .given .1
+
+keep-verified-requires : tie.Need-keep-verified-requires
+keep-verified-requires c κs = let s = c .before .before .before .before in
+    let p = s .before .before .before .before .before .before .before .pre in
+    (omega (arith, p .1), verified-inside _ _ _ (sound s) (p .0))
+
+read-header-requires : tie.Need-read-header-requires
+read-header-requires c κs = let k = c .before .before .before in
+    let p = k .before .before .before .before .before .before .before .before .before .before .before .before .pre in
+    (p .0, omega (arith, p .1, k .keep-verified .ensures .1, k .keep-verified .kept .0))
+
+enum-known-answer : tie.Need-enum-known-answer
+enum-known-answer c = search needs
+
+enum-known-stop : tie.Need-enum-known-stop
+enum-known-stop c = search needs
+
+returns : tie.Need-returns
+returns c = (start-garbled _ _ _ _ _ (sym (c .before .before .before .verify .ensures) ∙ c .before .reason .given .1), begins-refused _ _ _)
+
+same-length : tie.Need-same-length
+same-length c = search needs
+
+returns-2 : tie.Need-returns-2
+returns-2 c = let h = c .before .before .before .before .before in
+    let k = h .before .before .before .before in
+    let s = k .before .before .before .before .before in
+    (start-refused _ _ _ _ _ _ _ (k .keep-verified .ensures .0) _ (h .read-header .ensures .0) (sound s) _ (c .before .answer .given .1), begins-refused _ _ _)
+
+same-length-2 : tie.Need-same-length-2
+same-length-2 c = search needs
+
+returns-3 : tie.Need-returns-3
+returns-3 c = let h = c .before .before .before .before .before in
+    let k = h .before .before .before .before in
+    let s = k .before .before .before .before .before in
+    let ends = h .read-header .ensures .1 .ends _ _ (c .before .stop .given .1) in (
+      start-headed _ _ _ _ _ _ _ (k .keep-verified .ensures .0) _ (h .read-header .ensures .0) (sound s) _ _ (c .before .stop .given .1),
+      begins-headed _ _ _ (record {
+        stops = ends .inside;
+        sums = read-inside _ _ _ _ (verified-read _ _ _ (sound s) .sums);
+        fits = omega (arith, ends .fits, h .read-header .kept .1 .1 .1 .1 .0);
+        types = msg-type-inside _ _ _ _ _ _ _ _ (sound s) (header-ended _ _ _ _ _ _ _ (k .keep-verified .ensures .0) _ (h .read-header .ensures .0) _ _ (c .before .stop .given .1));
+      }),
+    )
+
+pub begin-spec : {M : Type 1} → statement M
+begin-spec =
+    tie.close
+    (tie.spec
+    verify-requires
+    enum-known-reason
+    enum-known-verified
+    keep-verified-requires
+    read-header-requires
+    enum-known-answer
+    enum-known-stop
+    returns
+    same-length
+    returns-2
+    same-length-2
+    returns-3)

@@ -1,0 +1,122 @@
+-- `read_headed` meets its contract: what was tabled for MsgType's value is what the tree says of it. Where there is a layout, `finish` reads
+-- through the table as through the layout; where there is none, MsgType is not in the dictionary.
+use mathlib.Core.Path.{_≡_, refl, _∙_}
+use mathlib.Core.Logic.{⊎-elim}
+use mathlib.Core.List.{[], _∷_}
+use Prim.Native.Nat.{ℕ}
+use native.Mathlib.Omega.{arith}
+use borrow.Author.Needs.{needs}
+use lib.ListN.{replicate, length-replicate}
+use types.Run.{OneOf}
+use denote.Enum.Declared.{tagOf}
+use Rattle.layout.specs.Tree.{layoutOf}
+use Rattle.flattening.proofs.MessageTable as table-type
+use Rattle.flattening.specs.declared.MessageTable.{MessageTable}
+use Rattle.flattening.specs.declared.MessageTable.the-variants.{Rows, NoMessage, Unprepared}
+use Rattle.flattening.specs.Meaning.{dictionaryOf}
+use Rattle.flattening.specs.MessageTable.{tabling}
+use Rattle.flattening.specs.Theorem.{TableOf}
+use Rattle.parts.specs.Parts.{partOf}
+use Rattle.builder.specs.Beginning.{msgTypeRecord, valueAt}
+use Rattle.builder.specs.Message.{finishCounts}
+use Rattle.builder.specs.HeadedLaws.{bytes-of, type-inside, written-size, type-told, laid-after, none-after}
+use Rattle.builder.proofs.read_headed.Statement.{statement}
+use Rattle.builder.proofs.read_headed.Tie as tie
+
+-- where MsgType's record was found, and where the function was called
+abbrev typed : tie.After-message-table → tie.After-msg-type-of
+typed c = c .before .before .before .before .before
+
+abbrev called : tie.After-msg-type-of → tie.Start
+called c = c .before .before .before .before .before .before .before
+
+msg-type-of-requires : tie.Need-msg-type-of-requires
+msg-type-of-requires c κs = omega (arith, c .before .before .before .before .before .before .pre .2 .fits)
+
+cast-place : tie.Need-cast-place
+cast-place c = search needs
+
+cast-length : tie.Need-cast-length
+cast-length c = search needs
+
+add-message-table : tie.Need-add-message-table
+add-message-table c = search needs
+
+sub-message-table : tie.Need-sub-message-table
+sub-message-table c = search needs
+
+part-message-table-start : tie.Need-part-message-table-start
+part-message-table-start c = search needs
+
+part-message-table-end : tie.Need-part-message-table-end
+part-message-table-end c = let t = c .before .before in
+    type-inside (called t .args .message .now) (t .msg-type-of .result) _ (t .msg-type-of .ensures) (called t .pre .2 .types)
+
+message-table-requires : tie.Need-message-table-requires
+message-table-requires c κs = search needs
+
+-- what was answered and written is what the tree says of MsgType
+told : (c : tie.After-message-table) → let a = called (typed c) .args in
+    TableOf (replicate {A = ℕ} 4096 0) (layoutOf (dictionaryOf (a .dictionary .now)) (valueAt (a .message .now) (msgTypeRecord (partOf 0 (a .headed .progress .records) (a .words .now))))) (tabling (c .message-table .result) (c .message-table .last .1 .1 .1 .0))
+told c = let t = typed c in
+    let s = called t in
+    let k = t .before .before .before .before .before in
+    type-told (s .args .dictionary .now) (s .args .index .now) (s .pre .3) (bytes-of _ (λ i. k .shared-slice-known2 .given i .fits)) (s .args .message .now) (bytes-of _ (λ i. k .before .shared-slice-known .given i .fits))
+    (t .msg-type-of .result) _ (t .msg-type-of .ensures) _ (length-replicate {A = ℕ} 4096 0) (c .message-table .result) _ (c .message-table .ensures)
+
+enum-known-rows : tie.Need-enum-known-rows
+enum-known-rows c = search needs
+
+slice-aggregate-finish : tie.Need-slice-aggregate-finish
+slice-aggregate-finish c = written-size _ (told (c .before .before .before .before)) _ _ refl
+
+finish-requires : tie.Need-finish-requires
+finish-requires c κs = let p = called (typed (c .before .before .before .before .before)) .pre in
+    (p .0, p .2 .stops, p .2 .sums, p .2 .fits, omega (arith, p .1))
+
+same-length : tie.Need-same-length
+same-length c = search needs
+
+returns : tie.Need-returns
+returns c = let f = c .before .before in
+    let m = f .before .before .before .before .before .before in
+    let s = called (typed m) in
+    let h = s .args .headed in
+    (f .finish .ensures .0 ∙ laid-after (s .args .dictionary .now) (s .args .index .now) (s .pre .3) (s .args .config .validate) (h .stop) _ (h .progress .room) (h .checksum) _ (told m) _ (m .message-table .result) _ refl _ (f .before .before .before .before .rows .given .1) _ (s .pre .4), omega (arith, f .finish .ensures .1, s .pre .1))
+
+same-length-2 : tie.Need-same-length-2
+same-length-2 c = search needs
+
+-- the answers of the other arm have no rows
+rowless : (answer : MessageTable) → OneOf (1 ∷ 2 ∷ []) (tagOf table-type.the-type answer) → (rows : ℕ) → answer ≡ Rows rows → ⊥
+rowless (Rows n) k rows e = ⊎-elim (λ (z : 0 ≡ 1). absurd (omega arith)) (λ (z : 0 ≡ 2). absurd (omega arith)) k
+rowless NoMessage k rows e = let z : _≡_ {A = ℕ} 0 1 = cc in absurd (omega arith)
+rowless Unprepared k rows e = let z : _≡_ {A = ℕ} 0 1 = cc in absurd (omega arith)
+
+returns-2 : tie.Need-returns-2
+unfolding finishCounts
+returns-2 c = let m = c .before in
+    let t = typed m in
+    let s = called t in
+    let h = s .args .headed in
+    (none-after (s .args .dictionary .now) (s .args .index .now) (s .pre .3) (s .args .config .validate) (h .stop) _ (h .progress .room) (h .checksum) _ (told m) _ (s .args .words .now) (t .msg-type-of .result) (t .msg-type-of .ensures) (m .message-table .result) _ refl (rowless _ (c .match .keys2)), omega arith)
+
+pub read-headed-spec : {M : Type 1} → statement M
+read-headed-spec =
+    tie.close
+    (tie.spec
+    msg-type-of-requires
+    cast-place
+    cast-length
+    add-message-table
+    sub-message-table
+    part-message-table-start
+    part-message-table-end
+    message-table-requires
+    enum-known-rows
+    slice-aggregate-finish
+    finish-requires
+    same-length
+    returns
+    same-length-2
+    returns-2)

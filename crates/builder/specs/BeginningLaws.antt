@@ -1,0 +1,87 @@
+-- Each field that integrity verified was read in the message, so a record can hold it. Stored in their order these records start the header,
+-- and what the code reads behind them is the rest of it.
+use mathlib.Core.Path.{_≡_, refl, sym, _∙_}
+use mathlib.Core.List.{List}
+use Prim.Native.Nat.{ℕ, _-_, _<_, _^_}
+use native.Mathlib.Omega.{arith}
+use lib.ListN.{length}
+use Rattle.tagvalue.specs.Fields.{fieldsFrom}
+use Rattle.tagvalue.specs.declared.Field.{Field}
+use Rattle.integrity.specs.Integrity.{integrityOf}
+use Rattle.integrity.specs.VerifiedLaws.{verified-read}
+use Rattle.integrity.specs.declared.Integrity.the-variants.{Sound, Garbled}
+use Rattle.integrity.specs.declared.GarbledReason.{GarbledReason}
+use Rattle.integrity.specs.declared.Verified.{Verified}
+use Rattle.records.specs.declared.Record.{Record}
+use Rattle.parts.specs.declared.Answer.{Answer}
+use Rattle.parts.specs.declared.Answer.the-variants.{Garbled as garbled}
+use Rattle.parts.specs.declared.Progress.{Progress}
+use Rattle.parts.specs.declared.PartRead.{PartRead}
+use Rattle.parts.specs.declared.PartRead.the-variants.{At, Refused}
+use Rattle.parts.specs.Parts.{ended, recordOf, partOf, partTold, Kept}
+use Rattle.parts.specs.PartLaws.{read-inside}
+use Rattle.parts.specs.Header.{headerFrom}
+use Rattle.builder.specs.declared.Headed.{Headed}
+use Rattle.builder.specs.declared.Begun.the-variants.{Header, Refused as RefusedStart}
+use Rattle.builder.specs.Beginning.{verifiedRecords, roomBehind, headerOf, withChecksum, startedBy, startOf}
+use Rattle.builder.specs.Reading.{VerifiedInside, startTold, HeaderEnds, Begins}
+use Rattle.builder.specs.Finishing.{part-empty}
+
+-- a record can hold the fields that were verified
+pub verified-inside : (separator : ℕ) (message : List ℕ) (v : Verified) → integrityOf separator message ≡ Sound v → length message < 2 ^ 32 → VerifiedInside v
+verified-inside separator message v sound short =
+    let read = verified-read separator message v sound in
+    let begins = read-inside separator message _ _ (read .begins) in
+    let counts = read-inside separator message _ _ (read .counts) in
+    let types = read-inside separator message _ _ (read .types) in
+    record {
+      begins = (omega (arith, begins .begins), omega (arith, begins .ends));
+      counts = (omega (arith, counts .begins), omega (arith, counts .ends));
+      types = (omega (arith, types .begins), omega (arith, types .ends));
+    }
+
+-- stored one behind the other they are the header's first records
+pub verified-kept : (v : Verified) (begin body type : Record) → begin ≡ recordOf 1 (v .«begin_string») → body ≡ recordOf 1 (v .«body_length») → type ≡ recordOf 1 (v .«msg_type») →
+    (entry one two exit : List ℕ) (first second third : ℕ) → Kept entry one 0 0 begin first → Kept one two 0 first body second → Kept two exit 0 second type third →
+    partOf 0 third exit ≡ verifiedRecords v
+unfolding verifiedRecords
+verified-kept v begin body type b l t entry one two exit first second third k m n =
+    n .part ∙ rw (m .part, k .part, part-empty 0 entry, b, l, t)
+
+module _ (tags : List ℕ) (separator : ℕ) (message : List ℕ) where
+  -- the frame is not sound
+  pub start-garbled : (reason : GarbledReason) (words : List ℕ) → integrityOf separator message ≡ Garbled reason → startTold separator message (RefusedStart (garbled reason)) words ≡ startOf tags separator message
+  unfolding startTold startOf startedBy
+  start-garbled reason words e = rw e
+
+  module _ (v : Verified) (kept exit : List ℕ) (count : ℕ) (keeps : partOf 0 count kept ≡ verifiedRecords v)
+      (reading : PartRead) (told : partTold separator message 0 reading exit ≡ headerFrom tags (fieldsFrom separator message (v .«msg_type» .next)) roomBehind (partOf 0 count kept)) where
+    header-is : headerOf tags separator message v ≡ partTold separator message 0 reading exit
+    unfolding headerOf
+    header-is = rw (told, keeps)
+
+    pub header-ended : (f : Field) (p : Progress) → reading ≡ At f p → headerOf tags separator message v ≡ ended f (fieldsFrom separator message (f .next)) (p .room) (partOf 0 (p .records) exit)
+    unfolding partTold
+    header-ended f p e = header-is ∙ rw e
+
+    module _ (sound : integrityOf separator message ≡ Sound v) where
+      start-is : startOf tags separator message ≡ withChecksum (v .checksum) (partTold separator message 0 reading exit)
+      unfolding startOf startedBy
+      start-is = rw (sound, header-is)
+
+      -- the header was refused
+      pub start-refused : (answer : Answer) → reading ≡ Refused answer → startTold separator message (RefusedStart answer) exit ≡ startOf tags separator message
+      unfolding startTold withChecksum partTold
+      start-refused answer e = sym (start-is ∙ rw e)
+
+      -- the header ended
+      pub start-headed : (f : Field) (p : Progress) → reading ≡ At f p → startTold separator message (Header (record { stop = f; progress = p; checksum = v .checksum })) exit ≡ startOf tags separator message
+      unfolding startTold withChecksum partTold
+      start-headed f p e = sym (start-is ∙ rw e)
+
+module _ (message words : List ℕ) where
+  pub begins-refused : (answer : Answer) → Begins message words (RefusedStart answer)
+  begins-refused answer = record { ends = λ h e. let z : _≡_ {A = ℕ} 0 1 = cc in absurd (omega arith) }
+
+  pub begins-headed : (h : Headed) → HeaderEnds message words h → Begins message words (Header h)
+  begins-headed h ends = record { ends = λ g e. let same : h ≡ g = cc in rw (← same) ends }

@@ -1,0 +1,62 @@
+-- The build: "22, 23, 20, 30 to 37 of its dictionary (no records), then reads". For every message, dictionary, separator, setting and
+-- number of lent records: the answer, the records that are shown, and what is written over the lent ones.
+use Prim.Native.Nat.{ℕ, _-_}
+use mathlib.Core.List.{List, [], _++_}
+use mathlib.Core.Bool.{Bool, true, false}
+use lib.ListN.{length, replicate}
+use lib.Dec.{eqb, ltb}
+use Rattle.tagvalue.specs.Choice.{pick}
+use Rattle.tagvalue.specs.Number.{isDigit}
+use Rattle.integrity.specs.declared.Config.{Config}
+use Rattle.flat.specs.Check.{checkOf, numberOf as numberOfCheck}
+use Rattle.flat_steps.specs.declared.Checked.{Checked}
+use Rattle.flattening.specs.Meaning.{dictionaryOf}
+use Rattle.records.specs.Records.{laid}
+use Rattle.records.specs.declared.Record.{Record}
+use Rattle.parts.specs.declared.Answer.{Answer}
+use Rattle.parts.specs.declared.Answer.the-variants.{TooLong as MessageTooLong, InvalidSeparator, TooFewRecords, BadDictionary}
+use Rattle.builder.specs.declared.Stop.{Stop}
+use Rattle.builder.specs.declared.Stop.the-variants.{Nowhere}
+use Rattle.builder.specs.declared.Built.{Built}
+use Rattle.builder.specs.Message.{Outcome, refusal, messageRead}
+
+-- 22: "separator `=` or a digit"
+unfoldable pub isInvalid : ℕ → Bool
+isInvalid separator = pick (eqb separator 61) true (isDigit separator)
+
+-- the answer, what stopped the trailer, how many records are shown, over how many of the lent ones is written, and the core's words
+pub record BuildOutcome : Type 0 where
+  pub answer : Answer
+  pub stop : Stop
+  pub records : ℕ
+  pub written : ℕ
+  pub words : List ℕ
+
+-- "all lent past them are zero": the words of the records, and zeros up to 1,025 records
+unfoldable pub wordsWith : List Record → List ℕ
+wordsWith records = laid records ++ replicate (6150 - length (laid records)) 0
+
+-- 20, 22 and 23 leave the records as they were
+unfoldable pub untouched : Answer → List ℕ → BuildOutcome
+untouched answer words = record { answer = answer; stop = Nowhere; records = 0; written = 0; words = words }
+
+-- an answer with its records, and over all that are lent is written
+unfoldable pub shown : ℕ → Outcome → BuildOutcome
+shown lent outcome = record { answer = outcome .answer; stop = outcome .stop; records = length (outcome .records); written = lent; words = wordsWith (outcome .records) }
+
+-- "30 to 37 of its dictionary (no records), then reads"
+unfoldable pub checkedRead : List ℕ → Config → List ℕ → Checked → Outcome
+checkedRead message config dictionary checked =
+    pick (eqb (numberOfCheck checked) 0) (messageRead (dictionaryOf dictionary) (config .validate) (config .separator) message) (refusal (BadDictionary checked) [])
+
+-- "Build checks 22, 23, 20, 30 to 37 of its dictionary (no records), then reads"
+unfoldable pub buildOf : List ℕ → Config → List ℕ → ℕ → List ℕ → BuildOutcome
+buildOf message config dictionary lent words =
+    pick (isInvalid (config .separator)) (untouched InvalidSeparator words)
+    (pick (ltb lent 1024) (untouched TooFewRecords words)
+    (pick (ltb 8192 (length message)) (untouched MessageTooLong words)
+    (shown lent (checkedRead message config dictionary (checkOf dictionary)))))
+
+-- what the code answers, with the words that it leaves
+unfoldable pub builtTold : Built → List ℕ → BuildOutcome
+builtTold b words = record { answer = b .answer; stop = b .stop; records = b .records; written = b .written; words = words }

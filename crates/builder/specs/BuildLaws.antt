@@ -1,0 +1,142 @@
+-- One law for each way of the small functions around a build: the separator, the records that are shown, blanking, the standard tags.
+use mathlib.Core.Path.{_≡_, refl, sym, ap, _∙_}
+use mathlib.Core.Bool.{Bool, true, false}
+use mathlib.Core.List.{List, [], _∷_, _++_, append-assoc, append-nil}
+use Prim.Native.Nat.{ℕ, zero, suc, _+_, _-_, _*_, _/_, _≤_, _<_}
+use native.Mathlib.Omega.{arith}
+use lib.ListN.{length, take, drop, set, getD, replicate, length-append, length-replicate, length-take, length-drop, take-append-drop, drop-of-length-le, replicate-append-replicate}
+use lib.Seq.{set-at, drop-cons, length-take-le, take-at}
+use lib.Dec.{eqb, leb, ltb}
+use borrow.Author.Tests.{leb-true, leb-false, eq-eqb, ne-eqb, le-leb, lt-leb, le-ltb, lt-ltb}
+use Rattle.tagvalue.specs.Choice.{pick}
+use Rattle.tagvalue.specs.Number.{isDigit}
+use Rattle.integrity.specs.declared.Config.{Config}
+use Rattle.flat.specs.Check.{checkOf, numberOf as numberOfCheck, storeOf, preparedOf}
+use Rattle.flat_steps.specs.declared.Checked.{Checked}
+use Rattle.flat_steps.specs.declared.Checked.the-variants.{Passes, TooLong, BadRecord, NoComponent, UnknownTag, EmptyGroup, TooDeep, Twice, TooManyItems}
+use Rattle.flattening.specs.Meaning.{dictionaryOf}
+use Rattle.flattening.specs.PlainTags.{Listing, listing, plainTags}
+use Rattle.flattening.specs.TagsMeant.{header-listed, trailer-listed}
+use Rattle.flattening.specs.declared.tags.TagList.{TagList}
+use Rattle.flattening.specs.declared.tags.TagList.the-variants.{Listed, Unlisted}
+use Rattle.records.specs.Records.{recordsOf, leftover, laid, between}
+use Rattle.records.specs.WordLaws.{words-whole, laid-append, laid-length, records-length}
+use Rattle.records.specs.declared.Record.{Record}
+use Rattle.parts.specs.declared.Answer.{Answer}
+use Rattle.parts.specs.declared.Answer.the-variants.{BadDictionary}
+use Rattle.parts.specs.Answer.{numberOf}
+use Rattle.parts.specs.Parts.{partOf}
+use Rattle.parts.specs.PartLaws.{parted, part-length}
+use Rattle.builder.specs.Message.{Outcome, refusal, shownWith, messageRead}
+use Rattle.builder.specs.Reading.{Prepared, standardTags, shownCount}
+use Rattle.builder.specs.Build.{isInvalid, wordsWith, checkedRead}
+
+module _ (s : ℕ) where
+  pub invalid-equals : s ≡ 61 → isInvalid s ≡ true
+  unfolding isInvalid
+  invalid-equals e = rw (eq-eqb s 61 e)
+
+  pub invalid-below : (s ≡ 61 → ⊥) → s < 48 → isInvalid s ≡ false
+  unfolding isInvalid isDigit
+  invalid-below n h = rw (ne-eqb s 61 n, lt-leb 48 s h)
+
+  pub invalid-digit : (s ≡ 61 → ⊥) → 48 ≤ s → isInvalid s ≡ ltb s 58
+  unfolding isInvalid isDigit
+  invalid-digit n h = rw (ne-eqb s 61 n, le-leb 48 s h) (below (leb s 57) refl)
+    where
+      below : (b : Bool) → leb s 57 ≡ b → b ≡ ltb s 58
+      below true e = sym (lt-ltb s 58 (omega (arith, leb-true s 57 e)))
+      below false e = sym (le-ltb s 58 (omega (arith, leb-false s 57 e)))
+
+module _ (answer : Answer) (header n : ℕ) (e : n ≡ numberOf answer) where
+  pub shows-none : n < 1 → shownCount answer header ≡ 0
+  unfolding shownCount
+  shows-none h = rw (← e, lt-leb 1 n h)
+
+  pub shows-nothing : 1 ≤ n → 4 < n → shownCount answer header ≡ 0
+  unfolding shownCount
+  shows-nothing l h = rw (← e, le-leb 1 n l, lt-leb n 4 h)
+
+  pub shows-header : 1 ≤ n → n ≤ 4 → shownCount answer header ≡ header
+  unfolding shownCount
+  shows-header l h = rw (← e, le-leb 1 n l, le-leb n 4 h)
+
+-- blanking one word more
+pub blank-step : (words : List ℕ) (n i : ℕ) → n ≤ i → i < length words → set (take n words ++ (replicate (i - n) 0 ++ drop i words)) i 0 ≡ take n words ++ (replicate (i + 1 - n) 0 ++ drop (i + 1) words)
+blank-step words n i l h =
+    let one : suc i ≡ i + 1 = omega arith in
+    let more : i + 1 - n ≡ i - n + 1 = omega arith in
+    let front : List ℕ = take n words ++ replicate (i - n) 0 in
+    let size : length front ≡ i = length-append (take n words) (replicate (i - n) 0) ∙ omega (arith, length-take-le n words (omega arith), length-replicate {A = ℕ} (i - n) 0) in
+    ap (λ (rest : List ℕ). set (take n words ++ (replicate (i - n) 0 ++ rest)) i 0) (drop-cons words i 0 h)
+    ∙ ap (λ (l : List ℕ). set l i 0) (sym (append-assoc (take n words) (replicate (i - n) 0) (getD words i 0 ∷ drop (suc i) words)))
+    ∙ set-at front (getD words i 0) (drop (suc i) words) 0 i size
+    ∙ append-assoc (take n words) (replicate (i - n) 0) (0 ∷ drop (suc i) words)
+    ∙ ap (λ (l : List ℕ). take n words ++ l) (sym (append-assoc (replicate (i - n) 0) (0 ∷ []) (drop (suc i) words)) ∙ ap (λ (l : List ℕ). l ++ drop (suc i) words) (replicate-append-replicate {A = ℕ} (i - n) 1 0))
+    ∙ rw (one, more)
+
+pub blank-start : (words : List ℕ) (n : ℕ) → words ≡ take n words ++ (replicate (n - n) 0 ++ drop n words)
+blank-start words n = let none : n - n ≡ 0 = omega arith in rw none (sym (take-append-drop n words))
+
+pub blank-end : (words : List ℕ) (n i : ℕ) → length words ≡ 6150 → i ≡ 6150 → take n words ++ (replicate (i - n) 0 ++ drop i words) ≡ take n words ++ replicate (6150 - n) 0
+blank-end words n i size e = ap (λ (l : List ℕ). take n words ++ (replicate (i - n) 0 ++ l)) (drop-of-length-le words {i = i} (omega arith)) ∙ rw e (ap (λ (l : List ℕ). take n words ++ l) (append-nil (replicate (6150 - n) 0)))
+
+-- the words of so many records, and zeros behind them
+pub blanked : (words : List ℕ) (n : ℕ) → length words ≡ 6150 → n ≤ 1025 → take (6 * n) words ++ replicate (6150 - 6 * n) 0 ≡ wordsWith (partOf 0 n words)
+unfolding wordsWith partOf
+blanked words n size few =
+    let rs : List Record = recordsOf words in
+    let count : length (between 0 n rs) ≡ n = part-length rs 0 n (omega arith) (omega (arith, records-length words)) ∙ omega arith in
+    let whole : words ≡ laid (between 0 n rs) ++ (laid (drop n rs) ++ leftover words) =
+    sym (words-whole words) ∙ ap (λ (l : List Record). laid l ++ leftover words) (parted rs 0 n (omega arith)) ∙ ap (λ (l : List ℕ). l ++ leftover words) (laid-append (between 0 n rs) (drop n rs)) ∙ append-assoc (laid (between 0 n rs)) (laid (drop n rs)) (leftover words) in
+    let long : length (laid (between 0 n rs)) ≡ 6 * n = laid-length (between 0 n rs) ∙ omega (arith, count) in
+    let front : take (6 * n) words ≡ laid (between 0 n rs) = ap (take (6 * n)) whole ∙ take-at (laid (between 0 n rs)) (laid (drop n rs) ++ leftover words) (6 * n) long in
+    rw (front, long)
+
+pub part-count : (words : List ℕ) (n : ℕ) → length words ≡ 6150 → n ≤ 1025 → length (partOf 0 n words) ≡ n
+unfolding partOf
+part-count words n size few = part-length (recordsOf words) 0 n (omega arith) (omega (arith, records-length words)) ∙ omega arith
+
+module _ (d index : List ℕ) (p : Prepared d index) (list : List ℕ) (room : length list ≡ 1024) where
+  -- what is listed of component 0 or 1
+  tags-listed : (number : ℕ) → number ≤ 1 → plainTags d index number list ≡ listing (Listed (length (standardTags number (dictionaryOf d)))) (standardTags number (dictionaryOf d) ++ drop (length (standardTags number (dictionaryOf d))) list)
+  unfolding standardTags
+  tags-listed zero h = rw (p .made) (header-listed d (p .passes) (p .before) (p .size) list (omega arith))
+  tags-listed (suc zero) h = rw (p .made) (trailer-listed d (p .passes) (p .before) (p .size) list (omega arith))
+  tags-listed (suc (suc n)) h = absurd (omega arith)
+
+  module _ (number : ℕ) (h : number ≤ 1) (exit : List ℕ) where
+    pub tags-taken : (r : TagList) → listing r exit ≡ plainTags d index number list → (count : ℕ) → r ≡ Listed count → (take count exit ≡ standardTags number (dictionaryOf d)) × (count ≤ length exit)
+    tags-taken r e count is =
+        let tags : List ℕ = standardTags number (dictionaryOf d) in
+        let same : listing (Listed count) exit ≡ listing (Listed (length tags)) (tags ++ drop (length tags) list) = ap (λ (t : TagList). listing t exit) (sym is) ∙ e ∙ tags-listed number h in
+        let n : count ≡ length tags = cc in
+        let left : exit ≡ tags ++ drop (length tags) list = cc in
+        (ap (take count) left ∙ take-at tags (drop (length tags) list) count (sym n), omega (arith, ap length left, length-append tags (drop (length tags) list)))
+
+    pub tags-there : (r : TagList) → listing r exit ≡ plainTags d index number list → r ≡ Unlisted → ⊥
+    tags-there r e is =
+        let same : listing Unlisted exit ≡ listing (Listed (length (standardTags number (dictionaryOf d)))) (standardTags number (dictionaryOf d) ++ drop (length (standardTags number (dictionaryOf d))) list) = ap (λ (t : TagList). listing t exit) (sym is) ∙ e ∙ tags-listed number h in
+        let z : _≡_ {A = ℕ} 0 1 = cc in absurd (omega arith)
+
+-- a check that answers 0 passed
+pub zero-passes : (checked : Checked) → numberOfCheck checked ≡ 0 → checked ≡ Passes
+unfolding numberOfCheck
+zero-passes Passes e = refl
+zero-passes TooLong e = absurd (omega arith)
+zero-passes (BadRecord place) e = absurd (omega arith)
+zero-passes (NoComponent number) e = absurd (omega arith)
+zero-passes (UnknownTag tag) e = absurd (omega arith)
+zero-passes (EmptyGroup tag) e = absurd (omega arith)
+zero-passes (TooDeep place) e = absurd (omega arith)
+zero-passes (Twice place) e = absurd (omega arith)
+zero-passes (TooManyItems place) e = absurd (omega arith)
+
+module _ (message : List ℕ) (config : Config) (d : List ℕ) (checked : Checked) where
+  pub check-refuses : (numberOfCheck checked ≡ 0 → ⊥) → checkedRead message config d checked ≡ refusal (BadDictionary checked) []
+  unfolding checkedRead
+  check-refuses n = rw (ne-eqb (numberOfCheck checked) 0 n)
+
+  pub check-reads : numberOfCheck checked ≡ 0 → checkedRead message config d checked ≡ messageRead (dictionaryOf d) (config .validate) (config .separator) message
+  unfolding checkedRead
+  check-reads e = rw (eq-eqb (numberOfCheck checked) 0 e)

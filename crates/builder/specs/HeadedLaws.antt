@@ -1,0 +1,105 @@
+-- What reading behind a header rests on: MsgType's record is the first under 35, and the table that is made for its value holds what the
+-- tree says of it, so that body and trailer are read by the tree's layout.
+use mathlib.Core.Path.{_≡_, sym, ap, _∙_}
+use mathlib.Core.Bool.{Bool}
+use mathlib.Core.List.{List, [], _∷_}
+use Prim.Native.Nat.{ℕ, zero, suc, _+_, _-_, _≤_, _<_}
+use native.Mathlib.Omega.{arith}
+use borrow.Author.Tests.{eq-eqb, ne-eqb}
+use lib.ListN.{length, getD, take, drop, List·getD-eq-default}
+use Rattle.tagvalue.specs.Fields.{Fields, field}
+use Rattle.tagvalue.specs.declared.Field.{Field}
+use Rattle.records.specs.Records.{recordAt, between, blank}
+use Rattle.records.specs.RecordLaws.{between-on, between-end}
+use Rattle.records.specs.declared.Record.{Record}
+use Rattle.layout.specs.Layout.{items}
+use Rattle.layout.specs.Tree.{Choice, knows, trailerTags, layoutOf}
+use Rattle.flat_names.specs.Index.{tagAt}
+use Rattle.flattening.specs.Meaning.{dictionaryOf}
+use Rattle.flattening.specs.MsgTypeText.{Bytes, no-bytes, a-byte}
+use Rattle.flattening.specs.MessageTable.{Tabling, tabling, messageTable}
+use Rattle.flattening.specs.Theorem.{TableOf, no-table, a-table, tables-mean-tree}
+use Rattle.flattening.specs.KnownTags.{tags-known}
+use Rattle.flattening.specs.declared.MessageTable.{MessageTable}
+use Rattle.flattening.specs.declared.MessageTable.the-variants.{Rows}
+use Rattle.groups.specs.Reading.{tableRules}
+use Rattle.required.specs.Checking.{tableDemands}
+use Rattle.parts.specs.declared.Answer.the-variants.{InvalidMsgType}
+use Rattle.parts.specs.Parts.{partOf}
+use Rattle.body.specs.Kinds.{bodyOf}
+use Rattle.body.specs.Body.{bodyFrom}
+use Rattle.body.specs.Meaning.{body-means}
+use Rattle.builder.specs.declared.Finished.the-variants.{Refused}
+use Rattle.builder.specs.Beginning.{msgTypeRecord, valueAt}
+use Rattle.builder.specs.Message.{afterBody, afterType, finishTold}
+use Rattle.builder.specs.Reading.{Prepared}
+
+module _ (i count : ℕ) (rs : List Record) where
+  pub type-here : i < count → i < length rs → recordAt i rs .tag ≡ 35 → msgTypeRecord (between i count rs) ≡ recordAt i rs
+  unfolding msgTypeRecord
+  type-here h l t = rw (between-on i count rs h l, eq-eqb _ _ t)
+
+  pub type-later : i < count → i < length rs → (recordAt i rs .tag ≡ 35 → ⊥) → msgTypeRecord (between i count rs) ≡ msgTypeRecord (between (i + 1) count rs)
+  unfolding msgTypeRecord
+  type-later h l t = rw (between-on i count rs h l, ne-eqb _ _ t)
+
+  -- a record from behind the records is blank, as MsgType's is where none is under 35
+  pub type-nowhere : count ≤ i → (behind : ℕ) → length rs ≤ behind → msgTypeRecord (between i count rs) ≡ recordAt behind rs
+  unfolding msgTypeRecord recordAt
+  type-nowhere h behind l = rw (between-end i count rs h) (sym (List·getD-eq-default rs blank l))
+
+-- what the code knows of each element of a text, and of its parts
+pub bytes-of : (s : List ℕ) → ((i : ℕ) → getD s i 0 < 256) → Bytes s
+bytes-of [] h = no-bytes
+bytes-of (b ∷ s) h = a-byte (h 0) (bytes-of s (λ i. h (suc i)))
+
+take-bytes : (n : ℕ) {s : List ℕ} → Bytes s → Bytes (take n s)
+take-bytes zero h = no-bytes
+take-bytes (suc n) no-bytes = no-bytes
+take-bytes (suc n) (a-byte b h) = a-byte b (take-bytes n h)
+
+drop-bytes : (n : ℕ) {s : List ℕ} → Bytes s → Bytes (drop n s)
+drop-bytes zero h = h
+drop-bytes (suc n) no-bytes = no-bytes
+drop-bytes (suc n) (a-byte b h) = drop-bytes n h
+
+pub type-inside : (message : List ℕ) (r kind : Record) → r ≡ kind → kind .place + kind .length ≤ length message → r .place + r .length ≤ length message
+type-inside message r kind e h = rw e h
+
+-- the table that was written is as long as the one that was lent
+pub written-size : (table : List ℕ) {choice : Choice} {told : Tabling} → TableOf table choice told → (answer : MessageTable) (written : List ℕ) → tabling answer written ≡ told → length table ≡ length written
+written-size table no-table answer written h = let w : table ≡ written = cc in ap length w
+written-size table (a-table {layout} {rows} limit long tabled) answer written h = let w : rows ≡ written = cc in sym long ∙ ap length w
+
+module _ (d index : List ℕ) (p : Prepared d index) where
+  -- what was answered and written for MsgType is what the tree says of it
+  pub type-told : Bytes d → (message : List ℕ) → Bytes message → (r kind : Record) → r ≡ kind → (table : List ℕ) → length table ≡ 4096 → (answer : MessageTable) (written : List ℕ) →
+      tabling answer written ≡ messageTable d index (take (r .place + r .length - r .place) (drop (r .place) message)) table → TableOf table (layoutOf (dictionaryOf d) (valueAt message kind)) (tabling answer written)
+  unfolding valueAt
+  type-told bytes message text r kind e table size answer written h =
+      let long : r .place + r .length - r .place ≡ r .length = omega arith in
+      rw (h, p .made, ← e, long)
+      (tables-mean-tree d bytes (p .passes) (p .before) (p .size) (take (r .length) (drop (r .place) message)) table (take-bytes (r .length) (drop-bytes (r .place) text)) (omega arith))
+
+  known-same : (tag : ℕ) → tagAt index tag ≡ knows (dictionaryOf d) tag
+  known-same tag = rw (p .made) (tags-known d (p .passes) (p .before) (p .size) tag)
+
+  module _ (validate : Bool) (f : Field) (rest : Fields) (room : ℕ) (checksum : Field) (table : List ℕ) where
+    -- body and trailer are read through the table as through the layout that the tree has for MsgType
+    pub laid-after : {choice : Choice} {told : Tabling} → TableOf table choice told → (header : List Record) (answer : MessageTable) (written : List ℕ) → tabling answer written ≡ told → (count : ℕ) → answer ≡ Rows count → (trailer : List ℕ) → trailer ≡ trailerTags (dictionaryOf d) →
+        afterBody header checksum (bodyFrom (bodyOf (tableRules validate written (tagAt index)) (tableDemands written) trailer (record { first = 0; end = count })) (field f rest) (suc room) [])
+        ≡ afterType (dictionaryOf d) validate f rest room header checksum choice
+    unfolding afterType
+    laid-after no-table header answer written h count e trailer s = let z : _≡_ {A = ℕ} 0 1 = cc in absurd (omega arith)
+    laid-after (a-table {layout} {rows} limit long tabled) header answer written h count e trailer s =
+        let w : written ≡ rows = cc in
+        let n : count ≡ items layout = cc in
+        rw (w, n, s)
+        (ap (afterBody header checksum) (body-means validate rows (tagAt index) (knows (dictionaryOf d)) known-same (record { first = 0; end = items layout }) layout tabled (trailerTags (dictionaryOf d)) (field f rest) (suc room) []))
+
+    -- "and then MsgType must be in the dictionary, else 3"
+    pub none-after : {choice : Choice} {told : Tabling} → TableOf table choice told → (count : ℕ) (words : List ℕ) (r : Record) → r ≡ msgTypeRecord (partOf 0 count words) → (answer : MessageTable) (written : List ℕ) → tabling answer written ≡ told → ((rows : ℕ) → answer ≡ Rows rows → ⊥) →
+        finishTold count (Refused (InvalidMsgType (r .place) (r .length))) words ≡ afterType (dictionaryOf d) validate f rest room (partOf 0 count words) checksum choice
+    unfolding afterType finishTold
+    none-after no-table count words r e answer written h none = rw e
+    none-after (a-table {layout} limit long tabled) count words r e answer written h none = absurd (none (items layout) cc)

@@ -1,0 +1,110 @@
+-- Where the header ended, the record that MsgType is taken from lies in the message, so that its value can be cut out.
+-- Every field that was read lies in it, those that were verified too; storing keeps this of every record of the header.
+use mathlib.Core.Path.{_≡_, refl}
+use mathlib.Core.Bool.{Bool, true, false}
+use mathlib.Core.List.{List, [], _∷_}
+use Prim.Native.Nat.{ℕ, zero, suc, _+_, _-_, _≤_}
+use native.Mathlib.Omega.{arith}
+use lib.Dec.{eqb}
+use lib.ListN.{length}
+use Rattle.tagvalue.specs.Choice.{pick}
+use Rattle.tagvalue.specs.Field.{fieldAt}
+use Rattle.tagvalue.specs.Fields.{Fields, unreadable, field, followedBy, fieldsWithin, fieldsFrom}
+use Rattle.tagvalue.specs.FieldsLaws.{step-lies, step-falls}
+use Rattle.tagvalue.specs.declared.Cursor.{Cursor}
+use Rattle.tagvalue.specs.declared.Field.{Field}
+use Rattle.tagvalue.specs.declared.FieldRead.{FieldRead}
+use Rattle.tagvalue.specs.declared.FieldRead.the-variants.{Read, Unreadable}
+use Rattle.integrity.specs.Integrity.{integrityOf}
+use Rattle.integrity.specs.declared.Integrity.the-variants.{Sound}
+use Rattle.integrity.specs.declared.Verified.{Verified}
+use Rattle.layout.specs.Tree.{holdsTag}
+use Rattle.records.specs.Records.{stored}
+use Rattle.records.specs.declared.Record.{Record}
+use Rattle.groups.specs.GroupLaws.{Each, each-end, each-field}
+use Rattle.parts.specs.Parts.{ended, recordOf}
+use Rattle.parts.specs.Header.{headerFrom}
+use Rattle.builder.specs.Beginning.{verifiedRecords, roomBehind, headerOf, msgTypeRecord}
+use Rattle.integrity.specs.VerifiedLaws.{VerifiedRead, verified-read}
+
+-- a field's value lies in the message, and so does a record's
+abbrev FieldIn : List ℕ → Field → Type 0
+FieldIn message f = f .place + f .length ≤ length message
+
+abbrev RecordIn : List ℕ → Record → Type 0
+RecordIn message r = r .place + r .length ≤ length message
+
+data RecordsIn (message : List ℕ) : List Record → Type 0 where
+  no-record : RecordsIn message []
+  one-more : {r : Record} {rs : List Record} → RecordIn message r → RecordsIn message rs → RecordsIn message (r ∷ rs)
+
+read-in : (separator : ℕ) (message : List ℕ) (c : Cursor) (f : Field) → fieldAt separator message c ≡ Read f → FieldIn message f
+read-in separator message c f e = omega (arith, step-lies separator message c f e .ends, step-falls separator message c f e .1)
+
+-- every field that can be read lies in the message
+within-in : (fuel separator : ℕ) (message : List ℕ) (c : Cursor) → Each (FieldIn message) (fieldsWithin fuel separator message c)
+unfolding fieldsWithin followedBy
+within-in zero separator message c = each-end
+within-in (suc fuel) separator message c = go (fieldAt separator message c) refl (λ f. within-in fuel separator message (f .next))
+  where
+    go : (r : FieldRead) → fieldAt separator message c ≡ r → ((f : Field) → Each (FieldIn message) (fieldsWithin fuel separator message (f .next))) → Each (FieldIn message) (followedBy r (λ f. fieldsWithin fuel separator message (f .next)))
+    go (Unreadable cause place) e later = each-end
+    go (Read f) e later = each-field (read-in separator message c f e) (later f)
+
+fields-in : (separator : ℕ) (message : List ℕ) (c : Cursor) → Each (FieldIn message) (fieldsFrom separator message c)
+unfolding fieldsFrom
+fields-in separator message c = within-in (length message - c .at) separator message c
+
+module _ (message : List ℕ) where
+  stored-in : (r : Record) → RecordIn message r → (rs : List Record) → RecordsIn message rs → RecordsIn message (stored r rs)
+  unfolding stored
+  stored-in r h [] no-record = one-more h no-record
+  stored-in r h (x ∷ rs) (one-more g more) = go (eqb (x .depth) (r .depth)) (eqb (x .tag) (r .tag)) (stored-in r h rs more)
+    where
+      go : (d t : Bool) → RecordsIn message (stored r rs) → RecordsIn message (pick d (pick t (r ∷ rs) (x ∷ stored r rs)) (x ∷ stored r rs))
+      go true true later = one-more h more
+      go true false later = one-more g later
+      go false t later = one-more g later
+
+  -- a field's record lies where the field does
+  field-in : (f : Field) → FieldIn message f → {rs : List Record} → RecordsIn message rs → RecordsIn message (stored (recordOf 1 f) rs)
+  unfolding recordOf
+  field-in f h {rs} i = stored-in (recordOf 1 f) h rs i
+
+  verified-records : (separator : ℕ) (v : Verified) → VerifiedRead separator message v → RecordsIn message (verifiedRecords v)
+  unfolding verifiedRecords
+  verified-records separator v r =
+      field-in (v .«msg_type») (read-in separator message _ _ (r .types))
+      (field-in (v .«body_length») (read-in separator message _ _ (r .counts)) (field-in (v .«begin_string») (read-in separator message _ _ (r .begins)) no-record))
+
+  header-in : (tags : List ℕ) (fields : Fields) → Each (FieldIn message) fields → (room : ℕ) (records : List Record) → RecordsIn message records → (f : Field) (rest : Fields) (left : ℕ) (header : List Record) →
+      headerFrom tags fields room records ≡ ended f rest left header → RecordsIn message header
+  unfolding headerFrom
+  header-in tags (unreadable cause place) each-end room records i f rest left header h = let z : _≡_ {A = ℕ} 0 1 = cc in absurd (omega arith)
+  header-in tags (field g behind) (each-field lies more) zero records i f rest left header h = let z : _≡_ {A = ℕ} 0 1 = cc in absurd (omega arith)
+  header-in tags (field g behind) (each-field lies more) (suc room) records i f rest left header h =
+      go (holdsTag (g .tag) tags) h (header-in tags behind more room (stored (recordOf 1 g) records) (field-in g lies i) f rest left header)
+    where
+      go : (b : Bool) → pick b (headerFrom tags behind room (stored (recordOf 1 g) records)) (ended g behind room records) ≡ ended f rest left header →
+          (headerFrom tags behind room (stored (recordOf 1 g) records) ≡ ended f rest left header → RecordsIn message header) → RecordsIn message header
+      go true h later = later h
+      go false h later = let same : records ≡ header = cc in rw (← same) i
+
+  -- a header without MsgType has the blank record, which lies anywhere
+  type-in : {rs : List Record} → RecordsIn message rs → RecordIn message (msgTypeRecord rs)
+  unfolding msgTypeRecord
+  type-in no-record = omega arith
+  type-in (one-more {r} {rs} h more) = go (eqb (r .tag) 35) (type-in more)
+    where
+      go : (b : Bool) → RecordIn message (msgTypeRecord rs) → RecordIn message (pick b r (msgTypeRecord rs))
+      go true later = h
+      go false later = later
+
+-- the record that MsgType is taken from lies in the message
+pub msg-type-inside : (tags : List ℕ) (separator : ℕ) (message : List ℕ) (v : Verified) (f : Field) (rest : Fields) (room : ℕ) (records : List Record) →
+    integrityOf separator message ≡ Sound v → headerOf tags separator message v ≡ ended f rest room records →
+    msgTypeRecord records .place + msgTypeRecord records .length ≤ length message
+unfolding headerOf
+msg-type-inside tags separator message v f rest room records sound ends =
+    type-in message
+    (header-in message tags _ (fields-in separator message (v .«msg_type» .next)) roomBehind (verifiedRecords v) (verified-records message separator v (verified-read separator message v sound)) f rest room records ends)

@@ -1,0 +1,66 @@
+-- How the code's answers on its way are told, and what holds where it calls the next function.
+use Prim.Native.Nat.{ℕ, zero, suc, _+_, _≤_, _<_, _/_, _^_}
+use mathlib.Core.Path.{_≡_}
+use mathlib.Core.List.{List}
+use mathlib.Core.Bool.{Bool, true, false}
+use lib.ListN.{length}
+use lib.Dec.{eqb, leb}
+use Rattle.tagvalue.specs.Choice.{pick}
+use Rattle.tagvalue.specs.Fields.{fieldsFrom}
+use Rattle.tagvalue.specs.declared.Field.{Field}
+use Rattle.integrity.specs.declared.Verified.{Verified}
+use Rattle.flat.specs.Check.{checkOf, storeOf, preparedOf}
+use Rattle.flat_steps.specs.declared.Checked.the-variants.{Passes}
+use Rattle.layout.specs.Tree.{Dictionary, headerTags, trailerTags}
+use Rattle.groups.specs.ReadingLaws.{Inside}
+use Rattle.parts.specs.declared.Answer.{Answer}
+use Rattle.parts.specs.Answer.{numberOf}
+use Rattle.parts.specs.Parts.{partOf}
+use Rattle.builder.specs.declared.Headed.{Headed}
+use Rattle.builder.specs.declared.Begun.{Begun}
+use Rattle.builder.specs.declared.Begun.the-variants.{Header, Refused}
+use Rattle.builder.specs.declared.Read.{Read}
+use Rattle.builder.specs.Beginning.{Start, started, unsound, msgTypeRecord}
+use Rattle.builder.specs.Message.{Outcome}
+
+-- a record can hold the places of the fields that were verified
+pub record VerifiedInside (v : Verified) : Type 0 where
+  pub begins : (v .«begin_string» .place < 2 ^ 32) × (v .«begin_string» .length < 2 ^ 32)
+  pub counts : (v .«body_length» .place < 2 ^ 32) × (v .«body_length» .length < 2 ^ 32)
+  pub types : (v .«msg_type» .place < 2 ^ 32) × (v .«msg_type» .length < 2 ^ 32)
+
+-- what the code answers at the end of the header, with the words that it leaves
+unfoldable pub startTold : ℕ → List ℕ → Begun → List ℕ → Start
+startTold separator message (Header h) words =
+    started (h .stop) (fieldsFrom separator message (h .stop .next)) (h .progress .room) (partOf 0 (h .progress .records) words) (h .checksum)
+startTold separator message (Refused answer) words = unsound answer
+
+-- where the header ended: the fields lie in the message, MsgType's value too, and there are words for all that may still be read
+pub record HeaderEnds (message words : List ℕ) (h : Headed) : Type 0 where
+  pub stops : Inside message (h .stop)
+  pub sums : Inside message (h .checksum)
+  pub fits : h .progress .records + h .progress .room < length words / 6
+  pub types : msgTypeRecord (partOf 0 (h .progress .records) words) .place + msgTypeRecord (partOf 0 (h .progress .records) words) .length ≤ length message
+
+pub record Begins (message words : List ℕ) (r : Begun) : Type 0 where
+  pub ends : (h : Headed) → r ≡ Header h → HeaderEnds message words h
+
+-- a dictionary that passed its check, and the index that the check left
+pub record Prepared (dictionary index : List ℕ) : Type 0 where
+  pub passes : checkOf dictionary ≡ Passes
+  pub before : List ℕ
+  pub size : length before ≡ 96150
+  pub made : index ≡ storeOf (preparedOf dictionary before)
+
+-- the header's tags are those of component 0, the trailer's those of component 1
+unfoldable pub standardTags : ℕ → Dictionary → List ℕ
+standardTags zero dictionary = headerTags dictionary
+standardTags (suc n) dictionary = trailerTags dictionary
+
+-- "1 to 4 also header records"
+unfoldable pub shownCount : Answer → ℕ → ℕ
+shownCount answer header = pick (leb 1 (numberOf answer)) (pick (leb (numberOf answer) 4) header 0) 0
+
+-- what was read, with the words that it left
+unfoldable pub readTold : Read → List ℕ → Outcome
+readTold r words = record { answer = r .answer; records = partOf 0 (r .records) words; stop = r .stop }

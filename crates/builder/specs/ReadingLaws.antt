@@ -1,0 +1,140 @@
+-- One law for each way of the functions that read a message whole: where the header was refused, where body or trailer was, where all was
+-- read; a dictionary that is refused; and each answer of the build before it reads.
+use mathlib.Core.Path.{_≡_, refl, sym, ap, _∙_}
+use mathlib.Core.Bool.{Bool, true, false}
+use mathlib.Core.List.{List, [], _∷_, _++_}
+use Prim.Native.Nat.{ℕ, suc, _+_, _-_, _*_, _≤_, _<_}
+use native.Mathlib.Omega.{arith}
+use lib.ListN.{length, take, replicate}
+use lib.Dec.{eqb, leb, ltb}
+use borrow.Author.Tests.{le-ltb, lt-ltb}
+use Rattle.tagvalue.specs.Choice.{pick}
+use Rattle.tagvalue.specs.Fields.{fieldsFrom}
+use Rattle.integrity.specs.declared.Config.{Config}
+use Rattle.flat.specs.Check.{Outcome as Checking, outcome, checkOf, preparedOf, storeOf, numberOf as numberOfCheck}
+use Rattle.flat_steps.specs.declared.Checked.{Checked}
+use Rattle.flattening.specs.Meaning.{dictionaryOf}
+use Rattle.layout.specs.Tree.{Dictionary, headerTags, layoutOf}
+use Rattle.records.specs.declared.Record.{Record}
+use Rattle.parts.specs.declared.Answer.{Answer}
+use Rattle.parts.specs.declared.Answer.the-variants.{Valid, TooLong, InvalidSeparator, TooFewRecords, BadDictionary}
+use Rattle.parts.specs.Answer.{numberOf}
+use Rattle.parts.specs.Parts.{partOf}
+use Rattle.builder.specs.declared.Headed.{Headed}
+use Rattle.builder.specs.declared.Begun.{Begun}
+use Rattle.builder.specs.declared.Begun.the-variants.{Header, Refused}
+use Rattle.builder.specs.declared.Stop.{Stop}
+use Rattle.builder.specs.declared.Stop.the-variants.{Nowhere}
+use Rattle.builder.specs.declared.Finished.{Finished}
+use Rattle.builder.specs.declared.Finished.the-variants.{Whole, Refused as Stopped}
+use Rattle.builder.specs.declared.Read.{Read}
+use Rattle.builder.specs.declared.Built.{Built}
+use Rattle.builder.specs.Beginning.{Start, startOf, msgTypeRecord, valueAt}
+use Rattle.builder.specs.Message.{Outcome, shownWith, refusal, finishTold, finishCounts, afterType, afterHeader, messageRead}
+use Rattle.builder.specs.Reading.{startTold, Prepared, shownCount, readTold}
+use Rattle.builder.specs.Build.{isInvalid, BuildOutcome, wordsWith, untouched, shown, checkedRead, buildOf, builtTold}
+use Rattle.builder.specs.BuildLaws.{blanked, part-count, check-refuses, check-reads, zero-passes}
+use Rattle.builder.specs.Finishing.{part-empty}
+
+-- what is shown with a refusal, as a list and as a count
+shown-part : (answer : Answer) (header : ℕ) (words : List ℕ) → partOf 0 (shownCount answer header) words ≡ shownWith answer (partOf 0 header words)
+unfolding shownCount shownWith
+shown-part answer header words = go (leb 1 (numberOf answer)) (leb (numberOf answer) 4)
+  where
+    go : (b c : Bool) → partOf 0 (pick b (pick c header 0) 0) words ≡ pick b (pick c (partOf 0 header words) []) []
+    go true true = refl
+    go true false = part-empty 0 words
+    go false c = part-empty 0 words
+
+pub shown-few : (answer : Answer) (header n : ℕ) → n ≡ shownCount answer header → n ≤ header
+unfolding shownCount
+shown-few answer header n e = rw e (go (leb 1 (numberOf answer)) (leb (numberOf answer) 4))
+  where
+    go : (b c : Bool) → pick b (pick c header 0) 0 ≤ header
+    go true true = omega arith
+    go true false = omega arith
+    go false c = omega arith
+
+-- a refusal that shows no record
+none-shown : (answer : Answer) (words : List ℕ) → readTold (record { answer = answer; stop = Nowhere; records = 0 }) words ≡ refusal answer []
+unfolding readTold refusal shownWith
+none-shown answer words = rw (part-empty 0 words) (go (leb 1 (numberOf answer)) (leb (numberOf answer) 4))
+  where
+    go : (b c : Bool) → _≡_ {A = Outcome} (record { answer = answer; records = []; stop = Nowhere }) (record { answer = answer; records = pick b (pick c [] []) []; stop = Nowhere })
+    go true true = refl
+    go true false = refl
+    go false c = refl
+
+pub whole-counts : (r : Finished) (stop : Stop) (count : ℕ) → r ≡ Whole stop count → finishCounts r ≡ count
+unfolding finishCounts
+whole-counts r stop count e = rw e
+
+module _ (dictionary : Dictionary) (validate : Bool) (separator : ℕ) (message tags words : List ℕ) (is : tags ≡ headerTags dictionary) (begun : Begun) (told : startTold separator message begun words ≡ startOf tags separator message) where
+  begins : messageRead dictionary validate separator message ≡ afterHeader dictionary validate message (startTold separator message begun words)
+  unfolding messageRead
+  begins = rw (told, is)
+
+  -- integrity or the header was refused
+  pub read-refused : (answer : Answer) → begun ≡ Refused answer → (after : List ℕ) → readTold (record { answer = answer; stop = Nowhere; records = 0 }) after ≡ messageRead dictionary validate separator message
+  read-refused answer e after = none-shown answer after ∙ sym (begins ∙ refuses)
+    where
+      refuses : afterHeader dictionary validate message (startTold separator message begun words) ≡ refusal answer []
+      refuses = unfold startTold afterHeader in rw e
+
+  module _ (h : Headed) (e : begun ≡ Header h) (r : Finished) (after : List ℕ)
+      (finished : finishTold (h .progress .records) r after ≡ afterType dictionary validate (h .stop) (fieldsFrom separator message (h .stop .next)) (h .progress .room) (partOf 0 (h .progress .records) words) (h .checksum) (layoutOf dictionary (valueAt message (msgTypeRecord (partOf 0 (h .progress .records) words))))) where
+    goes-on : messageRead dictionary validate separator message ≡ finishTold (h .progress .records) r after
+    goes-on = begins ∙ headed ∙ sym finished
+      where
+        headed : afterHeader dictionary validate message (startTold separator message begun words) ≡ afterType dictionary validate (h .stop) (fieldsFrom separator message (h .stop .next)) (h .progress .room) (partOf 0 (h .progress .records) words) (h .checksum) (layoutOf dictionary (valueAt message (msgTypeRecord (partOf 0 (h .progress .records) words))))
+        headed = unfold startTold afterHeader in rw e
+
+    -- all was read
+    pub read-whole : (stop : Stop) (count : ℕ) → r ≡ Whole stop count → readTold (record { answer = Valid; stop = stop; records = count }) after ≡ messageRead dictionary validate separator message
+    read-whole stop count w = sym (goes-on ∙ told-whole)
+      where
+        told-whole : finishTold (h .progress .records) r after ≡ readTold (record { answer = Valid; stop = stop; records = count }) after
+        told-whole = unfold finishTold readTold in rw w
+
+    -- MsgType, body or trailer was refused
+    pub read-stopped : (answer : Answer) → r ≡ Stopped answer → (n : ℕ) → n ≡ shownCount answer (h .progress .records) → readTold (record { answer = answer; stop = Nowhere; records = n }) after ≡ messageRead dictionary validate separator message
+    read-stopped answer s n shows = sym (goes-on ∙ told-stopped)
+      where
+        told-stopped : finishTold (h .progress .records) r after ≡ readTold (record { answer = answer; stop = Nowhere; records = n }) after
+        told-stopped = unfold finishTold readTold refusal in rw (s, shows, shown-part answer (h .progress .records) after)
+
+module _ (message : List ℕ) (config : Config) (d : List ℕ) (checked : Checked) (is : checked ≡ checkOf d) where
+  pub refused-dictionary : (numberOfCheck checked ≡ 0 → ⊥) → (words : List ℕ) → readTold (record { answer = BadDictionary checked; stop = Nowhere; records = 0 }) words ≡ checkedRead message config d (checkOf d)
+  refused-dictionary n words = none-shown (BadDictionary checked) words ∙ sym (rw (← is) (check-refuses message config d checked n))
+
+  pub passing-dictionary : numberOfCheck checked ≡ 0 → messageRead (dictionaryOf d) (config .validate) (config .separator) message ≡ checkedRead message config d (checkOf d)
+  passing-dictionary z = sym (rw (← is) (check-reads message config d checked z))
+
+-- the index that a check left which passed
+pub prepared-by : (d : List ℕ) (checked : Checked) → checked ≡ checkOf d → numberOfCheck checked ≡ 0 → (before index : List ℕ) → length before ≡ 96150 → outcome checked index ≡ preparedOf d before → Prepared d index
+unfolding storeOf
+prepared-by d checked is z before index size left = record { passes = sym is ∙ zero-passes checked z; before = before; size = size; made = ap storeOf left }
+
+module _ (message : List ℕ) (config : Config) (d : List ℕ) (lent : ℕ) (words : List ℕ) where
+  pub build-separator : isInvalid (config .separator) ≡ true → buildOf message config d lent words ≡ untouched InvalidSeparator words
+  unfolding buildOf
+  build-separator e = rw e
+
+  module _ (good : isInvalid (config .separator) ≡ false) where
+    pub build-few : lent < 1024 → buildOf message config d lent words ≡ untouched TooFewRecords words
+    unfolding buildOf
+    build-few h = rw (good, lt-ltb lent 1024 h)
+
+    module _ (enough : 1024 ≤ lent) where
+      pub build-long : 8192 < length message → buildOf message config d lent words ≡ untouched TooLong words
+      unfolding buildOf
+      build-long h = rw (good, le-ltb lent 1024 enough, lt-ltb 8192 (length message) h)
+
+      pub build-reads : length message ≤ 8192 → buildOf message config d lent words ≡ shown lent (checkedRead message config d (checkOf d))
+      unfolding buildOf
+      build-reads h = rw (good, le-ltb lent 1024 enough, le-ltb 8192 (length message) h)
+
+-- the records that were read, and blank ones behind them
+pub shows-read : (lent : ℕ) (answer : Answer) (stop : Stop) (n : ℕ) (words : List ℕ) → length words ≡ 6150 → n ≤ 1025 → (out : Outcome) → readTold (record { answer = answer; stop = stop; records = n }) words ≡ out → builtTold (record { answer = answer; stop = stop; records = n; written = lent }) (take (6 * n) words ++ replicate (6150 - 6 * n) 0) ≡ shown lent out
+unfolding readTold builtTold shown
+shows-read lent answer stop n words size few out e = rw (← e, part-count words n size few, blanked words n size few)

@@ -1,0 +1,53 @@
+-- The steps by which a message is judged, each for one way the code can go.
+use mathlib.Core.Path.{_≡_}
+use mathlib.Core.Bool.{Bool, true, false}
+use mathlib.Core.List.{List, [], _∷_}
+use Prim.Native.Nat.{ℕ, suc, _+_, _-_, _≤_, _<_}
+use native.Mathlib.Omega.{arith}
+use lib.ListN.{length}
+use lib.Dec.{leb, ltb, eqb}
+use borrow.Author.Tests.{eq-eqb, ne-eqb, lt-leb, le-leb, lt-ltb, le-ltb}
+use Rattle.tagvalue.specs.Choice.{pick}
+use Rattle.tagvalue.specs.Number.{isDigit}
+use Rattle.maps.specs.Rows.{Row, row, rowAt, rowsFrom, findFrom}
+use Rattle.lent.specs.Lent.{ownBelow, weight, fieldsIn}
+use Rattle.message.specs.Changes.{fieldPlace}
+use Rattle.message.specs.declared.Span.{Span}
+use Rattle.encoder.specs.Writing.{rowBytes}
+use Rattle.encoding.specs.Encode.{isRefusedSeparator}
+use Rattle.encoding.specs.Judging.{heldAt, sizeAt}
+
+module _ (separator : ℕ) where
+  pub separator-equals : separator ≡ 61 → isRefusedSeparator separator ≡ true
+  unfolding isRefusedSeparator
+  separator-equals e = rw (eq-eqb separator 61 e)
+
+  pub separator-low : (separator ≡ 61 → ⊥) → separator < 48 → isRefusedSeparator separator ≡ false
+  unfolding isRefusedSeparator isDigit
+  separator-low e h = rw (ne-eqb separator 61 e, lt-leb 48 separator h)
+
+  pub separator-digit : (separator ≡ 61 → ⊥) → 48 ≤ separator → isRefusedSeparator separator ≡ leb separator 57
+  unfolding isRefusedSeparator isDigit
+  separator-digit e h = rw (ne-eqb separator 61 e, le-leb 48 separator h)
+
+-- the size of a part's own field
+module _ (words : List ℕ) (span : Span) (tag at : ℕ) (found : at ≡ findFrom 1 1 tag (span .from) (rowsFrom (span .to - span .from) (span .from) words)) where
+  pub size-there : at < span .to → rowBytes (rowAt words at) ≡ sizeAt words span tag
+  unfolding sizeAt heldAt fieldPlace
+  size-there h = rw (← found, lt-ltb at (span .to) h)
+
+  pub size-none : span .to ≤ at → sizeAt words span tag ≡ 0
+  unfolding sizeAt heldAt fieldPlace
+  size-none h = rw (← found, le-ltb at (span .to) h)
+
+-- no row counts more than one field
+pub fields-few : (floor : ℕ) (rows : List Row) → fieldsIn floor rows ≤ length rows
+unfolding fieldsIn weight
+fields-few floor [] = omega arith
+fields-few floor (row k l t x ∷ rows) = by-tests (eqb k 1) (ltb l floor) (ownBelow l rows) (fields-few floor rows)
+  where
+    by-tests : (a b c : Bool) → fieldsIn floor rows ≤ length rows → pick a 1 (pick b 0 (pick c 0 1)) + fieldsIn floor rows ≤ suc (length rows)
+    by-tests true b c h = omega arith
+    by-tests false true c h = omega arith
+    by-tests false false true h = omega arith
+    by-tests false false false h = omega arith

@@ -1,0 +1,11 @@
+pub mod Encode
+pub mod Examples
+pub mod Judging
+pub mod Leaving
+pub mod SizeLaws
+pub mod JudgingLaws
+pub mod FoundLaws
+pub mod CountLaws
+pub mod VerdictLaws
+pub mod LeavingLaws
+pub mod EncodedLaws

@@ -1,0 +1,208 @@
+// encoding: the encode operation (27, 22, 43, 20, 21, 23). All is judged by sizes of rows before anything changes; then the message gets its
+// new BodyLength, is written, and gets its new CheckSum. It keeps nothing and demands nothing of what is lent.
+use encoder::Encoded;
+use message::Change;
+use message::Located;
+use message::Part;
+use message::Span;
+use tagvalue::Written;
+ghost use mathlib.Core.Path.{_≡_};
+ghost use Prim.Native.Nat.{_+_, _≤_, _<_};
+ghost use Rattle.tagvalue.specs.Decimal.{decimal};
+ghost use Rattle.lent.specs.Meaning.{messageIn};
+ghost use Rattle.message.specs.declared.Part.the-variants.{Header};
+ghost use Rattle.message.specs.Changes.{after, storing};
+ghost use Rattle.encoding.specs.Encode.{isRefusedSeparator, verdictOf, left, encoded, encodingOf};
+ghost use Rattle.encoding.specs.Judging.{Within, heldAt, hungAt, sizeAt, incompleteAt, allBytes, bodyAt, addedAt, fieldsAt};
+ghost use Rattle.encoding.specs.Leaving.{Encodable};
+
+// How encoding ended: 0 with the length of the encoding, 27, 22, 43, 20, 21, 23.
+pub enum Encoding {
+    Written(usize),
+    NoMessage,
+    InvalidSeparator,
+    Incomplete,
+    TooLong,
+    TooManyFields,
+    NoRoom,
+}
+
+// What is found before anything changes: the BodyLength, or why the call is refused.
+pub enum Verdict {
+    Measured(u32),
+    Refused(Encoding),
+}
+
+fn is_refused_separator(separator: u8) -> bool
+    ensures { λ r. ⌜ r ≡ isRefusedSeparator separator ⌝ }
+{
+    if separator == 61 {
+        return true;
+    }
+    if separator < 48 {
+        return false;
+    }
+    separator <= 57
+}
+
+fn holds(words: &[u32], span: Span, tag: u32) -> bool
+    requires { ⌜ Within (now words) span ⌝ }
+    ensures { λ r. ⌜ r ≡ heldAt (now (words .entry)) span tag ⌝ }
+{
+    let from = span.from;
+    let to = span.to;
+    maps::find_row(words, 1, 1, tag, from, to) < to
+}
+
+fn has_run(words: &[u32], span: Span, start: u32) -> bool
+    requires { ⌜ Within (now words) span ⌝ }
+    ensures { λ r. ⌜ r ≡ hungAt (now (words .entry)) span start ⌝ }
+{
+    let from = span.from;
+    let to = span.to;
+    maps::find_row(words, 2, 1, start, from, to) < to
+}
+
+// How many bytes a part's own field takes when it is written, 0 where the part lacks it.
+fn field_bytes(words: &[u32], span: Span, tag: u32) -> usize
+    requires { ⌜ Within (now words) span ⌝ }
+    ensures { λ r. ⌜ r ≡ sizeAt (now (words .entry)) span tag ⌝ }
+    ensures { λ r. ⌜ r < 8589934592 ⌝ }
+{
+    let from = span.from;
+    let to = span.to;
+    let at = maps::find_row(words, 1, 1, tag, from, to);
+    if at < to {
+        return encoder::row_bytes(words, at);
+    }
+    0
+}
+
+// A header without 8 or 35, or a run without its count; the trailer's 10 counts none, as it is dropped.
+fn is_incomplete(words: &[u32], head: Span, tail: Span) -> bool
+    requires { ⌜ (Within (now words) head) × (Within (now words) tail) ⌝ }
+    ensures { λ r. ⌜ r ≡ incompleteAt (now (words .entry)) head tail ⌝ }
+{
+    if !holds(words, head, 8) {
+        return true;
+    }
+    if !holds(words, head, 35) {
+        return true;
+    }
+    if has_run(words, tail, 10) {
+        return true;
+    }
+    let count = head.count;
+    encoder::has_uncounted(words, count)
+}
+
+// The bytes of all fields and entries but the header's own 8 and 9 and the trailer's own 10.
+fn body_length(words: &[u32], head: Span, tail: Span) -> usize
+    requires { ⌜ (Within (now words) head) × (Within (now words) tail) ⌝ }
+    requires { ⌜ sizeAt (now words) head 8 + sizeAt (now words) head 9 + sizeAt (now words) tail 10 ≤ allBytes (now words) head ⌝ }
+    ensures { λ r. ⌜ r ≡ bodyAt (now (words .entry)) head tail ⌝ }
+{
+    let count = head.count;
+    let all = encoder::bytes_between(words, 0, count);
+    let eight = field_bytes(words, head, 8);
+    let nine = field_bytes(words, head, 9);
+    let ten = field_bytes(words, tail, 10);
+    all - (eight + nine + ten)
+}
+
+// How many fields come to a part where it gets a field: none where that field is held.
+fn added(words: &[u32], span: Span, tag: u32) -> usize
+    requires { ⌜ Within (now words) span ⌝ }
+    ensures { λ r. ⌜ r ≡ addedAt (now (words .entry)) span tag ⌝ }
+    ensures { λ r. ⌜ r ≤ 1 ⌝ }
+{
+    if holds(words, span, tag) {
+        return 0;
+    }
+    1
+}
+
+// The fields with the new 9 and 10.
+fn fields_with(words: &[u32], head: Span, tail: Span) -> usize
+    requires { ⌜ (Within (now words) head) × (Within (now words) tail) ⌝ }
+    ensures { λ r. ⌜ r ≡ fieldsAt (now (words .entry)) head tail ⌝ }
+{
+    let count = head.count;
+    lent::fields_in(words, 1, 0, count) + (added(words, head, 9) + added(words, tail, 10))
+}
+
+fn judge(words: &[u32], values: &[u8], separator: u8, room: usize) -> Verdict
+    ensures { λ r. ⌜ r ≡ verdictOf separator (now (words .entry)) (now (values .entry)) room ⌝ }
+{
+    let Located::At(head) = message::locate(words, values, Part::Header) else {
+        return Verdict::Refused(Encoding::NoMessage);
+    };
+    let Located::At(tail) = message::locate(words, values, Part::Trailer) else {
+        return Verdict::Refused(Encoding::NoMessage);
+    };
+    if is_refused_separator(separator) {
+        return Verdict::Refused(Encoding::InvalidSeparator);
+    }
+    if is_incomplete(words, head, tail) {
+        return Verdict::Refused(Encoding::Incomplete);
+    }
+    let body = body_length(words, head, tail);
+    if 8192 < body {
+        return Verdict::Refused(Encoding::TooLong);
+    }
+    let begin = field_bytes(words, head, 8);
+    let length = begin + tagvalue::digit_count(body as u32) + body + 10;
+    if 8192 < length {
+        return Verdict::Refused(Encoding::TooLong);
+    }
+    if 1024 < fields_with(words, head, tail) {
+        return Verdict::Refused(Encoding::TooManyFields);
+    }
+    if room < length {
+        return Verdict::Refused(Encoding::NoRoom);
+    }
+    Verdict::Measured(body as u32)
+}
+
+fn set_body_length(words: &mut [u32], values: &mut [u8], body: u32) -> Change
+    ensures { λ r. ⌜ after r (now (words .exit)) (now (values .exit)) ≡ storing Header 9 (decimal body) (now (words .entry)) (now (values .entry)) ⌝ }
+{
+    let mut digits = [0u8; 10];
+    let scratch = &mut digits[..];
+    let Written::Next(end) = tagvalue::write_number(scratch, 0, body) else {
+        return Change::NotStorable;
+    };
+    message::store(words, values, Part::Header, 9, &digits[..end])
+}
+
+// Writes a message that was found fit to be encoded, and sets its 9 and 10.
+fn write_encoding(
+    words: &mut [u32],
+    values: &mut [u8],
+    output: &mut [u8],
+    separator: u8,
+    body: u32,
+) -> Encoding
+    requires { ⌜ Encodable separator (now words) (now values) (now output) body ⌝ }
+    ensures { λ r. ⌜ left r (now (words .exit)) (now (values .exit)) (now (output .exit)) ≡ encoded separator (messageIn (now (words .entry)) (now (values .entry))) (now (output .entry)) ⌝ }
+{
+    message::remove(words, values, Part::Trailer, 10);
+    set_body_length(words, values, body);
+    let Encoded::Written(length) = encoder::write_message(words, values, output, separator) else {
+        return Encoding::NoMessage;
+    };
+    let first = length - 4;
+    let last = length - 1;
+    message::store(words, values, Part::Trailer, 10, &output[first..last]);
+    Encoding::Written(length)
+}
+
+// Encodes a message at the start of the output: 27, 22, 43, 20, 21, 23. It then holds its new 9 and 10.
+pub fn encode(words: &mut [u32], values: &mut [u8], output: &mut [u8], separator: u8) -> Encoding
+    ensures { λ r. ⌜ left r (now (words .exit)) (now (values .exit)) (now (output .exit)) ≡ encodingOf separator (now (words .entry)) (now (values .entry)) (now (output .entry)) ⌝ }
+{
+    match judge(words, values, separator, output.len()) {
+        Verdict::Measured(body) => write_encoding(words, values, output, separator, body),
+        Verdict::Refused(refusal) => refusal,
+    }
+}

@@ -1,0 +1,4 @@
+pub mod Told
+pub mod ToldLaws
+pub mod MessageLaws
+pub mod FramerLaws

@@ -1,0 +1,3 @@
+pub mod Hanging
+pub mod RowLaws
+pub mod RaiseLaws

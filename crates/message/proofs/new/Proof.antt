@@ -1,0 +1,59 @@
+-- `new` meets its contract: what has no room is refused first, so that each of the three calls is done.
+use mathlib.Core.Path.{_≡_, refl, sym, ap, _∙_}
+use mathlib.Core.Logic.{⊎-elim}
+use mathlib.Core.Bool.{Bool, true, false}
+use mathlib.Core.List.{List, [], _∷_, _++_, append-assoc, append-nil}
+use Prim.Native.Nat.{ℕ, zero, suc, _+_, _-_, _*_, _^_, _≤_, _<_}
+use native.Mathlib.Omega.{arith}
+use borrow.Author.Needs.{needs}
+use lib.ListN.{length, getD, take, drop, set, length-set}
+use borrow.Author.Tests.{not-true, not-false, leb-true}
+use Rattle.message.specs.Changes.{after, making}
+use Rattle.message.specs.NewLaws.{new-short, new-store, new-large, new-done}
+use Rattle.message.proofs.new.Statement.{statement}
+use Rattle.message.proofs.new.Tie as tie
+
+returns : tie.Need-returns
+returns c = sym (new-short _ _ _ _ (c .if1 .taken))
+
+returns-2 : tie.Need-returns-2
+returns-2 c = sym (new-store _ _ _ _ (c .before .if1 .left) (c .if2 .taken))
+
+fits-requires : tie.Need-fits-requires
+fits-requires c κs = search needs
+
+returns-3 : tie.Need-returns-3
+returns-3 c = sym (new-large _ _ _ _ (c .before .before .before .if1 .left) (c .before .before .if2 .left) (sym (c .before .fits2 .ensures) ∙ not-true _ (c .if3 .taken)))
+
+empty-requires : tie.Need-empty-requires
+empty-requires c κs = search needs
+
+store-requires : tie.Need-store-requires
+store-requires c κs = search needs
+
+store-requires-2 : tie.Need-store-requires-2
+store-requires-2 c κs = search needs
+
+same-length : tie.Need-same-length
+same-length c = search needs
+
+same-length-2 : tie.Need-same-length-2
+same-length-2 c = search needs
+
+returns-4 : tie.Need-returns-4
+returns-4 c = new-done _ _ _ _ (c .before .before .before .before .before .before .before .before .before .before .before .before .before .before .before .before .before .before .before .before .before .before .before .before .if1 .left) (c .before .before .before .before .before .before .before .before .before .before .before .before .before .before .before .before .before .before .before .before .before .before .before .if2 .left) (leb-true _ _ (sym (c .before .before .before .before .before .before .before .before .before .before .before .before .before .before .before .before .before .before .before .before .before .before .fits2 .ensures) ∙ not-false _ (c .before .before .before .before .before .before .before .before .before .before .before .before .before .before .before .before .before .before .before .before .before .if3 .left))) _ _ _ _ _ _ _ _ _ (c .before .before .before .before .before .before .before .before .before .before .before .before .before .before .before .before .before .before .empty .ensures) (c .before .before .before .before .before .before .before .before .before .before .before .store .ensures) (c .before .before .before .before .store2 .ensures)
+
+pub new-spec : {M : Type 1} → statement M
+new-spec =
+    tie.close
+    (tie.spec
+    returns
+    returns-2
+    fits-requires
+    returns-3
+    empty-requires
+    store-requires
+    store-requires-2
+    same-length
+    same-length-2
+    returns-4)

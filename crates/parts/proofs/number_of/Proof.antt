@@ -1,0 +1,114 @@
+-- `number_of` meets its contract, case by case.
+use Rattle.parts.specs.Answer.{numberOf}
+use borrow.Author.Needs.{needs}
+use Rattle.parts.proofs.number_of.Statement.{statement}
+use Rattle.parts.proofs.number_of.Tie as tie
+
+enum-told : tie.Need-enum-told
+enum-told c = search needs
+
+enum-told-2 : tie.Need-enum-told-2
+enum-told-2 c = search needs
+
+enum-told-3 : tie.Need-enum-told-3
+enum-told-3 c = search needs
+
+enum-told-4 : tie.Need-enum-told-4
+enum-told-4 c = search needs
+
+enum-told-5 : tie.Need-enum-told-5
+enum-told-5 c = search needs
+
+enum-told-6 : tie.Need-enum-told-6
+enum-told-6 c = search needs
+
+enum-known-answer : tie.Need-enum-known-answer
+enum-known-answer c = search needs
+
+reason-number-requires : tie.Need-reason-number-requires
+reason-number-requires c κs = search needs
+
+enum-told-7 : tie.Need-enum-told-7
+enum-told-7 c = search needs
+
+enum-told-8 : tie.Need-enum-told-8
+enum-told-8 c = search needs
+
+enum-told-9 : tie.Need-enum-told-9
+enum-told-9 c = search needs
+
+enum-told-10 : tie.Need-enum-told-10
+enum-told-10 c = search needs
+
+enum-known-answer-2 : tie.Need-enum-known-answer-2
+enum-known-answer-2 c = search needs
+
+number-of-requires : tie.Need-number-of-requires
+number-of-requires c κs = search needs
+
+returns : tie.Need-returns
+returns c = unfold numberOf in rw (c .enum-told .given .1)
+
+returns-2 : tie.Need-returns-2
+returns-2 c = unfold numberOf in rw (c .enum-told2 .given .1)
+
+returns-3 : tie.Need-returns-3
+returns-3 c = unfold numberOf in rw (c .enum-told3 .given .1)
+
+returns-4 : tie.Need-returns-4
+returns-4 c = unfold numberOf in rw (c .enum-told4 .given .1)
+
+returns-5 : tie.Need-returns-5
+returns-5 c = unfold numberOf in rw (c .enum-told5 .given .1)
+
+returns-6 : tie.Need-returns-6
+returns-6 c = unfold numberOf in rw (c .enum-told6 .given .1)
+
+returns-7 : tie.Need-returns-7
+returns-7 c = unfold numberOf in rw (c .reason-number .ensures, c .before .before .answer .given .1)
+
+returns-8 : tie.Need-returns-8
+returns-8 c = unfold numberOf in rw (c .enum-told7 .given .1)
+
+returns-9 : tie.Need-returns-9
+returns-9 c = unfold numberOf in rw (c .enum-told8 .given .1)
+
+returns-10 : tie.Need-returns-10
+returns-10 c = unfold numberOf in rw (c .enum-told9 .given .1)
+
+returns-11 : tie.Need-returns-11
+returns-11 c = unfold numberOf in rw (c .enum-told10 .given .1)
+
+returns-12 : tie.Need-returns-12
+returns-12 c = unfold numberOf in rw (c .number-of .ensures, c .before .before .answer2 .given .1)
+
+pub number-of-spec : {M : Type 1} → statement M
+number-of-spec =
+    tie.close
+    (tie.spec
+    enum-told
+    enum-told-2
+    enum-told-3
+    enum-told-4
+    enum-told-5
+    enum-told-6
+    enum-known-answer
+    reason-number-requires
+    enum-told-7
+    enum-told-8
+    enum-told-9
+    enum-told-10
+    enum-known-answer-2
+    number-of-requires
+    returns
+    returns-2
+    returns-3
+    returns-4
+    returns-5
+    returns-6
+    returns-7
+    returns-8
+    returns-9
+    returns-10
+    returns-11
+    returns-12)

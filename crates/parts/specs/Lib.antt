@@ -1,0 +1,7 @@
+pub mod Answer
+pub mod Parts
+pub mod PartLaws
+pub mod Header
+pub mod HeaderLaws
+pub mod Trailer
+pub mod TrailerLaws

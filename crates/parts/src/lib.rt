@@ -1,0 +1,238 @@
+// parts: header and trailer, read one field at a time, and what all parts share: the answer to a message, a field's record, storing it.
+// It keeps records through `records` only and knows nothing of layouts and groups; only the body and the builder call it.
+use flat_steps::Checked;
+use integrity::Config;
+use integrity::GarbledReason;
+use records::Record;
+use records::Standing;
+use tagvalue::Cause;
+use tagvalue::Cursor;
+use tagvalue::Field;
+use tagvalue::FieldRead;
+ghost use mathlib.Core.Path.{_≡_};
+ghost use Prim.Native.Nat.{_+_, _≤_, _<_, _/_, _^_};
+ghost use lib.ListN.{length};
+ghost use Rattle.tagvalue.specs.Fields.{field, fieldsFrom};
+ghost use Rattle.tagvalue.specs.Field.{fieldAt};
+ghost use Rattle.groups.specs.ReadingLaws.{Inside};
+ghost use Rattle.integrity.specs.Integrity.{numberOfReason};
+ghost use Rattle.parts.specs.Answer.{numberOf, valuesOf};
+ghost use Rattle.parts.specs.Parts.{recordOf, partOf, Kept, nextOf, partTold, Stays};
+ghost use Rattle.parts.specs.Header.{headerFrom};
+ghost use Rattle.parts.specs.Trailer.{trailerFrom, trailerTold, trailerCounts};
+
+const CHECKSUM: u32 = 10;
+
+// The answer to a message. Numbers are a tag and the tag of its group, or the place and length of a value.
+pub enum Answer {
+    Valid,
+    InvalidField(u32),
+    InvalidOrderInGroup(u32, u32),
+    InvalidMsgType(usize, usize),
+    RequiredFieldMissing(u32, u32),
+    Malformed(Cause, usize),
+    Garbled(GarbledReason),
+    TooLong,
+    TooManyFields,
+    InvalidSeparator,
+    TooFewRecords,
+    BadDictionary(Checked),
+}
+
+// The values that are returned with an answer, 0 where there is none.
+pub struct Values {
+    pub first: usize,
+    pub second: usize,
+}
+
+// How many fields may still be read, and how many records there are.
+pub struct Progress {
+    pub room: usize,
+    pub records: usize,
+}
+
+// A part ends at a field that is read already, or reading was refused.
+pub enum PartRead {
+    At(Field, Progress),
+    Refused(Answer),
+}
+
+// The trailer stops at a CheckSum or where no field can be read; the number is that of all records.
+pub enum TrailerRead {
+    Stopped(Field, usize),
+    Unstopped(usize),
+    TooManyFields,
+}
+
+// The next field, or why there is none.
+pub enum Next {
+    Got(Field),
+    Missing(Answer),
+}
+
+// 01's number for a reason why a message is garbled.
+fn reason_number(reason: GarbledReason) -> u32
+    ensures { λ r. ⌜ r ≡ numberOfReason reason ⌝ }
+{
+    match reason {
+        GarbledReason::Malformed => 10,
+        GarbledReason::InvalidBeginString => 11,
+        GarbledReason::InvalidBodyLength => 12,
+        GarbledReason::InvalidMsgType => 13,
+        GarbledReason::InvalidChecksum => 14,
+    }
+}
+
+// 01's number for an answer.
+pub fn number_of(answer: Answer) -> u32
+    ensures { λ r. ⌜ r ≡ numberOf answer ⌝ }
+{
+    match answer {
+        Answer::Valid => 0,
+        Answer::InvalidField(_) => 1,
+        Answer::InvalidOrderInGroup(_, _) => 2,
+        Answer::InvalidMsgType(_, _) => 3,
+        Answer::RequiredFieldMissing(_, _) => 4,
+        Answer::Malformed(_, _) => 10,
+        Answer::Garbled(reason) => reason_number(reason),
+        Answer::TooLong => 20,
+        Answer::TooManyFields => 21,
+        Answer::InvalidSeparator => 22,
+        Answer::TooFewRecords => 23,
+        Answer::BadDictionary(checked) => flat::number_of(checked),
+    }
+}
+
+fn returned(first: usize, second: usize) -> Values
+    ensures { λ r. ⌜ r ≡ record { first = first; second = second } ⌝ }
+{
+    Values { first, second }
+}
+
+// The values that are returned with an answer.
+pub fn values_of(answer: Answer) -> Values
+    ensures { λ r. ⌜ (r .first, r .second) ≡ valuesOf answer ⌝ }
+{
+    match answer {
+        Answer::Valid => returned(0, 0),
+        Answer::InvalidField(tag) => returned(tag as usize, 0),
+        Answer::InvalidOrderInGroup(tag, group) => returned(tag as usize, group as usize),
+        Answer::InvalidMsgType(place, length) => returned(place, length),
+        Answer::RequiredFieldMissing(tag, group) => returned(tag as usize, group as usize),
+        Answer::Malformed(_, _) => returned(0, 0),
+        Answer::Garbled(_) => returned(0, 0),
+        Answer::TooLong => returned(0, 0),
+        Answer::TooManyFields => returned(0, 0),
+        Answer::InvalidSeparator => returned(0, 0),
+        Answer::TooFewRecords => returned(0, 0),
+        Answer::BadDictionary(checked) => returned(flat::value_of(checked) as usize, 0),
+    }
+}
+
+// A field's record in one of the parts.
+pub fn record_of(part: u32, field: Field) -> Record
+    requires { ⌜ (field .place < 2 ^ 32) × (field .length < 2 ^ 32) ⌝ }
+    ensures { λ r. ⌜ r ≡ recordOf part field ⌝ }
+{
+    Record {
+        part,
+        depth: 0,
+        number: 0,
+        tag: field.tag,
+        place: field.place as u32,
+        length: field.length as u32,
+    }
+}
+
+// Stores a record in the last map, whose records start at an index; answers how many records there are then.
+pub fn keep(words: &mut [u32], from: usize, records: usize, stored: Record) -> usize
+    requires { ⌜ (from ≤ records) × (records < length (now words) / 6) ⌝ }
+    ensures { λ r. ⌜ Kept (now (words .entry)) (now (words .exit)) from records stored r ⌝ }
+{
+    match records::store(words, records, from, records, stored) {
+        Standing::At(_) => records,
+        Standing::Nowhere => records + 1,
+    }
+}
+
+// The next field, where one can be read and there is room for it.
+pub fn next_field(message: &[u8], config: Config, cursor: Cursor, room: usize) -> Next
+    ensures { λ r. ⌜ r ≡ nextOf room (fieldAt (config .separator) (now (message .entry)) cursor) ⌝ }
+{
+    match cursor.next_field(message, config.separator) {
+        FieldRead::Unreadable(cause, place) => Next::Missing(Answer::Malformed(cause, place)),
+        FieldRead::Read(field) => {
+            if room == 0 {
+                return Next::Missing(Answer::TooManyFields);
+            }
+            Next::Got(field)
+        }
+    }
+}
+
+// The rest of the header, behind the fields that were verified.
+pub fn read_header(
+    message: &[u8],
+    config: Config,
+    header_tags: &[u32],
+    cursor: Cursor,
+    words: &mut [u32],
+    progress: Progress,
+) -> PartRead
+    requires { ⌜ (length (now message) < 2 ^ 32) × (progress .records + progress .room ≤ length (now words) / 6) ⌝ }
+    ensures { λ r. ⌜ partTold (config .separator) (now (message .entry)) 0 r (now (words .exit)) ≡ headerFrom (now («header_tags» .entry)) (fieldsFrom (config .separator) (now (message .entry)) cursor) (progress .room) (partOf 0 (progress .records) (now (words .entry))) ⌝ }
+    ensures { λ r. ⌜ Stays (now (message .entry)) (now (words .entry)) (now (words .exit)) 0 (progress .room) r ⌝ }
+{
+    let mut at = cursor;
+    let mut room = progress.room;
+    let mut records = progress.records;
+    loop {
+        match next_field(message, config, at, room) {
+            Next::Missing(answer) => {
+                return PartRead::Refused(answer);
+            }
+            Next::Got(field) => {
+                room -= 1;
+                if !layout::holds(header_tags, field.tag) {
+                    return PartRead::At(field, Progress { room, records });
+                }
+                records = keep(words, 0, records, record_of(records::HEADER, field));
+                at = field.next;
+            }
+        }
+    }
+}
+
+// The trailer, from the field that ended the body on. The verified CheckSum stands in it already, and counts where no other stops it.
+pub fn read_trailer(
+    message: &[u8],
+    config: Config,
+    first: Field,
+    words: &mut [u32],
+    from: usize,
+    progress: Progress,
+) -> TrailerRead
+    requires { ⌜ (length (now message) < 2 ^ 32) × (Inside (now message) first) × (from ≤ progress .records) × (progress .records + progress .room ≤ length (now words) / 6) ⌝ }
+    ensures { λ r. ⌜ trailerTold r from (now (words .exit)) ≡ trailerFrom (field first (fieldsFrom (config .separator) (now (message .entry)) (first .next))) (progress .room + 1) (partOf from (progress .records) (now (words .entry))) ⌝ }
+    ensures { λ r. ⌜ (from ≤ trailerCounts from r) × (trailerCounts from r ≤ progress .records + progress .room) ⌝ }
+    ensures { λ r. ⌜ partOf 0 from (now (words .exit)) ≡ partOf 0 from (now (words .entry)) ⌝ }
+{
+    let mut field = first;
+    let mut room = progress.room;
+    let mut records = progress.records;
+    loop {
+        if field.tag == CHECKSUM {
+            return TrailerRead::Stopped(field, records);
+        }
+        if room == 0 {
+            return TrailerRead::TooManyFields;
+        }
+        room -= 1;
+        records = keep(words, from, records, record_of(records::TRAILER, field));
+        let next = field.next;
+        let FieldRead::Read(read) = next.next_field(message, config.separator) else {
+            return TrailerRead::Unstopped(records);
+        };
+        field = read;
+    }
+}

@@ -1,0 +1,11 @@
+pub mod Runs
+pub mod Examples
+pub mod RowLaws
+pub mod RunLaws
+pub mod DraftLaws
+pub mod EnterLaws
+pub mod LastLaws
+pub mod HungLaws
+pub mod HangLaws
+pub mod PartLaws
+pub mod LastHangLaws

@@ -1,0 +1,10 @@
+pub mod Shapes
+pub mod ShapeLaws
+pub mod PutLaws
+pub mod GroupShapes
+pub mod Counting
+pub mod CountLaws
+pub mod PartReading
+pub mod BodyReading
+pub mod Parted
+pub mod Refusals

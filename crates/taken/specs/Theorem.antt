@@ -1,0 +1,159 @@
+-- What a build answered with 0 is never refused at take-over, and keeps its records: for every message of at most 8,192 bytes, dictionary,
+-- separator and setting.
+use mathlib.Core.Path.{_≡_, refl, sym, ap, _∙_}
+use mathlib.Core.Bool.{Bool, true, false}
+use mathlib.Core.List.{List, [], _∷_, _++_}
+use Prim.Native.Nat.{ℕ, suc, _-_, _/_, _≤_}
+use native.Mathlib.Omega.{arith}
+use native.Mathlib.Nat.{sub-zero}
+use lib.ListN.{length, replicate, length-append}
+use lib.Seq.{take-at}
+use lib.Dec.{eqb, ltb}
+use borrow.Author.Tests.{ltb-false}
+use Rattle.tagvalue.specs.Choice.{pick}
+use Rattle.tagvalue.specs.Fields.{Fields, field, fieldsFrom}
+use Rattle.tagvalue.specs.declared.Field.{Field}
+use Rattle.integrity.specs.Integrity.{integrityOf}
+use Rattle.integrity.specs.declared.Config.{Config}
+use Rattle.integrity.specs.declared.Integrity.{Integrity}
+use Rattle.integrity.specs.declared.Integrity.the-variants.{Sound, Garbled}
+use Rattle.integrity.specs.declared.Verified.{Verified}
+use Rattle.flat.specs.Check.{checkOf, numberOf}
+use Rattle.flat_steps.specs.declared.Checked.{Checked}
+use Rattle.flattening.specs.Meaning.{dictionaryOf}
+use Rattle.layout.specs.Tree.{Dictionary, knows, headerTags, trailerTags, Choice, noMessage, laidOut, layoutOf}
+use Rattle.records.specs.Records.{laid, recordsOf, between}
+use Rattle.records.specs.WordLaws.{records-laid, laid-length}
+use Rattle.records.specs.declared.Record.{Record}
+use Rattle.lent.specs.Meaning.{wordsOf, valuesOf}
+use Rattle.lent.specs.FormedLaws.{Lends, layout-lends}
+use Rattle.groups.specs.Reading.{accepted, layoutRules}
+use Rattle.required.specs.Checking.{layoutDemands}
+use Rattle.nesting.specs.Entries.{layout-first}
+use Rattle.parts.specs.declared.Answer.the-variants.{Valid, InvalidSeparator, TooFewRecords, TooLong as MessageTooLong, BadDictionary}
+use Rattle.parts.specs.Parts.{Reading, ended, refused, recordOf}
+use Rattle.parts.specs.Trailer.{Trailer, stopped, unstopped, crowded, trailerFrom}
+use Rattle.body.specs.Body.{bodyFrom}
+use Rattle.body.specs.Kinds.{bodyOf}
+use Rattle.builder.specs.Beginning.{headerOf, verifiedRecords, withChecksum, startedBy, startOf, msgTypeRecord, valueAt}
+use Rattle.builder.specs.Message.{Outcome, refusal, afterTrailer, afterBody, afterType, afterHeader, messageRead}
+use Rattle.builder.specs.Build.{isInvalid, BuildOutcome, wordsWith, untouched, shown, checkedRead, buildOf}
+use Rattle.taking.specs.Taking.{after, takingOver}
+use Rattle.taking.specs.declared.Taken.the-variants.{Made}
+use Rattle.taking.specs.Derived.{derived, given}
+use Rattle.taking.specs.TakenLaws.{given-derived, stand-taken}
+use Rattle.standing.specs.PartReading.{Ended, at-checksum, at-end}
+use Rattle.integrity.specs.VerifiedLaws.{verified-read}
+use Rattle.standing.specs.Parted.{Takes, parts-take}
+use Rattle.standing.specs.Refusals.{header-never, body-never}
+
+module _ (dictionary : Dictionary) (validate : Bool) (separator : ℕ) (message : List ℕ) (short : length message ≤ 8192) where
+  -- behind the trailer
+  trailer-takes : (h b : List Record) (t : Trailer) → ((rs : List Record) → Ended t rs → Takes message (h ++ (b ++ rs))) → afterTrailer h b t .answer ≡ Valid → Takes message (afterTrailer h b t .records)
+  unfolding afterTrailer
+  trailer-takes h b (stopped f rs) takes e = takes rs at-checksum
+  trailer-takes h b (unstopped rs) takes e = takes rs at-end
+  trailer-takes h b crowded takes e = let z : _≡_ {A = ℕ} 0 1 = unfold refusal in cc in absurd (omega arith)
+
+  module _ (v : Verified) (sound : integrityOf separator message ≡ Sound v) (f : Field) (rest : Fields) (room : ℕ) (h : List Record) (header : headerOf (headerTags dictionary) separator message v ≡ ended f rest room h) where
+    -- behind the body
+    body-takes : (layout : _) (r : Reading) → bodyFrom (bodyOf (layoutRules (accepted validate (knows dictionary))) layoutDemands (trailerTags dictionary) layout) (field f rest) (suc room) [] ≡ r
+        → afterBody h (v .checksum) r .answer ≡ Valid → Takes message (afterBody h (v .checksum) r .records)
+    unfolding afterBody
+    body-takes layout (refused answer) e a = absurd (body-never (layoutRules (accepted validate (knows dictionary))) layoutDemands (trailerTags dictionary) layout (suc (suc room)) (field f rest) (suc room) [] (unfold bodyFrom in (e ∙ ap refused (unfold refusal in a))))
+    body-takes layout (ended g more room₂ b) e a =
+        trailer-takes h b (trailerFrom (field g more) (suc room₂) (recordOf 3 (v .checksum) ∷ []))
+        (λ rs end-of-it. parts-take separator message v (verified-read separator message v sound) (layoutRules (accepted validate (knows dictionary))) (layout-first (accepted validate (knows dictionary))) layoutDemands (headerTags dictionary) (trailerTags dictionary) layout f g rest more room room₂ h b rs (trailerFrom (field g more) (suc room₂) (recordOf 3 (v .checksum) ∷ [])) short (unfold headerOf verifiedRecords in header) e refl end-of-it)
+        a
+
+    type-takes : (choice : Choice) → afterType dictionary validate f rest room h (v .checksum) choice .answer ≡ Valid → Takes message (afterType dictionary validate f rest room h (v .checksum) choice .records)
+    unfolding afterType
+    type-takes noMessage a = let z : _≡_ {A = ℕ} 0 1 = unfold refusal in cc in absurd (omega arith)
+    type-takes (laidOut layout) a = body-takes layout (bodyFrom (bodyOf (layoutRules (accepted validate (knows dictionary))) layoutDemands (trailerTags dictionary) layout) (field f rest) (suc room) []) refl a
+
+  -- behind the header
+  header-takes : (v : Verified) → integrityOf separator message ≡ Sound v → (r : Reading) → headerOf (headerTags dictionary) separator message v ≡ r
+      → afterHeader dictionary validate message (withChecksum (v .checksum) r) .answer ≡ Valid → Takes message (afterHeader dictionary validate message (withChecksum (v .checksum) r) .records)
+  unfolding afterHeader withChecksum
+  header-takes v sound (refused answer) e a = absurd (header-never (headerTags dictionary) (fieldsFrom separator message (v .«msg_type» .next)) 1021 (verifiedRecords v) (unfold headerOf in (e ∙ ap refused (unfold refusal in a))))
+  header-takes v sound (ended f rest room h) e a = type-takes v sound f rest room h e (layoutOf dictionary (valueAt message (msgTypeRecord h))) a
+
+  integrity-takes : (i : Integrity) → integrityOf separator message ≡ i → afterHeader dictionary validate message (startedBy (headerTags dictionary) separator message i) .answer ≡ Valid
+      → Takes message (afterHeader dictionary validate message (startedBy (headerTags dictionary) separator message i) .records)
+  unfolding startedBy
+  integrity-takes (Garbled reason) e a = let z : _≡_ {A = ℕ} 0 1 = unfold afterHeader refusal in cc in absurd (omega arith)
+  integrity-takes (Sound v) e a = header-takes v e (headerOf (headerTags dictionary) separator message v) refl a
+
+  -- the records of a message that was read with 0 stand for a message within the limits
+  pub build-takes : messageRead dictionary validate separator message .answer ≡ Valid → Takes message (messageRead dictionary validate separator message .records)
+  unfolding messageRead startOf
+  build-takes a = integrity-takes (integrityOf separator message) refl a
+
+-- the words that the build leaves hold its records
+words-hold : (rs : List Record) → between 0 (length rs) (recordsOf (wordsWith rs)) ≡ rs
+unfolding wordsWith between
+words-hold rs = rw (sub-zero (length rs), records-laid rs (replicate (6150 - length (laid rs)) 0)) (take-at rs _ (length rs) refl)
+
+words-many : (rs : List Record) → length rs ≤ length (wordsWith rs) / 6
+unfolding wordsWith
+words-many rs = omega (arith, length-append (laid rs) (replicate (6150 - length (laid rs)) 0), laid-length rs)
+
+-- what is left is a message that has the records of the build
+pub record TakenOver (message : List ℕ) (rs : List Record) (words values : List ℕ) : Type 0 where
+  pub takes : Takes message rs
+  pub made : takingOver (wordsWith rs) (length rs) message words values ≡ after Made (wordsOf (takes .meant)) (valuesOf (takes .meant))
+  pub lends : Lends (wordsOf (takes .meant)) (valuesOf (takes .meant)) (takes .meant)
+  pub same : derived (takes .meant) ≡ given message rs
+
+-- "what a build answered with 0 is never refused at take-over, and keeps its records"
+pub build-taken : (dictionary : Dictionary) (validate : Bool) (separator : ℕ) (message words values : List ℕ) → length message ≤ 8192 → length words ≡ 8205 → length values ≡ 8192 → messageRead dictionary validate separator message .answer ≡ Valid
+    → TakenOver message (messageRead dictionary validate separator message .records) words values
+build-taken dictionary validate separator message words values short whole store a =
+    let rs = messageRead dictionary validate separator message .records in
+    let t = build-takes dictionary validate separator message short a in
+    record {
+      takes = t;
+      made = stand-taken (wordsWith rs) (length rs) message words values (t .meant) whole store (words-many rs) (t .few) (rw (words-hold rs) (t .stand)) (t .within);
+      lends = layout-lends (t .meant) (t .within);
+      same = sym (given-derived message (t .meant) rs (t .stand));
+    }
+
+-- the same of what the build answers, with the words and the number of records that it leaves
+record Shown (message : List ℕ) (config : Config) (dictionary : List ℕ) (built : BuildOutcome) : Type 0 where
+  short : length message ≤ 8192
+  valid : messageRead (dictionaryOf dictionary) (config .validate) (config .separator) message .answer ≡ Valid
+  count : built .records ≡ length (messageRead (dictionaryOf dictionary) (config .validate) (config .separator) message .records)
+  words : built .words ≡ wordsWith (messageRead (dictionaryOf dictionary) (config .validate) (config .separator) message .records)
+
+shown-valid : (message : List ℕ) (config : Config) (dictionary : List ℕ) (lent : ℕ) → length message ≤ 8192 → (c : Checked) → shown lent (checkedRead message config dictionary c) .answer ≡ Valid → Shown message config dictionary (shown lent (checkedRead message config dictionary c))
+unfolding shown checkedRead
+shown-valid message config dictionary lent short c a = by-check (eqb (numberOf c) 0) a
+  where
+    out : Bool → Outcome
+    out b = pick b (messageRead (dictionaryOf dictionary) (config .validate) (config .separator) message) (refusal (BadDictionary c) [])
+
+    by-check : (b : Bool) → out b .answer ≡ Valid → Shown message config dictionary (shown lent (out b))
+    by-check true a = record { short = short; valid = a; count = refl; words = refl }
+    by-check false a = let z : _≡_ {A = ℕ} 0 1 = unfold refusal in cc in absurd (omega arith)
+
+build-shown : (message : List ℕ) (config : Config) (dictionary : List ℕ) (lent : ℕ) (before : List ℕ) → buildOf message config dictionary lent before .answer ≡ Valid → Shown message config dictionary (buildOf message config dictionary lent before)
+unfolding buildOf
+build-shown message config dictionary lent before a = by-tests (isInvalid (config .separator)) (ltb lent 1024) (ltb 8192 (length message)) refl a
+  where
+    by-tests : (x y z : Bool) → ltb 8192 (length message) ≡ z
+        → pick x (untouched InvalidSeparator before) (pick y (untouched TooFewRecords before) (pick z (untouched MessageTooLong before) (shown lent (checkedRead message config dictionary (checkOf dictionary))))) .answer ≡ Valid
+        → Shown message config dictionary (pick x (untouched InvalidSeparator before) (pick y (untouched TooFewRecords before) (pick z (untouched MessageTooLong before) (shown lent (checkedRead message config dictionary (checkOf dictionary))))))
+    by-tests true y z s a = let e : _≡_ {A = ℕ} 0 1 = unfold untouched in cc in absurd (omega arith)
+    by-tests false true z s a = let e : _≡_ {A = ℕ} 0 1 = unfold untouched in cc in absurd (omega arith)
+    by-tests false false true s a = let e : _≡_ {A = ℕ} 0 1 = unfold untouched in cc in absurd (omega arith)
+    by-tests false false false s a = shown-valid message config dictionary lent (ltb-false 8192 (length message) s) (checkOf dictionary) a
+
+-- for every message, dictionary, separator, setting and number of lent records: what the build leaves is taken over
+pub build-of-taken : (message : List ℕ) (config : Config) (dictionary : List ℕ) (lent : ℕ) (before words values : List ℕ) → length words ≡ 8205 → length values ≡ 8192 → (a : buildOf message config dictionary lent before .answer ≡ Valid)
+    → let built = buildOf message config dictionary lent before in
+    let rs = messageRead (dictionaryOf dictionary) (config .validate) (config .separator) message .records in
+    (t : TakenOver message rs words values) × (takingOver (built .words) (built .records) message words values ≡ after Made (wordsOf (t .takes .meant)) (valuesOf (t .takes .meant)))
+build-of-taken message config dictionary lent before words values whole store a =
+    let s = build-shown message config dictionary lent before a in
+    let t = build-taken (dictionaryOf dictionary) (config .validate) (config .separator) message words values (s .short) whole store (s .valid) in
+    (t, rw (s .words, s .count) (t .made))

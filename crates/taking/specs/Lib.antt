@@ -1,0 +1,16 @@
+pub mod Taking
+pub mod Laying
+pub mod JoinLaws
+pub mod LayingLaws
+pub mod StepLaws
+pub mod GoingLaws
+pub mod TakeLaws
+pub mod Derived
+pub mod StandLaws
+pub mod GoesLaws
+pub mod TakenLaws
+pub mod BackLaws
+pub mod MapBackLaws
+pub mod KeepLaws
+pub mod Theorem
+pub mod Examples

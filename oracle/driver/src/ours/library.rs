@@ -1,0 +1,295 @@
+//! Our static library behind C functions with plain slices (a pointer, then a length) and lent arrays (a pointer). Every export that the driver
+//! calls is declared in this file and nowhere else; README.md says what each must do. The answers are made into lines here, so that all sides are
+//! compared alike.
+use super::Ours;
+use crate::maps::Row;
+use crate::protocol::{KEPT, Reading, Request, Step, hex, rows_text};
+
+type Out = [u32; 4];
+/// The ported framer's state: used, ended, over.
+type State = [usize; 3];
+/// 1,025 records of six words: part, depth, entry, tag, place, length.
+type RecordWords = [u32; 6_150];
+
+unsafe extern "C" {
+    fn gateway_check(dictionary: *const u8, length: usize, out: *mut Out) -> u32;
+    fn gateway_build(
+        message: *const u8,
+        message_length: usize,
+        separator: u8,
+        validate: bool,
+        dictionary: *const u8,
+        dictionary_length: usize,
+        lent: usize,
+        words: *mut RecordWords,
+        out: *mut Out,
+    ) -> u32;
+    fn gateway_empty(words: *mut u32, word_count: usize, values: *mut u8, value_count: usize) -> u32;
+    fn gateway_store(
+        words: *mut u32,
+        word_count: usize,
+        values: *mut u8,
+        value_count: usize,
+        part: u8,
+        tag: u32,
+        value: *const u8,
+        value_length: usize,
+    ) -> u32;
+    fn gateway_remove(words: *mut u32, word_count: usize, values: *mut u8, value_count: usize, part: u8, tag: u32) -> u32;
+    fn gateway_take_over(
+        records: *const u32,
+        record_words: usize,
+        count: usize,
+        message: *const u8,
+        message_length: usize,
+        words: *mut u32,
+        word_count: usize,
+        values: *mut u8,
+        value_count: usize,
+    ) -> u32;
+    fn gateway_encode(
+        words: *mut u32,
+        word_count: usize,
+        values: *mut u8,
+        value_count: usize,
+        output: *mut u8,
+        output_length: usize,
+        separator: u8,
+        out: *mut Out,
+    ) -> u32;
+    fn gateway_ported_push(state: *mut State, store: *mut u8, store_length: usize, chunk: *const u8, chunk_length: usize) -> u32;
+    fn gateway_ported_take(state: *mut State, store: *mut u8, store_length: usize, output: *mut u8, output_length: usize, out: *mut Out) -> u32;
+}
+
+const RECORDS: usize = 1_024;
+const WORDS: usize = 8_205;
+const VALUES: usize = 8_192;
+const OUTPUT: usize = 8_192;
+const STORE: usize = 16_384;
+/// A word that stands everywhere before a call: what isn't written shows.
+const UNTOUCHED: u32 = 9;
+
+pub struct Built {
+    pub number: u32,
+    pub out: Out,
+    pub words: RecordWords,
+}
+
+impl Default for Built {
+    fn default() -> Self {
+        Self { number: 0, out: [UNTOUCHED; 4], words: [UNTOUCHED; 6_150] }
+    }
+}
+
+impl Built {
+    fn count(&self) -> usize {
+        (self.out[0] as usize).min(RECORDS + 1)
+    }
+
+    fn line(&self, message: &[u8]) -> String {
+        let mut line = format!("{} {} {} {}", self.number, self.out[1], self.out[2], self.out[0]);
+        for record in self.words.chunks_exact(6).take(self.count()) {
+            let value = message.get(record[4] as usize..(record[4] + record[5]) as usize).map_or("?".to_string(), hex);
+            line.push_str(&format!(" {}.{}.{}.{}.{value}", record[0], record[1], record[2], record[3]));
+        }
+        let rest = if matches!(self.number, 20 | 22 | 23) { UNTOUCHED } else { 0 };
+        if self.words[6 * self.count()..].iter().any(|word| *word != rest) {
+            line.push_str(" records past the count");
+        }
+        if self.out[3] != 0 {
+            line.push_str(" a fourth word");
+        }
+        line
+    }
+}
+
+pub fn build(dictionary: &[u8], reading: &Reading) -> Built {
+    let mut built = Built::default();
+    build_into(dictionary, reading, &mut built);
+    built
+}
+
+pub fn build_into(dictionary: &[u8], reading: &Reading, built: &mut Built) {
+    // SAFETY: each pointer goes with the length of what it comes from, and each array has its size; so in every call of this file.
+    built.number = unsafe {
+        gateway_build(
+            reading.message.as_ptr(),
+            reading.message.len(),
+            reading.separator,
+            reading.validate,
+            dictionary.as_ptr(),
+            dictionary.len(),
+            RECORDS,
+            &mut built.words,
+            &mut built.out,
+        )
+    };
+}
+
+/// The check alone: every build makes it again.
+pub fn check(dictionary: &[u8]) -> (u32, Out) {
+    let mut out = [UNTOUCHED; 4];
+    // SAFETY: see `build`.
+    let number = unsafe { gateway_check(dictionary.as_ptr(), dictionary.len(), &mut out) };
+    (number, out)
+}
+
+/// A message made by calls, as it is lent.
+struct Lent {
+    words: Vec<u32>,
+    values: Vec<u8>,
+}
+
+impl Lent {
+    fn new() -> Self {
+        let mut lent = Self { words: vec![UNTOUCHED; WORDS], values: vec![UNTOUCHED as u8; VALUES] };
+        lent.empty();
+        lent
+    }
+
+    fn empty(&mut self) -> u32 {
+        // SAFETY: see `build`.
+        unsafe { gateway_empty(self.words.as_mut_ptr(), WORDS, self.values.as_mut_ptr(), VALUES) }
+    }
+
+    fn store(&mut self, part: u8, tag: u32, value: &[u8]) -> u32 {
+        // SAFETY: see `build`.
+        unsafe { gateway_store(self.words.as_mut_ptr(), WORDS, self.values.as_mut_ptr(), VALUES, part, tag, value.as_ptr(), value.len()) }
+    }
+
+    fn take_over(&mut self, built: &Built, message: &[u8]) -> u32 {
+        let (words, values) = (self.words.as_mut_ptr(), self.values.as_mut_ptr());
+        // SAFETY: see `build`.
+        unsafe {
+            gateway_take_over(
+                built.words.as_ptr(),
+                built.words.len(),
+                built.out[0] as usize,
+                message.as_ptr(),
+                message.len(),
+                words,
+                WORDS,
+                values,
+                VALUES,
+            )
+        }
+    }
+
+    fn rows(&self) -> Vec<Row> {
+        let mut at = 0;
+        self.words[1..]
+            .chunks_exact(4)
+            .take(self.words[0] as usize)
+            .map(|row| {
+                if row[0] == 2 {
+                    return Row::Head(row[1], row[2], row[3]);
+                }
+                let value = self.values[at..at + row[3] as usize].to_vec();
+                at += row[3] as usize;
+                Row::Field(row[1], row[2], value)
+            })
+            .collect()
+    }
+
+    fn encode(&mut self, separator: u8) -> String {
+        let (mut output, mut out) = (vec![UNTOUCHED as u8; OUTPUT], [UNTOUCHED; 4]);
+        let (words, values) = (self.words.as_mut_ptr(), self.values.as_mut_ptr());
+        // SAFETY: see `build`.
+        let number = unsafe { gateway_encode(words, WORDS, values, VALUES, output.as_mut_ptr(), OUTPUT, separator, &mut out) };
+        let length = (out[1] as usize).min(OUTPUT);
+        let others = if [out[0], out[2], out[3]] == [0; 3] { "" } else { " other words" };
+        let rest = if output[length..].iter().all(|byte| *byte == UNTOUCHED as u8) { "" } else { " bytes past the length" };
+        if number > 0 {
+            return format!("{number}{others}{rest}");
+        }
+        format!("0:{}:{}{others}{rest}", hex(&output[..length]), rows_text(&self.rows()))
+    }
+
+    /// The word of a step; nothing where there is no export for it.
+    fn step(&mut self, step: &Step) -> Option<String> {
+        let number = match step {
+            Step::Empty => self.empty(),
+            Step::New(begin, kind) => {
+                let numbers = [self.empty(), self.store(1, 8, begin), self.store(1, 35, kind)];
+                numbers.into_iter().find(|number| *number > 0).unwrap_or(0)
+            }
+            Step::Store(part, tag, value) => self.store(*part, *tag, value),
+            // SAFETY: see `build`.
+            Step::Remove(part, tag) => unsafe { gateway_remove(self.words.as_mut_ptr(), WORDS, self.values.as_mut_ptr(), VALUES, *part, *tag) },
+            Step::Run(..) => return None,
+            Step::Encode(separator) => return Some(self.encode(*separator)),
+        };
+        Some(number.to_string())
+    }
+}
+
+fn again_line(dictionary: &[u8], reading: &Reading, second: u8) -> String {
+    let built = build(dictionary, reading);
+    if built.number > 0 {
+        return built.line(&reading.message);
+    }
+    let mut lent = Lent::new();
+    match lent.take_over(&built, &reading.message) {
+        0 => lent.encode(second),
+        number => format!("taken over: {number}"),
+    }
+}
+
+fn chunk_word(state: &mut State, store: &mut [u8], chunk: &[u8]) -> String {
+    // SAFETY: see `build`.
+    let pushed = unsafe { gateway_ported_push(state, store.as_mut_ptr(), store.len(), chunk.as_ptr(), chunk.len()) };
+    if pushed > 0 {
+        return format!("!{pushed}");
+    }
+    let mut words = vec![];
+    loop {
+        let (mut output, mut out) = (vec![0; OUTPUT], [UNTOUCHED; 4]);
+        // SAFETY: see `build`.
+        let number = unsafe { gateway_ported_take(state, store.as_mut_ptr(), store.len(), output.as_mut_ptr(), OUTPUT, &mut out) };
+        if number > 0 {
+            words.push(format!("!{number}"));
+            break;
+        }
+        if out[1] == 0 {
+            break;
+        }
+        words.push(hex(&output[..out[1] as usize]));
+    }
+    if words.is_empty() { "-".to_string() } else { words.join(",") }
+}
+
+pub struct Library {
+    dictionaries: Vec<Vec<u8>>,
+}
+
+impl Default for Library {
+    fn default() -> Self {
+        Self { dictionaries: vec![vec![]; KEPT] }
+    }
+}
+
+impl Ours for Library {
+    fn ask(&mut self, _: &str) {}
+
+    fn answer(&mut self, request: &Request) -> Option<String> {
+        match request {
+            Request::Dictionary(number, bytes) => {
+                self.dictionaries[*number] = bytes.clone();
+                let (answer, out) = check(bytes);
+                let others = if [out[0], out[2], out[3]] == [0; 3] { "" } else { " other words" };
+                Some(format!("{answer} {}{others}", out[1]))
+            }
+            Request::Build(reading) => Some(build(&self.dictionaries[reading.dictionary], reading).line(&reading.message)),
+            Request::Again(reading, second) => Some(again_line(&self.dictionaries[reading.dictionary], reading, *second)),
+            Request::Calls(steps) => {
+                let mut lent = Lent::new();
+                let words: Option<Vec<String>> = steps.iter().map(|step| lent.step(step)).collect();
+                words.map(|words| words.join(" "))
+            }
+            Request::Frames(chunks) => {
+                let (mut state, mut store) = ([0; 3], vec![0; STORE]);
+                Some(chunks.iter().map(|chunk| chunk_word(&mut state, &mut store, chunk)).collect::<Vec<_>>().join(" "))
+            }
+        }
+    }
+}
