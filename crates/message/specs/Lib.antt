@@ -8,5 +8,5 @@ pub mod PartLaws
 pub mod FrameLaws
 pub mod StoreLaws
 pub mod NewLaws
-pub mod Examples
 pub mod FormedLaws
+pub mod Examples
