@@ -7,6 +7,7 @@ use Rattle.message.specs.declared.Part.{Part}
 use Rattle.message.specs.declared.Part.the-variants.{Header, Body, Trailer}
 use Rattle.message.specs.declared.Change.{Change}
 use Rattle.message.specs.Changes.{After, after, numberOfChange, storing, removing}
+use Rattle.runs.specs.Runs.{hanging}
 use Rattle.encoding.specs.declared.Encoding.{Encoding}
 use Rattle.encoding.specs.Encode.{Left, left, numberOfEncoding}
 use Rattle.taking.specs.declared.Taken.{Taken}
@@ -19,6 +20,9 @@ storing-in p q tag value words values a e h = h ∙ ap (λ (x : Part). storing x
 
 pub removing-in : (p q : Part) (tag : ℕ) (words values : List ℕ) (a : After) → p ≡ q → a ≡ removing p tag words values → a ≡ removing q tag words values
 removing-in p q tag words values a e h = h ∙ ap (λ (x : Part). removing x tag words values) e
+
+pub hanging-in : (p q : Part) (runWords runValues words values : List ℕ) (a : After) → p ≡ q → a ≡ hanging p runWords runValues words values → a ≡ hanging q runWords runValues words values
+hanging-in p q runWords runValues words values a e h = h ∙ ap (λ (x : Part). hanging x runWords runValues words values) e
 
 -- a change
 pub change-number : (k : Change) (words values : List ℕ) (o : After) (n : ℕ) → after k words values ≡ o → n ≡ numberOfChange k → n ≡ changeNumber o

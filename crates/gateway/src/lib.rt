@@ -15,6 +15,7 @@ ghost use Rattle.tagvalue.specs.Choice.{pick};
 ghost use Rattle.flat.specs.Check.{checkOf, numberOf as numberOfCheck, valuesOf as valuesOfCheck};
 ghost use Rattle.builder.specs.Build.{buildOf};
 ghost use Rattle.message.specs.Changes.{numberOfChange, emptying, storing, removing};
+ghost use Rattle.runs.specs.Runs.{starting, entering, storingLast, hangingLast, hanging};
 ghost use Rattle.encoding.specs.Encode.{numberOfEncoding, encodingOf};
 ghost use Rattle.taking.specs.Taking.{takingOver};
 ghost use Rattle.parser.specs.Framer.{numberOf as numberOfFramer, valueOf, pushed, pushedStore, finished, taken, takenStore, takenOutput};
@@ -123,6 +124,77 @@ pub extern "C" fn gateway_store(
     ensures { λ _. ⌜ now (values .exit) ≡ changedValues (storing (partNumbered part) tag (now (value .entry)) (now (words .entry)) (now (values .entry))) ⌝ }
 {
     change_number(message::store(words, values, part_numbered(part), tag, value))
+}
+
+// Makes what is lent a draft of a run, without any entry.
+#[no_mangle]
+pub extern "C" fn gateway_draft(words: &mut [u32], values: &mut [u8]) -> u32
+    ensures { λ r. ⌜ r ≡ changeNumber (starting (now (words .entry)) (now (values .entry))) ⌝ }
+    ensures { λ _. ⌜ now (words .exit) ≡ changedWords (starting (now (words .entry)) (now (values .entry))) ⌝ }
+    ensures { λ _. ⌜ now (values .exit) ≡ changedValues (starting (now (words .entry)) (now (values .entry))) ⌝ }
+{
+    change_number(runs::empty(words, values))
+}
+
+// Adds an entry to a draft.
+#[no_mangle]
+pub extern "C" fn gateway_add_entry(
+    words: &mut [u32],
+    values: &mut [u8],
+    start: u32,
+    delimiter: u32,
+) -> u32
+    ensures { λ r. ⌜ r ≡ changeNumber (entering start delimiter (now (words .entry)) (now (values .entry))) ⌝ }
+    ensures { λ _. ⌜ now (words .exit) ≡ changedWords (entering start delimiter (now (words .entry)) (now (values .entry))) ⌝ }
+    ensures { λ _. ⌜ now (values .exit) ≡ changedValues (entering start delimiter (now (words .entry)) (now (values .entry))) ⌝ }
+{
+    change_number(runs::add_entry(words, values, start, delimiter))
+}
+
+// Stores a field in a draft's last entry.
+#[no_mangle]
+pub extern "C" fn gateway_store_last(
+    words: &mut [u32],
+    values: &mut [u8],
+    tag: u32,
+    value: &[u8],
+) -> u32
+    ensures { λ r. ⌜ r ≡ changeNumber (storingLast tag (now (value .entry)) (now (words .entry)) (now (values .entry))) ⌝ }
+    ensures { λ _. ⌜ now (words .exit) ≡ changedWords (storingLast tag (now (value .entry)) (now (words .entry)) (now (values .entry))) ⌝ }
+    ensures { λ _. ⌜ now (values .exit) ≡ changedValues (storingLast tag (now (value .entry)) (now (words .entry)) (now (values .entry))) ⌝ }
+{
+    change_number(runs::store_last(words, values, tag, value))
+}
+
+// Hangs a run, lent as a draft, in another draft's last entry.
+#[no_mangle]
+pub extern "C" fn gateway_hang_last(
+    words: &mut [u32],
+    values: &mut [u8],
+    run_words: &[u32],
+    run_values: &[u8],
+) -> u32
+    ensures { λ r. ⌜ r ≡ changeNumber (hangingLast (now («run_words» .entry)) (now («run_values» .entry)) (now (words .entry)) (now (values .entry))) ⌝ }
+    ensures { λ _. ⌜ now (words .exit) ≡ changedWords (hangingLast (now («run_words» .entry)) (now («run_values» .entry)) (now (words .entry)) (now (values .entry))) ⌝ }
+    ensures { λ _. ⌜ now (values .exit) ≡ changedValues (hangingLast (now («run_words» .entry)) (now («run_values» .entry)) (now (words .entry)) (now (values .entry))) ⌝ }
+{
+    change_number(runs::hang_last(words, values, run_words, run_values))
+}
+
+// Hangs a run, lent as a draft, on a part of a message.
+#[no_mangle]
+pub extern "C" fn gateway_hang(
+    words: &mut [u32],
+    values: &mut [u8],
+    part: u8,
+    run_words: &[u32],
+    run_values: &[u8],
+) -> u32
+    ensures { λ r. ⌜ r ≡ changeNumber (hanging (partNumbered part) (now («run_words» .entry)) (now («run_values» .entry)) (now (words .entry)) (now (values .entry))) ⌝ }
+    ensures { λ _. ⌜ now (words .exit) ≡ changedWords (hanging (partNumbered part) (now («run_words» .entry)) (now («run_values» .entry)) (now (words .entry)) (now (values .entry))) ⌝ }
+    ensures { λ _. ⌜ now (values .exit) ≡ changedValues (hanging (partNumbered part) (now («run_words» .entry)) (now («run_values» .entry)) (now (words .entry)) (now (values .entry))) ⌝ }
+{
+    change_number(runs::hang(words, values, part_numbered(part), run_words, run_values))
 }
 
 // Removes a field from a part of a message.

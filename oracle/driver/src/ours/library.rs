@@ -35,6 +35,30 @@ unsafe extern "C" {
         value: *const u8,
         value_length: usize,
     ) -> u32;
+    fn gateway_draft(words: *mut u32, word_count: usize, values: *mut u8, value_count: usize) -> u32;
+    fn gateway_add_entry(words: *mut u32, word_count: usize, values: *mut u8, value_count: usize, start: u32, delimiter: u32) -> u32;
+    fn gateway_store_last(words: *mut u32, word_count: usize, values: *mut u8, value_count: usize, tag: u32, value: *const u8, value_length: usize) -> u32;
+    fn gateway_hang_last(
+        words: *mut u32,
+        word_count: usize,
+        values: *mut u8,
+        value_count: usize,
+        run_words: *const u32,
+        run_word_count: usize,
+        run_values: *const u8,
+        run_value_count: usize,
+    ) -> u32;
+    fn gateway_hang(
+        words: *mut u32,
+        word_count: usize,
+        values: *mut u8,
+        value_count: usize,
+        part: u8,
+        run_words: *const u32,
+        run_word_count: usize,
+        run_values: *const u8,
+        run_value_count: usize,
+    ) -> u32;
     fn gateway_remove(words: *mut u32, word_count: usize, values: *mut u8, value_count: usize, part: u8, tag: u32) -> u32;
     fn gateway_take_over(
         records: *const u32,
@@ -140,6 +164,38 @@ struct Lent {
     values: Vec<u8>,
 }
 
+/// A run made by calls: each entry is added, its fields are stored, and heads of one start tag that follow each other are a run of their own, hung in it.
+fn draft(rows: &[Row], level: u32) -> Result<Lent, u32> {
+    let mut lent = Lent { words: vec![0; WORDS], values: vec![0; VALUES] };
+    // SAFETY: see `build`; so in every call of this function.
+    let mut number = unsafe { gateway_draft(lent.words.as_mut_ptr(), WORDS, lent.values.as_mut_ptr(), VALUES) };
+    let mut at = 0;
+    while at < rows.len() && number == 0 {
+        let (words, values) = (lent.words.as_mut_ptr(), lent.values.as_mut_ptr());
+        match &rows[at] {
+            Row::Head(here, start, delimiter) if *here == level => {
+                number = unsafe { gateway_add_entry(words, WORDS, values, VALUES, *start, *delimiter) };
+                at += 1;
+            }
+            Row::Field(_, tag, value) => {
+                number = unsafe { gateway_store_last(words, WORDS, values, VALUES, *tag, value.as_ptr(), value.len()) };
+                at += 1;
+            }
+            Row::Head(_, first, _) => {
+                let behind = |row: &Row| match row {
+                    Row::Head(here, start, _) => *here > level + 1 || *here == level + 1 && start == first,
+                    Row::Field(here, ..) => *here > level + 1,
+                };
+                let end = at + rows[at..].iter().take_while(|row| behind(row)).count();
+                let run = draft(&rows[at..end], level + 1)?;
+                number = unsafe { gateway_hang_last(words, WORDS, values, VALUES, run.words.as_ptr(), WORDS, run.values.as_ptr(), VALUES) };
+                at = end;
+            }
+        }
+    }
+    if number == 0 { Ok(lent) } else { Err(number) }
+}
+
 impl Lent {
     fn new() -> Self {
         let mut lent = Self { words: vec![UNTOUCHED; WORDS], values: vec![UNTOUCHED as u8; VALUES] };
@@ -173,6 +229,16 @@ impl Lent {
                 VALUES,
             )
         }
+    }
+
+    /// Makes a run and hangs it; a refusal on the way is the call's.
+    fn hang(&mut self, part: u8, rows: &[Row]) -> u32 {
+        let run = match draft(rows, 0) {
+            Ok(run) => run,
+            Err(number) => return number,
+        };
+        // SAFETY: see `build`.
+        unsafe { gateway_hang(self.words.as_mut_ptr(), WORDS, self.values.as_mut_ptr(), VALUES, part, run.words.as_ptr(), WORDS, run.values.as_ptr(), VALUES) }
     }
 
     fn rows(&self) -> Vec<Row> {
@@ -216,7 +282,7 @@ impl Lent {
             Step::Store(part, tag, value) => self.store(*part, *tag, value),
             // SAFETY: see `build`.
             Step::Remove(part, tag) => unsafe { gateway_remove(self.words.as_mut_ptr(), WORDS, self.values.as_mut_ptr(), VALUES, *part, *tag) },
-            Step::Run(..) => return None,
+            Step::Run(part, rows) => self.hang(*part, rows),
             Step::Encode(separator) => return Some(self.encode(*separator)),
         };
         Some(number.to_string())

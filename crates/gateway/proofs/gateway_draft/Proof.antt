@@ -1,0 +1,28 @@
+-- `gateway_draft` meets its contract: it tells what the change leaves.
+use Rattle.gateway.specs.MessageLaws.{change-number, change-words, change-values}
+use borrow.Author.Needs.{needs}
+use Rattle.gateway.proofs.gateway_draft.Statement.{statement}
+use Rattle.gateway.proofs.gateway_draft.Tie as tie
+
+empty-requires : tie.Need-empty-requires
+empty-requires c κs = search needs
+
+change-number-requires : tie.Need-change-number-requires
+change-number-requires c κs = search needs
+
+same-length : tie.Need-same-length
+same-length c = search needs
+
+same-length-2 : tie.Need-same-length-2
+same-length-2 c = search needs
+
+returns : tie.Need-returns
+returns c =
+    let e = c .before .before .before .before .before .empty .ensures in (
+      change-number _ _ _ _ _ e (c .change-number .ensures),
+      (change-words _ _ _ _ e, change-values _ _ _ _ e),
+    )
+
+pub gateway-draft-spec : {M : Type 1} → statement M
+gateway-draft-spec =
+    tie.close (tie.spec empty-requires change-number-requires same-length same-length-2 returns)

@@ -1,0 +1,28 @@
+-- `gateway_store_last` meets its contract: it tells what the change leaves.
+use Rattle.gateway.specs.MessageLaws.{change-number, change-words, change-values}
+use borrow.Author.Needs.{needs}
+use Rattle.gateway.proofs.gateway_store_last.Statement.{statement}
+use Rattle.gateway.proofs.gateway_store_last.Tie as tie
+
+store-last-requires : tie.Need-store-last-requires
+store-last-requires c κs = search needs
+
+change-number-requires : tie.Need-change-number-requires
+change-number-requires c κs = search needs
+
+same-length : tie.Need-same-length
+same-length c = search needs
+
+same-length-2 : tie.Need-same-length-2
+same-length-2 c = search needs
+
+returns : tie.Need-returns
+returns c =
+    let e = c .before .before .before .before .before .store-last .ensures in (
+      change-number _ _ _ _ _ e (c .change-number .ensures),
+      (change-words _ _ _ _ e, change-values _ _ _ _ e),
+    )
+
+pub gateway-store-last-spec : {M : Type 1} → statement M
+gateway-store-last-spec =
+    tie.close (tie.spec store-last-requires change-number-requires same-length same-length-2 returns)
