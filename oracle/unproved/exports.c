@@ -9,6 +9,11 @@ uint32_t inner_check(const slice *, void *);
 uint32_t inner_build(const slice *, uint8_t, bool, const slice *, size_t, void *, void *);
 uint32_t inner_empty(const slice *, const slice *);
 uint32_t inner_store(const slice *, const slice *, uint8_t, uint32_t, const slice *);
+uint32_t inner_draft(const slice *, const slice *);
+uint32_t inner_add_entry(const slice *, const slice *, uint32_t, uint32_t);
+uint32_t inner_store_last(const slice *, const slice *, uint32_t, const slice *);
+uint32_t inner_hang_last(const slice *, const slice *, const slice *, const slice *);
+uint32_t inner_hang(const slice *, const slice *, uint8_t, const slice *, const slice *);
 uint32_t inner_remove(const slice *, const slice *, uint8_t, uint32_t);
 uint32_t inner_take_over(const slice *, size_t, const slice *, const slice *, const slice *);
 uint32_t inner_encode(const slice *, const slice *, const slice *, uint8_t, void *);
@@ -24,6 +29,13 @@ uint32_t gateway_build(S(message), uint8_t separator, bool validate, S(dictionar
 }
 uint32_t gateway_empty(S(words), S(values)) { return inner_empty(P(words), P(values)); }
 uint32_t gateway_store(S(words), S(values), uint8_t part, uint32_t tag, S(value)) { return inner_store(P(words), P(values), part, tag, P(value)); }
+uint32_t gateway_draft(S(words), S(values)) { return inner_draft(P(words), P(values)); }
+uint32_t gateway_add_entry(S(words), S(values), uint32_t start, uint32_t delimiter) { return inner_add_entry(P(words), P(values), start, delimiter); }
+uint32_t gateway_store_last(S(words), S(values), uint32_t tag, S(value)) { return inner_store_last(P(words), P(values), tag, P(value)); }
+uint32_t gateway_hang_last(S(words), S(values), S(run_words), S(run_values)) { return inner_hang_last(P(words), P(values), P(run_words), P(run_values)); }
+uint32_t gateway_hang(S(words), S(values), uint8_t part, S(run_words), S(run_values)) {
+    return inner_hang(P(words), P(values), part, P(run_words), P(run_values));
+}
 uint32_t gateway_remove(S(words), S(values), uint8_t part, uint32_t tag) { return inner_remove(P(words), P(values), part, tag); }
 uint32_t gateway_take_over(S(records), size_t count, S(message), S(words), S(values)) {
     return inner_take_over(P(records), count, P(message), P(words), P(values));
