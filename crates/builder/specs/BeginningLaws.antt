@@ -23,7 +23,7 @@ use Rattle.parts.specs.PartLaws.{read-inside}
 use Rattle.parts.specs.Header.{headerFrom}
 use Rattle.builder.specs.declared.Headed.{Headed}
 use Rattle.builder.specs.declared.Begun.the-variants.{Header, Refused as RefusedStart}
-use Rattle.builder.specs.Beginning.{verifiedRecords, roomBehind, headerOf, withChecksum, startedBy, startOf}
+use Rattle.reading.specs.Beginning.{verifiedRecords, roomBehind, headerOf, withChecksum, startedBy, startOf}
 use Rattle.builder.specs.Reading.{VerifiedInside, startTold, HeaderEnds, Begins}
 use Rattle.builder.specs.Finishing.{part-empty}
 

@@ -2,11 +2,10 @@
 -- number of lent records: the answer, the records that are shown, and what is written over the lent ones.
 use Prim.Native.Nat.{ℕ, _-_}
 use mathlib.Core.List.{List, [], _++_}
-use mathlib.Core.Bool.{Bool, true, false}
 use lib.ListN.{length, replicate}
 use lib.Dec.{eqb, ltb}
 use Rattle.tagvalue.specs.Choice.{pick}
-use Rattle.tagvalue.specs.Number.{isDigit}
+use Rattle.tagvalue.specs.Separator.{isRefusedSeparator}
 use Rattle.integrity.specs.declared.Config.{Config}
 use Rattle.flat.specs.Check.{checkOf, numberOf as numberOfCheck}
 use Rattle.flat_steps.specs.declared.Checked.{Checked}
@@ -15,14 +14,10 @@ use Rattle.records.specs.Records.{laid}
 use Rattle.records.specs.declared.Record.{Record}
 use Rattle.parts.specs.declared.Answer.{Answer}
 use Rattle.parts.specs.declared.Answer.the-variants.{TooLong as MessageTooLong, InvalidSeparator, TooFewRecords, BadDictionary}
-use Rattle.builder.specs.declared.Stop.{Stop}
-use Rattle.builder.specs.declared.Stop.the-variants.{Nowhere}
+use Rattle.reading.specs.declared.Stop.{Stop}
+use Rattle.reading.specs.declared.Stop.the-variants.{Nowhere}
 use Rattle.builder.specs.declared.Built.{Built}
-use Rattle.builder.specs.Message.{Outcome, refusal, messageRead}
-
--- 22: "separator `=` or a digit"
-unfoldable pub isInvalid : ℕ → Bool
-isInvalid separator = pick (eqb separator 61) true (isDigit separator)
+use Rattle.reading.specs.Message.{Outcome, refusal, messageRead}
 
 -- the answer, what stopped the trailer, how many records are shown, over how many of the lent ones is written, and the core's words
 pub record BuildOutcome : Type 0 where
@@ -52,7 +47,7 @@ checkedRead message config dictionary checked =
 -- "Build checks 22, 23, 20, 30 to 37 of its dictionary (no records), then reads"
 unfoldable pub buildOf : List ℕ → Config → List ℕ → ℕ → List ℕ → BuildOutcome
 buildOf message config dictionary lent words =
-    pick (isInvalid (config .separator)) (untouched InvalidSeparator words)
+    pick (isRefusedSeparator (config .separator)) (untouched InvalidSeparator words)
     (pick (ltb lent 1024) (untouched TooFewRecords words)
     (pick (ltb 8192 (length message)) (untouched MessageTooLong words)
     (shown lent (checkedRead message config dictionary (checkOf dictionary)))))

@@ -1,15 +1,11 @@
--- One law for each way of the small functions around a build: the separator, the records that are shown, blanking, the standard tags.
+-- One law for each way of the small functions around a build: the records that are shown, blanking, the standard tags.
 use mathlib.Core.Path.{_≡_, refl, sym, ap, _∙_}
-use mathlib.Core.Bool.{Bool, true, false}
 use mathlib.Core.List.{List, [], _∷_, _++_, append-assoc, append-nil}
 use Prim.Native.Nat.{ℕ, zero, suc, _+_, _-_, _*_, _/_, _≤_, _<_}
 use native.Mathlib.Omega.{arith}
 use lib.ListN.{length, take, drop, set, getD, replicate, length-append, length-replicate, length-take, length-drop, take-append-drop, drop-of-length-le, replicate-append-replicate}
 use lib.Seq.{set-at, drop-cons, length-take-le, take-at}
-use lib.Dec.{eqb, leb, ltb}
-use borrow.Author.Tests.{leb-true, leb-false, eq-eqb, ne-eqb, le-leb, lt-leb, le-ltb, lt-ltb}
-use Rattle.tagvalue.specs.Choice.{pick}
-use Rattle.tagvalue.specs.Number.{isDigit}
+use borrow.Author.Tests.{eq-eqb, ne-eqb, le-leb, lt-leb}
 use Rattle.integrity.specs.declared.Config.{Config}
 use Rattle.flat.specs.Check.{checkOf, numberOf as numberOfCheck, storeOf, preparedOf}
 use Rattle.flat_steps.specs.declared.Checked.{Checked}
@@ -27,26 +23,9 @@ use Rattle.parts.specs.declared.Answer.the-variants.{BadDictionary}
 use Rattle.parts.specs.Answer.{numberOf}
 use Rattle.parts.specs.Parts.{partOf}
 use Rattle.parts.specs.PartLaws.{parted, part-length}
-use Rattle.builder.specs.Message.{Outcome, refusal, shownWith, messageRead}
+use Rattle.reading.specs.Message.{Outcome, refusal, shownWith, messageRead}
 use Rattle.builder.specs.Reading.{Prepared, standardTags, shownCount}
-use Rattle.builder.specs.Build.{isInvalid, wordsWith, checkedRead}
-
-module _ (s : ℕ) where
-  pub invalid-equals : s ≡ 61 → isInvalid s ≡ true
-  unfolding isInvalid
-  invalid-equals e = rw (eq-eqb s 61 e)
-
-  pub invalid-below : (s ≡ 61 → ⊥) → s < 48 → isInvalid s ≡ false
-  unfolding isInvalid isDigit
-  invalid-below n h = rw (ne-eqb s 61 n, lt-leb 48 s h)
-
-  pub invalid-digit : (s ≡ 61 → ⊥) → 48 ≤ s → isInvalid s ≡ ltb s 58
-  unfolding isInvalid isDigit
-  invalid-digit n h = rw (ne-eqb s 61 n, le-leb 48 s h) (below (leb s 57) refl)
-    where
-      below : (b : Bool) → leb s 57 ≡ b → b ≡ ltb s 58
-      below true e = sym (lt-ltb s 58 (omega (arith, leb-true s 57 e)))
-      below false e = sym (le-ltb s 58 (omega (arith, leb-false s 57 e)))
+use Rattle.builder.specs.Build.{wordsWith, checkedRead}
 
 module _ (answer : Answer) (header n : ℕ) (e : n ≡ numberOf answer) where
   pub shows-none : n < 1 → shownCount answer header ≡ 0

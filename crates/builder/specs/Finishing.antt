@@ -16,14 +16,15 @@ use Rattle.parts.specs.declared.PartRead.{PartRead}
 use Rattle.parts.specs.declared.PartRead.the-variants.{At, Refused}
 use Rattle.parts.specs.declared.TrailerRead.{TrailerRead}
 use Rattle.parts.specs.declared.TrailerRead.the-variants.{Stopped, Unstopped, TooManyFields as Crowded}
-use Rattle.builder.specs.declared.Stop.the-variants.{At as stops, Nowhere}
+use Rattle.reading.specs.declared.Stop.the-variants.{At as stops, Nowhere}
 use Rattle.builder.specs.declared.Finished.{Finished}
 use Rattle.builder.specs.declared.Finished.the-variants.{Whole, Refused as RefusedWhole}
 use Rattle.parts.specs.Parts.{Reading, recordOf, partOf, partTold, Kept}
 use Rattle.body.specs.RunLaws.{between-split}
 use Rattle.body.specs.GroupReading.{front-is, front-parts}
 use Rattle.parts.specs.Trailer.{Trailer, trailerFrom, trailerTold, trailerCounts}
-use Rattle.builder.specs.Message.{afterTrailer, afterBody, finishTold}
+use Rattle.reading.specs.Message.{afterTrailer, afterBody}
+use Rattle.builder.specs.Reading.{finishTold}
 
 -- a part that ends where it starts is empty
 pub part-empty : (n : ℕ) (words : List ℕ) → partOf n n words ≡ []

@@ -30,8 +30,9 @@ use Rattle.body.specs.Kinds.{bodyOf}
 use Rattle.body.specs.Body.{bodyFrom}
 use Rattle.body.specs.Meaning.{body-means}
 use Rattle.builder.specs.declared.Finished.the-variants.{Refused}
-use Rattle.builder.specs.Beginning.{msgTypeRecord, valueAt}
-use Rattle.builder.specs.Message.{afterBody, afterType, finishTold}
+use Rattle.reading.specs.Beginning.{msgTypeRecord, valueAt}
+use Rattle.reading.specs.Message.{afterBody, afterType}
+use Rattle.builder.specs.Reading.{finishTold}
 use Rattle.builder.specs.Reading.{Prepared}
 
 module _ (i count : ℕ) (rs : List Record) where

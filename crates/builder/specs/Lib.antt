@@ -1,5 +1,3 @@
-pub mod Beginning
-pub mod Message
 pub mod Build
 pub mod Reading
 pub mod BuildLaws

@@ -24,7 +24,7 @@ use Rattle.records.specs.declared.Record.{Record}
 use Rattle.groups.specs.GroupLaws.{Each, each-end, each-field}
 use Rattle.parts.specs.Parts.{ended, recordOf}
 use Rattle.parts.specs.Header.{headerFrom}
-use Rattle.builder.specs.Beginning.{verifiedRecords, roomBehind, headerOf, msgTypeRecord}
+use Rattle.reading.specs.Beginning.{verifiedRecords, roomBehind, headerOf, msgTypeRecord}
 use Rattle.integrity.specs.VerifiedLaws.{VerifiedRead, verified-read}
 
 -- a field's value lies in the message, and so does a record's

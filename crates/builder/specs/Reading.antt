@@ -14,14 +14,17 @@ use Rattle.flat_steps.specs.declared.Checked.the-variants.{Passes}
 use Rattle.layout.specs.Tree.{Dictionary, headerTags, trailerTags}
 use Rattle.groups.specs.ReadingLaws.{Inside}
 use Rattle.parts.specs.declared.Answer.{Answer}
+use Rattle.parts.specs.declared.Answer.the-variants.{Valid}
 use Rattle.parts.specs.Answer.{numberOf}
 use Rattle.parts.specs.Parts.{partOf}
 use Rattle.builder.specs.declared.Headed.{Headed}
 use Rattle.builder.specs.declared.Begun.{Begun}
 use Rattle.builder.specs.declared.Begun.the-variants.{Header, Refused}
+use Rattle.builder.specs.declared.Finished.{Finished}
+use Rattle.builder.specs.declared.Finished.the-variants.{Whole, Refused as RefusedWhole}
 use Rattle.builder.specs.declared.Read.{Read}
-use Rattle.builder.specs.Beginning.{Start, started, unsound, msgTypeRecord}
-use Rattle.builder.specs.Message.{Outcome}
+use Rattle.reading.specs.Beginning.{Start, started, unsound, msgTypeRecord}
+use Rattle.reading.specs.Message.{Outcome, refusal}
 
 -- a record can hold the places of the fields that were verified
 pub record VerifiedInside (v : Verified) : Type 0 where
@@ -34,6 +37,15 @@ unfoldable pub startTold : ℕ → List ℕ → Begun → List ℕ → Start
 startTold separator message (Header h) words =
     started (h .stop) (fieldsFrom separator message (h .stop .next)) (h .progress .room) (partOf 0 (h .progress .records) words) (h .checksum)
 startTold separator message (Refused answer) words = unsound answer
+
+-- what the code answers behind a header of so many records, with the words that it leaves
+unfoldable pub finishTold : ℕ → Finished → List ℕ → Outcome
+finishTold header (Whole stop count) words = record { answer = Valid; records = partOf 0 count words; stop = stop }
+finishTold header (RefusedWhole answer) words = refusal answer (partOf 0 header words)
+
+unfoldable pub finishCounts : Finished → ℕ
+finishCounts (Whole stop count) = count
+finishCounts (RefusedWhole answer) = 0
 
 -- where the header ended: the fields lie in the message, MsgType's value too, and there are words for all that may still be read
 pub record HeaderEnds (message words : List ℕ) (h : Headed) : Type 0 where

@@ -9,6 +9,7 @@ use lib.ListN.{length, take, replicate}
 use lib.Dec.{eqb, leb, ltb}
 use borrow.Author.Tests.{le-ltb, lt-ltb}
 use Rattle.tagvalue.specs.Choice.{pick}
+use Rattle.tagvalue.specs.Separator.{isRefusedSeparator}
 use Rattle.tagvalue.specs.Fields.{fieldsFrom}
 use Rattle.integrity.specs.declared.Config.{Config}
 use Rattle.flat.specs.Check.{Outcome as Checking, outcome, checkOf, preparedOf, storeOf, numberOf as numberOfCheck}
@@ -23,16 +24,17 @@ use Rattle.parts.specs.Parts.{partOf}
 use Rattle.builder.specs.declared.Headed.{Headed}
 use Rattle.builder.specs.declared.Begun.{Begun}
 use Rattle.builder.specs.declared.Begun.the-variants.{Header, Refused}
-use Rattle.builder.specs.declared.Stop.{Stop}
-use Rattle.builder.specs.declared.Stop.the-variants.{Nowhere}
+use Rattle.reading.specs.declared.Stop.{Stop}
+use Rattle.reading.specs.declared.Stop.the-variants.{Nowhere}
 use Rattle.builder.specs.declared.Finished.{Finished}
 use Rattle.builder.specs.declared.Finished.the-variants.{Whole, Refused as Stopped}
 use Rattle.builder.specs.declared.Read.{Read}
 use Rattle.builder.specs.declared.Built.{Built}
-use Rattle.builder.specs.Beginning.{Start, startOf, msgTypeRecord, valueAt}
-use Rattle.builder.specs.Message.{Outcome, shownWith, refusal, finishTold, finishCounts, afterType, afterHeader, messageRead}
+use Rattle.reading.specs.Beginning.{Start, startOf, msgTypeRecord, valueAt}
+use Rattle.reading.specs.Message.{Outcome, shownWith, refusal, afterType, afterHeader, messageRead}
+use Rattle.builder.specs.Reading.{finishTold, finishCounts}
 use Rattle.builder.specs.Reading.{startTold, Prepared, shownCount, readTold}
-use Rattle.builder.specs.Build.{isInvalid, BuildOutcome, wordsWith, untouched, shown, checkedRead, buildOf, builtTold}
+use Rattle.builder.specs.Build.{BuildOutcome, wordsWith, untouched, shown, checkedRead, buildOf, builtTold}
 use Rattle.builder.specs.BuildLaws.{blanked, part-count, check-refuses, check-reads, zero-passes}
 use Rattle.builder.specs.Finishing.{part-empty}
 
@@ -116,11 +118,11 @@ unfolding storeOf
 prepared-by d checked is z before index size left = record { passes = sym is ∙ zero-passes checked z; before = before; size = size; made = ap storeOf left }
 
 module _ (message : List ℕ) (config : Config) (d : List ℕ) (lent : ℕ) (words : List ℕ) where
-  pub build-separator : isInvalid (config .separator) ≡ true → buildOf message config d lent words ≡ untouched InvalidSeparator words
+  pub build-separator : isRefusedSeparator (config .separator) ≡ true → buildOf message config d lent words ≡ untouched InvalidSeparator words
   unfolding buildOf
   build-separator e = rw e
 
-  module _ (good : isInvalid (config .separator) ≡ false) where
+  module _ (good : isRefusedSeparator (config .separator) ≡ false) where
     pub build-few : lent < 1024 → buildOf message config d lent words ≡ untouched TooFewRecords words
     unfolding buildOf
     build-few h = rw (good, lt-ltb lent 1024 h)

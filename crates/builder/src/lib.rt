@@ -11,6 +11,7 @@ use parts::Answer;
 use parts::PartRead;
 use parts::Progress;
 use parts::TrailerRead;
+use reading::Stop;
 use records::Record;
 use tagvalue::Field;
 ghost use mathlib.Core.Path.{_≡_};
@@ -27,10 +28,11 @@ ghost use Rattle.layout.specs.Tree.{layoutOf, trailerTags};
 ghost use Rattle.parts.specs.Parts.{partOf};
 ghost use Rattle.body.specs.Kinds.{bodyOf};
 ghost use Rattle.body.specs.Body.{bodyFrom};
-ghost use Rattle.builder.specs.Beginning.{verifiedRecords, startOf, msgTypeRecord, valueAt};
-ghost use Rattle.builder.specs.Message.{afterBody, afterType, finishTold, finishCounts, messageRead};
+ghost use Rattle.reading.specs.Beginning.{verifiedRecords, startOf, msgTypeRecord, valueAt};
+ghost use Rattle.reading.specs.Message.{afterBody, afterType, messageRead};
+ghost use Rattle.builder.specs.Reading.{finishTold, finishCounts};
 ghost use Rattle.builder.specs.Reading.{VerifiedInside, startTold, HeaderEnds, Begins, Prepared, standardTags, readTold, shownCount};
-ghost use Rattle.builder.specs.Build.{isInvalid, checkedRead, buildOf, builtTold};
+ghost use Rattle.builder.specs.Build.{checkedRead, buildOf, builtTold};
 ghost use Rattle.flat.specs.Check.{checkOf};
 ghost use mathlib.Core.Bool.{true, false};
 
@@ -38,12 +40,6 @@ const MSG_TYPE: u32 = 35;
 
 // How many fields may be read behind the three that are verified: a 1,025th is too many.
 const ROOM: usize = 1021;
-
-// The CheckSum that stopped the trailer, where one did.
-pub enum Stop {
-    At(Field),
-    Nowhere,
-}
 
 // A header that was read: the field that ended it, how far reading has come, and the verified CheckSum.
 pub struct Headed {
@@ -335,19 +331,6 @@ fn blank(words: &mut [u32], records: usize)
     }
 }
 
-// 22: the separator is `=` or a digit.
-fn is_invalid(separator: u8) -> bool
-    ensures { λ r. ⌜ r ≡ isInvalid separator ⌝ }
-{
-    if separator == 61 {
-        return true;
-    }
-    if separator < 48 {
-        return false;
-    }
-    separator < 58
-}
-
 // Nothing was written over the lent records.
 fn untouched(answer: Answer) -> Built
     ensures { λ r. ⌜ r ≡ record { answer = answer; stop = Stop.Nowhere; records = 0; written = 0 } ⌝ }
@@ -372,7 +355,7 @@ pub fn build(
 {
     // Only where the array is made a slice does the proof learn its length.
     let records = &mut words[..];
-    if is_invalid(config.separator) {
+    if tagvalue::is_refused_separator(config.separator) {
         return untouched(Answer::InvalidSeparator);
     }
     if lent < 1024 {

@@ -16,7 +16,7 @@ use Rattle.message.specs.Changes.{placeOf}
 use Rattle.message.specs.declared.Span.{Span}
 use Rattle.encoder.specs.declared.Encoded.{Encoded}
 use Rattle.encoder.specs.declared.Encoded.the-variants.{Written, NoMessage, NoRoom}
-use Rattle.encoder.specs.Encoding.{isRest, sumDigits, summed, messageText}
+use Rattle.written_form.specs.Encoding.{isRest, sumDigits, summed, messageText}
 
 -- which tags of a map are written: all (0), all but 8, 9 and 35 (1), or one
 unfoldable pub chosen : ℕ → ℕ → Bool

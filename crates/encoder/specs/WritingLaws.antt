@@ -20,7 +20,7 @@ use Rattle.lent.specs.Lent.{heldBefore}
 use Rattle.message.specs.Changes.{placeOf}
 use Rattle.message.specs.LayoutLaws.{sizes-append}
 use Rattle.message.specs.PlaceLaws.{rows-split, place-grows}
-use Rattle.encoder.specs.Encoding.{text, textUnder, bytesOf}
+use Rattle.written_form.specs.Encoding.{text, textUnder, bytesOf}
 use Rattle.encoder.specs.Writing.{chosen, rowOn, rowText, rowsText, rowBytes, bytesIn, isUncounted, uncounted}
 
 module _ (words : List ℕ) (i to : ℕ) (more : i < to) where

@@ -3,14 +3,14 @@ use Prim.Native.Nat.{ℕ}
 use mathlib.Core.Bool.{Bool, true, false}
 use mathlib.Core.List.{List, _++_}
 use lib.ListN.{length, drop}
-use lib.Dec.{eqb, ltb}
+use lib.Dec.{ltb}
 use Rattle.tagvalue.specs.Choice.{pick}
-use Rattle.tagvalue.specs.Number.{isDigit}
+use Rattle.tagvalue.specs.Separator.{isRefusedSeparator}
 use Rattle.maps.specs.Map.{Map, end, field, entry, holds}
 use Rattle.lent.specs.Lent.{isMessage}
 use Rattle.lent.specs.Meaning.{Message, wordsOf, valuesOf, messageIn}
 use Rattle.message.specs.Changes.{fieldTotal}
-use Rattle.encoder.specs.Encoding.{dropped, bodyLength, encoding, encodedMessage}
+use Rattle.written_form.specs.Encoding.{dropped, bodyLength, encoding, encodedMessage}
 use Rattle.encoding.specs.declared.Encoding.{Encoding}
 use Rattle.encoding.specs.declared.Encoding.the-variants.{Written, NoMessage, InvalidSeparator, Incomplete, TooLong, TooManyFields, NoRoom}
 use Rattle.encoding.specs.declared.Verdict.{Verdict}
@@ -25,10 +25,6 @@ numberOfEncoding Incomplete = 43
 numberOfEncoding TooLong = 20
 numberOfEncoding TooManyFields = 21
 numberOfEncoding NoRoom = 23
-
--- "separator `=` or a digit"
-unfoldable pub isRefusedSeparator : ℕ → Bool
-isRefusedSeparator separator = pick (eqb separator 61) true (isDigit separator)
 
 -- "a run without its count field": what is left of a map has an entry whose start tag the map lacks, or an entry has one in its own map
 unfoldable pub lacksCount : Map → Map → Bool

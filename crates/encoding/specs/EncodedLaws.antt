@@ -7,14 +7,15 @@ use native.Mathlib.Omega.{arith}
 use lib.ListN.{length}
 use lib.Dec.{ltb}
 use Rattle.tagvalue.specs.Choice.{pick}
+use Rattle.tagvalue.specs.Separator.{isRefusedSeparator}
 use Rattle.lent.specs.Lent.{isMessage}
 use Rattle.lent.specs.Meaning.{Message, wordsOf, valuesOf, messageIn}
 use Rattle.lent.specs.Formed.{Formed}
 use Rattle.lent.specs.FormedLaws.{lent-formed, Lends, layout-lends}
 use Rattle.lent.specs.StoredLaws.{formed-stored, formed-without}
 use Rattle.message.specs.Changes.{fieldTotal, valueTotal}
-use Rattle.encoder.specs.Encoding.{dropped, bodyLength, measured, encoding, encodedMessage}
-use Rattle.encoding.specs.Encode.{isRefusedSeparator, isIncomplete, judging, verdictOf, left, encoded, encodingOf}
+use Rattle.written_form.specs.Encoding.{dropped, bodyLength, measured, encoding, encodedMessage}
+use Rattle.encoding.specs.Encode.{isIncomplete, judging, verdictOf, left, encoded, encodingOf}
 use Rattle.encoding.specs.Leaving.{Encodable}
 use Rattle.encoding.specs.SizeLaws.{encoded-values}
 use Rattle.encoding.specs.VerdictLaws.{fit-to-encode, encodes, refuses}
@@ -43,7 +44,7 @@ fit-lends separator words values output body fit =
     })
 
 -- no refusal says 0
-never-written : (separator : ℕ) (words values : List ℕ) (room n : ℕ) → verdictOf separator words values room ≡ Refused (Written n) → ⊥
+pub never-written : (separator : ℕ) (words values : List ℕ) (room n : ℕ) → verdictOf separator words values room ≡ Refused (Written n) → ⊥
 unfolding verdictOf judging
 never-written separator words values room n verdict =
     let m = messageIn words values in

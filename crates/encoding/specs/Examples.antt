@@ -2,19 +2,20 @@
 -- A wrong definition is refused here, whatever code is proved against it.
 use mathlib.Core.Path.{_≡_, refl}
 use mathlib.Core.List.{List, [], _∷_}
-use Prim.Native.Nat.{ℕ, zero, suc, _+_}
+use Prim.Native.Nat.{ℕ, zero, suc}
 use lib.ListN.{replicate}
 use Rattle.tagvalue.specs.Text.{bytes}
 use Rattle.tagvalue.specs.Number.{isDigit}
 use Rattle.tagvalue.specs.Decimal.{decimal, decimalWithin}
 use Rattle.tagvalue.specs.CheckSum.{sumOf, checksumDigits}
+use Rattle.tagvalue.specs.Separator.{isRefusedSeparator}
 use Rattle.maps.specs.Map.{Map, end, field, entry, joined, holds, holdsAny, replaced, withoutField, runOn, withoutRun, stored, fieldCount, valuesIn}
 use Rattle.maps.specs.Rows.{laid, flat, padded, rowAt, rowsFrom, levelOf, sizeOf, matches, sizes}
 use Rattle.lent.specs.Lent.{heldBefore, delimiterIs, continues, followsOn, deepest, fieldAllowed, headAllowed, rowAllowed, rowsAllowed, isPart, nextPart, partsFrom, isOwn, ownBelow, weight, fieldsIn, rowCount, rowsOf, isLaid, isMessage}
 use Rattle.lent.specs.Meaning.{Message, parts, wordsOf, valuesOf, opened, withField, withEntry, withRow, openIn, outermost, thirdOf, secondOf, partsIn, messageIn}
 use Rattle.message.specs.Changes.{fieldTotal}
-use Rattle.encoder.specs.Encoding.{text, textUnder, isFirst, isRest, headerText, messageText, bytesOf, dropped, bodyLength, measured, sumDigits, summed, encoding, encodedMessage}
-use Rattle.encoding.specs.Encode.{numberOfEncoding, isRefusedSeparator, lacksCount, hasUncounted, isIncomplete, judging, verdictOf, Left, left, encoded, afterVerdict, encodingOf}
+use Rattle.written_form.specs.Encoding.{text, textUnder, isFirst, isRest, headerText, messageText, bytesOf, dropped, bodyLength, measured, sumDigits, summed, encoding, encodedMessage}
+use Rattle.encoding.specs.Encode.{numberOfEncoding, lacksCount, hasUncounted, isIncomplete, judging, verdictOf, Left, left, encoded, afterVerdict, encodingOf}
 use Rattle.encoding.specs.declared.Encoding.the-variants.{Written, NoMessage, InvalidSeparator, Incomplete, TooLong, TooManyFields, NoRoom}
 use Rattle.encoding.specs.declared.Verdict.{Verdict}
 use Rattle.encoding.specs.declared.Verdict.the-variants.{Measured, Refused}
@@ -64,21 +65,24 @@ verdicts : rooms ∷ headless ∷ runs ∷ []
 unfolding rooms headless runs with-body with-trailer with-header run judging isRefusedSeparator isDigit isIncomplete hasUncounted lacksCount encoding summed sumDigits messageText headerText textUnder text isFirst isRest measured dropped bodyLength bytesOf withoutField stored holds holdsAny replaced joined withoutRun runOn decimal decimalWithin sumOf checksumDigits encodedMessage fieldTotal fieldCount
 verdicts = refl
 
--- so many fields of one byte, on tags from 100 on
-many : ℕ → ℕ → Map
-many tag zero = end
-many tag (suc n) = field tag (bytes "x") (many (tag + 1) n)
+-- a count and so many entries without any field, each of which counts as one
+entries : ℕ → Map
+entries zero = end
+entries (suc n) = entry 78 79 end (entries n)
+
+many : ℕ → Map
+many n = field 78 (bytes "1") (entries n)
 
 -- the new 9 and 10 count: 1,020 fields beside 8 and 35 are fine, 1,021 are not; a held 10 counts once; 21 comes before 23
-fields-counted : judging 1 (with-body (many 100 1020)) 0 ∷ judging 1 (with-body (many 100 1021)) 0 ∷ judging 1 (with-trailer (field 10 (bytes "000") (many 100 1020))) 0 ∷ []
+fields-counted : judging 1 (with-body (many 1019)) 0 ∷ judging 1 (with-body (many 1020)) 0 ∷ judging 1 (with-trailer (field 10 (bytes "000") (many 1019))) 0 ∷ []
     ≡ Refused NoRoom ∷ Refused TooManyFields ∷ Refused NoRoom ∷ []
-unfolding with-body with-trailer many judging isRefusedSeparator isDigit isIncomplete hasUncounted lacksCount encoding summed sumDigits messageText headerText textUnder text isFirst isRest measured dropped bodyLength bytesOf withoutField stored holds holdsAny replaced joined withoutRun runOn decimal decimalWithin sumOf checksumDigits encodedMessage fieldTotal fieldCount
+unfolding with-body with-trailer many entries judging isRefusedSeparator isDigit isIncomplete hasUncounted lacksCount encoding summed sumDigits messageText headerText textUnder text isFirst isRest measured dropped bodyLength bytesOf withoutField stored holds holdsAny replaced joined withoutRun runOn decimal decimalWithin sumOf checksumDigits encodedMessage fieldTotal fieldCount
 fields-counted = refl
 
 -- 8,192 bytes are encoded, 8,193 are not; 20 comes before 21 and 23
-bytes-counted : judging 1 (with-body (field 58 (replicate 8159 65) end)) 8192 ∷ judging 1 (with-body (field 58 (replicate 8160 65) end)) 0 ∷ judging 1 (with-body (field 58 (replicate 8160 65) (many 100 1021))) 0 ∷ []
+bytes-counted : judging 1 (with-body (field 58 (replicate 8159 65) end)) 8192 ∷ judging 1 (with-body (field 58 (replicate 8160 65) end)) 0 ∷ judging 1 (with-body (field 58 (replicate 8160 65) (many 1020))) 0 ∷ []
     ≡ Measured 8168 ∷ Refused TooLong ∷ Refused TooLong ∷ []
-unfolding with-body many judging isRefusedSeparator isDigit isIncomplete hasUncounted lacksCount encoding summed sumDigits messageText headerText textUnder text isFirst isRest measured dropped bodyLength bytesOf withoutField stored holds holdsAny replaced joined withoutRun runOn decimal decimalWithin sumOf checksumDigits encodedMessage fieldTotal fieldCount
+unfolding with-body many entries judging isRefusedSeparator isDigit isIncomplete hasUncounted lacksCount encoding summed sumDigits messageText headerText textUnder text isFirst isRest measured dropped bodyLength bytesOf withoutField stored holds holdsAny replaced joined withoutRun runOn decimal decimalWithin sumOf checksumDigits encodedMessage fieldTotal fieldCount
 bytes-counted = refl
 
 -- P1 once it is encoded

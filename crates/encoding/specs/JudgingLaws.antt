@@ -5,30 +5,15 @@ use mathlib.Core.List.{List, [], _∷_}
 use Prim.Native.Nat.{ℕ, suc, _+_, _-_, _≤_, _<_}
 use native.Mathlib.Omega.{arith}
 use lib.ListN.{length}
-use lib.Dec.{leb, ltb, eqb}
-use borrow.Author.Tests.{eq-eqb, ne-eqb, lt-leb, le-leb, lt-ltb, le-ltb}
+use lib.Dec.{ltb, eqb}
+use borrow.Author.Tests.{lt-ltb, le-ltb}
 use Rattle.tagvalue.specs.Choice.{pick}
-use Rattle.tagvalue.specs.Number.{isDigit}
 use Rattle.maps.specs.Rows.{Row, row, rowAt, rowsFrom, findFrom}
 use Rattle.lent.specs.Lent.{ownBelow, weight, fieldsIn}
 use Rattle.message.specs.Changes.{fieldPlace}
 use Rattle.message.specs.declared.Span.{Span}
 use Rattle.encoder.specs.Writing.{rowBytes}
-use Rattle.encoding.specs.Encode.{isRefusedSeparator}
 use Rattle.encoding.specs.Judging.{heldAt, sizeAt}
-
-module _ (separator : ℕ) where
-  pub separator-equals : separator ≡ 61 → isRefusedSeparator separator ≡ true
-  unfolding isRefusedSeparator
-  separator-equals e = rw (eq-eqb separator 61 e)
-
-  pub separator-low : (separator ≡ 61 → ⊥) → separator < 48 → isRefusedSeparator separator ≡ false
-  unfolding isRefusedSeparator isDigit
-  separator-low e h = rw (ne-eqb separator 61 e, lt-leb 48 separator h)
-
-  pub separator-digit : (separator ≡ 61 → ⊥) → 48 ≤ separator → isRefusedSeparator separator ≡ leb separator 57
-  unfolding isRefusedSeparator isDigit
-  separator-digit e h = rw (ne-eqb separator 61 e, le-leb 48 separator h)
 
 -- the size of a part's own field
 module _ (words : List ℕ) (span : Span) (tag at : ℕ) (found : at ≡ findFrom 1 1 tag (span .from) (rowsFrom (span .to - span .from) (span .from) words)) where

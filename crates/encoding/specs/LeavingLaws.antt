@@ -20,7 +20,7 @@ use Rattle.message.specs.declared.Part.{Part}
 use Rattle.message.specs.declared.Part.the-variants.{Header, Trailer}
 use Rattle.message.specs.declared.Change.{Change}
 use Rattle.message.specs.declared.Change.the-variants.{Made}
-use Rattle.encoder.specs.Encoding.{messageText, dropped, measured, sumDigits, summed, encoding, encodedMessage}
+use Rattle.written_form.specs.Encoding.{messageText, dropped, measured, sumDigits, summed, encoding, encodedMessage}
 use Rattle.encoder.specs.Writing.{outcome, writing}
 use Rattle.encoder.specs.MessageLaws.{summed-length}
 use Rattle.encoder.specs.declared.Encoded.{Encoded}

@@ -17,7 +17,7 @@ use Rattle.message.specs.Changes.{fieldTotal, valueTotal}
 use Rattle.message.specs.LayoutLaws.{count-joined}
 use Rattle.message.specs.PlaceLaws.{part-values}
 use Rattle.message.specs.SplitLaws.{field-split, field-gone, run-split}
-use Rattle.encoder.specs.Encoding.{messageText, bytesOf, dropped, bodyLength, measured, sumDigits, encoding, encodedMessage}
+use Rattle.written_form.specs.Encoding.{messageText, bytesOf, dropped, bodyLength, measured, sumDigits, encoding, encodedMessage}
 use Rattle.encoder.specs.MessageLaws.{message-length, summed-length}
 
 -- how many bytes a map's own field of a tag takes, 0 where the map lacks it

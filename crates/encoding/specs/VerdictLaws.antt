@@ -9,6 +9,7 @@ use lib.Dec.{ltb}
 use borrow.Author.Tests.{lt-ltb, le-ltb, ltb-false}
 use Rattle.tagvalue.specs.Choice.{pick}
 use Rattle.tagvalue.specs.Decimal.{decimal}
+use Rattle.tagvalue.specs.Separator.{isRefusedSeparator}
 use Rattle.maps.specs.Rows.{rowsFrom}
 use Rattle.lent.specs.Lent.{rowsOf, isMessage}
 use Rattle.lent.specs.Meaning.{messageIn}
@@ -17,10 +18,10 @@ use Rattle.message.specs.Changes.{partOf, spanOf, fieldTotal}
 use Rattle.message.specs.StoreLaws.{lent-in, count-is, fields-now}
 use Rattle.message.specs.declared.Part.the-variants.{Header, Trailer}
 use Rattle.message.specs.declared.Span.{Span}
-use Rattle.encoder.specs.Encoding.{bytesOf, dropped, bodyLength, encoding, encodedMessage}
+use Rattle.written_form.specs.Encoding.{bytesOf, dropped, bodyLength, encoding, encodedMessage}
 use Rattle.encoder.specs.Writing.{uncounted}
 use Rattle.encoder.specs.MessageLaws.{message-length, size-is}
-use Rattle.encoding.specs.Encode.{isRefusedSeparator, hasUncounted, isIncomplete, judging, verdictOf, left, encoded, afterVerdict, encodingOf}
+use Rattle.encoding.specs.Encode.{hasUncounted, isIncomplete, judging, verdictOf, left, encoded, afterVerdict, encodingOf}
 use Rattle.encoding.specs.Judging.{Within, sizeAt, incompleteAt, allBytes, bodyAt, addedAt, fieldsAt}
 use Rattle.encoding.specs.Leaving.{Encodable}
 use Rattle.encoding.specs.SizeLaws.{sizeUnder, body-bytes, encoding-length, encoded-fields}

@@ -12,7 +12,7 @@ ghost use Rattle.tagvalue.specs.Decimal.{decimal};
 ghost use Rattle.lent.specs.Meaning.{messageIn};
 ghost use Rattle.message.specs.declared.Part.the-variants.{Header};
 ghost use Rattle.message.specs.Changes.{after, storing};
-ghost use Rattle.encoding.specs.Encode.{isRefusedSeparator, verdictOf, left, encoded, encodingOf};
+ghost use Rattle.encoding.specs.Encode.{verdictOf, left, encoded, encodingOf};
 ghost use Rattle.encoding.specs.Judging.{Within, heldAt, hungAt, sizeAt, incompleteAt, allBytes, bodyAt, addedAt, fieldsAt};
 ghost use Rattle.encoding.specs.Leaving.{Encodable};
 
@@ -31,18 +31,6 @@ pub enum Encoding {
 pub enum Verdict {
     Measured(u32),
     Refused(Encoding),
-}
-
-fn is_refused_separator(separator: u8) -> bool
-    ensures { λ r. ⌜ r ≡ isRefusedSeparator separator ⌝ }
-{
-    if separator == 61 {
-        return true;
-    }
-    if separator < 48 {
-        return false;
-    }
-    separator <= 57
 }
 
 fn holds(words: &[u32], span: Span, tag: u32) -> bool
@@ -140,7 +128,7 @@ fn judge(words: &[u32], values: &[u8], separator: u8, room: usize) -> Verdict
     let Located::At(tail) = message::locate(words, values, Part::Trailer) else {
         return Verdict::Refused(Encoding::NoMessage);
     };
-    if is_refused_separator(separator) {
+    if tagvalue::is_refused_separator(separator) {
         return Verdict::Refused(Encoding::InvalidSeparator);
     }
     if is_incomplete(words, head, tail) {

@@ -1,4 +1,4 @@
-pub mod Told
-pub mod ToldLaws
 pub mod MessageLaws
-pub mod FramerLaws
+pub mod FoundLaws
+pub mod Sets
+pub mod TakingLaws

@@ -10,7 +10,7 @@ use lib.Seq.{length-take-le, drop-cons, take-suc, getD-append-add, getD-drop, se
 use Rattle.tagvalue.specs.FindLaws.{rest-part}
 use Rattle.hunter.specs.Hunt.{actOn, huntFrom}
 use Rattle.hunter.specs.TakeLaws.{first-none, first-hand, first-pass, first-stop}
-use Rattle.hunter.specs.declared.Verdict.{Verdict}
+use Rattle.verdict.specs.declared.Verdict.{Verdict}
 use Rattle.hunter.specs.declared.Act.the-variants.{Hand, Pass, Stop}
 use Rattle.hunter.specs.declared.Hunted.{Hunted}
 

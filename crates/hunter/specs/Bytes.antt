@@ -7,8 +7,8 @@ use Prim.Native.Nat.{ℕ}
 use lib.Dec.{eqb, ltb}
 use lib.ListN.{length, take, drop}
 use Rattle.tagvalue.specs.Choice.{pick}
-use Rattle.hunter.specs.Frame.{frameMost}
-use Rattle.hunter.specs.Verdict.{verdictOf}
+use Rattle.verdict.specs.Frame.{frameMost}
+use Rattle.verdict.specs.Verdict.{verdictOf}
 use Rattle.hunter.specs.Hunt.{Framer, framer, freshFramer, storeSize, Took, takeOne, Given, accepted, refused, giveChunk, giveEnd}
 use Rattle.hunter.specs.declared.State.{State}
 use Rattle.hunter.specs.declared.Answer.{Answer}

@@ -9,9 +9,9 @@ use lib.ListN.{length, take, drop, length-append, length-drop, take-append-drop}
 use lib.Seq.{length-take-le, take-append-le, drop-append-le, take-at}
 use borrow.Author.Tests.{eqb-true, ltb-false, eq-eqb, le-ltb, lt-ltb}
 use Rattle.tagvalue.specs.Choice.{pick}
-use Rattle.hunter.specs.Frame.{frameMost}
-use Rattle.hunter.specs.Verdict.{verdictOf}
-use Rattle.hunter.specs.VerdictLaws.{verdict-laws}
+use Rattle.verdict.specs.Frame.{frameMost}
+use Rattle.verdict.specs.Verdict.{verdictOf}
+use Rattle.verdict.specs.VerdictLaws.{verdict-laws}
 use Rattle.hunter.specs.Hunt.{Framer, framer, storeSize, countWrap, tookBy, huntFrom, takeOne, Given, accepted, refused, giveChunk, giveEnd}
 use Rattle.hunter.specs.TakeLaws.{step, places, took-small}
 use Rattle.hunter.specs.RunLaws.{chunk-fits, end-open}

@@ -4,7 +4,7 @@ use mathlib.Core.Bool.{Bool, true, false}
 use mathlib.Core.List.{List, [], _∷_, _++_}
 use Prim.Native.Nat.{ℕ, _≤_, _<_}
 use lib.ListN.{length, take}
-use Rattle.hunter.specs.Frame.{frameMost}
+use Rattle.verdict.specs.Frame.{frameMost}
 use Rattle.hunter.specs.Hunt.{storeSize}
 use Rattle.hunter.specs.Bytes.{Pushes, Finishes, Takes, freshState}
 use Rattle.hunter.specs.declared.State.{State}

@@ -6,9 +6,9 @@ use Prim.Native.Nat.{ℕ, zero, suc, _≤_, _<_}
 use native.Mathlib.Nat.{le-refl}
 use native.Mathlib.Omega.{arith}
 use lib.ListN.{length, take, replicate, length-replicate}
-use Rattle.hunter.specs.Frame.{frameMost}
-use Rattle.hunter.specs.Verdict.{verdictOf}
-use Rattle.hunter.specs.VerdictLaws.{verdict-laws}
+use Rattle.verdict.specs.Frame.{frameMost}
+use Rattle.verdict.specs.Verdict.{verdictOf}
+use Rattle.verdict.specs.VerdictLaws.{verdict-laws}
 use Rattle.hunter.specs.Hunt.{storeSize, takeOne}
 use Rattle.hunter.specs.TakeLaws.{step}
 use Rattle.hunter.specs.Bytes.{framerOf, pushed, finished, Handout, tookFrom, freshState, Pushes, Finishes, Takes}

@@ -6,9 +6,9 @@ use Prim.Native.Nat.{ℕ, _+_, _%_, _≤_}
 use native.Mathlib.Omega.{arith}
 use lib.ListN.{length, take, drop, length-append, length-drop}
 use lib.Seq.{take-append-seam}
-use Rattle.hunter.specs.Frame.{frameMost}
-use Rattle.hunter.specs.Verdict.{verdictOf}
-use Rattle.hunter.specs.VerdictLaws.{verdict-laws}
+use Rattle.verdict.specs.Frame.{frameMost}
+use Rattle.verdict.specs.Verdict.{verdictOf}
+use Rattle.verdict.specs.VerdictLaws.{verdict-laws}
 use Rattle.hunter.specs.Hunt.{Framer, framer, freshFramer, storeSize, countWrap, Took, takeOne, accepted, giveChunk, Drained, dry, more, Run, reset, chunk, Ended, ends, Hunt, joined}
 use Rattle.hunter.specs.TakeLaws.{step}
 use Rattle.hunter.specs.RunLaws.{run-is, held-small, chunk-accepted, end-open, ended-is, Same, unique, conserved}

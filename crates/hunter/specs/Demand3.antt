@@ -6,9 +6,9 @@ use Prim.Native.Nat.{ℕ, _+_, _≤_, _<_}
 use native.Mathlib.Omega.{arith}
 use lib.ListN.{length, drop}
 use lib.Seq.{drop-append-le}
-use Rattle.hunter.specs.Frame.{IsFrame, Starts}
-use Rattle.hunter.specs.Verdict.{verdictOf}
-use Rattle.hunter.specs.VerdictLaws.{verdict-laws, frame-is, frame-iff}
+use Rattle.verdict.specs.Frame.{IsFrame, Starts}
+use Rattle.verdict.specs.Verdict.{verdictOf}
+use Rattle.verdict.specs.VerdictLaws.{verdict-laws, frame-is, frame-iff}
 use Rattle.hunter.specs.Hunt.{IsWhole, NoStraddle, Within, w-none, w-skip, w-cut, Each, each-none, each-more, joined}
 use Rattle.hunter.specs.Recovery.{Whole, Handed, recovered}
 use Rattle.hunter.specs.Calls.{Calls}

@@ -7,9 +7,9 @@ use Prim.Native.Nat.{ℕ, suc, _+_, _%_, _≤_, _<_}
 use lib.Dec.{ltb}
 use lib.ListN.{length, take, drop}
 use Rattle.tagvalue.specs.Choice.{pick}
-use Rattle.hunter.specs.Frame.{frameMost}
-use Rattle.hunter.specs.declared.Verdict.{Verdict}
-use Rattle.hunter.specs.declared.Verdict.the-variants.{Frame, Never, Wait}
+use Rattle.verdict.specs.Frame.{frameMost}
+use Rattle.verdict.specs.declared.Verdict.{Verdict}
+use Rattle.verdict.specs.declared.Verdict.the-variants.{Frame, Never, Wait}
 use Rattle.hunter.specs.declared.Act.{Act}
 use Rattle.hunter.specs.declared.Act.the-variants.{Hand, Pass, Stop}
 use Rattle.hunter.specs.declared.Hunted.{Hunted}

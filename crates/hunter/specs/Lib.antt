@@ -1,12 +1,3 @@
-pub mod Frame
-pub mod Readers
-pub mod Verdict
-pub mod Exact
-pub mod Literals
-pub mod Texts
-pub mod Lengths
-pub mod FrameExact
-pub mod VerdictLaws
 pub mod Hunt
 pub mod TakeLaws
 pub mod RunLaws

@@ -10,13 +10,13 @@ use native.Mathlib.Decide.{decLe}
 use native.Mathlib.Omega.{arith}
 use lib.ListN.{length, take, drop, length-append, length-drop, take-append-drop}
 use lib.Seq.{drop-drop, take-append-seam, drop-append-seam, take-append-le, drop-append-le, length-take-le}
-use Rattle.hunter.specs.Frame.{frameMost}
+use Rattle.verdict.specs.Frame.{frameMost}
 use Rattle.hunter.specs.Hunt.{actOn, Hunt, h-empty, h-stop, h-hand, h-pass, IsWhole, NoStraddle, Within, w-none, w-skip, w-cut, Each, each-none, each-more, joined}
-use Rattle.hunter.specs.VerdictLaws.{Laws}
+use Rattle.verdict.specs.VerdictLaws.{Laws}
 use Rattle.hunter.specs.TakeLaws.{act-hand, act-pass, frame-act}
 use Rattle.hunter.specs.RunLaws.{two-acts, held-small, none-left}
-use Rattle.hunter.specs.declared.Verdict.{Verdict}
-use Rattle.hunter.specs.declared.Verdict.the-variants.{Frame, Never}
+use Rattle.verdict.specs.declared.Verdict.{Verdict}
+use Rattle.verdict.specs.declared.Verdict.the-variants.{Frame, Never}
 use Rattle.hunter.specs.declared.Act.the-variants.{Pass, Stop}
 
 split {ℓ} : {X : Type ℓ} (a b : ℕ) → (a ≤ b → X) → (b < a → X) → X

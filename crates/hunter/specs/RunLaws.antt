@@ -11,12 +11,12 @@ use lib.ListN.{length, take, drop, length-append, length-drop}
 use lib.Seq.{take-append-le, drop-append-le, length-take-le}
 use borrow.Author.Tests.{le-ltb}
 use Rattle.tagvalue.specs.Choice.{pick}
-use Rattle.hunter.specs.Frame.{frameMost}
+use Rattle.verdict.specs.Frame.{frameMost}
 use Rattle.hunter.specs.Hunt.{actOn, Framer, framer, countWrap, storeSize, Took, takeOne, accepted, refused, giveChunk, giveEnd, Drained, dry, more, Run, reset, chunk, Ended, ends, Hunt, h-empty, h-stop, h-hand, h-pass, joined}
-use Rattle.hunter.specs.VerdictLaws.{Laws}
+use Rattle.verdict.specs.VerdictLaws.{Laws}
 use Rattle.hunter.specs.TakeLaws.{act-hand, act-pass, act-stop, frame-act, never-act, Step, step}
-use Rattle.hunter.specs.declared.Verdict.{Verdict}
-use Rattle.hunter.specs.declared.Verdict.the-variants.{Frame}
+use Rattle.verdict.specs.declared.Verdict.{Verdict}
+use Rattle.verdict.specs.declared.Verdict.the-variants.{Frame}
 use Rattle.hunter.specs.declared.Act.{Act}
 use Rattle.hunter.specs.declared.Act.the-variants.{Hand, Pass, Stop}
 use Rattle.hunter.specs.declared.Answer.the-variants.{StoreFull, AfterEnd}

@@ -8,11 +8,11 @@ use native.Mathlib.Nat.{zero-add, suc-add}
 use native.Mathlib.Omega.{arith}
 use lib.ListN.{length, take, drop, length-drop}
 use lib.Seq.{length-take-le}
-use Rattle.hunter.specs.Frame.{frameMost}
+use Rattle.verdict.specs.Frame.{frameMost}
 use Rattle.hunter.specs.Hunt.{actOn, followed, Framer, countWrap, Took, tookBy, huntFrom, takeOne, Hunt, h-empty, h-stop, h-hand, h-pass}
-use Rattle.hunter.specs.VerdictLaws.{Laws}
-use Rattle.hunter.specs.declared.Verdict.{Verdict}
-use Rattle.hunter.specs.declared.Verdict.the-variants.{Frame, Never, Wait}
+use Rattle.verdict.specs.VerdictLaws.{Laws}
+use Rattle.verdict.specs.declared.Verdict.{Verdict}
+use Rattle.verdict.specs.declared.Verdict.the-variants.{Frame, Never, Wait}
 use Rattle.hunter.specs.declared.Act.{Act}
 use Rattle.hunter.specs.declared.Act.the-variants.{Hand, Pass, Stop}
 use Rattle.hunter.specs.declared.Hunted.{Hunted}

@@ -6,17 +6,17 @@ use mathlib.Core.List.{List, []}
 use Prim.Native.Nat.{ℕ, _+_, _%_, _≤_, _<_}
 use native.Mathlib.Omega.{arith}
 use lib.ListN.{length, take, drop}
-use Rattle.hunter.specs.Frame.{frameMost, Starts, StartsFrame, CanStart}
-use Rattle.hunter.specs.Verdict.{verdictOf}
-use Rattle.hunter.specs.VerdictLaws.{verdict-laws, frame-iff, never-iff, wait-iff}
+use Rattle.verdict.specs.Frame.{frameMost, Starts, StartsFrame, CanStart}
+use Rattle.verdict.specs.Verdict.{verdictOf}
+use Rattle.verdict.specs.VerdictLaws.{verdict-laws, frame-iff, never-iff, wait-iff}
 use Rattle.hunter.specs.Hunt.{actOn, countWrap, huntFrom}
 use Rattle.hunter.specs.TakeLaws.{act-hand, act-stop, Places, places}
 use Rattle.hunter.specs.Bytes.{Takes, tookFrom}
 use Rattle.hunter.specs.BytesLaws.{Fit, fit-is, take-fine, Moved}
 use Rattle.hunter.specs.declared.State.{State}
 use Rattle.hunter.specs.declared.Taken.{Taken}
-use Rattle.hunter.specs.declared.Verdict.{Verdict}
-use Rattle.hunter.specs.declared.Verdict.the-variants.{Frame, Never, Wait}
+use Rattle.verdict.specs.declared.Verdict.{Verdict}
+use Rattle.verdict.specs.declared.Verdict.the-variants.{Frame, Never, Wait}
 use Rattle.hunter.specs.declared.Act.the-variants.{Pass}
 use Rattle.hunter.specs.declared.Hunted.{Hunted}
 

@@ -92,7 +92,7 @@ without-takes tag m held =
     omega (arith, ap fieldCount (s .gone), count-joined (s .front) (s .back), ap fieldCount (s .whole), count-joined (s .front) (field tag (s .value) (s .back)))
 
 -- a message is judged as the map of its parts
-judged-parts : (words values : List ℕ) (whole : Bool) (m : Message) → judgedMap words values whole (fieldTotal m) (parts m) ≡ judged words values whole m
+pub judged-parts : (words values : List ℕ) (whole : Bool) (m : Message) → judgedMap words values whole (fieldTotal m) (parts m) ≡ judged words values whole m
 unfolding judged judgedMap mapWords mapValues valueTotal wordsOf valuesOf
 judged-parts words values whole m = refl
 

@@ -1,29 +1,27 @@
 -- Hanging on a part of a message, and in the last entry of a draft: one law for each way.
 use mathlib.Core.Path.{_≡_, refl, sym, ap, _∙_}
 use mathlib.Core.Bool.{Bool, true, false}
-use mathlib.Core.List.{List, [], _∷_, _++_}
-use Prim.Native.Nat.{ℕ, zero, suc, _+_, _-_, _≤_, _<_}
+use mathlib.Core.List.{List}
+use Prim.Native.Nat.{ℕ, _+_, _-_, _≤_}
 use native.Mathlib.Omega.{arith}
-use lib.ListN.{length, take, length-take}
-use lib.Dec.{leb}
+use lib.ListN.{length}
 use borrow.Author.Tests.{le-leb}
-use Rattle.tagvalue.specs.Choice.{pick}
-use Rattle.maps.specs.Map.{Map, end, field, entry, joined, holdsAny, fieldCount, valuesIn}
+use Rattle.maps.specs.Map.{Map, end, field, entry, holdsAny, fieldCount}
 use Rattle.maps.specs.Rows.{laid, rowsFrom, sizes}
 use Rattle.lent.specs.Lent.{rowCount, rowsOf, isMessage}
-use Rattle.lent.specs.Meaning.{Message, parts, wordsOf, valuesOf, messageIn}
-use Rattle.message.specs.Changes.{After, after, partOf, withPart, fieldTotal, valueTotal, mapWords, mapValues, judgedMap, judged, spanOf, ofMessage}
-use Rattle.message.specs.ChangeLaws.{no-message, of-message}
+use Rattle.lent.specs.Meaning.{Message, parts, messageIn}
+use Rattle.message.specs.Changes.{after, partOf, withPart, fieldTotal, valueTotal, judged, spanOf}
+use Rattle.message.specs.ChangeLaws.{of-message}
 use Rattle.message.specs.LayoutLaws.{sizes-laid}
-use Rattle.message.specs.StoreLaws.{In, lent-in, part-frame, fields-of, few-fields}
+use Rattle.message.specs.StoreLaws.{lent-in, part-frame, fields-of, few-fields, judged-parts}
 use Rattle.message.specs.PartLaws.{part-split}
 use Rattle.message.specs.declared.Part.{Part}
-use Rattle.message.specs.declared.Change.the-variants.{Made, NoMessage, NotStorable, NoRun}
+use Rattle.message.specs.declared.Change.the-variants.{NoMessage, NotStorable, NoRun}
 use Rattle.hanging.specs.Hanging.{untaggedIn, hangAt, Hangable}
 use Rattle.hanging.specs.RowLaws.{hang-none}
 use Rattle.runs.specs.Runs.{isDraft, runIn, isEmpty, isWhole, hungRun, hasUntagged, hanging}
 use Rattle.runs.specs.RunLaws.{untagged-laid}
-use Rattle.runs.specs.DraftLaws.{Draft, draft-of, draft-no, draft-yes}
+use Rattle.runs.specs.DraftLaws.{draft-of, draft-no, draft-yes}
 use Rattle.runs.specs.EnterLaws.{count-rows}
 use Rattle.runs.specs.HangLaws.{hang-able, hang-judged}
 
@@ -39,10 +37,6 @@ unfolding isEmpty laid isWhole hungRun
 empty-run end h = (refl, refl, λ m. refl)
 empty-run (field t v rest) h = let z : _≡_ {A = ℕ} 0 1 = cc in absurd (omega arith)
 empty-run (entry s d own rest) h = let z : _≡_ {A = ℕ} 0 1 = cc in absurd (omega arith)
-
-judged-parts : (words values : List ℕ) (whole : Bool) (m : Message) → judgedMap words values whole (fieldTotal m) (parts m) ≡ judged words values whole m
-unfolding judged judgedMap mapWords mapValues valueTotal wordsOf valuesOf
-judged-parts words values whole m = refl
 
 judged-none : (words values : List ℕ) (m : Message) → valueTotal m ≤ 8192 → judged words values false m ≡ after NoRun words values
 unfolding judged

@@ -54,7 +54,7 @@ behind-fewer (r ∷ rs) = by-test (eqb (r .depth) 0) (behind-fewer rs)
     by-test false h = (omega (arith, h .0), omega (arith, h .1))
 
 -- a count with its run
-all-run : {P : Record → Type 0} (r : Record) (es rs : List Record) → P r → All P es → All P rs → All P (storedRun r es rs)
+pub all-run : {P : Record → Type 0} (r : Record) (es rs : List Record) → P r → All P es → All P rs → All P (storedRun r es rs)
 unfolding storedRun
 all-run r es [] p b a = all-more p b
 all-run {P} r es (x ∷ rs) p b a = by-tests (eqb (x .depth) (r .depth)) (eqb (x .tag) (r .tag)) (all-run r es rs p b (all-rest a))

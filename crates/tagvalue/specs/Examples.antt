@@ -1,6 +1,7 @@
 -- Worked examples of this crate's definitions, one table to a definition, each under one statement that antt computes.
 -- A wrong definition is refused here, whatever code is proved against it.
 use mathlib.Core.Path.{_≡_, refl}
+use mathlib.Core.Bool.{true, false}
 use mathlib.Core.List.{List, [], _∷_, map}
 use Prim.Native.Nat.{ℕ, _%_}
 use Prim.Native.String.{String}
@@ -8,6 +9,7 @@ use lib.ListN.{length}
 use Rattle.tagvalue.specs.Text.{bytes}
 use Rattle.tagvalue.specs.Find.{findIn}
 use Rattle.tagvalue.specs.Number.{isDigit, allDigits, worth, numberOf, nonZero, tagOf}
+use Rattle.tagvalue.specs.Separator.{isRefusedSeparator}
 use Rattle.tagvalue.specs.CheckSum.{sumOf, checksumOf, checksumDigits}
 use Rattle.tagvalue.specs.Decimal.{decimal, decimalWithin, writtenAt, answerAt}
 use Rattle.tagvalue.specs.Field.{fieldFrom, fieldAt, withEquals, withSeparator, withTag}
@@ -43,6 +45,11 @@ numbers = refl
 tags : Holds tagOf (("1", Worth 1) ∷ ("0035", Worth 35) ∷ ("4294967295", Worth 4294967295) ∷ ("4294967296", NoNumber) ∷ ("0", NoNumber) ∷ ("000", NoNumber) ∷ ("", NoNumber) ∷ ("1a", NoNumber) ∷ [])
 unfolding tagOf nonZero numberOf isDigit allDigits worth
 tags = refl
+
+-- 22: `=` and the digits, but neither neighbour of the digits
+separators : map isRefusedSeparator (61 ∷ 48 ∷ 57 ∷ 47 ∷ 58 ∷ 1 ∷ []) ≡ true ∷ true ∷ true ∷ false ∷ false ∷ false ∷ []
+unfolding isRefusedSeparator isDigit
+separators = refl
 
 checksums : Holds checksumOf (("163", Worth 163) ∷ ("007", Worth 7) ∷ ("999", Worth 999) ∷ ("abc", NoNumber) ∷ ("16", NoNumber) ∷ ("0163", NoNumber) ∷ ("", NoNumber) ∷ [])
 unfolding checksumOf numberOf isDigit allDigits worth

@@ -3,6 +3,7 @@ pub mod Text
 pub mod Find
 pub mod FindLaws
 pub mod Number
+pub mod Separator
 pub mod CheckSum
 pub mod NumberLaws
 pub mod Decimal

@@ -6,6 +6,7 @@ ghost use Prim.Native.Nat.{_+_, _-_, _<_, _%_, _^_};
 ghost use lib.ListN.{length, take};
 ghost use Rattle.tagvalue.specs.Find.{findIn};
 ghost use Rattle.tagvalue.specs.Number.{numberOf, tagOf};
+ghost use Rattle.tagvalue.specs.Separator.{isRefusedSeparator};
 ghost use Rattle.tagvalue.specs.CheckSum.{sumOf, checksumOf, checksumDigits};
 ghost use Rattle.tagvalue.specs.Decimal.{decimal, writtenAt, answerAt};
 ghost use Rattle.tagvalue.specs.Field.{fieldFrom, fieldAt, valueOf};
@@ -78,6 +79,19 @@ pub fn tag_of(text: &[u8]) -> Number
         return Number::NoNumber;
     }
     Number::Worth(tag)
+}
+
+// 22: the separator is `=` or a digit.
+pub fn is_refused_separator(separator: u8) -> bool
+    ensures { λ r. ⌜ r ≡ isRefusedSeparator separator ⌝ }
+{
+    if separator == 61 {
+        return true;
+    }
+    if separator < 48 {
+        return false;
+    }
+    separator <= 57
 }
 
 // A CheckSum value that is to be compared: exactly three digits.

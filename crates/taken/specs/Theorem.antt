@@ -9,8 +9,9 @@ use native.Mathlib.Nat.{sub-zero}
 use lib.ListN.{length, replicate, length-append}
 use lib.Seq.{take-at}
 use lib.Dec.{eqb, ltb}
-use borrow.Author.Tests.{ltb-false}
+use borrow.Author.Tests.{ltb-false, le-ltb}
 use Rattle.tagvalue.specs.Choice.{pick}
+use Rattle.tagvalue.specs.Separator.{isRefusedSeparator}
 use Rattle.tagvalue.specs.Fields.{Fields, field, fieldsFrom}
 use Rattle.tagvalue.specs.declared.Field.{Field}
 use Rattle.integrity.specs.Integrity.{integrityOf}
@@ -19,7 +20,6 @@ use Rattle.integrity.specs.declared.Integrity.{Integrity}
 use Rattle.integrity.specs.declared.Integrity.the-variants.{Sound, Garbled}
 use Rattle.integrity.specs.declared.Verified.{Verified}
 use Rattle.flat.specs.Check.{checkOf, numberOf}
-use Rattle.flat_steps.specs.declared.Checked.{Checked}
 use Rattle.flattening.specs.Meaning.{dictionaryOf}
 use Rattle.layout.specs.Tree.{Dictionary, knows, headerTags, trailerTags, Choice, noMessage, laidOut, layoutOf}
 use Rattle.records.specs.Records.{laid, recordsOf, between}
@@ -35,9 +35,9 @@ use Rattle.parts.specs.Parts.{Reading, ended, refused, recordOf}
 use Rattle.parts.specs.Trailer.{Trailer, stopped, unstopped, crowded, trailerFrom}
 use Rattle.body.specs.Body.{bodyFrom}
 use Rattle.body.specs.Kinds.{bodyOf}
-use Rattle.builder.specs.Beginning.{headerOf, verifiedRecords, withChecksum, startedBy, startOf, msgTypeRecord, valueAt}
-use Rattle.builder.specs.Message.{Outcome, refusal, afterTrailer, afterBody, afterType, afterHeader, messageRead}
-use Rattle.builder.specs.Build.{isInvalid, BuildOutcome, wordsWith, untouched, shown, checkedRead, buildOf}
+use Rattle.reading.specs.Beginning.{headerOf, verifiedRecords, withChecksum, startedBy, startOf, msgTypeRecord, valueAt}
+use Rattle.reading.specs.Message.{Outcome, refusal, afterTrailer, afterBody, afterType, afterHeader, messageRead}
+use Rattle.builder.specs.Build.{BuildOutcome, wordsWith, untouched, shown, checkedRead, buildOf}
 use Rattle.taking.specs.Taking.{after, takingOver}
 use Rattle.taking.specs.declared.Taken.the-variants.{Made}
 use Rattle.taking.specs.Derived.{derived, given}
@@ -118,35 +118,47 @@ build-taken dictionary validate separator message words values short whole store
       same = sym (given-derived message (t .meant) rs (t .stand));
     }
 
--- the same of what the build answers, with the words and the number of records that it leaves
-record Shown (message : List ℕ) (config : Config) (dictionary : List ℕ) (built : BuildOutcome) : Type 0 where
-  short : length message ≤ 8192
-  valid : messageRead (dictionaryOf dictionary) (config .validate) (config .separator) message .answer ≡ Valid
-  count : built .records ≡ length (messageRead (dictionaryOf dictionary) (config .validate) (config .separator) message .records)
-  words : built .words ≡ wordsWith (messageRead (dictionaryOf dictionary) (config .validate) (config .separator) message .records)
+-- the same of what the build answers: none of "22, 23, 20, 30 to 37", and the words and the number of records that it leaves
+pub record Shown (message : List ℕ) (config : Config) (dictionary : List ℕ) (lent : ℕ) (built : BuildOutcome) : Type 0 where
+  pub separates : isRefusedSeparator (config .separator) ≡ false
+  pub enough : ltb lent 1024 ≡ false
+  pub short : length message ≤ 8192
+  pub checked : eqb (numberOf (checkOf dictionary)) 0 ≡ true
+  pub valid : messageRead (dictionaryOf dictionary) (config .validate) (config .separator) message .answer ≡ Valid
+  pub count : built .records ≡ length (messageRead (dictionaryOf dictionary) (config .validate) (config .separator) message .records)
+  pub words : built .words ≡ wordsWith (messageRead (dictionaryOf dictionary) (config .validate) (config .separator) message .records)
 
-shown-valid : (message : List ℕ) (config : Config) (dictionary : List ℕ) (lent : ℕ) → length message ≤ 8192 → (c : Checked) → shown lent (checkedRead message config dictionary c) .answer ≡ Valid → Shown message config dictionary (shown lent (checkedRead message config dictionary c))
-unfolding shown checkedRead
-shown-valid message config dictionary lent short c a = by-check (eqb (numberOf c) 0) a
-  where
-    out : Bool → Outcome
-    out b = pick b (messageRead (dictionaryOf dictionary) (config .validate) (config .separator) message) (refusal (BadDictionary c) [])
+module _ (message : List ℕ) (config : Config) (dictionary : List ℕ) (lent : ℕ) (before : List ℕ) where
+  shown-valid : isRefusedSeparator (config .separator) ≡ false → ltb lent 1024 ≡ false → length message ≤ 8192 → shown lent (checkedRead message config dictionary (checkOf dictionary)) .answer ≡ Valid
+      → Shown message config dictionary lent (shown lent (checkedRead message config dictionary (checkOf dictionary)))
+  unfolding shown checkedRead
+  shown-valid separates enough short a = by-check (eqb (numberOf (checkOf dictionary)) 0) refl a
+    where
+      out : Bool → Outcome
+      out b = pick b (messageRead (dictionaryOf dictionary) (config .validate) (config .separator) message) (refusal (BadDictionary (checkOf dictionary)) [])
 
-    by-check : (b : Bool) → out b .answer ≡ Valid → Shown message config dictionary (shown lent (out b))
-    by-check true a = record { short = short; valid = a; count = refl; words = refl }
-    by-check false a = let z : _≡_ {A = ℕ} 0 1 = unfold refusal in cc in absurd (omega arith)
+      by-check : (b : Bool) → eqb (numberOf (checkOf dictionary)) 0 ≡ b → out b .answer ≡ Valid → Shown message config dictionary lent (shown lent (out b))
+      by-check true c a = record { separates = separates; enough = enough; short = short; checked = c; valid = a; count = refl; words = refl }
+      by-check false c a = let z : _≡_ {A = ℕ} 0 1 = unfold refusal in cc in absurd (omega arith)
 
-build-shown : (message : List ℕ) (config : Config) (dictionary : List ℕ) (lent : ℕ) (before : List ℕ) → buildOf message config dictionary lent before .answer ≡ Valid → Shown message config dictionary (buildOf message config dictionary lent before)
-unfolding buildOf
-build-shown message config dictionary lent before a = by-tests (isInvalid (config .separator)) (ltb lent 1024) (ltb 8192 (length message)) refl a
-  where
-    by-tests : (x y z : Bool) → ltb 8192 (length message) ≡ z
-        → pick x (untouched InvalidSeparator before) (pick y (untouched TooFewRecords before) (pick z (untouched MessageTooLong before) (shown lent (checkedRead message config dictionary (checkOf dictionary))))) .answer ≡ Valid
-        → Shown message config dictionary (pick x (untouched InvalidSeparator before) (pick y (untouched TooFewRecords before) (pick z (untouched MessageTooLong before) (shown lent (checkedRead message config dictionary (checkOf dictionary))))))
-    by-tests true y z s a = let e : _≡_ {A = ℕ} 0 1 = unfold untouched in cc in absurd (omega arith)
-    by-tests false true z s a = let e : _≡_ {A = ℕ} 0 1 = unfold untouched in cc in absurd (omega arith)
-    by-tests false false true s a = let e : _≡_ {A = ℕ} 0 1 = unfold untouched in cc in absurd (omega arith)
-    by-tests false false false s a = shown-valid message config dictionary lent (ltb-false 8192 (length message) s) (checkOf dictionary) a
+  -- a build that answers 0, taken apart
+  pub build-shown : buildOf message config dictionary lent before .answer ≡ Valid → Shown message config dictionary lent (buildOf message config dictionary lent before)
+  unfolding buildOf
+  build-shown a = by-tests (isRefusedSeparator (config .separator)) (ltb lent 1024) (ltb 8192 (length message)) refl refl refl a
+    where
+      by-tests : (x y z : Bool) → isRefusedSeparator (config .separator) ≡ x → ltb lent 1024 ≡ y → ltb 8192 (length message) ≡ z
+          → pick x (untouched InvalidSeparator before) (pick y (untouched TooFewRecords before) (pick z (untouched MessageTooLong before) (shown lent (checkedRead message config dictionary (checkOf dictionary))))) .answer ≡ Valid
+          → Shown message config dictionary lent (pick x (untouched InvalidSeparator before) (pick y (untouched TooFewRecords before) (pick z (untouched MessageTooLong before) (shown lent (checkedRead message config dictionary (checkOf dictionary))))))
+      by-tests true y z q r s a = let e : _≡_ {A = ℕ} 0 1 = unfold untouched in cc in absurd (omega arith)
+      by-tests false true z q r s a = let e : _≡_ {A = ℕ} 0 1 = unfold untouched in cc in absurd (omega arith)
+      by-tests false false true q r s a = let e : _≡_ {A = ℕ} 0 1 = unfold untouched in cc in absurd (omega arith)
+      by-tests false false false q r s a = shown-valid q r (ltb-false 8192 (length message) s) a
+
+  -- and put together again: past its checks the build shows what is read
+  pub shown-build : isRefusedSeparator (config .separator) ≡ false → ltb lent 1024 ≡ false → length message ≤ 8192 → eqb (numberOf (checkOf dictionary)) 0 ≡ true
+      → buildOf message config dictionary lent before ≡ shown lent (messageRead (dictionaryOf dictionary) (config .validate) (config .separator) message)
+  unfolding buildOf checkedRead
+  shown-build separates enough short checked = rw (separates, enough, le-ltb 8192 (length message) short, checked) refl
 
 -- for every message, dictionary, separator, setting and number of lent records: what the build leaves is taken over
 pub build-of-taken : (message : List ℕ) (config : Config) (dictionary : List ℕ) (lent : ℕ) (before words values : List ℕ) → length words ≡ 8205 → length values ≡ 8192 → (a : buildOf message config dictionary lent before .answer ≡ Valid)

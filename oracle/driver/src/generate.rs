@@ -5,11 +5,13 @@ mod messages;
 mod outside;
 mod random;
 mod shape;
+mod standard;
 mod streams;
 
 use crate::paper::Paper;
 use crate::protocol::{KEPT, Reading, Request};
 pub use exhaustive::exhaustive;
+pub use standard::standard;
 use messages::{Draft, Wrapping};
 use random::Random;
 use shape::Shape;

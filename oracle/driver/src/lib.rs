@@ -6,6 +6,7 @@ pub mod maps;
 pub mod ours;
 pub mod paper;
 pub mod protocol;
+pub mod sample;
 
 /// The Rust flattens components by recursion: a chain of thousands needs more stack than a main thread has.
 pub fn on_large_stack(work: impl FnOnce() + Send + 'static) {

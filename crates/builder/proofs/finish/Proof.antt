@@ -6,7 +6,7 @@ use native.Mathlib.Omega.{arith}
 use lib.ListN.{length}
 use Rattle.parts.specs.Parts.{Ends}
 use Rattle.body.specs.Body.{bodyFrom}
-use Rattle.builder.specs.Message.{finishCounts}
+use Rattle.builder.specs.Reading.{finishCounts}
 use Rattle.builder.specs.Finishing.{part-empty, stopped-counts, unstopped-counts, finish-refused, finish-stopped, finish-unstopped, finish-crowded}
 use borrow.Author.Needs.{needs}
 use Rattle.builder.proofs.finish.Statement.{statement}

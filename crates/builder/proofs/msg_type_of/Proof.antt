@@ -8,7 +8,7 @@ use Rattle.records.specs.Records.{recordsOf, between}
 use Rattle.records.specs.WordLaws.{records-length}
 use Rattle.records.specs.declared.Record.{Record}
 use Rattle.parts.specs.Parts.{partOf}
-use Rattle.builder.specs.Beginning.{msgTypeRecord}
+use Rattle.reading.specs.Beginning.{msgTypeRecord}
 use Rattle.builder.specs.HeadedLaws.{type-here, type-later, type-nowhere}
 use Rattle.builder.proofs.msg_type_of.Statement.{statement}
 use Rattle.builder.proofs.msg_type_of.Tie as tie

@@ -17,8 +17,8 @@ use Rattle.flattening.specs.Meaning.{dictionaryOf}
 use Rattle.flattening.specs.MessageTable.{tabling}
 use Rattle.flattening.specs.Theorem.{TableOf}
 use Rattle.parts.specs.Parts.{partOf}
-use Rattle.builder.specs.Beginning.{msgTypeRecord, valueAt}
-use Rattle.builder.specs.Message.{finishCounts}
+use Rattle.reading.specs.Beginning.{msgTypeRecord, valueAt}
+use Rattle.builder.specs.Reading.{finishCounts}
 use Rattle.builder.specs.HeadedLaws.{bytes-of, type-inside, written-size, type-told, laid-after, none-after}
 use Rattle.builder.proofs.read_headed.Statement.{statement}
 use Rattle.builder.proofs.read_headed.Tie as tie

@@ -9,7 +9,7 @@ use native.Mathlib.Omega.{arith}
 use borrow.Author.Needs.{needs}
 use lib.ListN.{length, getD, take, drop, set, length-set}
 use borrow.Author.Tests.{eq-eqb, ne-eqb}
-use Rattle.encoder.specs.Encoding.{isFirst, isRest}
+use Rattle.written_form.specs.Encoding.{isFirst, isRest}
 use Rattle.encoder.specs.Writing.{chosen}
 use lib.Dec.{eqb}
 use Rattle.encoder.proofs.is_chosen.Statement.{statement}

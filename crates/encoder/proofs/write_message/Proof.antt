@@ -17,7 +17,7 @@ use Rattle.message.specs.declared.Part.the-variants.{Header, Body, Trailer}
 use Rattle.message.specs.declared.Span.{Span}
 use Rattle.tagvalue.specs.Decimal.{writtenAt}
 use Rattle.tagvalue.specs.DecimalLaws.{written-length}
-use Rattle.encoder.specs.Encoding.{messageText, summed}
+use Rattle.written_form.specs.Encoding.{messageText, summed}
 use Rattle.encoder.specs.Writing.{bytesIn, textAt, Spans, tailOf, outcome, writing}
 use Rattle.encoder.specs.MessageLaws.{text-at-is, size-is, spans-of, tail-written, writing-no, writing-full, writing-done}
 use Rattle.encoder.proofs.write_message.Statement.{statement}

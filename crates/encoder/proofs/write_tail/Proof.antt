@@ -9,7 +9,7 @@ use borrow.Author.Needs.{needs}
 use lib.ListN.{length, getD, take, drop, set, length-set}
 use Rattle.tagvalue.specs.CheckSum.{sumOf, checksumDigits}
 use Rattle.tagvalue.specs.Decimal.{writtenAt}
-use Rattle.encoder.specs.Encoding.{sumDigits}
+use Rattle.written_form.specs.Encoding.{sumDigits}
 use Rattle.encoder.specs.Writing.{tailOf}
 use Rattle.encoder.specs.WritingLaws.{Rest, rest-start, rest-step, rest-room, rest-last, rest-done}
 use Rattle.encoder.proofs.write_tail.Statement.{statement}

@@ -10,7 +10,7 @@ use types.Run.{OneOf}
 use denote.Enum.Declared.{tagOf}
 use Rattle.lent.specs.Meaning.{messageIn}
 use Rattle.lent.specs.FormedLaws.{Lends}
-use Rattle.encoder.specs.Encoding.{dropped, measured, encoding}
+use Rattle.written_form.specs.Encoding.{dropped, measured, encoding}
 use Rattle.encoder.specs.declared.Encoded.{Encoded}
 use Rattle.encoder.proofs.Encoded as encoded-type
 use Rattle.encoder.specs.declared.Encoded.the-variants.{Written, NoMessage, NoRoom}

@@ -7,7 +7,7 @@ use Prim.Native.Nat.{ℕ, _+_, _-_, _%_, _≤_}
 use native.Mathlib.Omega.{arith}
 use borrow.Author.Needs.{needs}
 use lib.ListN.{length, take, drop}
-use Rattle.hunter.specs.Frame.{frameMost}
+use Rattle.verdict.specs.Frame.{frameMost}
 use Rattle.hunter.specs.Hunt.{countWrap}
 use Rattle.hunter.specs.Bytes.{unfit, refusedTake, Handout, unmoved, tookFrom, Takes}
 use Rattle.hunter.specs.BytesLaws.{Fit, fits, held-length, take-unfit, take-short, hunt-inside, hunt-small, Moved, take-fine}

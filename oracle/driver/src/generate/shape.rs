@@ -87,6 +87,16 @@ impl Shape {
         self.known.dedup();
     }
 
+    /// Every tag that an item names becomes known.
+    pub fn know_all(&mut self) {
+        let nodes: Vec<&[Node]> =
+            self.components.iter().map(|named| named.1.as_slice()).chain(self.messages.iter().map(|named| named.1.as_slice())).collect();
+        let mut tags = vec![];
+        nodes.into_iter().for_each(|nodes| named_in(nodes, &mut tags));
+        self.known.extend(tags);
+        self.named_tags();
+    }
+
     fn nodes(&self, random: &mut Random, budget: &mut Budget, depth: usize, outer: bool) -> Vec<Node> {
         let mut nodes = vec![];
         let wanted = if outer && budget.filled { budget.items } else { 1 + random.below(if outer { budget.items } else { 6 }) };
@@ -197,6 +207,19 @@ fn tower(random: &mut Random, next: &mut u32, depth: usize) -> Node {
         *next += 1;
     }
     Group(count, random.chance(60), nodes)
+}
+
+fn named_in(nodes: &[Node], tags: &mut Vec<u32>) {
+    for node in nodes {
+        match node {
+            Field(tag, _) => tags.push(*tag),
+            Component(..) => {}
+            Group(tag, _, inner) => {
+                tags.push(*tag);
+                named_in(inner, tags);
+            }
+        }
+    }
 }
 
 fn records(nodes: &[Node], out: &mut Vec<u8>) {

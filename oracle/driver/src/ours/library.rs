@@ -6,10 +6,27 @@ use crate::maps::Row;
 use crate::protocol::{KEPT, Reading, Request, Step, hex, rows_text};
 
 type Out = [u32; 4];
-/// The ported framer's state: used, ended, over.
-type State = [usize; 3];
-/// 1,025 records of six words: part, depth, entry, tag, place, length.
-type RecordWords = [u32; 6_150];
+
+/// A record as it is lent.
+#[repr(C)]
+#[derive(Clone, Copy, PartialEq)]
+pub struct FieldRecord {
+    part: u8,
+    depth: u8,
+    entry: u16,
+    tag: u32,
+    place: u16,
+    length: u16,
+}
+
+/// The ported framer's state; a fresh one is all 0.
+#[repr(C)]
+#[derive(Default)]
+struct PortedState {
+    used: usize,
+    ended: u8,
+    over: u8,
+}
 
 unsafe extern "C" {
     fn gateway_check(dictionary: *const u8, length: usize, out: *mut Out) -> u32;
@@ -20,11 +37,22 @@ unsafe extern "C" {
         validate: bool,
         dictionary: *const u8,
         dictionary_length: usize,
-        lent: usize,
-        words: *mut RecordWords,
+        records: *mut FieldRecord,
+        record_count: usize,
         out: *mut Out,
     ) -> u32;
-    fn gateway_empty(words: *mut u32, word_count: usize, values: *mut u8, value_count: usize) -> u32;
+    fn gateway_empty(words: *mut u32, word_count: usize, values: *mut u8, value_count: usize, out: *mut Out) -> u32;
+    fn gateway_new(
+        words: *mut u32,
+        word_count: usize,
+        values: *mut u8,
+        value_count: usize,
+        begin_string: *const u8,
+        begin_string_length: usize,
+        message_type: *const u8,
+        message_type_length: usize,
+        out: *mut Out,
+    ) -> u32;
     fn gateway_store(
         words: *mut u32,
         word_count: usize,
@@ -34,10 +62,20 @@ unsafe extern "C" {
         tag: u32,
         value: *const u8,
         value_length: usize,
+        out: *mut Out,
     ) -> u32;
-    fn gateway_draft(words: *mut u32, word_count: usize, values: *mut u8, value_count: usize) -> u32;
-    fn gateway_add_entry(words: *mut u32, word_count: usize, values: *mut u8, value_count: usize, start: u32, delimiter: u32) -> u32;
-    fn gateway_store_last(words: *mut u32, word_count: usize, values: *mut u8, value_count: usize, tag: u32, value: *const u8, value_length: usize) -> u32;
+    fn gateway_draft(words: *mut u32, word_count: usize, values: *mut u8, value_count: usize, out: *mut Out) -> u32;
+    fn gateway_add_entry(words: *mut u32, word_count: usize, values: *mut u8, value_count: usize, start: u32, delimiter: u32, out: *mut Out) -> u32;
+    fn gateway_store_last(
+        words: *mut u32,
+        word_count: usize,
+        values: *mut u8,
+        value_count: usize,
+        tag: u32,
+        value: *const u8,
+        value_length: usize,
+        out: *mut Out,
+    ) -> u32;
     fn gateway_hang_last(
         words: *mut u32,
         word_count: usize,
@@ -47,6 +85,7 @@ unsafe extern "C" {
         run_word_count: usize,
         run_values: *const u8,
         run_value_count: usize,
+        out: *mut Out,
     ) -> u32;
     fn gateway_hang(
         words: *mut u32,
@@ -58,11 +97,12 @@ unsafe extern "C" {
         run_word_count: usize,
         run_values: *const u8,
         run_value_count: usize,
+        out: *mut Out,
     ) -> u32;
-    fn gateway_remove(words: *mut u32, word_count: usize, values: *mut u8, value_count: usize, part: u8, tag: u32) -> u32;
+    fn gateway_remove(words: *mut u32, word_count: usize, values: *mut u8, value_count: usize, part: u8, tag: u32, out: *mut Out) -> u32;
     fn gateway_take_over(
-        records: *const u32,
-        record_words: usize,
+        records: *const FieldRecord,
+        record_count: usize,
         count: usize,
         message: *const u8,
         message_length: usize,
@@ -70,6 +110,7 @@ unsafe extern "C" {
         word_count: usize,
         values: *mut u8,
         value_count: usize,
+        out: *mut Out,
     ) -> u32;
     fn gateway_encode(
         words: *mut u32,
@@ -81,8 +122,8 @@ unsafe extern "C" {
         separator: u8,
         out: *mut Out,
     ) -> u32;
-    fn gateway_ported_push(state: *mut State, store: *mut u8, store_length: usize, chunk: *const u8, chunk_length: usize) -> u32;
-    fn gateway_ported_take(state: *mut State, store: *mut u8, store_length: usize, output: *mut u8, output_length: usize, out: *mut Out) -> u32;
+    fn gateway_ported_push(state: *mut PortedState, store: *mut u8, store_length: usize, chunk: *const u8, chunk_length: usize, out: *mut Out) -> u32;
+    fn gateway_ported_take(state: *mut PortedState, store: *mut u8, store_length: usize, output: *mut u8, output_length: usize, out: *mut Out) -> u32;
 }
 
 const RECORDS: usize = 1_024;
@@ -90,34 +131,45 @@ const WORDS: usize = 8_205;
 const VALUES: usize = 8_192;
 const OUTPUT: usize = 8_192;
 const STORE: usize = 16_384;
-/// A word that stands everywhere before a call: what isn't written shows.
+/// A number that stands everywhere before a call: what isn't written shows.
 const UNTOUCHED: u32 = 9;
+const UNTOUCHED_RECORD: FieldRecord = FieldRecord { part: 9, depth: 9, entry: 9, tag: 9, place: 9, length: 9 };
+const BLANK_RECORD: FieldRecord = FieldRecord { part: 0, depth: 0, entry: 0, tag: 0, place: 0, length: 0 };
+
+/// A call on a message, with its four words, none of which it returns anything in.
+fn changed(call: impl FnOnce(*mut Out) -> u32) -> u32 {
+    let mut out = [UNTOUCHED; 4];
+    let number = call(&mut out);
+    assert_eq!(out, [0; 4], "the four words of a call with number {number}");
+    number
+}
 
 pub struct Built {
     pub number: u32,
     pub out: Out,
-    pub words: RecordWords,
+    pub records: [FieldRecord; RECORDS],
 }
 
 impl Default for Built {
     fn default() -> Self {
-        Self { number: 0, out: [UNTOUCHED; 4], words: [UNTOUCHED; 6_150] }
+        Self { number: 0, out: [UNTOUCHED; 4], records: [UNTOUCHED_RECORD; RECORDS] }
     }
 }
 
 impl Built {
     fn count(&self) -> usize {
-        (self.out[0] as usize).min(RECORDS + 1)
+        (self.out[0] as usize).min(RECORDS)
     }
 
     fn line(&self, message: &[u8]) -> String {
         let mut line = format!("{} {} {} {}", self.number, self.out[1], self.out[2], self.out[0]);
-        for record in self.words.chunks_exact(6).take(self.count()) {
-            let value = message.get(record[4] as usize..(record[4] + record[5]) as usize).map_or("?".to_string(), hex);
-            line.push_str(&format!(" {}.{}.{}.{}.{value}", record[0], record[1], record[2], record[3]));
+        for record in &self.records[..self.count()] {
+            let (place, length) = (usize::from(record.place), usize::from(record.length));
+            let value = message.get(place..place + length).map_or("?".to_string(), hex);
+            line.push_str(&format!(" {}.{}.{}.{}.{value}", record.part, record.depth, record.entry, record.tag));
         }
-        let rest = if matches!(self.number, 20 | 22 | 23) { UNTOUCHED } else { 0 };
-        if self.words[6 * self.count()..].iter().any(|word| *word != rest) {
+        let rest = if matches!(self.number, 20 | 22 | 23) { UNTOUCHED_RECORD } else { BLANK_RECORD };
+        if self.records[self.count()..].iter().any(|record| *record != rest) {
             line.push_str(" records past the count");
         }
         if self.out[3] != 0 {
@@ -143,8 +195,8 @@ pub fn build_into(dictionary: &[u8], reading: &Reading, built: &mut Built) {
             reading.validate,
             dictionary.as_ptr(),
             dictionary.len(),
+            built.records.as_mut_ptr(),
             RECORDS,
-            &mut built.words,
             &mut built.out,
         )
     };
@@ -168,17 +220,17 @@ struct Lent {
 fn draft(rows: &[Row], level: u32) -> Result<Lent, u32> {
     let mut lent = Lent { words: vec![0; WORDS], values: vec![0; VALUES] };
     // SAFETY: see `build`; so in every call of this function.
-    let mut number = unsafe { gateway_draft(lent.words.as_mut_ptr(), WORDS, lent.values.as_mut_ptr(), VALUES) };
+    let mut number = changed(|out| unsafe { gateway_draft(lent.words.as_mut_ptr(), WORDS, lent.values.as_mut_ptr(), VALUES, out) });
     let mut at = 0;
     while at < rows.len() && number == 0 {
         let (words, values) = (lent.words.as_mut_ptr(), lent.values.as_mut_ptr());
         match &rows[at] {
             Row::Head(here, start, delimiter) if *here == level => {
-                number = unsafe { gateway_add_entry(words, WORDS, values, VALUES, *start, *delimiter) };
+                number = changed(|out| unsafe { gateway_add_entry(words, WORDS, values, VALUES, *start, *delimiter, out) });
                 at += 1;
             }
             Row::Field(_, tag, value) => {
-                number = unsafe { gateway_store_last(words, WORDS, values, VALUES, *tag, value.as_ptr(), value.len()) };
+                number = changed(|out| unsafe { gateway_store_last(words, WORDS, values, VALUES, *tag, value.as_ptr(), value.len(), out) });
                 at += 1;
             }
             Row::Head(_, first, _) => {
@@ -188,7 +240,7 @@ fn draft(rows: &[Row], level: u32) -> Result<Lent, u32> {
                 };
                 let end = at + rows[at..].iter().take_while(|row| behind(row)).count();
                 let run = draft(&rows[at..end], level + 1)?;
-                number = unsafe { gateway_hang_last(words, WORDS, values, VALUES, run.words.as_ptr(), WORDS, run.values.as_ptr(), VALUES) };
+                number = changed(|out| unsafe { gateway_hang_last(words, WORDS, values, VALUES, run.words.as_ptr(), WORDS, run.values.as_ptr(), VALUES, out) });
                 at = end;
             }
         }
@@ -205,21 +257,27 @@ impl Lent {
 
     fn empty(&mut self) -> u32 {
         // SAFETY: see `build`.
-        unsafe { gateway_empty(self.words.as_mut_ptr(), WORDS, self.values.as_mut_ptr(), VALUES) }
+        changed(|out| unsafe { gateway_empty(self.words.as_mut_ptr(), WORDS, self.values.as_mut_ptr(), VALUES, out) })
+    }
+
+    fn renew(&mut self, begin: &[u8], kind: &[u8]) -> u32 {
+        let (words, values) = (self.words.as_mut_ptr(), self.values.as_mut_ptr());
+        // SAFETY: see `build`.
+        changed(|out| unsafe { gateway_new(words, WORDS, values, VALUES, begin.as_ptr(), begin.len(), kind.as_ptr(), kind.len(), out) })
     }
 
     fn store(&mut self, part: u8, tag: u32, value: &[u8]) -> u32 {
         // SAFETY: see `build`.
-        unsafe { gateway_store(self.words.as_mut_ptr(), WORDS, self.values.as_mut_ptr(), VALUES, part, tag, value.as_ptr(), value.len()) }
+        changed(|out| unsafe { gateway_store(self.words.as_mut_ptr(), WORDS, self.values.as_mut_ptr(), VALUES, part, tag, value.as_ptr(), value.len(), out) })
     }
 
     fn take_over(&mut self, built: &Built, message: &[u8]) -> u32 {
         let (words, values) = (self.words.as_mut_ptr(), self.values.as_mut_ptr());
         // SAFETY: see `build`.
-        unsafe {
+        changed(|out| unsafe {
             gateway_take_over(
-                built.words.as_ptr(),
-                built.words.len(),
+                built.records.as_ptr(),
+                RECORDS,
                 built.out[0] as usize,
                 message.as_ptr(),
                 message.len(),
@@ -227,8 +285,9 @@ impl Lent {
                 WORDS,
                 values,
                 VALUES,
+                out,
             )
-        }
+        })
     }
 
     /// Makes a run and hangs it; a refusal on the way is the call's.
@@ -238,7 +297,9 @@ impl Lent {
             Err(number) => return number,
         };
         // SAFETY: see `build`.
-        unsafe { gateway_hang(self.words.as_mut_ptr(), WORDS, self.values.as_mut_ptr(), VALUES, part, run.words.as_ptr(), WORDS, run.values.as_ptr(), VALUES) }
+        changed(|out| unsafe {
+            gateway_hang(self.words.as_mut_ptr(), WORDS, self.values.as_mut_ptr(), VALUES, part, run.words.as_ptr(), WORDS, run.values.as_ptr(), VALUES, out)
+        })
     }
 
     fn rows(&self) -> Vec<Row> {
@@ -275,13 +336,10 @@ impl Lent {
     fn step(&mut self, step: &Step) -> Option<String> {
         let number = match step {
             Step::Empty => self.empty(),
-            Step::New(begin, kind) => {
-                let numbers = [self.empty(), self.store(1, 8, begin), self.store(1, 35, kind)];
-                numbers.into_iter().find(|number| *number > 0).unwrap_or(0)
-            }
+            Step::New(begin, kind) => self.renew(begin, kind),
             Step::Store(part, tag, value) => self.store(*part, *tag, value),
             // SAFETY: see `build`.
-            Step::Remove(part, tag) => unsafe { gateway_remove(self.words.as_mut_ptr(), WORDS, self.values.as_mut_ptr(), VALUES, *part, *tag) },
+            Step::Remove(part, tag) => changed(|out| unsafe { gateway_remove(self.words.as_mut_ptr(), WORDS, self.values.as_mut_ptr(), VALUES, *part, *tag, out) }),
             Step::Run(part, rows) => self.hang(*part, rows),
             Step::Encode(separator) => return Some(self.encode(*separator)),
         };
@@ -301,9 +359,9 @@ fn again_line(dictionary: &[u8], reading: &Reading, second: u8) -> String {
     }
 }
 
-fn chunk_word(state: &mut State, store: &mut [u8], chunk: &[u8]) -> String {
+fn chunk_word(state: &mut PortedState, store: &mut [u8], chunk: &[u8]) -> String {
     // SAFETY: see `build`.
-    let pushed = unsafe { gateway_ported_push(state, store.as_mut_ptr(), store.len(), chunk.as_ptr(), chunk.len()) };
+    let pushed = changed(|out| unsafe { gateway_ported_push(state, store.as_mut_ptr(), store.len(), chunk.as_ptr(), chunk.len(), out) });
     if pushed > 0 {
         return format!("!{pushed}");
     }
@@ -353,7 +411,7 @@ impl Ours for Library {
                 words.map(|words| words.join(" "))
             }
             Request::Frames(chunks) => {
-                let (mut state, mut store) = ([0; 3], vec![0; STORE]);
+                let (mut state, mut store) = (PortedState::default(), vec![0; STORE]);
                 Some(chunks.iter().map(|chunk| chunk_word(&mut state, &mut store, chunk)).collect::<Vec<_>>().join(" "))
             }
         }

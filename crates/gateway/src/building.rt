@@ -1,0 +1,60 @@
+// The dictionary's check, and the build over the caller's records.
+use telling::FieldRecord;
+ghost use mathlib.Core.Path.{_≡_};
+ghost use Prim.Native.Nat.{_≤_};
+ghost use lib.ListN.{length, getD};
+ghost use Rattle.flat.specs.Check.{checkOf, numberOf as numberOfCheck, valuesOf as valuesOfCheck};
+ghost use Rattle.parts.specs.Answer.{numberOf, valuesOf};
+ghost use Rattle.telling.specs.Told.{told};
+ghost use Rattle.telling.specs.Lent.{filled, builtFrom, recordsLent};
+
+// Checks a flat dictionary.
+#[no_mangle]
+pub extern "C" fn gateway_check(dictionary: &[u8], out: &mut [u32; 4]) -> u32
+    ensures { λ r. ⌜ r ≡ numberOfCheck (checkOf (now (dictionary .entry))) ⌝ }
+    ensures { λ _. ⌜ now (out .exit) ≡ told 0 (getD (valuesOfCheck (checkOf (now (dictionary .entry)))) 0 0, 0) ⌝ }
+{
+    let checked = flat::check(dictionary);
+    telling::tell(out, 0, flat::value_of(checked) as usize, 0);
+    flat::number_of(checked)
+}
+
+// Writes over so many of the lent records: those that the words show, and blank ones behind them.
+fn fill(records: &mut [FieldRecord], words: &[u32; 6150], shown: usize, written: usize)
+    requires { ⌜ written ≤ length (now records) ⌝ }
+    ensures { λ _. ⌜ now (records .exit) ≡ filled (now (words .entry)) shown written (now (records .entry)) ⌝ }
+{
+    let mut i: usize = 0;
+    while i < written {
+        records[i] = telling::field_at(words, shown, i);
+        i += 1;
+    }
+}
+
+// Builds a message from its bytes into the lent records, at least 1,024: those past the message's are blank, or all stay as they were.
+#[no_mangle]
+pub extern "C" fn gateway_build(
+    message: &[u8],
+    separator: u8,
+    validate: bool,
+    dictionary: &[u8],
+    records: &mut [FieldRecord],
+    out: &mut [u32; 4],
+) -> u32
+    ensures { λ r. ⌜ (r ≡ numberOf (builtFrom (now (message .entry)) separator validate (now (dictionary .entry)) (length (now (records .entry))) .answer))
+        × (now (records .exit) ≡ recordsLent (builtFrom (now (message .entry)) separator validate (now (dictionary .entry)) (length (now (records .entry)))) (now (records .entry)))
+        × (now (out .exit) ≡ told (builtFrom (now (message .entry)) separator validate (now (dictionary .entry)) (length (now (records .entry))) .records) (valuesOf (builtFrom (now (message .entry)) separator validate (now (dictionary .entry)) (length (now (records .entry))) .answer))) ⌝ }
+{
+    let mut words = telling::blank_words();
+    let built = telling::build(
+        message,
+        separator,
+        validate,
+        dictionary,
+        records.len(),
+        &mut words,
+        out,
+    );
+    fill(records, &words, built.records, built.written);
+    built.number
+}

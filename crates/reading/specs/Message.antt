@@ -1,0 +1,61 @@
+-- From a message's bytes to its answer and its records, by what a dictionary means: integrity, header, body and trailer in turn.
+use Prim.Native.Nat.{ℕ, suc}
+use mathlib.Core.List.{List, [], _∷_, _++_}
+use mathlib.Core.Bool.{Bool, true, false}
+use lib.Dec.{leb}
+use Rattle.tagvalue.specs.Choice.{pick}
+use Rattle.tagvalue.specs.Fields.{Fields, field}
+use Rattle.tagvalue.specs.declared.Field.{Field}
+use Rattle.layout.specs.Layout.{Layout}
+use Rattle.layout.specs.Tree.{Dictionary, knows, headerTags, trailerTags, Choice, noMessage, laidOut, layoutOf}
+use Rattle.records.specs.declared.Record.{Record}
+use Rattle.groups.specs.Reading.{accepted, layoutRules}
+use Rattle.required.specs.Checking.{layoutDemands}
+use Rattle.parts.specs.declared.Answer.{Answer}
+use Rattle.parts.specs.declared.Answer.the-variants.{Valid, InvalidMsgType, TooManyFields}
+use Rattle.reading.specs.declared.Stop.{Stop}
+use Rattle.reading.specs.declared.Stop.the-variants.{At, Nowhere}
+use Rattle.parts.specs.Answer.{numberOf}
+use Rattle.parts.specs.Parts.{Reading, ended, refused, recordOf}
+use Rattle.parts.specs.Trailer.{Trailer, stopped, unstopped, crowded, trailerFrom}
+use Rattle.reading.specs.Beginning.{Start, started, unsound, startOf, msgTypeRecord, valueAt}
+use Rattle.body.specs.Body.{bodyFrom}
+use Rattle.body.specs.Kinds.{bodyOf}
+
+-- the answer, the records that are shown with it, and what stopped the trailer
+pub record Outcome : Type 0 where
+  pub answer : Answer
+  pub records : List Record
+  pub stop : Stop
+
+-- "1 to 4 also header records"; 10 to 14 and 21: "no records"
+unfoldable pub shownWith : Answer → List Record → List Record
+shownWith answer header = pick (leb 1 (numberOf answer)) (pick (leb (numberOf answer) 4) header []) []
+
+unfoldable pub refusal : Answer → List Record → Outcome
+refusal answer header = record { answer = answer; records = shownWith answer header; stop = Nowhere }
+
+-- "Records .. stand in part and map order, each count followed by its entries"
+unfoldable pub afterTrailer : List Record → List Record → Trailer → Outcome
+afterTrailer header body (stopped f trailer) = record { answer = Valid; records = header ++ (body ++ trailer); stop = At f }
+afterTrailer header body (unstopped trailer) = record { answer = Valid; records = header ++ (body ++ trailer); stop = Nowhere }
+afterTrailer header body crowded = refusal TooManyFields header
+
+-- "The verified CheckSum stands first in the trailer."
+unfoldable pub afterBody : List Record → Field → Reading → Outcome
+afterBody header checksum (refused answer) = refusal answer header
+afterBody header checksum (ended f rest room body) = afterTrailer header body (trailerFrom (field f rest) (suc room) (recordOf 3 checksum ∷ []))
+
+module _ (dictionary : Dictionary) (validate : Bool) where
+  -- "and then MsgType must be in the dictionary, else 3"
+  unfoldable pub afterType : Field → Fields → ℕ → List Record → Field → Choice → Outcome
+  afterType f rest room header checksum noMessage = refusal (InvalidMsgType (msgTypeRecord header .place) (msgTypeRecord header .length)) header
+  afterType f rest room header checksum (laidOut layout) =
+      afterBody header checksum (bodyFrom (bodyOf (layoutRules (accepted validate (knows dictionary))) layoutDemands (trailerTags dictionary) layout) (field f rest) (suc room) [])
+
+  unfoldable pub afterHeader : List ℕ → Start → Outcome
+  afterHeader message (unsound answer) = refusal answer []
+  afterHeader message (started f rest room header checksum) = afterType f rest room header checksum (layoutOf dictionary (valueAt message (msgTypeRecord header)))
+
+  unfoldable pub messageRead : ℕ → List ℕ → Outcome
+  messageRead separator message = afterHeader message (startOf (headerTags dictionary) separator message)

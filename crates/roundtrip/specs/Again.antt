@@ -1,0 +1,171 @@
+-- A message in order, and a copy that reads like its records: read again it gives the same records with the same values, 9 and 10 apart.
+-- It has as many records as fields that are counted, so no tag is stored twice in the copy either.
+use mathlib.Core.Path.{_≡_, refl, sym, ap, _∙_}
+use mathlib.Core.Bool.{Bool, true, false}
+use mathlib.Core.List.{List, [], _∷_, _++_}
+use Prim.Native.Nat.{ℕ, suc, _+_}
+use native.Mathlib.Omega.{arith}
+use lib.ListN.{length}
+use Rattle.tagvalue.specs.Fields.{Fields, field, fieldsFrom}
+use Rattle.layout.specs.Tree.{Dictionary}
+use Rattle.records.specs.declared.Record.{Record}
+use Rattle.nesting.specs.Entries.{all-more}
+use Rattle.parts.specs.declared.Answer.the-variants.{Valid}
+use Rattle.parts.specs.Parts.{recordOf}
+use Rattle.reading.specs.Message.{Outcome, messageRead}
+use Rattle.taking.specs.Derived.{given}
+use Rattle.standing.specs.PartReading.{of-field}
+use Rattle.sequence.specs.Counted.{fieldsCounted}
+use Rattle.sequence.specs.Follows.{Follows, Ordered}
+use Rattle.sequence.specs.Twice.{storedTwice}
+use Rattle.sequence.specs.TwiceMessage.{twice-fewer}
+use Rattle.sequence.specs.VerifiedTags.{verified-tags}
+use Rattle.sequence.specs.InParts.{InParts}
+use Rattle.sequence.specs.InOrder.{InOrder, Sizes, sizes}
+use Rattle.tags_alone.specs.Agree.{Similar, more}
+use Rattle.tags_alone.specs.SimilarLaws.{similar-length, similar-append}
+use Rattle.rewriting.specs.EncodedParts.{follows-in}
+use Rattle.rewriting.specs.ReadMessage.{Followed}
+use Rattle.rewriting.specs.ReadRewritten.{ReadsLike}
+use Rattle.rewriting.specs.ReadCopied.{carried-more, CarriedAll, read-again}
+use Rattle.roundtrip.specs.AgainRead.{ReadAlong, read-along}
+use Rattle.roundtrip.specs.AgainValues.{similar-first, similar-rest, carried-append, given-same, Split, keptOf}
+
+-- the records of a message that was read in order, split; the header is told as it starts
+module _ {dictionary : Dictionary} {validate : Bool} {separator : ℕ} {message : List ℕ} {outcome : Outcome} (parts : InParts dictionary validate separator message outcome) {one two three last : Fields} {others trailer : List Record}
+    (header-starts : parts .header ≡ recordOf 1 (parts .verified .«begin_string») ∷ recordOf 1 (parts .verified .«body_length») ∷ recordOf 1 (parts .verified .«msg_type») ∷ others)
+    (trailer-starts : parts .whole-trailer ≡ recordOf 3 (parts .verified .checksum) ∷ trailer)
+    (header-follows : Follows 1 one (parts .header) two) (body-follows : Follows 2 two (parts .body) three) (trailer-follows : Follows 3 three trailer last) where
+  unfoldable pub split-parts : Split (outcome .records)
+  split-parts =
+      let v = parts .verified in
+      let tags = verified-tags separator message v (parts .sound) in
+      record {
+        begin = recordOf 1 (v .«begin_string»);
+        size = recordOf 1 (v .«body_length»);
+        type = recordOf 1 (v .«msg_type»);
+        others = others;
+        body = parts .body;
+        check = recordOf 3 (v .checksum);
+        trailer = trailer;
+        is = parts .records ∙ rw (header-starts, trailer-starts) refl;
+        begins = of-field 1 (v .«begin_string») .tagged ∙ tags .begins;
+        counts = of-field 1 (v .«body_length») .tagged ∙ tags .counts;
+        types = of-field 1 (v .«msg_type») .tagged ∙ tags .types;
+        sums = of-field 3 (v .checksum) .tagged ∙ tags .sums;
+        in-header = rw header-starts at (follows-in header-follows);
+        in-body = follows-in body-follows;
+        in-trailer = all-more (record { of = of-field 3 (v .checksum) .of }) (follows-in trailer-follows);
+      }
+
+pub follows-as : {part : ℕ} {fields last : Fields} {rs qs : List Record} → rs ≡ qs → Follows part fields rs last → Follows part fields qs last
+follows-as e follows = rw (← e) follows
+
+similar-as : {rs qs ss ts : List Record} → rs ≡ ss → qs ≡ ts → Similar rs qs → Similar ss ts
+similar-as e d s = rw (← e, ← d) s
+
+-- a copy that was read again with 0: similar records, and the same of each but the 9 and the 10
+pub record Again (message : List ℕ) {rs : List Record} (before : Split rs) (copy : List ℕ) (outcome : Outcome) : Type 0 where
+  pub valid : outcome .answer ≡ Valid
+  pub after : Split (outcome .records)
+  pub similar : Similar rs (outcome .records)
+  pub same : given copy (keptOf after) ≡ given message (keptOf before)
+
+module _ (dictionary : Dictionary) (validate : Bool) (separator : ℕ) (message : List ℕ) (order : InOrder dictionary validate separator message) where
+  unfoldable pub splitOf : Split (messageRead dictionary validate separator message .records)
+  splitOf = split-parts (order .parts) (order .header-starts) (order .trailer-starts) (order .header-follows) (order .body-follows) (order .trailer-follows)
+
+  module _ (copy : List ℕ)
+      (like : ReadsLike separator message copy (recordOf 1 (order .parts .verified .«begin_string»)) (recordOf 1 (order .parts .verified .«msg_type»)) (order .others ++ (order .parts .body ++ order .trailer))) where
+    along : ReadAlong dictionary validate separator message order copy like
+    along = read-along dictionary validate separator message order copy like
+
+    abbrev q : InParts dictionary validate separator copy (along .outcome)
+    q = along .parts
+
+    counts : Sizes dictionary validate separator copy (along .outcome) q
+    counts = sizes dictionary validate separator copy (along .outcome) q
+
+    -- each part has as many records as fields were read
+    header-many : length (q .header) ≡ counts .of-header .read
+    header-many = omega (arith, counts .of-header .room-is, along .header-room, order .others-room, similar-length (along .header-similar), ap length (order .header-starts))
+
+    body-many : length (q .body) ≡ counts .of-body .read
+    body-many = omega (arith, counts .of-body .room-is, along .header-room, along .body-room, order .body-room, similar-length (along .body-similar))
+
+    trailer-many : length (q .whole-trailer) ≡ suc (counts .of-trailer .stores .read)
+    trailer-many = omega (arith, counts .of-trailer .counted, along .trailer-few, counts .of-trailer .stores .at-most, similar-length (along .trailer-similar))
+
+    header-follows : Follows 1 (fieldsFrom separator copy (record { at = 0 })) (q .header) (field (q .f) (q .rest))
+    header-follows =
+        let o = counts .of-header .ordered (omega (arith, header-many)) in
+        follows-as (sym (o .appended)) (o .follows)
+
+    body-follows : Follows 2 (field (q .f) (q .rest)) (q .body) (field (q .g) (q .more))
+    body-follows =
+        let o = counts .of-body .ordered (omega (arith, body-many)) in
+        follows-as (sym (o .appended)) (o .follows)
+
+    trailer-ordered : Ordered 3 (field (q .g) (q .more)) (recordOf 3 (q .verified .checksum) ∷ []) (counts .of-trailer .last) (q .whole-trailer)
+    trailer-ordered = counts .of-trailer .stores .ordered (omega (arith, trailer-many))
+
+    -- its fields in the order of reading
+    followed : Followed separator copy (recordOf 1 (q .verified .«begin_string») ∷ recordOf 1 (q .verified .«body_length») ∷ recordOf 1 (q .verified .«msg_type») ∷ along .others) (q .body) (trailer-ordered .new) (counts .of-trailer .last)
+    followed =
+        record {
+          behind-header = field (q .f) (q .rest);
+          behind-body = field (q .g) (q .more);
+          header-follows = follows-as (along .header-starts) header-follows;
+          body-follows = body-follows;
+          trailer-follows = trailer-ordered .follows;
+        }
+
+    carried : CarriedAll message copy (recordOf 1 (order .parts .verified .«begin_string»)) (recordOf 1 (order .parts .verified .«msg_type»)) (order .others) (order .parts .body) (order .trailer) (recordOf 1 (q .verified .«begin_string»)) (recordOf 1 (q .verified .«msg_type»)) (along .others) (q .body) (trailer-ordered .new)
+    carried =
+        read-again separator message copy _ _ (order .others) (order .parts .body) (order .trailer) _ (recordOf 1 (q .verified .«body_length»)) _ (along .others) (q .body) (trailer-ordered .new) (counts .of-trailer .last) like followed
+        (omega (arith, similar-length (along .header-similar), ap length (order .header-starts), ap length (along .header-starts)))
+        (omega (arith, similar-length (along .body-similar)))
+        (omega (arith, similar-length (along .trailer-similar), ap length (trailer-ordered .appended)))
+        .0
+
+    similar-headers : Similar (recordOf 1 (order .parts .verified .«begin_string») ∷ recordOf 1 (order .parts .verified .«body_length») ∷ recordOf 1 (order .parts .verified .«msg_type») ∷ order .others) (recordOf 1 (q .verified .«begin_string») ∷ recordOf 1 (q .verified .«body_length») ∷ recordOf 1 (q .verified .«msg_type») ∷ along .others)
+    similar-headers = similar-as (order .header-starts) (along .header-starts) (along .header-similar)
+
+    similar-trailers : Similar (recordOf 3 (order .parts .verified .checksum) ∷ order .trailer) (recordOf 3 (q .verified .checksum) ∷ trailer-ordered .new)
+    similar-trailers = similar-as refl (trailer-ordered .appended) (along .trailer-similar)
+
+    similar-all : Similar (messageRead dictionary validate separator message .records) (along .outcome .records)
+    similar-all = similar-as (sym (order .records)) (sym (q .records)) (similar-append (along .header-similar) (similar-append (along .body-similar) (along .trailer-similar)))
+
+    again-along : Again message splitOf copy (along .outcome)
+    unfolding splitOf split-parts keptOf
+    again-along =
+        record {
+          valid = along .valid;
+          after = split-parts q (along .header-starts) (trailer-ordered .appended) header-follows body-follows (trailer-ordered .follows);
+          similar = similar-all;
+          same =
+              given-same
+              (more (similar-first similar-headers)
+              (more (similar-first (similar-rest (similar-rest similar-headers)))
+              (similar-append (similar-rest (similar-rest (similar-rest similar-headers))) (similar-append (along .body-similar) (similar-rest similar-trailers)))))
+              (carried-more (carried .begin-tag ∙ sym (splitOf .begins)) (carried .begin-value)
+              (carried-more (carried .type-tag ∙ sym (splitOf .types)) (carried .type-value)
+              (carried-append (carried .of-others) (carried-append (carried .of-body) (carried .of-trailer)))));
+        }
+
+    pub read-same : Again message splitOf copy (messageRead dictionary validate separator copy)
+    read-same = rw (along .is) again-along
+
+    -- no tag is stored twice in one map of the copy
+    pub once-again : storedTwice dictionary validate separator copy ≡ false
+    once-again = by-test (storedTwice dictionary validate separator copy) refl
+      where
+        counted : length (along .outcome .records) ≡ fieldsCounted separator copy (along .outcome .stop)
+        counted = omega (arith, counts .counted, counts .size, header-many, body-many, trailer-many)
+
+        by-test : (b : Bool) → storedTwice dictionary validate separator copy ≡ b → b ≡ false
+        by-test false e = refl
+        by-test true e =
+            let fewer = rw (along .is) at (twice-fewer dictionary validate separator copy (rw (along .is) (along .valid)) e) in
+            absurd (omega (arith, fewer, counted))

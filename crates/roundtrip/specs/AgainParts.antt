@@ -1,0 +1,56 @@
+-- What reading a message again stands on: verified fields that make similar records, MsgType third in the header, and the parts put
+-- together to what is read.
+use mathlib.Core.Path.{_≡_, refl, sym, _∙_}
+use mathlib.Core.Bool.{Bool}
+use mathlib.Core.List.{List, [], _∷_, _++_}
+use Prim.Native.Nat.{ℕ, suc}
+use Rattle.tagvalue.specs.Field.{valueOf}
+use Rattle.tagvalue.specs.Fields.{Fields, field}
+use Rattle.tagvalue.specs.declared.Field.{Field}
+use Rattle.integrity.specs.Integrity.{integrityOf}
+use Rattle.integrity.specs.declared.Integrity.the-variants.{Sound}
+use Rattle.integrity.specs.declared.Verified.{Verified}
+use Rattle.layout.specs.Tree.{Dictionary, knows, headerTags, trailerTags, laidOut, layoutOf}
+use Rattle.records.specs.declared.Record.{Record}
+use Rattle.groups.specs.Reading.{accepted, layoutRules}
+use Rattle.required.specs.Checking.{layoutDemands}
+use Rattle.parts.specs.declared.Answer.the-variants.{Valid}
+use Rattle.parts.specs.Parts.{ended, recordOf}
+use Rattle.parts.specs.Trailer.{stopped, trailerFrom}
+use Rattle.body.specs.Body.{bodyFrom}
+use Rattle.body.specs.Kinds.{bodyOf}
+use Rattle.reading.specs.declared.Stop.the-variants.{At}
+use Rattle.reading.specs.Beginning.{headerOf, verifiedRecords, withChecksum, startedBy, startOf, msgTypeRecord, valueAt}
+use Rattle.reading.specs.Message.{afterTrailer, afterBody, afterType, afterHeader, messageRead}
+use Rattle.sequence.specs.VerifiedTags.{VerifiedTags}
+use Rattle.sequence.specs.InOrder.{verified-three}
+use Rattle.sequence.specs.TwiceMessage.{three-verified}
+use Rattle.tags_alone.specs.Agree.{Similar, none}
+use Rattle.tags_alone.specs.SimilarLaws.{similar-stored, alike-field}
+
+-- the verified fields stand side by side
+pub verified-first : (v : Verified) → VerifiedTags v → verifiedRecords v ≡ recordOf 1 (v .«begin_string») ∷ recordOf 1 (v .«body_length») ∷ recordOf 1 (v .«msg_type») ∷ []
+verified-first v t = verified-three v (three-verified v t)
+
+pub verified-similar : (v w : Verified) → VerifiedTags v → VerifiedTags w → Similar (verifiedRecords v) (verifiedRecords w)
+unfolding verifiedRecords
+verified-similar v w t u =
+    similar-stored (alike-field 1 (v .«msg_type») (w .«msg_type») (t .types ∙ sym (u .types)))
+    (similar-stored (alike-field 1 (v .«body_length») (w .«body_length») (t .counts ∙ sym (u .counts)))
+    (similar-stored (alike-field 1 (v .«begin_string») (w .«begin_string») (t .begins ∙ sym (u .begins))) none))
+
+-- MsgType is the third of the header's records
+pub msg-type-third : (message : List ℕ) (v : Verified) (header others : List Record) → VerifiedTags v → header ≡ recordOf 1 (v .«begin_string») ∷ recordOf 1 (v .«body_length») ∷ recordOf 1 (v .«msg_type») ∷ others
+    → valueAt message (msgTypeRecord header) ≡ valueOf message (v .«msg_type»)
+unfolding msgTypeRecord recordOf valueAt valueOf
+msg-type-third message v header others t e = rw (e, t .begins, t .counts, t .types) refl
+
+-- a message that was read in parts, put together again
+module _ (dictionary : Dictionary) (validate : Bool) (separator : ℕ) (message : List ℕ) (v : Verified) (sound : integrityOf separator message ≡ Sound v) where
+  pub put-together : (layout : _) (f g : Field) (rest behind : Fields) (room room₂ : ℕ) (header body trailer : List Record) (stop : Field) → headerOf (headerTags dictionary) separator message v ≡ ended f rest room header
+      → layoutOf dictionary (valueAt message (msgTypeRecord header)) ≡ laidOut layout
+      → bodyFrom (bodyOf (layoutRules (accepted validate (knows dictionary))) layoutDemands (trailerTags dictionary) layout) (field f rest) (suc room) [] ≡ ended g behind room₂ body
+      → trailerFrom (field g behind) (suc room₂) (recordOf 3 (v .checksum) ∷ []) ≡ stopped stop trailer
+      → messageRead dictionary validate separator message ≡ record { answer = Valid; records = header ++ (body ++ trailer); stop = At stop }
+  unfolding messageRead startOf startedBy withChecksum afterHeader afterType afterBody afterTrailer
+  put-together layout f g rest behind room room₂ header body trailer stop h c b t = rw (sound, h, c, b, t) refl

@@ -1,0 +1,114 @@
+-- "Encoded and, if within 8,192 bytes, built again with the same separator, setting and dictionary, it gives 0 and the same maps and runs,
+-- only 9 and 10 recomputed and 10 first in the trailer": of a repeat-free message, whatever message its records stand for.
+use mathlib.Core.Path.{_≡_}
+use mathlib.Core.Bool.{Bool, false}
+use mathlib.Core.List.{List, _∷_, _++_}
+use Prim.Native.Nat.{ℕ, _≤_, _<_}
+use lib.ListN.{length, drop}
+use Rattle.layout.specs.Tree.{Dictionary}
+use Rattle.records.specs.declared.Record.{Record}
+use Rattle.lent.specs.Meaning.{Message, wordsOf, valuesOf}
+use Rattle.nesting.specs.Formed.{Own}
+use Rattle.nesting.specs.Entries.{All, all-more}
+use Rattle.parts.specs.Parts.{recordOf}
+use Rattle.reading.specs.Message.{messageRead}
+use Rattle.standing.specs.PartReading.{of-field, own-field}
+use Rattle.standing.specs.Parted.{Takes}
+use Rattle.sequence.specs.InOrder.{InOrder, in-order}
+use Rattle.sequence.specs.TwiceMessage.{once-all}
+use Rattle.written_form.specs.Encoding.{encoding, encodedMessage}
+use Rattle.tagvalue.specs.Separator.{isRefusedSeparator}
+use Rattle.encoding.specs.Encode.{left, encodingOf}
+use Rattle.encoding.specs.declared.Encoding.the-variants.{Written, TooLong}
+use Rattle.rewriting.specs.Written.{rewritten}
+use Rattle.rewriting.specs.EncodedBuilt.{Built, encoding-rewritten}
+use Rattle.rewriting.specs.EncodedFit.{encoding-written, encoding-too-long}
+use Rattle.rewriting.specs.EncodedParts.{read-built}
+use Rattle.rewriting.specs.ReadMessage.{Followed, followed-sound}
+use Rattle.rewriting.specs.ReadRewritten.{ReadsLike, no-digit}
+use Rattle.roundtrip.specs.Clean.{RepeatFree}
+use Rattle.roundtrip.specs.AgainValues.{Split}
+use Rattle.roundtrip.specs.Again.{follows-as, split-parts, Again, splitOf, read-same, once-again}
+
+-- a message that was read, and what its records stand for: encoding it "succeeds or passes 8,192 bytes", and what is written reads the same
+pub record ComesBack (dictionary : Dictionary) (validate : Bool) (separator : ℕ) (message : List ℕ) (m : Message) : Type 0 where
+  pub written : (output : List ℕ) → length (encoding separator m) ≤ 8192 → length (encoding separator m) ≤ length output
+      → encodingOf separator (wordsOf m) (valuesOf m) output ≡ left (Written (length (encoding separator m))) (wordsOf (encodedMessage separator m)) (valuesOf (encodedMessage separator m)) (encoding separator m ++ drop (length (encoding separator m)) output)
+  pub too-long : (output : List ℕ) → 8192 < length (encoding separator m) → encodingOf separator (wordsOf m) (valuesOf m) output ≡ left TooLong (wordsOf m) (valuesOf m) output
+  pub before : Split (messageRead dictionary validate separator message .records)
+  pub again : length (encoding separator m) ≤ 8192 → Again message before (encoding separator m) (messageRead dictionary validate separator (encoding separator m))
+  pub repeat-free : length (encoding separator m) ≤ 8192 → RepeatFree dictionary validate separator (encoding separator m)
+
+module _ (dictionary : Dictionary) (validate : Bool) (separator : ℕ) (message : List ℕ) (free : RepeatFree dictionary validate separator message) where
+  -- "no tag stored twice in one map": each field has a record of its own, in the order of reading
+  order : InOrder dictionary validate separator message
+  order = in-order dictionary validate separator message (free .valid) (once-all dictionary validate separator message (free .valid) (free .none-twice))
+
+  abbrev before : Split (messageRead dictionary validate separator message .records)
+  before = splitOf dictionary validate separator message order
+
+  module _ (separates : isRefusedSeparator separator ≡ false) (takes : Takes message (messageRead dictionary validate separator message .records)) where
+    abbrev begin : Record
+    begin = recordOf 1 (order .parts .verified .«begin_string»)
+
+    abbrev size : Record
+    size = recordOf 1 (order .parts .verified .«body_length»)
+
+    abbrev type : Record
+    type = recordOf 1 (order .parts .verified .«msg_type»)
+
+    abbrev check : Record
+    check = recordOf 3 (order .parts .verified .checksum)
+
+    abbrev copy : List ℕ
+    copy = rewritten separator message begin (type ∷ (order .others ++ (order .parts .body ++ order .trailer)))
+
+    header-own : All (Own 0 0) (begin ∷ size ∷ type ∷ order .others)
+    header-own = rw (order .header-starts) at (order .header-own)
+
+    built : Built message (takes .meant) begin size type (order .others) (order .parts .body) check (order .trailer)
+    unfolding splitOf split-parts
+    built =
+        read-built (takes .stand) (takes .within) (before .is) (before .begins) (before .counts) (before .types) (before .sums) (of-field 3 (order .parts .verified .checksum) .of)
+        (follows-as (order .header-starts) (order .header-follows)) (order .body-follows) (order .trailer-follows)
+        header-own (all-more (own-field 3 (order .parts .verified .checksum)) (order .trailer-own))
+
+    copied : encoding separator (takes .meant) ≡ copy
+    copied = encoding-rewritten separator built
+
+    followed : Followed separator message (begin ∷ size ∷ type ∷ order .others) (order .parts .body) (order .trailer) (order .last)
+    followed =
+        record {
+          behind-header = _;
+          behind-body = _;
+          header-follows = follows-as (order .header-starts) (order .header-follows);
+          body-follows = order .body-follows;
+          trailer-follows = order .trailer-follows;
+        }
+
+    like : length copy ≤ 8192 → ReadsLike separator message copy begin type (order .others ++ (order .parts .body ++ order .trailer))
+    unfolding splitOf split-parts
+    like short = followed-sound separator message begin size type (order .others) (order .parts .body) (order .trailer) (order .last) followed (no-digit separator separates) (before .begins) (before .types) short
+
+    copy-again : length copy ≤ 8192 → Again message before copy (messageRead dictionary validate separator copy)
+    copy-again short = read-same dictionary validate separator message order copy (like short)
+
+    copy-free : length copy ≤ 8192 → RepeatFree dictionary validate separator copy
+    copy-free short =
+        record {
+          valid = copy-again short .valid;
+          holds-begin-string = free .holds-begin-string;
+          holds-body-length = free .holds-body-length;
+          holds-msg-type = free .holds-msg-type;
+          none-twice = once-again dictionary validate separator message order copy (like short);
+        }
+
+    pub comes-back : ComesBack dictionary validate separator message (takes .meant)
+    comes-back =
+        record {
+          written = λ output short fits. rw copied (encoding-written built separator separates output (rw copied at short) (rw copied at fits));
+          too-long = λ output long. encoding-too-long built separator separates output (rw copied at long);
+          before = before;
+          again = λ short. rw copied (copy-again (rw copied at short));
+          repeat-free = λ short. rw copied (copy-free (rw copied at short));
+        }

@@ -1,0 +1,15 @@
+pub mod Clean
+pub mod ComesBack
+pub mod AgainFields
+pub mod AgainParts
+pub mod AgainRead
+pub mod AgainValues
+pub mod Again
+pub mod AgainTheorem
+pub mod AgainBuilt
+pub mod CleanStandard
+pub mod Table
+pub mod DealerHolds
+pub mod Dealer
+pub mod DealerOrder
+pub mod Examples

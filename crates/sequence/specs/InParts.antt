@@ -1,0 +1,96 @@
+-- A message that was read with 0, taken apart: the verified fields, and what was read as header, body and trailer, in turn.
+-- Each part was stored field by field, from the message's start to where the trailer stopped.
+use mathlib.Core.Path.{_≡_, refl, ap, _∙_}
+use mathlib.Core.Bool.{Bool}
+use mathlib.Core.List.{List, [], _∷_, _++_}
+use Prim.Native.Nat.{ℕ, suc}
+use native.Mathlib.Omega.{arith}
+use Rattle.tagvalue.specs.Fields.{Fields, field, fieldsFrom}
+use Rattle.tagvalue.specs.FieldsLaws.{fields-field}
+use Rattle.tagvalue.specs.declared.Field.{Field}
+use Rattle.integrity.specs.Integrity.{integrityOf}
+use Rattle.integrity.specs.VerifiedLaws.{VerifiedRead}
+use Rattle.integrity.specs.declared.Integrity.{Integrity}
+use Rattle.integrity.specs.declared.Integrity.the-variants.{Sound, Garbled}
+use Rattle.integrity.specs.declared.Verified.{Verified}
+use Rattle.layout.specs.Layout.{Layout}
+use Rattle.layout.specs.Tree.{Dictionary, knows, headerTags, trailerTags, Choice, noMessage, laidOut, layoutOf}
+use Rattle.records.specs.declared.Record.{Record}
+use Rattle.groups.specs.Reading.{accepted, layoutRules}
+use Rattle.required.specs.Checking.{layoutDemands}
+use Rattle.parts.specs.declared.Answer.the-variants.{Valid}
+use Rattle.parts.specs.Parts.{Reading, ended, refused, recordOf}
+use Rattle.parts.specs.Trailer.{Trailer, stopped, unstopped, crowded, trailerFrom}
+use Rattle.body.specs.Body.{bodyFrom}
+use Rattle.body.specs.Kinds.{bodyOf}
+use Rattle.reading.specs.Beginning.{headerOf, verifiedRecords, withChecksum, startedBy, startOf, msgTypeRecord, valueAt}
+use Rattle.reading.specs.Message.{Outcome, refusal, afterTrailer, afterBody, afterType, afterHeader, messageRead}
+use Rattle.standing.specs.Refusals.{header-never, body-never}
+use Rattle.sequence.specs.Follows.{Stores}
+use Rattle.sequence.specs.StoresLaws.{stores-then, stores-field}
+use Rattle.sequence.specs.TrailerStores.{trailerAt}
+
+module _ (dictionary : Dictionary) (validate : Bool) (separator : ℕ) (message : List ℕ) where
+  -- the parts of a message with an outcome; the whole trailer is that with the verified CheckSum, which stands first in it
+  pub record InParts (outcome : Outcome) : Type 0 where
+    pub verified : Verified
+    pub sound : integrityOf separator message ≡ Sound verified
+    pub layout : Layout
+    pub f : Field
+    pub rest : Fields
+    pub room : ℕ
+    pub header : List Record
+    pub g : Field
+    pub more : Fields
+    pub room₂ : ℕ
+    pub body : List Record
+    pub whole-trailer : List Record
+    pub header-read : headerOf (headerTags dictionary) separator message verified ≡ ended f rest room header
+    pub chosen : layoutOf dictionary (valueAt message (msgTypeRecord header)) ≡ laidOut layout
+    pub body-read : bodyFrom (bodyOf (layoutRules (accepted validate (knows dictionary))) layoutDemands (trailerTags dictionary) layout) (field f rest) (suc room) [] ≡ ended g more room₂ body
+    pub trailer-read : trailerFrom (field g more) (suc room₂) (recordOf 3 (verified .checksum) ∷ []) ≡ trailerAt (outcome .stop) whole-trailer
+    pub records : outcome .records ≡ header ++ (body ++ whole-trailer)
+
+  module _ (v : Verified) (sound : integrityOf separator message ≡ Sound v) (f : Field) (rest : Fields) (room : ℕ) (h : List Record) (header : headerOf (headerTags dictionary) separator message v ≡ ended f rest room h) where
+    module _ (layout : Layout) (chosen : layoutOf dictionary (valueAt message (msgTypeRecord h)) ≡ laidOut layout) where
+      trailer-parts : (g : Field) (more : Fields) (room₂ : ℕ) (b : List Record) → bodyFrom (bodyOf (layoutRules (accepted validate (knows dictionary))) layoutDemands (trailerTags dictionary) layout) (field f rest) (suc room) [] ≡ ended g more room₂ b
+          → (t : Trailer) → trailerFrom (field g more) (suc room₂) (recordOf 3 (v .checksum) ∷ []) ≡ t → afterTrailer h b t .answer ≡ Valid → InParts (afterTrailer h b t)
+      unfolding afterTrailer trailerAt
+      trailer-parts g more room₂ b e (stopped s ts) q a =
+          record { verified = v; sound = sound; layout = layout; f = f; rest = rest; room = room; header = h; g = g; more = more; room₂ = room₂; body = b; whole-trailer = ts; header-read = header; chosen = chosen; body-read = e; trailer-read = q; records = refl }
+      trailer-parts g more room₂ b e (unstopped ts) q a =
+          record { verified = v; sound = sound; layout = layout; f = f; rest = rest; room = room; header = h; g = g; more = more; room₂ = room₂; body = b; whole-trailer = ts; header-read = header; chosen = chosen; body-read = e; trailer-read = q; records = refl }
+      trailer-parts g more room₂ b e crowded q a = let z : _≡_ {A = ℕ} 0 1 = unfold refusal in cc in absurd (omega arith)
+
+      body-parts : (r : Reading) → bodyFrom (bodyOf (layoutRules (accepted validate (knows dictionary))) layoutDemands (trailerTags dictionary) layout) (field f rest) (suc room) [] ≡ r → afterBody h (v .checksum) r .answer ≡ Valid → InParts (afterBody h (v .checksum) r)
+      unfolding afterBody
+      body-parts (refused answer) e a = absurd (body-never (layoutRules (accepted validate (knows dictionary))) layoutDemands (trailerTags dictionary) layout (suc (suc room)) (field f rest) (suc room) [] (unfold bodyFrom in (e ∙ ap refused (unfold refusal in a))))
+      body-parts (ended g more room₂ b) e a = trailer-parts g more room₂ b e (trailerFrom (field g more) (suc room₂) (recordOf 3 (v .checksum) ∷ [])) refl a
+
+    type-parts : (choice : Choice) → layoutOf dictionary (valueAt message (msgTypeRecord h)) ≡ choice → afterType dictionary validate f rest room h (v .checksum) choice .answer ≡ Valid → InParts (afterType dictionary validate f rest room h (v .checksum) choice)
+    unfolding afterType
+    type-parts noMessage c a = let z : _≡_ {A = ℕ} 0 1 = unfold refusal in cc in absurd (omega arith)
+    type-parts (laidOut layout) c a = body-parts layout c (bodyFrom (bodyOf (layoutRules (accepted validate (knows dictionary))) layoutDemands (trailerTags dictionary) layout) (field f rest) (suc room) []) refl a
+
+  header-parts : (v : Verified) → integrityOf separator message ≡ Sound v → (r : Reading) → headerOf (headerTags dictionary) separator message v ≡ r
+      → afterHeader dictionary validate message (withChecksum (v .checksum) r) .answer ≡ Valid → InParts (afterHeader dictionary validate message (withChecksum (v .checksum) r))
+  unfolding afterHeader withChecksum
+  header-parts v sound (refused answer) e a = absurd (header-never (headerTags dictionary) (fieldsFrom separator message (v .«msg_type» .next)) 1021 (verifiedRecords v) (unfold headerOf in (e ∙ ap refused (unfold refusal in a))))
+  header-parts v sound (ended f rest room h) e a = type-parts v sound f rest room h e (layoutOf dictionary (valueAt message (msgTypeRecord h))) refl a
+
+  integrity-parts : (i : Integrity) → integrityOf separator message ≡ i → afterHeader dictionary validate message (startedBy (headerTags dictionary) separator message i) .answer ≡ Valid
+      → InParts (afterHeader dictionary validate message (startedBy (headerTags dictionary) separator message i))
+  unfolding startedBy
+  integrity-parts (Garbled reason) e a = let z : _≡_ {A = ℕ} 0 1 = unfold afterHeader refusal in cc in absurd (omega arith)
+  integrity-parts (Sound v) e a = header-parts v e (headerOf (headerTags dictionary) separator message v) refl a
+
+  pub in-parts : messageRead dictionary validate separator message .answer ≡ Valid → InParts (messageRead dictionary validate separator message)
+  unfolding messageRead startOf
+  in-parts a = integrity-parts (integrityOf separator message) refl a
+
+-- the fields that were verified are the first three of the message
+pub verified-stores : (separator : ℕ) (message : List ℕ) (v : Verified) → VerifiedRead separator message v → Stores 1 (fieldsFrom separator message (record { at = 0 })) 1024 [] (fieldsFrom separator message (v .«msg_type» .next)) 1021 (verifiedRecords v)
+unfolding verifiedRecords
+verified-stores separator message v w =
+    rw (fields-field separator message (record { at = 0 }) (v .«begin_string») (w .begins), fields-field separator message (v .«begin_string» .next) (v .«body_length») (w .counts), fields-field separator message (v .«body_length» .next) (v .«msg_type») (w .types))
+    (stores-then (stores-then (stores-field {room = 1023}) (stores-field {room = 1022})) (stores-field {room = 1021}))

@@ -1,0 +1,14 @@
+pub mod Follows
+pub mod Counted
+pub mod StoresLaws
+pub mod HeaderStores
+pub mod BodyStores
+pub mod TrailerStores
+pub mod CountedLaws
+pub mod InParts
+pub mod InOrder
+pub mod VerifiedTags
+pub mod Twice
+pub mod TwiceLaws
+pub mod TwiceInParts
+pub mod TwiceMessage

@@ -1,0 +1,4 @@
+pub mod Small
+pub mod Read
+pub mod Few
+pub mod Theorem

@@ -1,0 +1,4 @@
+pub mod Loops
+pub mod Places
+pub mod BodyStages
+pub mod HeadStages

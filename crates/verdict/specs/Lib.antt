@@ -1,0 +1,10 @@
+pub mod Frame
+pub mod Readers
+pub mod Verdict
+pub mod Exact
+pub mod Literals
+pub mod Texts
+pub mod Lengths
+pub mod FrameExact
+pub mod VerdictLaws
+pub mod Examples
