@@ -1,5 +1,4 @@
--- What integrity found right, taken apart: the four tags, the length and the sum. With a plain BodyLength and a CheckSum of three digits
--- both values are the digits that an encoding writes.
+-- A BodyLength that integrity found right: where it is plain, its value is the digits that an encoding writes.
 use mathlib.Core.Path.{_≡_, refl, ap, _∙_}
 use mathlib.Core.Bool.{Bool, true, false}
 use mathlib.Core.List.{List}
@@ -29,38 +28,6 @@ use Rattle.integrity.specs.declared.Verified.{Verified}
 use Rattle.rewriting.specs.Plain.{isPlain, plainLength}
 use Rattle.rewriting.specs.PlainLaws.{number-digits, plain-digits, plain-leads}
 use Rattle.rewriting.specs.ReadSpelled.{value-stands, value-size}
-
--- the checks that integrity made
-pub record Checked (message : List ℕ) (v : Verified) : Type 0 where
-  pub begin-tag : v .«begin_string» .tag ≡ 8
-  pub length-tag : v .«body_length» .tag ≡ 9
-  pub length-right : lengthAgrees message (v .«body_length») ≡ true
-  pub sum-tag : v .checksum .tag ≡ 10
-  pub sum-right : sumAgrees message (v .checksum) ≡ true
-  pub type-tag : v .«msg_type» .tag ≡ 35
-
-passes : (b : Bool) (on : Integrity) (reason : GarbledReason) (v : Verified) → pick b on (Garbled reason) ≡ Sound v → (b ≡ true) × (on ≡ Sound v)
-passes true on reason v e = (refl, e)
-passes false on reason v e = let z : _≡_ {A = ℕ} 0 1 = cc in absurd (omega arith)
-
-pub verified-checked : (separator : ℕ) (message : List ℕ) (v : Verified) → integrityOf separator message ≡ Sound v → Checked message v
-unfolding integrityOf begun counted summed typed
-verified-checked separator message v e =
-    let r = verified-read separator message v e in
-    let eight = passes (eqb (v .«begin_string» .tag) 8) _ InvalidBeginString v (rw (r .begins) at e) in
-    let nine = passes (eqb (v .«body_length» .tag) 9) _ InvalidBodyLength v (rw (r .counts) at (eight .1)) in
-    let long = passes (lengthAgrees message (v .«body_length»)) _ InvalidBodyLength v (nine .1) in
-    let ten = passes (eqb (v .checksum .tag) 10) _ InvalidChecksum v (rw (r .sums) at (long .1)) in
-    let sum = passes (sumAgrees message (v .checksum)) _ InvalidChecksum v (ten .1) in
-    let typed = passes (eqb (v .«msg_type» .tag) 35) _ InvalidMsgType v (rw (r .types) at (sum .1)) in
-    record {
-      begin-tag = eqb-true _ _ (eight .0);
-      length-tag = eqb-true _ _ (nine .0);
-      length-right = long .0;
-      sum-tag = eqb-true _ _ (ten .0);
-      sum-right = sum .0;
-      type-tag = eqb-true _ _ (typed .0);
-    }
 
 -- a BodyLength that is right
 pub record RightLength (message : List ℕ) (f : Field) : Type 0 where
