@@ -1,13 +1,12 @@
 -- A BodyLength that integrity found right: where it is plain, its value is the digits that an encoding writes.
 use mathlib.Core.Path.{_≡_, refl, ap, _∙_}
-use mathlib.Core.Bool.{Bool, true, false}
+use mathlib.Core.Bool.{true}
 use mathlib.Core.List.{List}
 use Prim.Native.Nat.{ℕ, _+_}
 use native.Mathlib.Omega.{arith}
 use lib.ListN.{length}
 use lib.Dec.{eqb}
 use borrow.Author.Tests.{eqb-true}
-use Rattle.tagvalue.specs.Choice.{pick}
 use Rattle.tagvalue.specs.Number.{numberOf}
 use Rattle.tagvalue.specs.Decimal.{decimal}
 use Rattle.tagvalue.specs.Field.{fieldAt, valueOf}
@@ -18,12 +17,9 @@ use Rattle.tagvalue.specs.declared.Field.{Field}
 use Rattle.tagvalue.specs.declared.FieldRead.the-variants.{Read}
 use Rattle.tagvalue.specs.declared.Number.{Number}
 use Rattle.tagvalue.specs.declared.Number.the-variants.{Worth, NoNumber}
-use Rattle.integrity.specs.Integrity.{integrityOf, begun, counted, summed, typed, lengthIs, lengthAgrees, sumAgrees}
+use Rattle.integrity.specs.Integrity.{integrityOf, lengthIs, lengthAgrees}
 use Rattle.integrity.specs.VerifiedLaws.{verified-read}
-use Rattle.integrity.specs.declared.GarbledReason.{GarbledReason}
-use Rattle.integrity.specs.declared.GarbledReason.the-variants.{InvalidBeginString, InvalidBodyLength, InvalidMsgType, InvalidChecksum}
-use Rattle.integrity.specs.declared.Integrity.{Integrity}
-use Rattle.integrity.specs.declared.Integrity.the-variants.{Sound, Garbled}
+use Rattle.integrity.specs.declared.Integrity.the-variants.{Sound}
 use Rattle.integrity.specs.declared.Verified.{Verified}
 use Rattle.rewriting.specs.Plain.{isPlain, plainLength}
 use Rattle.rewriting.specs.PlainLaws.{number-digits, plain-digits, plain-leads}

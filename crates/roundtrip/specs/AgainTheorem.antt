@@ -14,7 +14,7 @@ use Rattle.parts.specs.Parts.{recordOf}
 use Rattle.reading.specs.Message.{messageRead}
 use Rattle.standing.specs.PartReading.{of-field, own-field}
 use Rattle.standing.specs.Parted.{Takes}
-use Rattle.sequence.specs.InOrder.{InOrder, in-order}
+use Rattle.sequence.specs.InOrder.{InOrder}
 use Rattle.written_form.specs.Encoding.{encoding, encodedMessage}
 use Rattle.tagvalue.specs.Separator.{isRefusedSeparator}
 use Rattle.encoding.specs.Encode.{left, encodingOf}
