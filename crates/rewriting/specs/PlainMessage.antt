@@ -2,7 +2,7 @@
 -- the CheckSum of three digits the rest.
 use mathlib.Core.Path.{_≡_, refl, sym, ap, _∙_}
 use mathlib.Core.Bool.{true}
-use mathlib.Core.List.{List, [], _∷_, _++_, append-assoc}
+use mathlib.Core.List.{List, _∷_, _++_, append-assoc}
 use Prim.Native.Nat.{ℕ, _-_}
 use native.Mathlib.Omega.{arith}
 use lib.ListN.{length, drop}
@@ -17,18 +17,14 @@ use Rattle.records.specs.declared.Record.{Record}
 use Rattle.parts.specs.Parts.{recordOf}
 use Rattle.taking.specs.Taking.{valueAt}
 use Rattle.written_form.specs.Encoding.{summed}
+use Rattle.sequence.specs.VerifiedTags.{verified-checked}
+use Rattle.rewriting.specs.EncodedText.{written-append}
 use Rattle.rewriting.specs.Plain.{plainTags, plainLength, threeDigits}
 use Rattle.rewriting.specs.PlainRewritten.{clean-rewritten}
-use Rattle.rewriting.specs.PlainSound.{verified-checked}
 use Rattle.rewriting.specs.ReadMessage.{Followed}
 use Rattle.rewriting.specs.ReadPlaces.{startOf, fields-start, follows-cursor, stop-verified}
 use Rattle.rewriting.specs.ReadWritten.{follows-written}
 use Rattle.rewriting.specs.Written.{written, rewritten}
-
-pub written-append : (separator : ℕ) (bytes : List ℕ) (rs ss : List Record) → written separator bytes (rs ++ ss) ≡ written separator bytes rs ++ written separator bytes ss
-unfolding written
-written-append separator bytes [] ss = refl
-written-append separator bytes (r ∷ rs) ss = rw (written-append separator bytes rs ss) (sym (append-assoc (fieldBytes separator (decimal (r .tag)) (valueAt bytes r)) (written separator bytes rs) (written separator bytes ss)))
 
 -- where the trailer stops at a field that starts where the CheckSum stands, all before it is the text of the records
 pub followed-written : (separator : ℕ) (message : List ℕ) (header body trailer : List Record) (stop : Field) (more : Fields) → Followed separator message header body trailer (field stop more)
@@ -72,6 +68,6 @@ clean-message separator message v sound others body trailer stop more followed a
     followed-written separator message (recordOf 1 (v .«begin_string») ∷ recordOf 1 (v .«body_length») ∷ others) body trailer stop more followed tags-plain
     ∙ ap (λ (n : ℕ). written separator message (recordOf 1 (v .«begin_string») ∷ recordOf 1 (v .«body_length») ∷ (others ++ (body ++ trailer))) ++ drop n message) at-checksum in
     clean-rewritten separator message v sound (written separator message (others ++ (body ++ trailer)))
-    (whole ∙ opened separator message (v .«begin_string») (v .«body_length») (others ++ (body ++ trailer)) (drop (length message - 7) message) (checked .begin-tag) (checked .length-tag))
+    (whole ∙ opened separator message (v .«begin_string») (v .«body_length») (others ++ (body ++ trailer)) (drop (length message - 7) message) (checked .tags .begins) (checked .tags .counts))
     length-plain (ap (threeDigits message) (sym same) ∙ three)
-    ∙ sym (closed separator message (v .«begin_string») (others ++ (body ++ trailer)) (checked .begin-tag))
+    ∙ sym (closed separator message (v .«begin_string») (others ++ (body ++ trailer)) (checked .tags .begins))

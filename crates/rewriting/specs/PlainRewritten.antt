@@ -18,8 +18,9 @@ use Rattle.integrity.specs.VerifiedLaws.{verified-read}
 use Rattle.integrity.specs.declared.Integrity.the-variants.{Sound}
 use Rattle.integrity.specs.declared.Verified.{Verified}
 use Rattle.written_form.specs.Encoding.{summed, sumDigits}
+use Rattle.sequence.specs.VerifiedTags.{verified-checked}
 use Rattle.rewriting.specs.Plain.{plainLength, threeDigits}
-use Rattle.rewriting.specs.PlainSound.{verified-checked, right-length, plain-second, plain-value}
+use Rattle.rewriting.specs.PlainSound.{right-length, plain-second, plain-value}
 use Rattle.rewriting.specs.PlainSum.{last-seven}
 use Rattle.rewriting.specs.ReadSpelled.{value-ends}
 use Rattle.rewriting.specs.ReadSound.{tagged, placed, placed-read, placed-next}
@@ -81,7 +82,7 @@ module _ (separator : ℕ) (message : List ℕ) (v : Verified) (sound : integrit
     clean-text three =
         let checked = verified-checked separator message v sound in
         seven-summed separator message (tagged separator 8 (valueOf message (v .«begin_string»))) (valueOf message (v .«body_length»)) (decimal (length counted)) counted (length message - 7) (whole ∙ simp append-assoc) front-size length-value
-        (last-seven separator message (v .checksum) length-long (verified-read separator message v sound .sums) (checked .sum-tag) (checked .sum-right) three)
+        (last-seven separator message (v .checksum) length-long (verified-read separator message v sound .sums) (checked .tags .sums) (checked .sum-right) three)
 
 -- a message that starts with the texts of 8 and 9, and has `counted` between them and the CheckSum, is what its encoding comes to
 pub clean-rewritten : (separator : ℕ) (message : List ℕ) (v : Verified) → integrityOf separator message ≡ Sound v → (counted : List ℕ)

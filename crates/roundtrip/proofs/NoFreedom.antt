@@ -1,13 +1,10 @@
 -- "Two results that satisfy it are shown equal": one schema over a contract as the prover reads it, and each public operation under it.
 -- The contract is the code's own, so an `ensures` that said less would leave its operation here without a proof.
-use mathlib.Core.Path.{_≡_, sym, ap, _∙_}
-use mathlib.Core.List.{List}
+use mathlib.Core.Path.{_≡_, ap}
 use Prim.Native.Nat.{ℕ}
 use denote.Ref.{now}
-use contract.Lifetimes.{Lfts}
-use denote.Triple.Clauses.{AtExit}
-use borrow.Fn.Kind.{PK, RK}
-use borrow.Fn.Kinds.{Out, Dens, resT, endedOf}
+use borrow.Fn.Kinds.{Out}
+use Rattle.no_freedom.proofs.Schema.{same, NoFreedom}
 use Rattle.builder.specs.Build.{BuildOutcome, builtTold}
 use Rattle.builder.specs.declared.Built.{Built}
 use Rattle.tagvalue.proofs.find.Reads as of-tagvalue-find
@@ -112,14 +109,6 @@ use Rattle.hunter.proofs.number.Kinds as in-hunter-number
 -- the code's part of a build's outcome
 abbrev builtOf : BuildOutcome → Built
 builtOf o = record { answer = o .answer; stop = o .stop; records = o .records; written = o .written }
-
-same : {A : Type 0} {x y d : A} → x ≡ d → y ≡ d → x ≡ y
-same p q = p ∙ sym q
-
--- Two results of one call, each with what it leaves of what was lent, that both satisfy the contract: they are the same.
-abbrev NoFreedom : (n : ℕ) (ps : List (PK n)) (r : RK n) → Out n ps r → ((κs : Lfts n) → resT r κs .Denot → resT r κs .Denot → AtExit (endedOf n ps r) κs → AtExit (endedOf n ps r) κs → Type 0) → Type 0
-NoFreedom n ps r contract Same =
-    (κs : Lfts n) (a : Dens κs ps) (x y : resT r κs .Denot) (left other : AtExit (endedOf n ps r) κs) → contract κs a x left → contract κs a y other → Same κs x y left other
 
 pub tagvalue-find : NoFreedom 1 in-tagvalue-find.ps in-tagvalue-find.r of-tagvalue-find.Post (λ κs x y left other. x ≡ y)
 tagvalue-find κs a x y left other p q = same p q

@@ -14,8 +14,7 @@ use Rattle.parts.specs.Parts.{recordOf}
 use Rattle.reading.specs.Message.{messageRead}
 use Rattle.standing.specs.PartReading.{of-field, own-field}
 use Rattle.standing.specs.Parted.{Takes}
-use Rattle.sequence.specs.InOrder.{InOrder, in-order}
-use Rattle.sequence.specs.TwiceMessage.{once-all}
+use Rattle.sequence.specs.InOrder.{InOrder}
 use Rattle.written_form.specs.Encoding.{encoding, encodedMessage}
 use Rattle.tagvalue.specs.Separator.{isRefusedSeparator}
 use Rattle.encoding.specs.Encode.{left, encodingOf}
@@ -26,6 +25,7 @@ use Rattle.rewriting.specs.EncodedFit.{encoding-written, encoding-too-long}
 use Rattle.rewriting.specs.EncodedParts.{read-built}
 use Rattle.rewriting.specs.ReadMessage.{Followed, followed-sound}
 use Rattle.rewriting.specs.ReadRewritten.{ReadsLike, no-digit}
+use Rattle.roundtrip.specs.ComesBack.{repeat-free-order}
 use Rattle.roundtrip.specs.Clean.{RepeatFree}
 use Rattle.roundtrip.specs.AgainValues.{Split}
 use Rattle.roundtrip.specs.Again.{follows-as, split-parts, Again, splitOf, read-same, once-again}
@@ -42,7 +42,7 @@ pub record ComesBack (dictionary : Dictionary) (validate : Bool) (separator : �
 module _ (dictionary : Dictionary) (validate : Bool) (separator : ℕ) (message : List ℕ) (free : RepeatFree dictionary validate separator message) where
   -- "no tag stored twice in one map": each field has a record of its own, in the order of reading
   order : InOrder dictionary validate separator message
-  order = in-order dictionary validate separator message (free .valid) (once-all dictionary validate separator message (free .valid) (free .none-twice))
+  order = repeat-free-order dictionary validate separator message free
 
   abbrev before : Split (messageRead dictionary validate separator message .records)
   before = splitOf dictionary validate separator message order

@@ -1,7 +1,6 @@
 -- "Counted are the fields read in sequence, the 10 that stops the trailer included; where none stops it, the verified 10 counts last."
 use Prim.Native.Nat.{ℕ, suc}
 use mathlib.Core.List.{List}
-use mathlib.Core.Bool.{Bool, true, false}
 use lib.Dec.{eqb}
 use Rattle.tagvalue.specs.Choice.{pick}
 use Rattle.tagvalue.specs.Fields.{Fields, unreadable, field, fieldsFrom}
