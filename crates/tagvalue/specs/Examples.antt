@@ -12,8 +12,9 @@ use Rattle.tagvalue.specs.Number.{isDigit, allDigits, worth, numberOf, n
 use Rattle.tagvalue.specs.Separator.{isRefusedSeparator}
 use Rattle.tagvalue.specs.CheckSum.{sumOf, checksumOf, checksumDigits}
 use Rattle.tagvalue.specs.Decimal.{decimal, decimalWithin, writtenAt, answerAt}
-use Rattle.tagvalue.specs.Field.{fieldFrom, fieldAt, withEquals, withSeparator, withTag}
-use Rattle.tagvalue.specs.Fields.{Fields, unreadable, field, followedBy, fieldsWithin, fieldsFrom}
+use Rattle.tagvalue.specs.Field.{separatedBy, startAt, fieldAt}
+use Rattle.tagvalue.specs.Fields.{Fields, unreadable, field, fieldsFrom}
+use Rattle.tagvalue.specs.Computing.{reading-fields}
 use Rattle.tagvalue.specs.declared.Found.{Found}
 use Rattle.tagvalue.specs.declared.Found.the-variants.{At, Nothing}
 use Rattle.tagvalue.specs.declared.Number.{Number}
@@ -78,19 +79,19 @@ unfolding answerAt
 writing-answers = refl
 
 abbrev one : ℕ → ℕ → ℕ → ℕ → ℕ → FieldRead
-one at tag place n next = Read (record { first = at; tag = tag; place = place; length = n; next = record { at = next } })
+one at tag place n next = Read (record { first = at; tag = tag; place = place; length = n; next = startAt next })
 
 -- the field at the start: the tag limits, zero, no digits, no separator, leading zeros, an empty value; the reasons in their order
-fields : Holds (λ s. fieldAt 1 s (record { at = 0 })) (("4294967295=x|", one 0 4294967295 11 1 13) ∷ ("4294967296=x|", Unreadable BadTag 0) ∷ ("0=x|", Unreadable BadTag 0) ∷ ("=x|", Unreadable BadTag 0) ∷ ("1a=x|", Unreadable BadTag 0) ∷ ("1a=x", Unreadable NoSeparator 0) ∷ ("1=x", Unreadable NoSeparator 0) ∷ ("1", Unreadable NoEquals 0) ∷ ("", Unreadable NoEquals 0) ∷ ("0035=x|", one 0 35 5 1 7) ∷ ("58=|", one 0 58 3 0 4) ∷ ("58=a=b|", one 0 58 3 3 7) ∷ ("5|8=x|", Unreadable BadTag 0) ∷ [])
-unfolding fieldAt fieldFrom withEquals withSeparator withTag findIn tagOf nonZero numberOf isDigit allDigits worth
+fields : Holds (λ s. fieldAt (separatedBy 1) s (startAt 0)) (("4294967295=x|", one 0 4294967295 11 1 13) ∷ ("4294967296=x|", Unreadable BadTag 0) ∷ ("0=x|", Unreadable BadTag 0) ∷ ("=x|", Unreadable BadTag 0) ∷ ("1a=x|", Unreadable BadTag 0) ∷ ("1a=x", Unreadable NoSeparator 0) ∷ ("1=x", Unreadable NoSeparator 0) ∷ ("1", Unreadable NoEquals 0) ∷ ("", Unreadable NoEquals 0) ∷ ("0035=x|", one 0 35 5 1 7) ∷ ("58=|", one 0 58 3 0 4) ∷ ("58=a=b|", one 0 58 3 3 7) ∷ ("5|8=x|", Unreadable BadTag 0) ∷ [])
+unfolding reading-fields
 fields = refl
 
 -- in the middle of a message, at its end and past it
-fields-later : map (λ (at : ℕ). fieldAt 1 (bytes "8=a|35=D|") (record { at = at })) (4 ∷ 9 ∷ 10 ∷ []) ≡ one 4 35 7 1 9 ∷ Unreadable NoEquals 9 ∷ Unreadable NoEquals 10 ∷ []
-unfolding fieldAt fieldFrom withEquals withSeparator withTag findIn tagOf nonZero numberOf isDigit allDigits worth
+fields-later : map (λ (at : ℕ). fieldAt (separatedBy 1) (bytes "8=a|35=D|") (startAt at)) (4 ∷ 9 ∷ 10 ∷ []) ≡ one 4 35 7 1 9 ∷ Unreadable NoEquals 9 ∷ Unreadable NoEquals 10 ∷ []
+unfolding reading-fields
 fields-later = refl
 
 -- one after the other, with the reason at the end
-all-fields : fieldsFrom 1 (bytes "8=a|35=D|0=x|") (record { at = 0 }) ≡ field (record { first = 0; tag = 8; place = 2; length = 1; next = record { at = 4 } }) (field (record { first = 4; tag = 35; place = 7; length = 1; next = record { at = 9 } }) (unreadable BadTag 9))
-unfolding fieldsFrom fieldsWithin followedBy fieldAt fieldFrom withEquals withSeparator withTag findIn tagOf nonZero numberOf isDigit allDigits worth
+all-fields : fieldsFrom (separatedBy 1) (bytes "8=a|35=D|0=x|") (startAt 0) ≡ field (record { first = 0; tag = 8; place = 2; length = 1; next = startAt 4 }) (field (record { first = 4; tag = 35; place = 7; length = 1; next = startAt 9 }) (unreadable BadTag 9))
+unfolding reading-fields
 all-fields = refl

@@ -8,38 +8,39 @@ use lib.Seq.{take-all, take-nil}
 use Rattle.tagvalue.specs.Find.{findIn}
 use Rattle.tagvalue.specs.FindLaws.{find-in}
 use Rattle.tagvalue.specs.Number.{tagOf}
-use Rattle.tagvalue.specs.Field.{fieldFrom, fieldAt, valueOf, withEquals, withSeparator, withTag}
+use Rattle.tagvalue.specs.Field.{startAt, fieldFrom, fieldAt, valueOf, withEquals, withSeparator, withTag}
 use Rattle.tagvalue.specs.declared.Found.{Found}
 use Rattle.tagvalue.specs.declared.Found.the-variants.{At, Nothing}
 use Rattle.tagvalue.specs.declared.Number.{Number}
 use Rattle.tagvalue.specs.declared.Number.the-variants.{Worth, NoNumber}
+use Rattle.tagvalue.specs.declared.Mode.{Mode}
 use Rattle.tagvalue.specs.declared.Cursor.{Cursor}
 use Rattle.tagvalue.specs.declared.Field.{Field}
 use Rattle.tagvalue.specs.declared.Cause.the-variants.{NoEquals, NoSeparator, BadTag}
 use Rattle.tagvalue.specs.declared.FieldRead.{FieldRead}
 use Rattle.tagvalue.specs.declared.FieldRead.the-variants.{Read, Unreadable}
 
-module _ (at separator : ℕ) (s : List ℕ) where
-  pub no-equals : findIn 61 0 s ≡ Nothing → fieldFrom at separator s ≡ Unreadable NoEquals at
+module _ (at : ℕ) (mode : Mode) (s : List ℕ) where
+  pub no-equals : findIn 61 0 s ≡ Nothing → fieldFrom at mode s ≡ Unreadable NoEquals at
   unfolding fieldFrom withEquals
   no-equals h = rw h
 
-  pub no-separator : (q : ℕ) → findIn 61 0 s ≡ At q → findIn separator 0 (drop (q + 1) s) ≡ Nothing → fieldFrom at separator s ≡ Unreadable NoSeparator at
+  pub no-separator : (q : ℕ) → findIn 61 0 s ≡ At q → findIn (mode .separator) 0 (drop (q + 1) s) ≡ Nothing → fieldFrom at mode s ≡ Unreadable NoSeparator at
   unfolding fieldFrom withEquals withSeparator
   no-separator q h e = rw (h, e)
 
-  pub bad-tag : (q n : ℕ) → findIn 61 0 s ≡ At q → findIn separator 0 (drop (q + 1) s) ≡ At n → tagOf (take q s) ≡ NoNumber → fieldFrom at separator s ≡ Unreadable BadTag at
+  pub bad-tag : (q n : ℕ) → findIn 61 0 s ≡ At q → findIn (mode .separator) 0 (drop (q + 1) s) ≡ At n → tagOf (take q s) ≡ NoNumber → fieldFrom at mode s ≡ Unreadable BadTag at
   unfolding fieldFrom withEquals withSeparator withTag
   bad-tag q n h e t = rw (h, e, t)
 
-  pub one-field : (q n t : ℕ) → findIn 61 0 s ≡ At q → findIn separator 0 (drop (q + 1) s) ≡ At n → tagOf (take q s) ≡ Worth t → fieldFrom at separator s ≡ Read (record { first = at; tag = t; place = at + (q + 1); length = n; next = record { at = at + (q + 1) + n + 1 } })
+  pub one-field : (q n t : ℕ) → findIn 61 0 s ≡ At q → findIn (mode .separator) 0 (drop (q + 1) s) ≡ At n → tagOf (take q s) ≡ Worth t → fieldFrom at mode s ≡ Read (record { first = at; tag = t; place = at + (q + 1); length = n; next = startAt (at + (q + 1) + n + 1) })
   unfolding fieldFrom withEquals withSeparator withTag
   one-field q n t h e g = rw (h, e, g)
 
 -- past the end there is no `=`
-pub past-end : (separator : ℕ) (message : List ℕ) (c : Cursor) → length message ≤ c .at → fieldAt separator message c ≡ Unreadable NoEquals (c .at)
+pub past-end : (mode : Mode) (message : List ℕ) (c : Cursor) → length message ≤ c .at → fieldAt mode message c ≡ Unreadable NoEquals (c .at)
 unfolding fieldAt fieldFrom withEquals findIn
-past-end separator message c h = rw (drop-of-length-le message h)
+past-end mode message c h = rw (drop-of-length-le message h)
 
 -- the value of a field, wherever the message ends
 module _ (message : List ℕ) (f : Field) where

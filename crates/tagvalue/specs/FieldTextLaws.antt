@@ -11,12 +11,13 @@ use Rattle.tagvalue.specs.Find.{findIn}
 use Rattle.tagvalue.specs.FindLaws.{Absent, Splits, find-splits, find-joins}
 use Rattle.tagvalue.specs.Number.{tagOf}
 use Rattle.tagvalue.specs.NumberLaws.{tag-some}
-use Rattle.tagvalue.specs.Field.{fieldFrom, fieldAt, fieldBytes, valueOf}
+use Rattle.tagvalue.specs.Field.{startAt, fieldFrom, fieldAt, fieldBytes, valueOf}
 use Rattle.tagvalue.specs.FieldLaws.{no-equals, no-separator, bad-tag, one-field}
 use Rattle.tagvalue.specs.declared.Found.{Found}
 use Rattle.tagvalue.specs.declared.Found.the-variants.{At, Nothing}
 use Rattle.tagvalue.specs.declared.Number.{Number}
 use Rattle.tagvalue.specs.declared.Number.the-variants.{Worth, NoNumber}
+use Rattle.tagvalue.specs.declared.Mode.{Mode}
 use Rattle.tagvalue.specs.declared.Cursor.{Cursor}
 use Rattle.tagvalue.specs.declared.Field.{Field}
 use Rattle.tagvalue.specs.declared.FieldRead.the-variants.{Read, Unreadable}
@@ -24,17 +25,17 @@ use Rattle.tagvalue.specs.declared.FieldRead.the-variants.{Read, Unreada
 -- the field that these texts spell at a place
 abbrev pub spelt : ℕ → ℕ → List ℕ → List ℕ → Field
 spelt at tag text value =
-    record { first = at; tag = tag; place = at + (length text + 1); length = length value; next = record { at = at + (length text + 1) + length value + 1 } }
+    record { first = at; tag = tag; place = at + (length text + 1); length = length value; next = startAt (at + (length text + 1) + length value + 1) }
 
 -- the bytes s, which stand at a place of a message, start with the text of the field f
-pub record Spelled (separator at : ℕ) (s : List ℕ) (f : Field) : Type 0 where
+pub record Spelled (mode : Mode) (at : ℕ) (s : List ℕ) (f : Field) : Type 0 where
   pub text : List ℕ
   pub value : List ℕ
   pub rest : List ℕ
-  pub whole : s ≡ fieldBytes separator text value ++ rest
+  pub whole : s ≡ fieldBytes (mode .separator) text value ++ rest
   pub is-tag : tagOf text ≡ Worth (f .tag)
   pub no-equals-before : Absent 61 text
-  pub no-separator-before : Absent separator value
+  pub no-separator-before : Absent (mode .separator) value
   pub is : f ≡ spelt at (f .tag) text value
 
 after-byte : (p q : List ℕ) (x n : ℕ) → length p ≡ n → drop (n + 1) (p ++ (x ∷ q)) ≡ q
@@ -52,49 +53,49 @@ value-part separator text value rest =
 pub bytes-size : (separator : ℕ) (text value : List ℕ) → length (fieldBytes separator text value) ≡ length text + 1 + length value + 1
 bytes-size separator text value = simp length-append (omega arith)
 
-module _ (separator at : ℕ) (s : List ℕ) (f : Field) where
+module _ (mode : Mode) (at : ℕ) (s : List ℕ) (f : Field) where
   -- what the text spells is read
-  pub spelled-read : Spelled separator at s f → fieldFrom at separator s ≡ Read f
+  pub spelled-read : Spelled mode at s f → fieldFrom at mode s ≡ Read f
   spelled-read w =
-      let tail : List ℕ = w .value ++ (separator ∷ (w .rest)) in
-      let whole : s ≡ w .text ++ (61 ∷ tail) = w .whole ∙ opened separator (w .text) (w .value) (w .rest) in
+      let tail : List ℕ = w .value ++ (mode .separator ∷ (w .rest)) in
+      let whole : s ≡ w .text ++ (61 ∷ tail) = w .whole ∙ opened (mode .separator) (w .text) (w .value) (w .rest) in
       let q : findIn 61 0 s ≡ At (length (w .text)) = rw whole (find-joins 61 0 (w .text) tail (w .no-equals-before) ∙ ap At (omega arith)) in
       let d : drop (length (w .text) + 1) s ≡ tail = rw whole (after-byte (w .text) tail 61 _ refl) in
-      let n : findIn separator 0 (drop (length (w .text) + 1) s) ≡ At (length (w .value)) = rw d (find-joins separator 0 (w .value) (w .rest) (w .no-separator-before) ∙ ap At (omega arith)) in
+      let n : findIn (mode .separator) 0 (drop (length (w .text) + 1) s) ≡ At (length (w .value)) = rw d (find-joins (mode .separator) 0 (w .value) (w .rest) (w .no-separator-before) ∙ ap At (omega arith)) in
       let t : take (length (w .text)) s ≡ w .text = rw whole (take-append-seam (w .text) (61 ∷ tail)) in
-      one-field at separator s _ _ (f .tag) q n (ap tagOf t ∙ w .is-tag) ∙ ap Read (sym (w .is))
+      one-field at mode s _ _ (f .tag) q n (ap tagOf t ∙ w .is-tag) ∙ ap Read (sym (w .is))
 
   -- what is read is spelled by the text
-  pub read-spelled : fieldFrom at separator s ≡ Read f → Spelled separator at s f
+  pub read-spelled : fieldFrom at mode s ≡ Read f → Spelled mode at s f
   read-spelled h = by-equals (findIn 61 0 s) refl
     where
-      by-tag : (q n : ℕ) → findIn 61 0 s ≡ At q → findIn separator 0 (drop (q + 1) s) ≡ At n → (g : Number) → tagOf (take q s) ≡ g → Spelled separator at s f
-      by-tag q n e d NoNumber t = let r = bad-tag at separator s q n e d t in let z : _≡_ {A = ℕ} 0 1 = cc in absurd (omega arith)
+      by-tag : (q n : ℕ) → findIn 61 0 s ≡ At q → findIn (mode .separator) 0 (drop (q + 1) s) ≡ At n → (g : Number) → tagOf (take q s) ≡ g → Spelled mode at s f
+      by-tag q n e d NoNumber t = let r = bad-tag at mode s q n e d t in let z : _≡_ {A = ℕ} 0 1 = cc in absurd (omega arith)
       by-tag q n e d (Worth tag) t =
-          let r = one-field at separator s q n tag e d t in
+          let r = one-field at mode s q n tag e d t in
           let a : Splits 61 s q = find-splits 61 s q e in
           let after : drop (q + 1) s ≡ a .after = ap (λ (l : List ℕ). drop (q + 1) l) (a .whole) ∙ after-byte (a .before) (a .after) 61 q (a .size) in
-          let b : Splits separator (a .after) n = find-splits separator (a .after) n (rw after at d) in
+          let b : Splits (mode .separator) (a .after) n = find-splits (mode .separator) (a .after) n (rw after at d) in
           let text : take q s ≡ a .before = ap (λ (l : List ℕ). take q l) (a .whole) ∙ take-at (a .before) (61 ∷ (a .after)) q (a .size) in
           let is : f ≡ spelt at tag (a .before) (b .before) = rw (a .size, b .size) (cc) in
           record {
             text = a .before;
             value = b .before;
             rest = b .after;
-            whole = a .whole ∙ ap (λ (l : List ℕ). a .before ++ (61 ∷ l)) (b .whole) ∙ sym (opened separator (a .before) (b .before) (b .after));
+            whole = a .whole ∙ ap (λ (l : List ℕ). a .before ++ (61 ∷ l)) (b .whole) ∙ sym (opened (mode .separator) (a .before) (b .before) (b .after));
             is-tag = rw text at t ∙ ap (λ (g : Field). Worth (g .tag)) (sym is);
             no-equals-before = a .absent;
             no-separator-before = b .absent;
             is = rw is refl;
           }
 
-      by-separator : (q : ℕ) → findIn 61 0 s ≡ At q → (d : Found) → findIn separator 0 (drop (q + 1) s) ≡ d → Spelled separator at s f
-      by-separator q e Nothing d = let r = no-separator at separator s q e d in let z : _≡_ {A = ℕ} 0 1 = cc in absurd (omega arith)
+      by-separator : (q : ℕ) → findIn 61 0 s ≡ At q → (d : Found) → findIn (mode .separator) 0 (drop (q + 1) s) ≡ d → Spelled mode at s f
+      by-separator q e Nothing d = let r = no-separator at mode s q e d in let z : _≡_ {A = ℕ} 0 1 = cc in absurd (omega arith)
       by-separator q e (At n) d = by-tag q n e d (tagOf (take q s)) refl
 
-      by-equals : (e : Found) → findIn 61 0 s ≡ e → Spelled separator at s f
-      by-equals Nothing e = let r = no-equals at separator s e in let z : _≡_ {A = ℕ} 0 1 = cc in absurd (omega arith)
-      by-equals (At q) e = by-separator q e (findIn separator 0 (drop (q + 1) s)) refl
+      by-equals : (e : Found) → findIn 61 0 s ≡ e → Spelled mode at s f
+      by-equals Nothing e = let r = no-equals at mode s e in let z : _≡_ {A = ℕ} 0 1 = cc in absurd (omega arith)
+      by-equals (At q) e = by-separator q e (findIn (mode .separator) 0 (drop (q + 1) s)) refl
 
 -- Where a field lies: it starts at the place where reading stood, it is at least a digit, `=` and a separator, its value ends where
 -- the separator stands, and all of it is within the n bytes that were there.
@@ -105,8 +106,8 @@ pub record Lies (at n : ℕ) (f : Field) : Type 0 where
   pub ends : f .place + f .length + 1 ≡ f .next .at
   pub within : f .next .at ≤ at + n
 
-spelled-lies : (separator at : ℕ) (s : List ℕ) (f : Field) → Spelled separator at s f → Lies at (length s) f
-spelled-lies separator at s f w =
+spelled-lies : (mode : Mode) (at : ℕ) (s : List ℕ) (f : Field) → Spelled mode at s f → Lies at (length s) f
+spelled-lies mode at s f w =
     let e = w .is in
     let some = tag-some (w .text) (f .tag) (w .is-tag) in
     let size : length s ≡ length (w .text) + 1 + length (w .value) + 1 + length (w .rest) = ap length (w .whole) ∙ simp length-append (omega arith) in
@@ -116,8 +117,8 @@ spelled-lies separator at s f w =
     let next : f .next .at ≡ at + (length (w .text) + 1) + length (w .value) + 1 = ap (λ (g : Field). g .next .at) e in
     record { starts = first; falls = omega arith; value-after = omega arith; ends = omega arith; within = omega arith }
 
-pub field-lies : (separator at : ℕ) (s : List ℕ) (f : Field) → fieldFrom at separator s ≡ Read f → Lies at (length s) f
-field-lies separator at s f h = spelled-lies separator at s f (read-spelled separator at s f h)
+pub field-lies : (mode : Mode) (at : ℕ) (s : List ℕ) (f : Field) → fieldFrom at mode s ≡ Read f → Lies at (length s) f
+field-lies mode at s f h = spelled-lies mode at s f (read-spelled mode at s f h)
 
 -- a list that reaches past the start of another begins with that start
 begins : (p q a t : List ℕ) → a ++ t ≡ p ++ q → length p ≤ length a → a ≡ p ++ drop (length p) a
@@ -126,13 +127,13 @@ begins p q a t e h =
     sym (take-append-drop (length p) a) ∙ ap (λ (l : List ℕ). l ++ drop (length p) a) front
 
 -- a field that ends within a depends on no byte behind a
-pub field-depends : (separator at : ℕ) (a t u : List ℕ) (f : Field) → fieldFrom at separator (a ++ t) ≡ Read f → f .next .at ≤ at + length a → fieldFrom at separator (a ++ u) ≡ Read f
-field-depends separator at a t u f h l =
-    let w : Spelled separator at (a ++ t) f = read-spelled separator at (a ++ t) f h in
-    let p : List ℕ = fieldBytes separator (w .text) (w .value) in
-    let fits : length p ≤ length a = omega (arith, bytes-size separator (w .text) (w .value), ap (λ (g : Field). g .next .at) (w .is)) in
+pub field-depends : (mode : Mode) (at : ℕ) (a t u : List ℕ) (f : Field) → fieldFrom at mode (a ++ t) ≡ Read f → f .next .at ≤ at + length a → fieldFrom at mode (a ++ u) ≡ Read f
+field-depends mode at a t u f h l =
+    let w : Spelled mode at (a ++ t) f = read-spelled mode at (a ++ t) f h in
+    let p : List ℕ = fieldBytes (mode .separator) (w .text) (w .value) in
+    let fits : length p ≤ length a = omega (arith, bytes-size (mode .separator) (w .text) (w .value), ap (λ (g : Field). g .next .at) (w .is)) in
     let cut : a ≡ p ++ drop (length p) a = begins p (w .rest) a t (w .whole) fits in
-    spelled-read separator at (a ++ u) f
+    spelled-read mode at (a ++ u) f
     (record {
       text = w .text;
       value = w .value;

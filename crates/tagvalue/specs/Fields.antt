@@ -1,8 +1,9 @@
 -- Stage one of reading: all the fields that can be read one after the other, and why there is no further one.
-use Prim.Native.Nat.{ℕ, zero, suc, _-_}
+use Prim.Native.Nat.{ℕ, zero, suc, _+_, _-_, _≤_}
 use mathlib.Core.List.{List}
 use lib.ListN.{length}
 use Rattle.tagvalue.specs.Field.{fieldAt}
+use Rattle.tagvalue.specs.declared.Mode.{Mode}
 use Rattle.tagvalue.specs.declared.Cursor.{Cursor}
 use Rattle.tagvalue.specs.declared.Field.{Field}
 use Rattle.tagvalue.specs.declared.Cause.{Cause}
@@ -20,11 +21,25 @@ followedBy (Unreadable cause place) rest = unreadable cause place
 followedBy (Read f) rest = field f (rest f)
 
 -- at most so many fields, which is enough where no more bytes than that are left
-unfoldable pub fieldsWithin : ℕ → ℕ → List ℕ → Cursor → Fields
-fieldsWithin zero separator message c = unreadable NoEquals (c .at)
-fieldsWithin (suc fuel) separator message c =
-    followedBy (fieldAt separator message c) (λ f. fieldsWithin fuel separator message (f .next))
+unfoldable pub fieldsWithin : ℕ → Mode → List ℕ → Cursor → Fields
+fieldsWithin zero mode message c = unreadable NoEquals (c .at)
+fieldsWithin (suc fuel) mode message c =
+    followedBy (fieldAt mode message c) (λ f. fieldsWithin fuel mode message (f .next))
 
 -- all the fields from a cursor on
-unfoldable pub fieldsFrom : ℕ → List ℕ → Cursor → Fields
-fieldsFrom separator message c = fieldsWithin (length message - c .at) separator message c
+unfoldable pub fieldsFrom : Mode → List ℕ → Cursor → Fields
+fieldsFrom mode message c = fieldsWithin (length message - c .at) mode message c
+
+-- a field's value lies within the message
+pub record Inside (message : List ℕ) (f : Field) : Type 0 where
+  pub within : f .place + f .length ≤ length message
+
+-- what holds of each field
+pub data Each (P : Field → Type 0) : Fields → Type 0 where
+  each-end : {cause : Cause} {place : ℕ} → Each P (unreadable cause place)
+  each-field : {f : Field} {rest : Fields} → P f → Each P rest → Each P (field f rest)
+
+-- where fields start
+unfoldable pub startOf : Fields → ℕ
+startOf (unreadable cause place) = place
+startOf (field f rest) = f .first

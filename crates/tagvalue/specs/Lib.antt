@@ -13,6 +13,9 @@ pub mod FieldLaws
 pub mod FieldTextLaws
 pub mod Fields
 pub mod FieldsLaws
+pub mod PlaceLaws
+pub mod SpelledLaws
+pub mod Computing
 pub mod Standard
 pub mod StandardLaws
 pub mod Examples

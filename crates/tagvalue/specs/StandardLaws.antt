@@ -13,12 +13,13 @@ use Rattle.tagvalue.specs.Number.{isDigit, allDigits, worth, numberOf, t
 use Rattle.tagvalue.specs.NumberLaws.{worth-least, number-good, tag-good}
 use Rattle.tagvalue.specs.FindLaws.{Absent}
 use Rattle.tagvalue.specs.FindLaws as find
-use Rattle.tagvalue.specs.Field.{fieldAt, fieldBytes, valueOf}
+use Rattle.tagvalue.specs.Field.{separatedBy, startAt, fieldAt, fieldBytes, valueOf}
 use Rattle.tagvalue.specs.FieldTextLaws.{Spelled, spelt, spelled-read, bytes-size}
 use Rattle.tagvalue.specs.FieldsLaws.{step-value}
 use Rattle.tagvalue.specs.Standard as standard
 use Rattle.tagvalue.specs.Standard.{All, Digit, SOH}
 use Rattle.tagvalue.specs.declared.Number.the-variants.{Worth}
+use Rattle.tagvalue.specs.declared.Mode.{Mode}
 use Rattle.tagvalue.specs.declared.Cursor.{Cursor}
 use Rattle.tagvalue.specs.declared.Field.{Field}
 use Rattle.tagvalue.specs.declared.FieldRead.the-variants.{Read}
@@ -53,9 +54,9 @@ tag-read text tag t h =
     (λ e. omega (arith, t .int .worth, not-nothing (t .highest) (t .others) (t .no-leading-zero) (rw (t .starts) at (t .int .digits)), ap (standard.worthAfter 0) (t .starts)))
 
 -- a field that was read at a place, with its tag, its value and where it ends
-pub record ReadAs (separator : ℕ) (message : List ℕ) (at tag : ℕ) (value : List ℕ) (next : ℕ) : Type 0 where
+pub record ReadAs (mode : Mode) (message : List ℕ) (at tag : ℕ) (value : List ℕ) (next : ℕ) : Type 0 where
   pub got : Field
-  pub reads : fieldAt separator message (record { at = at }) ≡ Read got
+  pub reads : fieldAt mode message (startAt at) ≡ Read got
   pub starts : got .first ≡ at
   pub tag-is : got .tag ≡ tag
   pub value-is : valueOf message got ≡ value
@@ -63,15 +64,15 @@ pub record ReadAs (separator : ℕ) (message : List ℕ) (at tag : ℕ) (value :
 
 -- THE STANDARD, one field: wherever it stands in a message, a field of the standard is read with its tag and value, and reading goes
 -- on right behind it. The standard sets no limit to tags; 01 does.
-pub standard-field : (tag : ℕ) (value bytes before rest : List ℕ) → standard.Field tag value bytes → tag ≤ 4294967295 → ReadAs SOH (before ++ (bytes ++ rest)) (length before) tag value (length before + length bytes)
+pub standard-field : (tag : ℕ) (value bytes before rest : List ℕ) → standard.Field tag value bytes → tag ≤ 4294967295 → ReadAs (separatedBy SOH) (before ++ (bytes ++ rest)) (length before) tag value (length before + length bytes)
 unfolding fieldAt
 standard-field tag value bytes before rest s h =
     let text : List ℕ = s .text in
     let f : Field = spelt (length before) tag text value in
-    let c : Cursor = record { at = length before } in
+    let c : Cursor = startAt (length before) in
     let message : List ℕ = before ++ (bytes ++ rest) in
     let here : drop (length before) message ≡ bytes ++ rest = drop-append-seam before (bytes ++ rest) in
-    let w : Spelled SOH (length before) (drop (length before) message) f = record {
+    let w : Spelled (separatedBy SOH) (length before) (drop (length before) message) f = record {
       text = text;
       value = value;
       rest = rest;
@@ -83,9 +84,9 @@ standard-field tag value bytes before rest s h =
     } in
     record {
       got = f;
-      reads = spelled-read SOH (length before) (drop (length before) message) f w;
+      reads = spelled-read (separatedBy SOH) (length before) (drop (length before) message) f w;
       starts = refl;
       tag-is = refl;
-      value-is = step-value SOH message c f w;
+      value-is = step-value (separatedBy SOH) message c f w;
       next-is = omega (arith, ap length (s .whole), bytes-size SOH text value);
     }

@@ -9,7 +9,7 @@ ghost use Rattle.tagvalue.specs.Number.{numberOf, tagOf};
 ghost use Rattle.tagvalue.specs.Separator.{isRefusedSeparator};
 ghost use Rattle.tagvalue.specs.CheckSum.{sumOf, checksumOf, checksumDigits};
 ghost use Rattle.tagvalue.specs.Decimal.{decimal, writtenAt, answerAt};
-ghost use Rattle.tagvalue.specs.Field.{fieldFrom, fieldAt, valueOf};
+ghost use Rattle.tagvalue.specs.Field.{separatedBy, startAt, fieldFrom, fieldAt, valueOf};
 
 pub enum Found {
     At(usize),
@@ -179,9 +179,26 @@ pub fn write_number(output: &mut [u8], at: usize, n: u32) -> Written
     Written::Next(at + count)
 }
 
+// How fields are read. Whoever reads hands it on whole: what a way of reading must know goes here.
+pub struct Mode {
+    pub separator: u8,
+}
+
+pub fn separated_by(separator: u8) -> Mode
+    ensures { λ r. ⌜ r ≡ separatedBy separator ⌝ }
+{
+    Mode { separator }
+}
+
 // Where reading stands. It is handed on whole: what reading one field must tell the next goes here.
 pub struct Cursor {
     pub at: usize,
+}
+
+pub fn start_at(at: usize) -> Cursor
+    ensures { λ r. ⌜ r ≡ startAt at ⌝ }
+{
+    Cursor { at }
 }
 
 // One field of a message: where it starts, its tag, the place and length of its value, and where the next one starts.
@@ -206,24 +223,22 @@ pub enum FieldRead {
 }
 
 // The field at the start of a part of the message; `at` is the part's place in the message.
-fn field_from(at: usize, rest: &[u8], separator: u8) -> FieldRead
+fn field_from(at: usize, rest: &[u8], mode: Mode) -> FieldRead
     requires { ⌜ at + length (now rest) < 2 ^ 63 ⌝ }
-    ensures { λ r. ⌜ r ≡ fieldFrom at separator (now (rest .entry)) ⌝ }
+    ensures { λ r. ⌜ r ≡ fieldFrom at mode (now (rest .entry)) ⌝ }
 {
     let Found::At(equals) = find(rest, 61) else {
         return FieldRead::Unreadable(Cause::NoEquals, at);
     };
     let value = equals + 1;
-    let Found::At(length) = find(&rest[value..], separator) else {
+    let Found::At(length) = find(&rest[value..], mode.separator) else {
         return FieldRead::Unreadable(Cause::NoSeparator, at);
     };
     let Number::Worth(tag) = tag_of(&rest[..equals]) else {
         return FieldRead::Unreadable(Cause::BadTag, at);
     };
     let place = at + value;
-    let next = Cursor {
-        at: place + length + 1,
-    };
+    let next = start_at(place + length + 1);
     FieldRead::Read(Field {
         first: at,
         tag,
@@ -235,14 +250,14 @@ fn field_from(at: usize, rest: &[u8], separator: u8) -> FieldRead
 
 impl Cursor {
     // The field that starts here.
-    pub fn next_field(self, message: &[u8], separator: u8) -> FieldRead
-        ensures { λ r. ⌜ r ≡ fieldAt separator (now (message .entry)) self ⌝ }
+    pub fn next_field(self, message: &[u8], mode: Mode) -> FieldRead
+        ensures { λ r. ⌜ r ≡ fieldAt mode (now (message .entry)) self ⌝ }
     {
         let at = self.at;
         if message.len() < at {
             return FieldRead::Unreadable(Cause::NoEquals, at);
         }
-        field_from(at, &message[at..], separator)
+        field_from(at, &message[at..], mode)
     }
 }
 

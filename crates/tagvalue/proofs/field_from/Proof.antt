@@ -59,7 +59,7 @@ returns-2 c =
 
 -- the separator after it
 separator-at : (c : tie.After-known-told2) → let a = c .before .before .before .before .before in
-    findIn (a .before .before .before .before .before .args .separator) 0 (drop (a .before .equals .given .0 .0 + 1) (a .before .before .before .before .before .args .rest .now)) ≡ At (c .before .length .given .0 .0)
+    findIn (a .before .before .before .before .before .args .mode .separator) 0 (drop (a .before .equals .given .0 .0 + 1) (a .before .before .before .before .before .args .rest .now)) ≡ At (c .before .length .given .0 .0)
 separator-at c = rw rest-part at (sym (c .before .before .before .find2 .ensures) ∙ c .before .length .given .1)
 
 separator-in : (c : tie.After-known-told2) → let a = c .before .before .before .before .before in
@@ -86,15 +86,20 @@ returns-3 c = let b = c .before .before .before .before in
 add-place : tie.Need-add-place
 add-place c = omega (arith, separator-in (c .before .before .before .before .before), c .before .before .before .before .before .before .before .before .before .before .before .before .before .before .before .pre)
 
-add-t14 : tie.Need-add-t14
-add-t14 c = omega (arith, separator-in (c .before .before .before .before .before), c .before .before .before .before .before .before .before .before .before .before .before .before .before .before .before .pre)
+add-start-at : tie.Need-add-start-at
+add-start-at c = omega (arith, separator-in (c .before .before .before .before .before), c .before .before .before .before .before .before .before .before .before .before .before .before .before .before .before .pre)
 
-add-t22 : tie.Need-add-t22
-add-t22 c = omega (arith, separator-in (c .before .before .before .before .before), c .before .before .before .before .before .before .before .before .before .before .before .before .before .before .before .pre)
+add-start-at-2 : tie.Need-add-start-at-2
+add-start-at-2 c = omega (arith, separator-in (c .before .before .before .before .before), c .before .before .before .before .before .before .before .before .before .before .before .before .before .before .before .pre)
+
+start-at-requires : tie.Need-start-at-requires
+start-at-requires c κs = search needs
 
 returns-4 : tie.Need-returns-4
-returns-4 c = let b = c .before .before .before .before .before in
-    sym (one-field _ _ _ _ _ _ (equals-at (b .before .before .before .before .before)) (separator-at b) (sym (c .before .before .before .tag-of .ensures) ∙ c .before .tag .given .1))
+returns-4 c = let a = c .before in
+    let b = a .before .before .before .before .before in
+    rw (c .start-at .ensures)
+    (sym (one-field _ _ _ _ _ _ (equals-at (b .before .before .before .before .before)) (separator-at b) (sym (a .before .before .before .tag-of .ensures) ∙ a .before .tag .given .1)))
 
 pub field-from-spec : {M : Type 1} → statement M
 field-from-spec =
@@ -118,6 +123,7 @@ field-from-spec =
     enum-told-3
     returns-3
     add-place
-    add-t14
-    add-t22
+    add-start-at
+    add-start-at-2
+    start-at-requires
     returns-4)

@@ -1,0 +1,13 @@
+-- A settings word: bit 0 is validation, and no other bit means anything.
+use Prim.Native.Nat.{ℕ, _%_}
+use mathlib.Core.Bool.{Bool}
+use lib.Dec.{eqb}
+use Rattle.tagvalue.specs.Field.{separatedBy}
+use Rattle.build_config.specs.declared.Config.{Config}
+
+unfoldable pub validates : ℕ → Bool
+validates settings = eqb (settings % 2) 1
+
+-- the word, beside the separator
+unfoldable pub configOf : ℕ → ℕ → Config
+configOf settings separator = record { mode = separatedBy separator; validate = validates settings }
