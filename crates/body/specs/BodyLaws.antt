@@ -4,7 +4,7 @@ use mathlib.Core.Bool.{Bool, true, false}
 use mathlib.Core.List.{List}
 use Prim.Native.Nat.{ℕ, zero, suc, _+_, _-_, _≤_, _<_}
 use native.Mathlib.Omega.{arith}
-use Rattle.tagvalue.specs.Choice.{pick}
+use Rattle.tagvalue.specs.declared.Mode.{Mode}
 use Rattle.tagvalue.specs.Field.{fieldAt}
 use Rattle.tagvalue.specs.Fields.{Fields, unreadable, field, fieldsFrom}
 use Rattle.tagvalue.specs.FieldsLaws.{fields-field, fields-end}
@@ -20,7 +20,7 @@ use Rattle.parts.specs.declared.Answer.the-variants.{InvalidField}
 use Rattle.parts.specs.declared.Next.the-variants.{Got, Missing}
 use Rattle.parts.specs.Parts.{Reading, ended, refused, recordOf, nextOf}
 use Rattle.parts.specs.PartLaws.{taken}
-use Rattle.body.specs.Body.{Body, Kind, plain, counts, other, storedRun, andThen, nextFrom, withRun, takes, bodyWithin, bodyFrom}
+use Rattle.body.specs.Body.{Body, Kind, plain, counts, other, andThen, nextFrom, withRun, takes, bodyWithin, bodyFrom}
 
 -- a run leaves less room than it had
 abbrev pub Falls : (Fields → ℕ → Reading) → Type 0
@@ -85,18 +85,18 @@ module _ {L : Type 0} (body : Body L) (falls : (inner : L) (tag : ℕ) → Falls
     unfolding takes
     body-invalid e h = turn other e ∙ rw h
 
-module _ (separator : ℕ) (message : List ℕ) (c : Cursor) (room : ℕ) (records : List Record) where
-  pub next-missing : (answer : Answer) → nextOf room (fieldAt separator message c) ≡ Missing answer → nextFrom (fieldsFrom separator message c) room records ≡ refused answer
+module _ (mode : Mode) (message : List ℕ) (c : Cursor) (room : ℕ) (records : List Record) where
+  pub next-missing : (answer : Answer) → nextOf room (fieldAt mode message c) ≡ Missing answer → nextFrom (fieldsFrom mode message c) room records ≡ refused answer
   unfolding nextOf nextFrom
-  next-missing answer h = go (fieldAt separator message c) refl room h
+  next-missing answer h = go (fieldAt mode message c) refl room h
     where
-      go : (r : FieldRead) → fieldAt separator message c ≡ r → (room : ℕ) → nextOf room r ≡ Missing answer → nextFrom (fieldsFrom separator message c) room records ≡ refused answer
-      go (Unreadable cause place) e room h = rw (fields-end separator message c cause place e) (ap refused (cc))
-      go (Read f) e zero h = rw (fields-field separator message c f e) (ap refused (cc))
+      go : (r : FieldRead) → fieldAt mode message c ≡ r → (room : ℕ) → nextOf room r ≡ Missing answer → nextFrom (fieldsFrom mode message c) room records ≡ refused answer
+      go (Unreadable cause place) e room h = rw (fields-end mode message c cause place e) (ap refused (cc))
+      go (Read f) e zero h = rw (fields-field mode message c f e) (ap refused (cc))
       go (Read f) e (suc room) h = let z : _≡_ {A = ℕ} 0 1 = cc in absurd (omega arith)
 
-  pub next-found : (f : Field) → nextOf room (fieldAt separator message c) ≡ Got f → nextFrom (fieldsFrom separator message c) room records ≡ ended f (fieldsFrom separator message (f .next)) (room - 1) records
+  pub next-found : (f : Field) → nextOf room (fieldAt mode message c) ≡ Got f → nextFrom (fieldsFrom mode message c) room records ≡ ended f (fieldsFrom mode message (f .next)) (room - 1) records
   unfolding nextFrom
   next-found f got =
-      let t = taken separator message c f room got in
-      ap (λ (l : Fields). nextFrom l room records) (t .fields) ∙ ap (λ (n : ℕ). nextFrom (field f (fieldsFrom separator message (f .next))) n records) (t .one-less)
+      let t = taken mode message c f room got in
+      ap (λ (l : Fields). nextFrom l room records) (t .fields) ∙ ap (λ (n : ℕ). nextFrom (field f (fieldsFrom mode message (f .next))) n records) (t .one-less)

@@ -5,14 +5,15 @@ use mathlib.Core.List.{List, [], _∷_}
 use Prim.Native.Nat.{ℕ, zero, suc, _+_, _-_, _/_, _≤_, _<_}
 use native.Mathlib.Omega.{arith}
 use lib.ListN.{length}
-use Rattle.tagvalue.specs.Fields.{Fields, unreadable, field, fieldsFrom}
+use Rattle.tagvalue.specs.declared.Mode.{Mode}
+use Rattle.tagvalue.specs.Fields.{Fields, unreadable, field, fieldsFrom, Each, each-end, each-field}
 use Rattle.tagvalue.specs.declared.Field.{Field}
 use Rattle.layout.specs.Tree.{holdsTag}
 use Rattle.records.specs.Records.{stored}
 use Rattle.records.specs.declared.Record.{Record}
 use Rattle.groups.specs.Groups.{Rules, run, Outcome, walk}
 use Rattle.groups.specs.Groups.{ended as ran, refused as stops}
-use Rattle.groups.specs.GroupLaws.{Each, each-end, each-field, keeps}
+use Rattle.groups.specs.GroupLaws.{keeps}
 use Rattle.groups.specs.Reading.{listStore}
 use Rattle.required.specs.Required.{Demands, runLack}
 use Rattle.required.specs.declared.Lack.{Lack}
@@ -22,8 +23,7 @@ use Rattle.parts.specs.declared.Answer.the-variants.{InvalidField}
 use Rattle.parts.specs.declared.Progress.{Progress}
 use Rattle.parts.specs.declared.PartRead.{PartRead}
 use Rattle.parts.specs.declared.PartRead.the-variants.{At, Refused}
-use Rattle.parts.specs.Parts.{Reading, ended, refused, recordOf, partOf, partTold, Ends, Stays}
-use Rattle.parts.specs.PartLaws.{stays-refused, stays-at}
+use Rattle.parts.specs.Parts.{Reading, ended, refused, recordOf, partOf, partTold, Stays}
 use Rattle.body.specs.Body.{plain, counts, other, andThen, nextFrom, withRun, bodyFrom}
 use Rattle.body.specs.BodyLaws.{Falls, body-plain, body-run, body-ends, body-invalid}
 use Rattle.body.specs.Kinds.{kindOf, checked, ranAs, runFrom, bodyOf}
@@ -54,43 +54,43 @@ module _ {L : Type 0} (rules : Rules L) (demands : Demands L) where
           let same = by-lack g behind here entries (runLack demands 4 inner tag 1 entries) e in
           omega (arith, k .holds)
 
-  module _ (separator : ℕ) (message : List ℕ) (from : ℕ) (trailerTags : List ℕ) (level : L) (reading : PartRead) (words : List ℕ) where
+  module _ (mode : Mode) (message : List ℕ) (from : ℕ) (trailerTags : List ℕ) (level : L) (reading : PartRead) (words : List ℕ) where
     abbrev pub left : Reading
-    left = andThen (partTold separator message from reading words) (bodyFrom (bodyOf rules demands trailerTags level))
+    left = andThen (partTold mode message from reading words) (bodyFrom (bodyOf rules demands trailerTags level))
 
-    pub left-refused : (answer : Answer) → reading ≡ Refused answer → left ≡ partTold separator message from reading words
+    pub left-refused : (answer : Answer) → reading ≡ Refused answer → left ≡ partTold mode message from reading words
     unfolding partTold andThen
     left-refused answer e = rw e
 
     module _ (f : Field) (p : Progress) (e : reading ≡ At f p) where
       abbrev here : Reading
-      here = bodyFrom (bodyOf rules demands trailerTags level) (field f (fieldsFrom separator message (f .next))) (suc (p .room)) (partOf from (p .records) words)
+      here = bodyFrom (bodyOf rules demands trailerTags level) (field f (fieldsFrom mode message (f .next))) (suc (p .room)) (partOf from (p .records) words)
 
       left-here : left ≡ here
       unfolding partTold andThen
       left-here = rw e
 
-      pub left-plain : kindOf rules level (f .tag) ≡ plain → (next : PartRead) (later : List ℕ) → partTold separator message from next later ≡ nextFrom (fieldsFrom separator message (f .next)) (p .room) (stored (recordOf 2 f) (partOf from (p .records) words)) →
-          left ≡ andThen (partTold separator message from next later) (bodyFrom (bodyOf rules demands trailerTags level))
+      pub left-plain : kindOf rules level (f .tag) ≡ plain → (next : PartRead) (later : List ℕ) → partTold mode message from next later ≡ nextFrom (fieldsFrom mode message (f .next)) (p .room) (stored (recordOf 2 f) (partOf from (p .records) words)) →
+          left ≡ andThen (partTold mode message from next later) (bodyFrom (bodyOf rules demands trailerTags level))
       unfolding bodyOf
       left-plain k next later told =
-          left-here ∙ body-plain (bodyOf rules demands trailerTags level) run-falls f (fieldsFrom separator message (f .next)) (p .room) (partOf from (p .records) words) k
+          left-here ∙ body-plain (bodyOf rules demands trailerTags level) run-falls f (fieldsFrom mode message (f .next)) (p .room) (partOf from (p .records) words) k
           ∙ ap (λ (r : Reading). andThen r (bodyFrom (bodyOf rules demands trailerTags level))) (sym told)
 
-      pub left-run : (inner : L) → kindOf rules level (f .tag) ≡ counts inner → (next : PartRead) (later : List ℕ) → partTold separator message from next later ≡ withRun (recordOf 2 f) (partOf from (p .records) words) (runFrom rules demands inner (f .tag) (fieldsFrom separator message (f .next)) (p .room)) →
-          left ≡ andThen (partTold separator message from next later) (bodyFrom (bodyOf rules demands trailerTags level))
+      pub left-run : (inner : L) → kindOf rules level (f .tag) ≡ counts inner → (next : PartRead) (later : List ℕ) → partTold mode message from next later ≡ withRun (recordOf 2 f) (partOf from (p .records) words) (runFrom rules demands inner (f .tag) (fieldsFrom mode message (f .next)) (p .room)) →
+          left ≡ andThen (partTold mode message from next later) (bodyFrom (bodyOf rules demands trailerTags level))
       unfolding bodyOf
       left-run inner k next later told =
-          left-here ∙ body-run (bodyOf rules demands trailerTags level) run-falls f (fieldsFrom separator message (f .next)) (p .room) (partOf from (p .records) words) inner k
+          left-here ∙ body-run (bodyOf rules demands trailerTags level) run-falls f (fieldsFrom mode message (f .next)) (p .room) (partOf from (p .records) words) inner k
           ∙ ap (λ (r : Reading). andThen r (bodyFrom (bodyOf rules demands trailerTags level))) (sym told)
 
-      pub left-ends : kindOf rules level (f .tag) ≡ other → holdsTag (f .tag) trailerTags ≡ true → left ≡ partTold separator message from (At f p) words
+      pub left-ends : kindOf rules level (f .tag) ≡ other → holdsTag (f .tag) trailerTags ≡ true → left ≡ partTold mode message from (At f p) words
       unfolding bodyOf partTold
-      left-ends k h = left-here ∙ body-ends (bodyOf rules demands trailerTags level) run-falls f (fieldsFrom separator message (f .next)) (p .room) (partOf from (p .records) words) k h
+      left-ends k h = left-here ∙ body-ends (bodyOf rules demands trailerTags level) run-falls f (fieldsFrom mode message (f .next)) (p .room) (partOf from (p .records) words) k h
 
       pub left-invalid : kindOf rules level (f .tag) ≡ other → holdsTag (f .tag) trailerTags ≡ false → left ≡ refused (InvalidField (f .tag))
       unfolding bodyOf
-      left-invalid k h = left-here ∙ body-invalid (bodyOf rules demands trailerTags level) run-falls f (fieldsFrom separator message (f .next)) (p .room) (partOf from (p .records) words) k h
+      left-invalid k h = left-here ∙ body-invalid (bodyOf rules demands trailerTags level) run-falls f (fieldsFrom mode message (f .next)) (p .room) (partOf from (p .records) words) k h
 
 -- one step after another
 pub stays-on : (message entry words exit : List ℕ) (from room limit : ℕ) (next : PartRead) → length words ≡ length entry → partOf 0 from words ≡ partOf 0 from entry → room < limit → Stays message words exit from room next → Stays message entry exit from limit next

@@ -6,19 +6,18 @@ use Prim.Native.Nat.{ℕ, zero, suc, _+_, _-_, _/_, _≤_, _<_, _^_}
 use native.Mathlib.Omega.{arith}
 use lib.ListN.{length, take, drop, length-append, length-drop, take-append-drop}
 use lib.Seq.{length-take-le, take-take, take-append-seam}
-use Rattle.tagvalue.specs.Fields.{Fields, unreadable, field, fieldsFrom}
+use Rattle.tagvalue.specs.Fields.{Fields, fieldsFrom, Inside}
 use Rattle.tagvalue.specs.declared.Cursor.{Cursor}
 use Rattle.tagvalue.specs.declared.Field.{Field}
-use Rattle.integrity.specs.declared.Config.{Config}
+use Rattle.build_config.specs.declared.Config.{Config}
 use Rattle.layout.specs.declared.Level.{Level}
 use Rattle.records.specs.Records.{recordsOf, between}
 use Rattle.records.specs.WordLaws.{records-length}
 use Rattle.records.specs.RecordLaws.{between-parts}
 use Rattle.records.specs.declared.Record.{Record}
-use Rattle.groups.specs.Groups.{Rules, run, Outcome, ended, refused, walk}
-use Rattle.groups.specs.GroupLaws.{Each, each-end, each-field, keeps}
-use Rattle.groups.specs.Reading.{Memory, memory, listStore, wordStore, tableRules, toldBy, runOf, Fits}
-use Rattle.groups.specs.ReadingLaws.{Inside, Follows, roomOf, told-follows}
+use Rattle.groups.specs.Groups.{run, Outcome, ended, refused, walk}
+use Rattle.groups.specs.Reading.{Memory, memory, listStore, tableRules, toldBy, runOf, Fits}
+use Rattle.groups.specs.ReadingLaws.{roomOf, told-follows}
 use Rattle.groups.specs.declared.Reading.{Reading}
 use Rattle.groups.specs.declared.Reading.the-variants.{At, Refused}
 use Rattle.groups.specs.declared.Progress.{Progress}
@@ -33,7 +32,7 @@ use Rattle.parts.specs.Parts.{partOf, partTold, Stays, Reading as Read, ended a
 use Rattle.body.specs.Kinds.{answerOf, checked, ranAs, runFrom}
 use Rattle.parts.specs.PartLaws.{parted, part-length, stays-refused, stays-at}
 use Rattle.body.specs.Body.{storedRun, withRun, Opened}
-use Rattle.body.specs.RunLaws.{between-split, split-front, split-back}
+use Rattle.body.specs.RunLaws.{between-split}
 use Rattle.body.specs.RunWords.{shifted, Stands, Agrees, both-end, both-refuse, walk-agrees}
 
 module _ (before after : List Record) where
@@ -69,7 +68,7 @@ module _ (message : List ℕ) (config : Config) (table : List ℕ) (known : ℕ 
   start = record { room = room; records = opening .records; place = opening .place }
 
   abbrev pub alone : Outcome (List Record) (List Record)
-  alone = walk (tableRules (config .validate) table known) listStore room (run inner tag 1 0 ∷ []) [] (fieldsFrom (config .separator) message cursor)
+  alone = walk (tableRules config table known) listStore room (run inner tag 1 0 ∷ []) [] (fieldsFrom (config .mode) message cursor)
 
   abbrev before : List Record
   before = take (opening .place) (recordsOf mid)
@@ -91,9 +90,9 @@ module _ (message : List ℕ) (config : Config) (table : List ℕ) (known : ℕ 
         fits = omega (arith, length-drop (opening .records) (recordsOf mid));
       }
 
-  agrees : (reading : Reading) → toldBy (config .separator) message reading exit ≡ runOf message config table known (record { level = inner; tag = tag; depth = 1 }) cursor start mid → Agrees before after (toldBy (config .separator) message reading exit) alone
+  agrees : (reading : Reading) → toldBy (config .mode) message reading exit ≡ runOf message config table known (record { level = inner; tag = tag; depth = 1 }) cursor start mid → Agrees before after (toldBy (config .mode) message reading exit) alone
   unfolding runOf shifted
-  agrees reading told = rw told (walk-agrees before after (tableRules (config .validate) table known) room (run inner tag 1 0 ∷ []) (memory start mid) [] (fieldsFrom (config .separator) message cursor) stands)
+  agrees reading told = rw told (walk-agrees before after (tableRules config table known) room (run inner tag 1 0 ∷ []) (memory start mid) [] (fieldsFrom (config .mode) message cursor) stands)
 
   front-kept : take (length before) (recordsOf exit) ≡ before → partOf 0 from exit ≡ partOf 0 from entry
   unfolding partOf
@@ -107,7 +106,7 @@ module _ (message : List ℕ) (config : Config) (table : List ℕ) (known : ℕ 
     pub alone-is : alone ≡ refused refusal entries
     pub before-stays : partOf 0 from exit ≡ partOf 0 from entry
 
-  pub group-stopped : (refusal : Refusal) → toldBy (config .separator) message (Refused refusal) exit ≡ runOf message config table known (record { level = inner; tag = tag; depth = 1 }) cursor start mid → GroupStopped refusal
+  pub group-stopped : (refusal : Refusal) → toldBy (config .mode) message (Refused refusal) exit ≡ runOf message config table known (record { level = inner; tag = tag; depth = 1 }) cursor start mid → GroupStopped refusal
   unfolding toldBy
   group-stopped refusal told =
       let a = agrees-refused before after alone (agrees (Refused refusal) told) in
@@ -115,7 +114,7 @@ module _ (message : List ℕ) (config : Config) (table : List ℕ) (known : ℕ 
 
   -- a run that ended: its entries stand from the place on, and count and entries are in the part
   pub record GroupEnded (f : Field) (p : Progress) : Type 0 where
-    pub alone-is : alone ≡ ended f (fieldsFrom (config .separator) message (f .next)) (p .room) (partOf (opening .place) (p .place) exit)
+    pub alone-is : alone ≡ ended f (fieldsFrom (config .mode) message (f .next)) (p .room) (partOf (opening .place) (p .place) exit)
     pub stores : partOf from (p .records) exit ≡ storedRun r (partOf (opening .place) (p .place) exit) (partOf from count entry)
     pub before-stays : partOf 0 from exit ≡ partOf 0 from entry
     pub fits-in : p .records + p .room < length entry / 6
@@ -124,10 +123,10 @@ module _ (message : List ℕ) (config : Config) (table : List ℕ) (known : ℕ 
     pub inside : Inside message f
     pub falls : p .room < room
 
-  pub group-ended : Fits message start → (f : Field) (p : Progress) → toldBy (config .separator) message (At f p) exit ≡ runOf message config table known (record { level = inner; tag = tag; depth = 1 }) cursor start mid → GroupEnded f p
+  pub group-ended : Fits message start → (f : Field) (p : Progress) → toldBy (config .mode) message (At f p) exit ≡ runOf message config table known (record { level = inner; tag = tag; depth = 1 }) cursor start mid → GroupEnded f p
   unfolding toldBy memory partOf roomOf runOf
   group-ended short f p told =
-      let follows = told-follows (tableRules (config .validate) table known) (config .separator) message (run inner tag 1 0 ∷ []) cursor start mid short (At f p) exit told in
+      let follows = told-follows (tableRules config table known) (config .mode) message (run inner tag 1 0 ∷ []) cursor start mid short (At f p) exit told in
       let at = follows .fits f p refl in
       let a = agrees-ended before after alone (agrees (At f p) told) in
       let s = a .stands in
@@ -150,18 +149,18 @@ module _ (message : List ℕ) (config : Config) (table : List ℕ) (known : ℕ 
       let part : between from (p .records) (recordsOf exit) ≡ between from (opening .place) (recordsOf mid) ++ (a .entries ++ after) =
       ap (between from (p .records)) whole ∙ between-parts (between 0 from (recordsOf mid)) (between from (opening .place) (recordsOf mid) ++ (a .entries ++ after)) (s .slack) from (p .records) (omega arith) (omega (arith, opened .starts)) in
       record {
-        alone-is = a .is ∙ ap (ended f (fieldsFrom (config .separator) message (f .next)) (p .room)) (sym own);
+        alone-is = a .is ∙ ap (ended f (fieldsFrom (config .mode) message (f .next)) (p .room)) (sym own);
         stores = part ∙ sym (opened .stores (a .entries)) ∙ ap (λ (l : List Record). storedRun r l (between from count (recordsOf entry))) (sym own);
         before-stays = front-kept (ap (take (length before)) (s .whole) ∙ take-append-seam before (a .entries ++ (after ++ s .slack)));
         fits-in = omega (arith, s .fits);
         starts-at = omega (arith, opened .starts);
         ends-in = omega (arith, s .fits);
-        inside = record { begins = at .begins; ends = at .ends };
+        inside = at .inside;
         falls = omega (arith, follows .falls);
       }
 
   abbrev pub runs : Read
-  runs = runFrom (tableRules (config .validate) table known) (tableDemands table) inner tag (fieldsFrom (config .separator) message cursor) room
+  runs = runFrom (tableRules config table known) (tableDemands table) inner tag (fieldsFrom (config .mode) message cursor) room
 
   -- each way that a count's run goes
   pub run-stops : (refusal : Refusal) → GroupStopped refusal → runs ≡ refuses (answerOf refusal)
@@ -173,33 +172,33 @@ module _ (message : List ℕ) (config : Config) (table : List ℕ) (known : ℕ 
     unfolding runFrom ranAs checked lackOfRun
     run-lacks wanted group e = rw (g .alone-is, e)
 
-    pub run-completes : lackOfRun table (record { level = inner; tag = tag; depth = 1 }) (partOf (opening .place) (p .place) exit) ≡ Complete → withRun r (partOf from count entry) runs ≡ ends f (fieldsFrom (config .separator) message (f .next)) (p .room) (partOf from (p .records) exit)
+    pub run-completes : lackOfRun table (record { level = inner; tag = tag; depth = 1 }) (partOf (opening .place) (p .place) exit) ≡ Complete → withRun r (partOf from count entry) runs ≡ ends f (fieldsFrom (config .mode) message (f .next)) (p .room) (partOf from (p .records) exit)
     unfolding runFrom ranAs checked lackOfRun withRun
-    run-completes e = rw (g .alone-is, e) (ap (ends f (fieldsFrom (config .separator) message (f .next)) (p .room)) (sym (g .stores)))
+    run-completes e = rw (g .alone-is, e) (ap (ends f (fieldsFrom (config .mode) message (f .next)) (p .room)) (sym (g .stores)))
 
   -- what the code answers in each of these ways
-  pub answers-stopped : (count-is : Record) → r ≡ count-is → (reading : Reading) (refusal : Refusal) → reading ≡ Refused refusal → toldBy (config .separator) message reading exit ≡ runOf message config table known (record { level = inner; tag = tag; depth = 1 }) cursor start mid →
-      (partTold (config .separator) message from (refuses-part (answerOf refusal)) exit ≡ withRun count-is (partOf from count entry) runs) × Stays message entry exit from room (refuses-part (answerOf refusal))
+  pub answers-stopped : (count-is : Record) → r ≡ count-is → (reading : Reading) (refusal : Refusal) → reading ≡ Refused refusal → toldBy (config .mode) message reading exit ≡ runOf message config table known (record { level = inner; tag = tag; depth = 1 }) cursor start mid →
+      (partTold (config .mode) message from (refuses-part (answerOf refusal)) exit ≡ withRun count-is (partOf from count entry) runs) × Stays message entry exit from room (refuses-part (answerOf refusal))
   unfolding partTold withRun
   answers-stopped count-is e reading refusal q told =
-      let g = group-stopped refusal (ap (λ (k : Reading). toldBy (config .separator) message k exit) (sym q) ∙ told) in
+      let g = group-stopped refusal (ap (λ (k : Reading). toldBy (config .mode) message k exit) (sym q) ∙ told) in
       (sym (ap (withRun count-is (partOf from count entry)) (run-stops refusal g)), stays-refused message entry exit from room (g .before-stays) (answerOf refusal))
 
-  module _ (short : Fits message start) (reading : Reading) (f : Field) (p : Progress) (q : reading ≡ At f p) (told : toldBy (config .separator) message reading exit ≡ runOf message config table known (record { level = inner; tag = tag; depth = 1 }) cursor start mid) where
+  module _ (short : Fits message start) (reading : Reading) (f : Field) (p : Progress) (q : reading ≡ At f p) (told : toldBy (config .mode) message reading exit ≡ runOf message config table known (record { level = inner; tag = tag; depth = 1 }) cursor start mid) where
     group-read : GroupEnded f p
-    group-read = group-ended short f p (ap (λ (k : Reading). toldBy (config .separator) message k exit) (sym q) ∙ told)
+    group-read = group-ended short f p (ap (λ (k : Reading). toldBy (config .mode) message k exit) (sym q) ∙ told)
 
     pub run-fits : p .place ≤ length exit / 6
     run-fits = group-read .ends-in
 
     pub answers-lack : (count-is : Record) → r ≡ count-is → (lack : Lack) → lack ≡ lackOfRun table (record { level = inner; tag = tag; depth = 1 }) (between (opening .place) (p .place) (recordsOf exit)) → (wanted group : ℕ) → lack ≡ Missing wanted group →
-        (partTold (config .separator) message from (refuses-part (RequiredFieldMissing wanted group)) exit ≡ withRun count-is (partOf from count entry) runs) × Stays message entry exit from room (refuses-part (RequiredFieldMissing wanted group))
+        (partTold (config .mode) message from (refuses-part (RequiredFieldMissing wanted group)) exit ≡ withRun count-is (partOf from count entry) runs) × Stays message entry exit from room (refuses-part (RequiredFieldMissing wanted group))
     unfolding partTold withRun partOf
     answers-lack count-is e lack c wanted group m =
         (sym (ap (withRun count-is (partOf from count entry)) (run-lacks f p group-read wanted group (sym c ∙ m))), stays-refused message entry exit from room (group-read .before-stays) (RequiredFieldMissing wanted group))
 
     pub answers-complete : (count-is : Record) → r ≡ count-is → (lack : Lack) → lack ≡ lackOfRun table (record { level = inner; tag = tag; depth = 1 }) (between (opening .place) (p .place) (recordsOf exit)) → lack ≡ Complete →
-        (partTold (config .separator) message from (at-field f (record { room = p .room; records = p .records })) exit ≡ withRun count-is (partOf from count entry) runs) × Stays message entry exit from room (at-field f (record { room = p .room; records = p .records }))
+        (partTold (config .mode) message from (at-field f (record { room = p .room; records = p .records })) exit ≡ withRun count-is (partOf from count entry) runs) × Stays message entry exit from room (at-field f (record { room = p .room; records = p .records }))
     unfolding partTold partOf
     answers-complete count-is e lack c m = (
       sym (ap (λ (k : Record). withRun k (partOf from count entry) runs) (sym e) ∙ run-completes f p group-read (sym c ∙ m)),

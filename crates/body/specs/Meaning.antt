@@ -4,6 +4,7 @@ use mathlib.Core.Path.{_≡_, refl, ap, _∙_}
 use mathlib.Core.Bool.{Bool, true, false}
 use mathlib.Core.List.{List, []}
 use Prim.Native.Nat.{ℕ, zero, suc}
+use Rattle.build_config.specs.declared.Config.{Config}
 use Rattle.tagvalue.specs.Choice.{pick}
 use Rattle.tagvalue.specs.Fields.{Fields, unreadable, field}
 use Rattle.tagvalue.specs.declared.Field.{Field}
@@ -81,26 +82,26 @@ module _ {L M : Type 0} (Same : L → M → Type 0) where
     within-same (suc turns) (field f rest) (suc room) records = takes-same (bodyWithin body turns) (bodyWithin another turns) (within-same turns) f rest room records (alike .kinds (f .tag))
 
 -- a run that was read from a table and checked with it is the run of the layout, checked with that
-module _ (validate : Bool) (table : List ℕ) (known has : ℕ → Bool) (same : (tag : ℕ) → known tag ≡ has tag) (level : Level) (layout : Layout) (t : Tabled table level layout) (tag : ℕ) where
-  checks-same : (o : Outcome (List Record) (List Record)) → ranAs (tableRules validate table known) (tableDemands table) level tag o ≡ ranAs (layoutRules (accepted validate has)) layoutDemands layout tag o
+module _ (config : Config) (table : List ℕ) (known has : ℕ → Bool) (same : (tag : ℕ) → known tag ≡ has tag) (level : Level) (layout : Layout) (t : Tabled table level layout) (tag : ℕ) where
+  checks-same : (o : Outcome (List Record) (List Record)) → ranAs (tableRules config table known) (tableDemands table) level tag o ≡ ranAs (layoutRules (accepted config has)) layoutDemands layout tag o
   unfolding ranAs
   checks-same (ran f rest room entries) = ap (checked f rest room entries) (table-checks table 4 level layout t tag 1 entries)
   checks-same (stops refusal entries) = refl
 
-  run-same : (rest : Fields) (room : ℕ) → runFrom (tableRules validate table known) (tableDemands table) level tag rest room ≡ runFrom (layoutRules (accepted validate has)) layoutDemands layout tag rest room
+  run-same : (rest : Fields) (room : ℕ) → runFrom (tableRules config table known) (tableDemands table) level tag rest room ≡ runFrom (layoutRules (accepted config has)) layoutDemands layout tag rest room
   unfolding runFrom
   run-same rest room =
-      ap (ranAs (tableRules validate table known) (tableDemands table) level tag) (table-reads listStore validate table known has same level layout t room tag 1 0 [] rest) ∙ checks-same _
+      ap (ranAs (tableRules config table known) (tableDemands table) level tag) (table-reads listStore config table known has same level layout t room tag 1 0 [] rest) ∙ checks-same _
 
 -- reading a body through a table is reading it through the layout that the table holds
-pub body-means : (validate : Bool) (table : List ℕ) (known has : ℕ → Bool) → ((tag : ℕ) → known tag ≡ has tag) →
+pub body-means : (config : Config) (table : List ℕ) (known has : ℕ → Bool) → ((tag : ℕ) → known tag ≡ has tag) →
     (level : Level) (layout : Layout) → Tabled table level layout → (trailerTags : List ℕ) (fields : Fields) (room : ℕ) (records : List Record) →
-    bodyFrom (bodyOf (tableRules validate table known) (tableDemands table) trailerTags level) fields room records
-    ≡ bodyFrom (bodyOf (layoutRules (accepted validate has)) layoutDemands trailerTags layout) fields room records
+    bodyFrom (bodyOf (tableRules config table known) (tableDemands table) trailerTags level) fields room records
+    ≡ bodyFrom (bodyOf (layoutRules (accepted config has)) layoutDemands trailerTags layout) fields room records
 unfolding bodyFrom bodyOf
-body-means validate table known has same level layout t trailerTags fields room records =
+body-means config table known has same level layout t trailerTags fields room records =
     within-same (Tabled table) _ _
-    (record { kinds = kind-alike (Tabled table) _ _ (rules-alike validate table known has same) level layout t; runs = run-same validate table known has same; trailers = refl })
+    (record { kinds = kind-alike (Tabled table) _ _ (rules-alike config table known has same) level layout t; runs = run-same config table known has same; trailers = refl })
     (suc room)
     fields
     room

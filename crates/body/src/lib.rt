@@ -3,7 +3,7 @@
 use groups::Group;
 use groups::Reading;
 use groups::Refusal;
-use integrity::Config;
+use build_config::Config;
 use layout::Level;
 use layout::Nested;
 use layout::Position;
@@ -19,9 +19,8 @@ ghost use mathlib.Core.Path.{_≡_};
 ghost use Rattle.flat_names.specs.Index.{tagAt};
 ghost use Prim.Native.Nat.{suc, _+_, _≤_, _<_, _/_, _^_};
 ghost use lib.ListN.{length};
-ghost use Rattle.tagvalue.specs.Fields.{field, fieldsFrom};
+ghost use Rattle.tagvalue.specs.Fields.{field, fieldsFrom, Inside};
 ghost use Rattle.records.specs.Records.{stored};
-ghost use Rattle.groups.specs.ReadingLaws.{Inside};
 ghost use Rattle.groups.specs.Reading.{tableRules};
 ghost use Rattle.required.specs.Checking.{tableDemands};
 ghost use Rattle.parts.specs.Parts.{recordOf, partOf, partTold, Stays};
@@ -43,7 +42,7 @@ enum BodyKind {
 
 // With validation off, unknown user-defined tags are the body's too.
 fn kind_of(config: Config, table: &[u32], index: &[u16; 96150], level: Level, tag: u32) -> BodyKind
-    ensures { λ r. ⌜ meantBy r ≡ kindOf (tableRules (config .validate) (now (table .entry)) (tagAt (now (index .entry)))) level tag ⌝ }
+    ensures { λ r. ⌜ meantBy r ≡ kindOf (tableRules config (now (table .entry)) (tagAt (now (index .entry)))) level tag ⌝ }
 {
     let Position::At(_) = layout::position_of(table, level, tag) else {
         if groups::accepted(config, index, tag) {
@@ -67,7 +66,7 @@ fn read_plain(
     progress: Progress,
 ) -> PartRead
     requires { ⌜ (length (now message) < 2 ^ 32) × (Inside (now message) plain) × (from ≤ progress .records) × (progress .records + progress .room < length (now words) / 6) ⌝ }
-    ensures { λ r. ⌜ partTold (config .separator) (now (message .entry)) from r (now (words .exit)) ≡ nextFrom (fieldsFrom (config .separator) (now (message .entry)) (plain .next)) (progress .room) (stored (recordOf 2 plain) (partOf from (progress .records) (now (words .entry)))) ⌝ }
+    ensures { λ r. ⌜ partTold (config .mode) (now (message .entry)) from r (now (words .exit)) ≡ nextFrom (fieldsFrom (config .mode) (now (message .entry)) (plain .next)) (progress .room) (stored (recordOf 2 plain) (partOf from (progress .records) (now (words .entry)))) ⌝ }
     ensures { λ r. ⌜ Stays (now (message .entry)) (now (words .entry)) (now (words .exit)) from (progress .room) r ⌝ }
 {
     let records = parts::keep(
@@ -158,7 +157,7 @@ fn read_group(
     progress: Progress,
 ) -> PartRead
     requires { ⌜ (length (now message) < 2 ^ 32) × (Inside (now message) count) × (from ≤ progress .records) × (progress .records + progress .room < length (now words) / 6) × (length (now words) < 2 ^ 32) ⌝ }
-    ensures { λ r. ⌜ partTold (config .separator) (now (message .entry)) from r (now (words .exit)) ≡ withRun (recordOf 2 count) (partOf from (progress .records) (now (words .entry))) (runFrom (tableRules (config .validate) (now (table .entry)) (tagAt (now (index .entry)))) (tableDemands (now (table .entry))) inner (count .tag) (fieldsFrom (config .separator) (now (message .entry)) (count .next)) (progress .room)) ⌝ }
+    ensures { λ r. ⌜ partTold (config .mode) (now (message .entry)) from r (now (words .exit)) ≡ withRun (recordOf 2 count) (partOf from (progress .records) (now (words .entry))) (runFrom (tableRules config (now (table .entry)) (tagAt (now (index .entry)))) (tableDemands (now (table .entry))) inner (count .tag) (fieldsFrom (config .mode) (now (message .entry)) (count .next)) (progress .room)) ⌝ }
     ensures { λ r. ⌜ Stays (now (message .entry)) (now (words .entry)) (now (words .exit)) from (progress .room) r ⌝ }
 {
     let opening = open_run(
@@ -220,7 +219,7 @@ pub fn read_body(
     progress: Progress,
 ) -> PartRead
     requires { ⌜ (length (now message) < 2 ^ 32) × (Inside (now message) first) × (from ≤ progress .records) × (progress .records + progress .room < length (now words) / 6) × (length (now words) < 2 ^ 32) ⌝ }
-    ensures { λ r. ⌜ partTold (config .separator) (now (message .entry)) from r (now (words .exit)) ≡ bodyFrom (bodyOf (tableRules (config .validate) (now (table .entry)) (tagAt (now (index .entry)))) (tableDemands (now (table .entry))) (now («trailer_tags» .entry)) level) (field first (fieldsFrom (config .separator) (now (message .entry)) (first .next))) (suc (progress .room)) (partOf from (progress .records) (now (words .entry))) ⌝ }
+    ensures { λ r. ⌜ partTold (config .mode) (now (message .entry)) from r (now (words .exit)) ≡ bodyFrom (bodyOf (tableRules config (now (table .entry)) (tagAt (now (index .entry)))) (tableDemands (now (table .entry))) (now («trailer_tags» .entry)) level) (field first (fieldsFrom (config .mode) (now (message .entry)) (first .next))) (suc (progress .room)) (partOf from (progress .records) (now (words .entry))) ⌝ }
     ensures { λ r. ⌜ Stays (now (message .entry)) (now (words .entry)) (now (words .exit)) from (suc (progress .room)) r ⌝ }
 {
     let mut reading = PartRead::At(first, progress);

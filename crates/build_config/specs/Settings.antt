@@ -11,3 +11,7 @@ validates settings = eqb (settings % 2) 1
 -- the word, beside the separator
 unfoldable pub configOf : ℕ → ℕ → Config
 configOf settings separator = record { mode = separatedBy separator; validate = validates settings }
+
+-- for worked examples: separator 0x01, validation on or off, and nothing else asked for
+abbrev pub validating : Bool → Config
+validating validate = record { mode = separatedBy 1; validate = validate }

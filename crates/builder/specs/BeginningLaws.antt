@@ -5,6 +5,8 @@ use mathlib.Core.List.{List}
 use Prim.Native.Nat.{ℕ, _-_, _<_, _^_}
 use native.Mathlib.Omega.{arith}
 use lib.ListN.{length}
+use Rattle.tagvalue.specs.declared.Mode.{Mode}
+use Rattle.build_config.specs.declared.Config.{Config}
 use Rattle.tagvalue.specs.Fields.{fieldsFrom}
 use Rattle.tagvalue.specs.declared.Field.{Field}
 use Rattle.integrity.specs.Integrity.{integrityOf}
@@ -19,7 +21,7 @@ use Rattle.parts.specs.declared.Progress.{Progress}
 use Rattle.parts.specs.declared.PartRead.{PartRead}
 use Rattle.parts.specs.declared.PartRead.the-variants.{At, Refused}
 use Rattle.parts.specs.Parts.{ended, recordOf, partOf, partTold, Kept}
-use Rattle.parts.specs.PartLaws.{read-inside}
+use Rattle.tagvalue.specs.FieldsLaws.{step-inside}
 use Rattle.parts.specs.Header.{headerFrom}
 use Rattle.builder.specs.declared.Headed.{Headed}
 use Rattle.builder.specs.declared.Begun.the-variants.{Header, Refused as RefusedStart}
@@ -28,12 +30,12 @@ use Rattle.builder.specs.Reading.{VerifiedInside, startTold, HeaderEnds,
 use Rattle.builder.specs.Finishing.{part-empty}
 
 -- a record can hold the fields that were verified
-pub verified-inside : (separator : ℕ) (message : List ℕ) (v : Verified) → integrityOf separator message ≡ Sound v → length message < 2 ^ 32 → VerifiedInside v
-verified-inside separator message v sound short =
-    let read = verified-read separator message v sound in
-    let begins = read-inside separator message _ _ (read .begins) in
-    let counts = read-inside separator message _ _ (read .counts) in
-    let types = read-inside separator message _ _ (read .types) in
+pub verified-inside : (mode : Mode) (message : List ℕ) (v : Verified) → integrityOf mode message ≡ Sound v → length message < 2 ^ 32 → VerifiedInside v
+verified-inside mode message v sound short =
+    let read = verified-read mode message v sound in
+    let begins = step-inside mode message _ _ (read .begins) in
+    let counts = step-inside mode message _ _ (read .counts) in
+    let types = step-inside mode message _ _ (read .types) in
     record {
       begins = (omega (arith, begins .begins), omega (arith, begins .ends));
       counts = (omega (arith, counts .begins), omega (arith, counts .ends));
@@ -48,34 +50,34 @@ unfolding verifiedRecords
 verified-kept v begin body type b l t entry one two exit first second third k m n =
     n .part ∙ rw (m .part, k .part, part-empty 0 entry, b, l, t)
 
-module _ (tags : List ℕ) (separator : ℕ) (message : List ℕ) where
+module _ (tags : List ℕ) (config : Config) (message : List ℕ) where
   -- the frame is not sound
-  pub start-garbled : (reason : GarbledReason) (words : List ℕ) → integrityOf separator message ≡ Garbled reason → startTold separator message (RefusedStart (garbled reason)) words ≡ startOf tags separator message
+  pub start-garbled : (reason : GarbledReason) (words : List ℕ) → integrityOf (config .mode) message ≡ Garbled reason → startTold (config .mode) message (RefusedStart (garbled reason)) words ≡ startOf tags config message
   unfolding startTold startOf startedBy
   start-garbled reason words e = rw e
 
   module _ (v : Verified) (kept exit : List ℕ) (count : ℕ) (keeps : partOf 0 count kept ≡ verifiedRecords v)
-      (reading : PartRead) (told : partTold separator message 0 reading exit ≡ headerFrom tags (fieldsFrom separator message (v .«msg_type» .next)) roomBehind (partOf 0 count kept)) where
-    header-is : headerOf tags separator message v ≡ partTold separator message 0 reading exit
+      (reading : PartRead) (told : partTold (config .mode) message 0 reading exit ≡ headerFrom tags (fieldsFrom (config .mode) message (v .«msg_type» .next)) roomBehind (partOf 0 count kept)) where
+    header-is : headerOf tags config message v ≡ partTold (config .mode) message 0 reading exit
     unfolding headerOf
     header-is = rw (told, keeps)
 
-    pub header-ended : (f : Field) (p : Progress) → reading ≡ At f p → headerOf tags separator message v ≡ ended f (fieldsFrom separator message (f .next)) (p .room) (partOf 0 (p .records) exit)
+    pub header-ended : (f : Field) (p : Progress) → reading ≡ At f p → headerOf tags config message v ≡ ended f (fieldsFrom (config .mode) message (f .next)) (p .room) (partOf 0 (p .records) exit)
     unfolding partTold
     header-ended f p e = header-is ∙ rw e
 
-    module _ (sound : integrityOf separator message ≡ Sound v) where
-      start-is : startOf tags separator message ≡ withChecksum (v .checksum) (partTold separator message 0 reading exit)
+    module _ (sound : integrityOf (config .mode) message ≡ Sound v) where
+      start-is : startOf tags config message ≡ withChecksum (v .checksum) (partTold (config .mode) message 0 reading exit)
       unfolding startOf startedBy
       start-is = rw (sound, header-is)
 
       -- the header was refused
-      pub start-refused : (answer : Answer) → reading ≡ Refused answer → startTold separator message (RefusedStart answer) exit ≡ startOf tags separator message
+      pub start-refused : (answer : Answer) → reading ≡ Refused answer → startTold (config .mode) message (RefusedStart answer) exit ≡ startOf tags config message
       unfolding startTold withChecksum partTold
       start-refused answer e = sym (start-is ∙ rw e)
 
       -- the header ended
-      pub start-headed : (f : Field) (p : Progress) → reading ≡ At f p → startTold separator message (Header (record { stop = f; progress = p; checksum = v .checksum })) exit ≡ startOf tags separator message
+      pub start-headed : (f : Field) (p : Progress) → reading ≡ At f p → startTold (config .mode) message (Header (record { stop = f; progress = p; checksum = v .checksum })) exit ≡ startOf tags config message
       unfolding startTold withChecksum partTold
       start-headed f p e = sym (start-is ∙ rw e)
 

@@ -6,7 +6,7 @@ use lib.ListN.{length, replicate}
 use lib.Dec.{eqb, ltb}
 use Rattle.tagvalue.specs.Choice.{pick}
 use Rattle.tagvalue.specs.Separator.{isRefusedSeparator}
-use Rattle.integrity.specs.declared.Config.{Config}
+use Rattle.build_config.specs.declared.Config.{Config}
 use Rattle.flat.specs.Check.{checkOf, numberOf as numberOfCheck}
 use Rattle.flat_steps.specs.declared.Checked.{Checked}
 use Rattle.flattening.specs.Meaning.{dictionaryOf}
@@ -42,12 +42,12 @@ shown lent outcome = record { answer = outcome .answer; stop = outcome .stop; re
 -- "30 to 37 of its dictionary (no records), then reads"
 unfoldable pub checkedRead : List ℕ → Config → List ℕ → Checked → Outcome
 checkedRead message config dictionary checked =
-    pick (eqb (numberOfCheck checked) 0) (messageRead (dictionaryOf dictionary) (config .validate) (config .separator) message) (refusal (BadDictionary checked) [])
+    pick (eqb (numberOfCheck checked) 0) (messageRead (dictionaryOf dictionary) config message) (refusal (BadDictionary checked) [])
 
 -- "Build checks 22, 23, 20, 30 to 37 of its dictionary (no records), then reads"
 unfoldable pub buildOf : List ℕ → Config → List ℕ → ℕ → List ℕ → BuildOutcome
 buildOf message config dictionary lent words =
-    pick (isRefusedSeparator (config .separator)) (untouched InvalidSeparator words)
+    pick (isRefusedSeparator (config .mode .separator)) (untouched InvalidSeparator words)
     (pick (ltb lent 1024) (untouched TooFewRecords words)
     (pick (ltb 8192 (length message)) (untouched MessageTooLong words)
     (shown lent (checkedRead message config dictionary (checkOf dictionary)))))

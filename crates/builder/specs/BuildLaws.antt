@@ -6,12 +6,12 @@ use native.Mathlib.Omega.{arith}
 use lib.ListN.{length, take, drop, set, getD, replicate, length-append, length-replicate, length-take, length-drop, take-append-drop, drop-of-length-le, replicate-append-replicate}
 use lib.Seq.{set-at, drop-cons, length-take-le, take-at}
 use borrow.Author.Tests.{eq-eqb, ne-eqb, le-leb, lt-leb}
-use Rattle.integrity.specs.declared.Config.{Config}
-use Rattle.flat.specs.Check.{checkOf, numberOf as numberOfCheck, storeOf, preparedOf}
+use Rattle.build_config.specs.declared.Config.{Config}
+use Rattle.flat.specs.Check.{numberOf as numberOfCheck}
 use Rattle.flat_steps.specs.declared.Checked.{Checked}
 use Rattle.flat_steps.specs.declared.Checked.the-variants.{Passes, TooLong, BadRecord, NoComponent, UnknownTag, EmptyGroup, TooDeep, Twice, TooManyItems}
 use Rattle.flattening.specs.Meaning.{dictionaryOf}
-use Rattle.flattening.specs.PlainTags.{Listing, listing, plainTags}
+use Rattle.flattening.specs.PlainTags.{listing, plainTags}
 use Rattle.flattening.specs.TagsMeant.{header-listed, trailer-listed}
 use Rattle.flattening.specs.declared.tags.TagList.{TagList}
 use Rattle.flattening.specs.declared.tags.TagList.the-variants.{Listed, Unlisted}
@@ -23,7 +23,7 @@ use Rattle.parts.specs.declared.Answer.the-variants.{BadDictionary}
 use Rattle.parts.specs.Answer.{numberOf}
 use Rattle.parts.specs.Parts.{partOf}
 use Rattle.parts.specs.PartLaws.{parted, part-length}
-use Rattle.reading.specs.Message.{Outcome, refusal, shownWith, messageRead}
+use Rattle.reading.specs.Message.{refusal, messageRead}
 use Rattle.builder.specs.Reading.{Prepared, standardTags, shownCount}
 use Rattle.builder.specs.Build.{wordsWith, checkedRead}
 
@@ -116,6 +116,6 @@ module _ (message : List ℕ) (config : Config) (d : List ℕ) (checked : Checke
   unfolding checkedRead
   check-refuses n = rw (ne-eqb (numberOfCheck checked) 0 n)
 
-  pub check-reads : numberOfCheck checked ≡ 0 → checkedRead message config d checked ≡ messageRead (dictionaryOf d) (config .validate) (config .separator) message
+  pub check-reads : numberOfCheck checked ≡ 0 → checkedRead message config d checked ≡ messageRead (dictionaryOf d) config message
   unfolding checkedRead
   check-reads e = rw (eq-eqb (numberOfCheck checked) 0 e)

@@ -7,13 +7,13 @@ use lib.ListN.{length}
 use lib.Dec.{leb}
 use borrow.Author.Tests.{leb-true}
 use native.Mathlib.Omega.{arith}
+use Rattle.build_config.specs.Settings.{validating}
 use Rattle.tagvalue.specs.Number.{isDigit}
 use Rattle.tagvalue.specs.Separator.{isRefusedSeparator}
 use Rattle.tagvalue.specs.CheckSum.{sumOf, checksumDigits}
 use Rattle.tagvalue.specs.Decimal.{decimalWithin}
 use Rattle.layout.specs.Tree.{Dictionary}
 use Rattle.parts.specs.Answer.{numberOf, valuesOf}
-use Rattle.integrity.specs.declared.Config.{Config}
 use Rattle.flat.specs.Check.{checkOf}
 use Rattle.flat.specs.Examples.{examples, examples-pass}
 use Rattle.flat_records.specs.Record.{lowFirst, zeroFilled, bodyLength, withTag as tagBytes, withMark, knownTag, opensComponent, opensMessage, bodyOf as bodyBytes, withBody, withKind, recordFrom, recordAt}
@@ -39,9 +39,6 @@ means : dictionaryOf examples ≡ dictionary
 unfolding dictionaryOf meaningOf tagsFrom tagIn messagesFrom messageIn msgTypeBytes bytesWithin definedAfter definedBy expanded nodesOf declarationsOf levelsOf innermost below groupOnTop onTop recordsFrom recordsWithin recordsThen recordAt recordFrom withKind withBody bodyBytes bodyLength knownTag opensComponent opensMessage fieldBody componentBody groupBody tagBytes withMark zeroFilled lowFirst
 means = refl
 
-abbrev pub settings : Bool → Config
-settings validate = record { separator = 1; validate = validate }
-
 all-short : map (λ (row : Row). leb (length (row .1)) 8192) table ≡ map (λ (row : Row). true) table
 unfolding decimalWithin checksumDigits sumOf
 all-short = refl
@@ -55,19 +52,19 @@ module _ (words : List ℕ) where
   expected t = (t .0, t .1, length (t .2), 1024, wordsWith (t .2))
 
   -- a build by the dictionary's bytes reads by the tree that they mean
-  built-row : (row : Row) → leb (length (row .1)) 8192 ≡ true → answers (buildOf (row .1) (settings (row .0)) examples 1024 words) ≡ expected (told (messageRead dictionary (row .0) 1 (row .1)))
+  built-row : (row : Row) → leb (length (row .1)) 8192 ≡ true → answers (buildOf (row .1) (validating (row .0)) examples 1024 words) ≡ expected (told (messageRead dictionary (validating (row .0)) (row .1)))
   unfolding shown
   built-row row short =
-      let reads : checkedRead (row .1) (settings (row .0)) examples (checkOf examples) ≡ messageRead dictionary (row .0) 1 (row .1) = check-reads (row .1) (settings (row .0)) examples (checkOf examples) examples-pass ∙ ap (λ (d : Dictionary). messageRead d (row .0) 1 (row .1)) means in
-      ap answers (build-reads (row .1) (settings (row .0)) examples 1024 words sound (omega arith) (leb-true (length (row .1)) 8192 short) ∙ ap (shown 1024) reads)
+      let reads : checkedRead (row .1) (validating (row .0)) examples (checkOf examples) ≡ messageRead dictionary (validating (row .0)) (row .1) = check-reads (row .1) (validating (row .0)) examples (checkOf examples) examples-pass ∙ ap (λ (d : Dictionary). messageRead d (row .0) 1 (row .1)) means in
+      ap answers (build-reads (row .1) (validating (row .0)) examples 1024 words sound (omega arith) (leb-true (length (row .1)) 8192 short) ∙ ap (shown 1024) reads)
     where
       sound : isRefusedSeparator 1 ≡ false
       sound = unfold isRefusedSeparator isDigit in refl
 
-  built-rows : (rows : List Row) → map (λ (row : Row). leb (length (row .1)) 8192) rows ≡ map (λ (row : Row). true) rows → map (λ (row : Row). answers (buildOf (row .1) (settings (row .0)) examples 1024 words)) rows ≡ map expected (map (λ (row : Row). told (messageRead dictionary (row .0) 1 (row .1))) rows)
+  built-rows : (rows : List Row) → map (λ (row : Row). leb (length (row .1)) 8192) rows ≡ map (λ (row : Row). true) rows → map (λ (row : Row). answers (buildOf (row .1) (validating (row .0)) examples 1024 words)) rows ≡ map expected (map (λ (row : Row). told (messageRead dictionary (validating (row .0)) (row .1))) rows)
   built-rows [] short = refl
   built-rows (row ∷ rows) short = rw (built-row row (ap firstTest short), built-rows rows (ap laterTests short))
 
   -- P1 to P11, through the whole build
-  pub all-hold : map (λ (row : Row). answers (buildOf (row .1) (settings (row .0)) examples 1024 words)) table ≡ map (λ (row : Row). expected (row .2, row .3, row .4)) table
+  pub all-hold : map (λ (row : Row). answers (buildOf (row .1) (validating (row .0)) examples 1024 words)) table ≡ map (λ (row : Row). expected (row .2, row .3, row .4)) table
   all-hold = built-rows table all-short ∙ ap (map expected) (all-read .0)

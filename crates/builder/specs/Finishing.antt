@@ -4,7 +4,8 @@ use mathlib.Core.List.{List, [], _∷_, _++_, append-assoc}
 use Prim.Native.Nat.{ℕ, suc, _+_, _-_, _/_, _≤_, _<_}
 use native.Mathlib.Omega.{arith}
 use lib.ListN.{length}
-use Rattle.tagvalue.specs.Fields.{Fields, field, fieldsFrom}
+use Rattle.tagvalue.specs.declared.Mode.{Mode}
+use Rattle.tagvalue.specs.Fields.{field, fieldsFrom}
 use Rattle.tagvalue.specs.declared.Field.{Field}
 use Rattle.records.specs.Records.{recordsOf, stored}
 use Rattle.records.specs.RecordLaws.{between-end}
@@ -17,12 +18,11 @@ use Rattle.parts.specs.declared.PartRead.the-variants.{At, Refused}
 use Rattle.parts.specs.declared.TrailerRead.{TrailerRead}
 use Rattle.parts.specs.declared.TrailerRead.the-variants.{Stopped, Unstopped, TooManyFields as Crowded}
 use Rattle.reading.specs.declared.Stop.the-variants.{At as stops, Nowhere}
-use Rattle.builder.specs.declared.Finished.{Finished}
 use Rattle.builder.specs.declared.Finished.the-variants.{Whole, Refused as RefusedWhole}
 use Rattle.parts.specs.Parts.{Reading, recordOf, partOf, partTold, Kept}
 use Rattle.body.specs.RunLaws.{between-split}
 use Rattle.body.specs.GroupReading.{front-is, front-parts}
-use Rattle.parts.specs.Trailer.{Trailer, trailerFrom, trailerTold, trailerCounts}
+use Rattle.parts.specs.Trailer.{trailerFrom, trailerTold, trailerCounts}
 use Rattle.reading.specs.Message.{afterTrailer, afterBody}
 use Rattle.builder.specs.Reading.{finishTold}
 
@@ -39,21 +39,21 @@ pub unstopped-counts : (from : ℕ) (trailer : TrailerRead) (all : ℕ) → trai
 unfolding trailerCounts
 unstopped-counts from trailer all e = rw e
 
-module _ (separator : ℕ) (message : List ℕ) (header : ℕ) (checksum : Field) (body : Reading) (entry read : List ℕ) (before : partOf 0 header read ≡ partOf 0 header entry) where
+module _ (mode : Mode) (message : List ℕ) (header : ℕ) (checksum : Field) (body : Reading) (entry read : List ℕ) (before : partOf 0 header read ≡ partOf 0 header entry) where
   -- the body was refused
-  pub finish-refused : (reading : PartRead) (answer : Answer) → reading ≡ Refused answer → partTold separator message header reading read ≡ body → finishTold header (RefusedWhole answer) read ≡ afterBody (partOf 0 header entry) checksum body
+  pub finish-refused : (reading : PartRead) (answer : Answer) → reading ≡ Refused answer → partTold mode message header reading read ≡ body → finishTold header (RefusedWhole answer) read ≡ afterBody (partOf 0 header entry) checksum body
   unfolding partTold finishTold afterBody
   finish-refused reading answer e told =
-      let b : body ≡ _ = sym told ∙ ap (λ (r : PartRead). partTold separator message header r read) e in
+      let b : body ≡ _ = sym told ∙ ap (λ (r : PartRead). partTold mode message header r read) e in
       rw (b, before)
 
-  module _ (reading : PartRead) (f : Field) (p : Progress) (e : reading ≡ At f p) (told : partTold separator message header reading read ≡ body) (starts : header ≤ p .records)
+  module _ (reading : PartRead) (f : Field) (p : Progress) (e : reading ≡ At f p) (told : partTold mode message header reading read ≡ body) (starts : header ≤ p .records)
       (r : Record) (is : r ≡ recordOf 3 checksum) (kept exit : List ℕ) (count : ℕ) (keeps : Kept read kept (p .records) (p .records) r count) (front : partOf 0 (p .records) exit ≡ partOf 0 (p .records) kept)
-      (trailer : TrailerRead) (taken : trailerTold trailer (p .records) exit ≡ trailerFrom (field f (fieldsFrom separator message (f .next))) (p .room + 1) (partOf (p .records) count kept)) where
+      (trailer : TrailerRead) (taken : trailerTold trailer (p .records) exit ≡ trailerFrom (field f (fieldsFrom mode message (f .next))) (p .room + 1) (partOf (p .records) count kept)) where
     left : afterBody (partOf 0 header entry) checksum body ≡ afterTrailer (partOf 0 header entry) (partOf header (p .records) read) (trailerTold trailer (p .records) exit)
     unfolding partTold afterBody stored
     left =
-        let b : body ≡ _ = sym told ∙ ap (λ (q : PartRead). partTold separator message header q read) e in
+        let b : body ≡ _ = sym told ∙ ap (λ (q : PartRead). partTold mode message header q read) e in
         let one : p .room + 1 ≡ suc (p .room) = omega arith in
         let first : partOf (p .records) count kept ≡ recordOf 3 checksum ∷ [] = keeps .part ∙ rw (part-empty (p .records) read, is) in
         rw (b, taken, one, first)

@@ -7,6 +7,7 @@ use Prim.Native.Nat.{ℕ, zero, suc, _+_, _-_, _≤_, _<_}
 use native.Mathlib.Omega.{arith}
 use borrow.Author.Tests.{eq-eqb, ne-eqb}
 use lib.ListN.{length, getD, take, drop, List·getD-eq-default}
+use Rattle.build_config.specs.declared.Config.{Config}
 use Rattle.tagvalue.specs.Fields.{Fields, field}
 use Rattle.tagvalue.specs.declared.Field.{Field}
 use Rattle.records.specs.Records.{recordAt, between, blank}
@@ -85,22 +86,22 @@ module _ (d index : List ℕ) (p : Prepared d index) where
   known-same : (tag : ℕ) → tagAt index tag ≡ knows (dictionaryOf d) tag
   known-same tag = rw (p .made) (tags-known d (p .passes) (p .before) (p .size) tag)
 
-  module _ (validate : Bool) (f : Field) (rest : Fields) (room : ℕ) (checksum : Field) (table : List ℕ) where
+  module _ (config : Config) (f : Field) (rest : Fields) (room : ℕ) (checksum : Field) (table : List ℕ) where
     -- body and trailer are read through the table as through the layout that the tree has for MsgType
     pub laid-after : {choice : Choice} {told : Tabling} → TableOf table choice told → (header : List Record) (answer : MessageTable) (written : List ℕ) → tabling answer written ≡ told → (count : ℕ) → answer ≡ Rows count → (trailer : List ℕ) → trailer ≡ trailerTags (dictionaryOf d) →
-        afterBody header checksum (bodyFrom (bodyOf (tableRules validate written (tagAt index)) (tableDemands written) trailer (record { first = 0; end = count })) (field f rest) (suc room) [])
-        ≡ afterType (dictionaryOf d) validate f rest room header checksum choice
+        afterBody header checksum (bodyFrom (bodyOf (tableRules config written (tagAt index)) (tableDemands written) trailer (record { first = 0; end = count })) (field f rest) (suc room) [])
+        ≡ afterType (dictionaryOf d) config f rest room header checksum choice
     unfolding afterType
     laid-after no-table header answer written h count e trailer s = let z : _≡_ {A = ℕ} 0 1 = cc in absurd (omega arith)
     laid-after (a-table {layout} {rows} limit long tabled) header answer written h count e trailer s =
         let w : written ≡ rows = cc in
         let n : count ≡ items layout = cc in
         rw (w, n, s)
-        (ap (afterBody header checksum) (body-means validate rows (tagAt index) (knows (dictionaryOf d)) known-same (record { first = 0; end = items layout }) layout tabled (trailerTags (dictionaryOf d)) (field f rest) (suc room) []))
+        (ap (afterBody header checksum) (body-means config rows (tagAt index) (knows (dictionaryOf d)) known-same (record { first = 0; end = items layout }) layout tabled (trailerTags (dictionaryOf d)) (field f rest) (suc room) []))
 
     -- "and then MsgType must be in the dictionary, else 3"
     pub none-after : {choice : Choice} {told : Tabling} → TableOf table choice told → (count : ℕ) (words : List ℕ) (r : Record) → r ≡ msgTypeRecord (partOf 0 count words) → (answer : MessageTable) (written : List ℕ) → tabling answer written ≡ told → ((rows : ℕ) → answer ≡ Rows rows → ⊥) →
-        finishTold count (Refused (InvalidMsgType (r .place) (r .length))) words ≡ afterType (dictionaryOf d) validate f rest room (partOf 0 count words) checksum choice
+        finishTold count (Refused (InvalidMsgType (r .place) (r .length))) words ≡ afterType (dictionaryOf d) config f rest room (partOf 0 count words) checksum choice
     unfolding afterType finishTold
     none-after no-table count words r e answer written h none = rw e
     none-after (a-table {layout} limit long tabled) count words r e answer written h none = absurd (none (items layout) cc)

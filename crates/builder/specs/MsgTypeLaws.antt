@@ -7,53 +7,30 @@ use Prim.Native.Nat.{ℕ, zero, suc, _+_, _-_, _≤_}
 use native.Mathlib.Omega.{arith}
 use lib.Dec.{eqb}
 use lib.ListN.{length}
+use Rattle.tagvalue.specs.FieldsLaws.{step-inside, all-inside}
+use Rattle.tagvalue.specs.declared.Mode.{Mode}
+use Rattle.build_config.specs.declared.Config.{Config}
 use Rattle.tagvalue.specs.Choice.{pick}
-use Rattle.tagvalue.specs.Field.{fieldAt}
-use Rattle.tagvalue.specs.Fields.{Fields, unreadable, field, followedBy, fieldsWithin, fieldsFrom}
-use Rattle.tagvalue.specs.FieldsLaws.{step-lies, step-falls}
-use Rattle.tagvalue.specs.declared.Cursor.{Cursor}
+use Rattle.tagvalue.specs.Fields.{Fields, unreadable, field, Each, each-end, each-field, Inside}
 use Rattle.tagvalue.specs.declared.Field.{Field}
-use Rattle.tagvalue.specs.declared.FieldRead.{FieldRead}
-use Rattle.tagvalue.specs.declared.FieldRead.the-variants.{Read, Unreadable}
 use Rattle.integrity.specs.Integrity.{integrityOf}
 use Rattle.integrity.specs.declared.Integrity.the-variants.{Sound}
 use Rattle.integrity.specs.declared.Verified.{Verified}
 use Rattle.layout.specs.Tree.{holdsTag}
 use Rattle.records.specs.Records.{stored}
 use Rattle.records.specs.declared.Record.{Record}
-use Rattle.groups.specs.GroupLaws.{Each, each-end, each-field}
 use Rattle.parts.specs.Parts.{ended, recordOf}
 use Rattle.parts.specs.Header.{headerFrom}
 use Rattle.reading.specs.Beginning.{verifiedRecords, roomBehind, headerOf, msgTypeRecord}
 use Rattle.integrity.specs.VerifiedLaws.{VerifiedRead, verified-read}
 
--- a field's value lies in the message, and so does a record's
-abbrev FieldIn : List ℕ → Field → Type 0
-FieldIn message f = f .place + f .length ≤ length message
-
+-- a record's value lies in the message where its field's does
 abbrev RecordIn : List ℕ → Record → Type 0
 RecordIn message r = r .place + r .length ≤ length message
 
 data RecordsIn (message : List ℕ) : List Record → Type 0 where
   no-record : RecordsIn message []
   one-more : {r : Record} {rs : List Record} → RecordIn message r → RecordsIn message rs → RecordsIn message (r ∷ rs)
-
-read-in : (separator : ℕ) (message : List ℕ) (c : Cursor) (f : Field) → fieldAt separator message c ≡ Read f → FieldIn message f
-read-in separator message c f e = omega (arith, step-lies separator message c f e .ends, step-falls separator message c f e .1)
-
--- every field that can be read lies in the message
-within-in : (fuel separator : ℕ) (message : List ℕ) (c : Cursor) → Each (FieldIn message) (fieldsWithin fuel separator message c)
-unfolding fieldsWithin followedBy
-within-in zero separator message c = each-end
-within-in (suc fuel) separator message c = go (fieldAt separator message c) refl (λ f. within-in fuel separator message (f .next))
-  where
-    go : (r : FieldRead) → fieldAt separator message c ≡ r → ((f : Field) → Each (FieldIn message) (fieldsWithin fuel separator message (f .next))) → Each (FieldIn message) (followedBy r (λ f. fieldsWithin fuel separator message (f .next)))
-    go (Unreadable cause place) e later = each-end
-    go (Read f) e later = each-field (read-in separator message c f e) (later f)
-
-fields-in : (separator : ℕ) (message : List ℕ) (c : Cursor) → Each (FieldIn message) (fieldsFrom separator message c)
-unfolding fieldsFrom
-fields-in separator message c = within-in (length message - c .at) separator message c
 
 module _ (message : List ℕ) where
   stored-in : (r : Record) → RecordIn message r → (rs : List Record) → RecordsIn message rs → RecordsIn message (stored r rs)
@@ -67,17 +44,17 @@ module _ (message : List ℕ) where
       go false t later = one-more g later
 
   -- a field's record lies where the field does
-  field-in : (f : Field) → FieldIn message f → {rs : List Record} → RecordsIn message rs → RecordsIn message (stored (recordOf 1 f) rs)
+  field-in : (f : Field) → Inside message f → {rs : List Record} → RecordsIn message rs → RecordsIn message (stored (recordOf 1 f) rs)
   unfolding recordOf
-  field-in f h {rs} i = stored-in (recordOf 1 f) h rs i
+  field-in f h {rs} i = stored-in (recordOf 1 f) (h .within) rs i
 
-  verified-records : (separator : ℕ) (v : Verified) → VerifiedRead separator message v → RecordsIn message (verifiedRecords v)
+  verified-records : (mode : Mode) (v : Verified) → VerifiedRead mode message v → RecordsIn message (verifiedRecords v)
   unfolding verifiedRecords
-  verified-records separator v r =
-      field-in (v .«msg_type») (read-in separator message _ _ (r .types))
-      (field-in (v .«body_length») (read-in separator message _ _ (r .counts)) (field-in (v .«begin_string») (read-in separator message _ _ (r .begins)) no-record))
+  verified-records mode v r =
+      field-in (v .«msg_type») (step-inside mode message _ _ (r .types))
+      (field-in (v .«body_length») (step-inside mode message _ _ (r .counts)) (field-in (v .«begin_string») (step-inside mode message _ _ (r .begins)) no-record))
 
-  header-in : (tags : List ℕ) (fields : Fields) → Each (FieldIn message) fields → (room : ℕ) (records : List Record) → RecordsIn message records → (f : Field) (rest : Fields) (left : ℕ) (header : List Record) →
+  header-in : (tags : List ℕ) (fields : Fields) → Each (Inside message) fields → (room : ℕ) (records : List Record) → RecordsIn message records → (f : Field) (rest : Fields) (left : ℕ) (header : List Record) →
       headerFrom tags fields room records ≡ ended f rest left header → RecordsIn message header
   unfolding headerFrom
   header-in tags (unreadable cause place) each-end room records i f rest left header h = let z : _≡_ {A = ℕ} 0 1 = cc in absurd (omega arith)
@@ -101,10 +78,10 @@ module _ (message : List ℕ) where
       go false later = later
 
 -- the record that MsgType is taken from lies in the message
-pub msg-type-inside : (tags : List ℕ) (separator : ℕ) (message : List ℕ) (v : Verified) (f : Field) (rest : Fields) (room : ℕ) (records : List Record) →
-    integrityOf separator message ≡ Sound v → headerOf tags separator message v ≡ ended f rest room records →
+pub msg-type-inside : (tags : List ℕ) (config : Config) (message : List ℕ) (v : Verified) (f : Field) (rest : Fields) (room : ℕ) (records : List Record) →
+    integrityOf (config .mode) message ≡ Sound v → headerOf tags config message v ≡ ended f rest room records →
     msgTypeRecord records .place + msgTypeRecord records .length ≤ length message
 unfolding headerOf
-msg-type-inside tags separator message v f rest room records sound ends =
+msg-type-inside tags config message v f rest room records sound ends =
     type-in message
-    (header-in message tags _ (fields-in separator message (v .«msg_type» .next)) roomBehind (verifiedRecords v) (verified-records message separator v (verified-read separator message v sound)) f rest room records ends)
+    (header-in message tags _ (all-inside (config .mode) message (v .«msg_type» .next)) roomBehind (verifiedRecords v) (verified-records message (config .mode) v (verified-read (config .mode) message v sound)) f rest room records ends)

@@ -6,13 +6,12 @@ use mathlib.Core.Bool.{Bool, true, false}
 use lib.ListN.{length}
 use lib.Dec.{eqb, leb}
 use Rattle.tagvalue.specs.Choice.{pick}
-use Rattle.tagvalue.specs.Fields.{fieldsFrom}
-use Rattle.tagvalue.specs.declared.Field.{Field}
+use Rattle.tagvalue.specs.Fields.{fieldsFrom, Inside}
+use Rattle.tagvalue.specs.declared.Mode.{Mode}
 use Rattle.integrity.specs.declared.Verified.{Verified}
 use Rattle.flat.specs.Check.{checkOf, storeOf, preparedOf}
 use Rattle.flat_steps.specs.declared.Checked.the-variants.{Passes}
 use Rattle.layout.specs.Tree.{Dictionary, headerTags, trailerTags}
-use Rattle.groups.specs.ReadingLaws.{Inside}
 use Rattle.parts.specs.declared.Answer.{Answer}
 use Rattle.parts.specs.declared.Answer.the-variants.{Valid}
 use Rattle.parts.specs.Answer.{numberOf}
@@ -33,10 +32,10 @@ pub record VerifiedInside (v : Verified) : Type 0 where
   pub types : (v .«msg_type» .place < 2 ^ 32) × (v .«msg_type» .length < 2 ^ 32)
 
 -- what the code answers at the end of the header, with the words that it leaves
-unfoldable pub startTold : ℕ → List ℕ → Begun → List ℕ → Start
-startTold separator message (Header h) words =
-    started (h .stop) (fieldsFrom separator message (h .stop .next)) (h .progress .room) (partOf 0 (h .progress .records) words) (h .checksum)
-startTold separator message (Refused answer) words = unsound answer
+unfoldable pub startTold : Mode → List ℕ → Begun → List ℕ → Start
+startTold mode message (Header h) words =
+    started (h .stop) (fieldsFrom mode message (h .stop .next)) (h .progress .room) (partOf 0 (h .progress .records) words) (h .checksum)
+startTold mode message (Refused answer) words = unsound answer
 
 -- what the code answers behind a header of so many records, with the words that it leaves
 unfoldable pub finishTold : ℕ → Finished → List ℕ → Outcome

@@ -11,12 +11,11 @@ use borrow.Author.Tests.{le-ltb, lt-ltb}
 use Rattle.tagvalue.specs.Choice.{pick}
 use Rattle.tagvalue.specs.Separator.{isRefusedSeparator}
 use Rattle.tagvalue.specs.Fields.{fieldsFrom}
-use Rattle.integrity.specs.declared.Config.{Config}
-use Rattle.flat.specs.Check.{Outcome as Checking, outcome, checkOf, preparedOf, storeOf, numberOf as numberOfCheck}
+use Rattle.build_config.specs.declared.Config.{Config}
+use Rattle.flat.specs.Check.{outcome, checkOf, preparedOf, storeOf, numberOf as numberOfCheck}
 use Rattle.flat_steps.specs.declared.Checked.{Checked}
 use Rattle.flattening.specs.Meaning.{dictionaryOf}
 use Rattle.layout.specs.Tree.{Dictionary, headerTags, layoutOf}
-use Rattle.records.specs.declared.Record.{Record}
 use Rattle.parts.specs.declared.Answer.{Answer}
 use Rattle.parts.specs.declared.Answer.the-variants.{Valid, TooLong, InvalidSeparator, TooFewRecords, BadDictionary}
 use Rattle.parts.specs.Answer.{numberOf}
@@ -28,13 +27,11 @@ use Rattle.reading.specs.declared.Stop.{Stop}
 use Rattle.reading.specs.declared.Stop.the-variants.{Nowhere}
 use Rattle.builder.specs.declared.Finished.{Finished}
 use Rattle.builder.specs.declared.Finished.the-variants.{Whole, Refused as Stopped}
-use Rattle.builder.specs.declared.Read.{Read}
-use Rattle.builder.specs.declared.Built.{Built}
-use Rattle.reading.specs.Beginning.{Start, startOf, msgTypeRecord, valueAt}
+use Rattle.reading.specs.Beginning.{startOf, msgTypeRecord, valueAt}
 use Rattle.reading.specs.Message.{Outcome, shownWith, refusal, afterType, afterHeader, messageRead}
 use Rattle.builder.specs.Reading.{finishTold, finishCounts}
 use Rattle.builder.specs.Reading.{startTold, Prepared, shownCount, readTold}
-use Rattle.builder.specs.Build.{BuildOutcome, wordsWith, untouched, shown, checkedRead, buildOf, builtTold}
+use Rattle.builder.specs.Build.{untouched, shown, checkedRead, buildOf, builtTold}
 use Rattle.builder.specs.BuildLaws.{blanked, part-count, check-refuses, check-reads, zero-passes}
 use Rattle.builder.specs.Finishing.{part-empty}
 
@@ -71,35 +68,35 @@ pub whole-counts : (r : Finished) (stop : Stop) (count : ℕ) → r ≡ Whole st
 unfolding finishCounts
 whole-counts r stop count e = rw e
 
-module _ (dictionary : Dictionary) (validate : Bool) (separator : ℕ) (message tags words : List ℕ) (is : tags ≡ headerTags dictionary) (begun : Begun) (told : startTold separator message begun words ≡ startOf tags separator message) where
-  begins : messageRead dictionary validate separator message ≡ afterHeader dictionary validate message (startTold separator message begun words)
+module _ (dictionary : Dictionary) (config : Config) (message tags words : List ℕ) (is : tags ≡ headerTags dictionary) (begun : Begun) (told : startTold (config .mode) message begun words ≡ startOf tags config message) where
+  begins : messageRead dictionary config message ≡ afterHeader dictionary config message (startTold (config .mode) message begun words)
   unfolding messageRead
   begins = rw (told, is)
 
   -- integrity or the header was refused
-  pub read-refused : (answer : Answer) → begun ≡ Refused answer → (after : List ℕ) → readTold (record { answer = answer; stop = Nowhere; records = 0 }) after ≡ messageRead dictionary validate separator message
+  pub read-refused : (answer : Answer) → begun ≡ Refused answer → (after : List ℕ) → readTold (record { answer = answer; stop = Nowhere; records = 0 }) after ≡ messageRead dictionary config message
   read-refused answer e after = none-shown answer after ∙ sym (begins ∙ refuses)
     where
-      refuses : afterHeader dictionary validate message (startTold separator message begun words) ≡ refusal answer []
+      refuses : afterHeader dictionary config message (startTold (config .mode) message begun words) ≡ refusal answer []
       refuses = unfold startTold afterHeader in rw e
 
   module _ (h : Headed) (e : begun ≡ Header h) (r : Finished) (after : List ℕ)
-      (finished : finishTold (h .progress .records) r after ≡ afterType dictionary validate (h .stop) (fieldsFrom separator message (h .stop .next)) (h .progress .room) (partOf 0 (h .progress .records) words) (h .checksum) (layoutOf dictionary (valueAt message (msgTypeRecord (partOf 0 (h .progress .records) words))))) where
-    goes-on : messageRead dictionary validate separator message ≡ finishTold (h .progress .records) r after
+      (finished : finishTold (h .progress .records) r after ≡ afterType dictionary config (h .stop) (fieldsFrom (config .mode) message (h .stop .next)) (h .progress .room) (partOf 0 (h .progress .records) words) (h .checksum) (layoutOf dictionary (valueAt message (msgTypeRecord (partOf 0 (h .progress .records) words))))) where
+    goes-on : messageRead dictionary config message ≡ finishTold (h .progress .records) r after
     goes-on = begins ∙ headed ∙ sym finished
       where
-        headed : afterHeader dictionary validate message (startTold separator message begun words) ≡ afterType dictionary validate (h .stop) (fieldsFrom separator message (h .stop .next)) (h .progress .room) (partOf 0 (h .progress .records) words) (h .checksum) (layoutOf dictionary (valueAt message (msgTypeRecord (partOf 0 (h .progress .records) words))))
+        headed : afterHeader dictionary config message (startTold (config .mode) message begun words) ≡ afterType dictionary config (h .stop) (fieldsFrom (config .mode) message (h .stop .next)) (h .progress .room) (partOf 0 (h .progress .records) words) (h .checksum) (layoutOf dictionary (valueAt message (msgTypeRecord (partOf 0 (h .progress .records) words))))
         headed = unfold startTold afterHeader in rw e
 
     -- all was read
-    pub read-whole : (stop : Stop) (count : ℕ) → r ≡ Whole stop count → readTold (record { answer = Valid; stop = stop; records = count }) after ≡ messageRead dictionary validate separator message
+    pub read-whole : (stop : Stop) (count : ℕ) → r ≡ Whole stop count → readTold (record { answer = Valid; stop = stop; records = count }) after ≡ messageRead dictionary config message
     read-whole stop count w = sym (goes-on ∙ told-whole)
       where
         told-whole : finishTold (h .progress .records) r after ≡ readTold (record { answer = Valid; stop = stop; records = count }) after
         told-whole = unfold finishTold readTold in rw w
 
     -- MsgType, body or trailer was refused
-    pub read-stopped : (answer : Answer) → r ≡ Stopped answer → (n : ℕ) → n ≡ shownCount answer (h .progress .records) → readTold (record { answer = answer; stop = Nowhere; records = n }) after ≡ messageRead dictionary validate separator message
+    pub read-stopped : (answer : Answer) → r ≡ Stopped answer → (n : ℕ) → n ≡ shownCount answer (h .progress .records) → readTold (record { answer = answer; stop = Nowhere; records = n }) after ≡ messageRead dictionary config message
     read-stopped answer s n shows = sym (goes-on ∙ told-stopped)
       where
         told-stopped : finishTold (h .progress .records) r after ≡ readTold (record { answer = answer; stop = Nowhere; records = n }) after
@@ -109,7 +106,7 @@ module _ (message : List ℕ) (config : Config) (d : List ℕ) (checked : Checke
   pub refused-dictionary : (numberOfCheck checked ≡ 0 → ⊥) → (words : List ℕ) → readTold (record { answer = BadDictionary checked; stop = Nowhere; records = 0 }) words ≡ checkedRead message config d (checkOf d)
   refused-dictionary n words = none-shown (BadDictionary checked) words ∙ sym (rw (← is) (check-refuses message config d checked n))
 
-  pub passing-dictionary : numberOfCheck checked ≡ 0 → messageRead (dictionaryOf d) (config .validate) (config .separator) message ≡ checkedRead message config d (checkOf d)
+  pub passing-dictionary : numberOfCheck checked ≡ 0 → messageRead (dictionaryOf d) config message ≡ checkedRead message config d (checkOf d)
   passing-dictionary z = sym (rw (← is) (check-reads message config d checked z))
 
 -- the index that a check left which passed
@@ -118,11 +115,11 @@ unfolding storeOf
 prepared-by d checked is z before index size left = record { passes = sym is ∙ zero-passes checked z; before = before; size = size; made = ap storeOf left }
 
 module _ (message : List ℕ) (config : Config) (d : List ℕ) (lent : ℕ) (words : List ℕ) where
-  pub build-separator : isRefusedSeparator (config .separator) ≡ true → buildOf message config d lent words ≡ untouched InvalidSeparator words
+  pub build-separator : isRefusedSeparator (config .mode .separator) ≡ true → buildOf message config d lent words ≡ untouched InvalidSeparator words
   unfolding buildOf
   build-separator e = rw e
 
-  module _ (good : isRefusedSeparator (config .separator) ≡ false) where
+  module _ (good : isRefusedSeparator (config .mode .separator) ≡ false) where
     pub build-few : lent < 1024 → buildOf message config d lent words ≡ untouched TooFewRecords words
     unfolding buildOf
     build-few h = rw (good, lt-ltb lent 1024 h)

@@ -3,7 +3,7 @@
 use flattening::MessageTable;
 use flattening::tags;
 use flattening::tags::TagList;
-use integrity::Config;
+use build_config::Config;
 use integrity::Integrity;
 use integrity::Verified;
 use layout::Level;
@@ -19,8 +19,7 @@ ghost use mathlib.Core.List.{[], _++_};
 ghost use Prim.Native.Nat.{suc, _+_, _-_, _*_, _≤_, _<_, _/_, _^_};
 ghost use lib.ListN.{length, take, replicate};
 ghost use Rattle.flat_names.specs.Index.{tagAt};
-ghost use Rattle.tagvalue.specs.Fields.{field, fieldsFrom};
-ghost use Rattle.groups.specs.ReadingLaws.{Inside};
+ghost use Rattle.tagvalue.specs.Fields.{field, fieldsFrom, Inside};
 ghost use Rattle.groups.specs.Reading.{tableRules};
 ghost use Rattle.required.specs.Checking.{tableDemands};
 ghost use Rattle.flattening.specs.Meaning.{dictionaryOf};
@@ -88,7 +87,7 @@ fn finish(
     words: &mut [u32],
 ) -> Finished
     requires { ⌜ (length (now message) < 2 ^ 32) × (Inside (now message) (headed .stop)) × (Inside (now message) (headed .checksum)) × (headed .progress .records + headed .progress .room < length (now words) / 6) × (length (now words) < 2 ^ 32) ⌝ }
-    ensures { λ r. ⌜ finishTold (headed .progress .records) r (now (words .exit)) ≡ afterBody (partOf 0 (headed .progress .records) (now (words .entry))) (headed .checksum) (bodyFrom (bodyOf (tableRules (config .validate) (now (table .entry)) (tagAt (now (index .entry)))) (tableDemands (now (table .entry))) (now («trailer_tags» .entry)) level) (field (headed .stop) (fieldsFrom (config .separator) (now (message .entry)) (headed .stop .next))) (suc (headed .progress .room)) []) ⌝ }
+    ensures { λ r. ⌜ finishTold (headed .progress .records) r (now (words .exit)) ≡ afterBody (partOf 0 (headed .progress .records) (now (words .entry))) (headed .checksum) (bodyFrom (bodyOf (tableRules config (now (table .entry)) (tagAt (now (index .entry)))) (tableDemands (now (table .entry))) (now («trailer_tags» .entry)) level) (field (headed .stop) (fieldsFrom (config .mode) (now (message .entry)) (headed .stop .next))) (suc (headed .progress .room)) []) ⌝ }
     ensures { λ r. ⌜ finishCounts r ≤ length (now (words .entry)) / 6 ⌝ }
 {
     let begun = headed.progress;
@@ -145,10 +144,10 @@ fn keep_verified(words: &mut [u32], verified: Verified) -> usize
 // Integrity, and the header behind the fields that it verified.
 fn begin(message: &[u8], config: Config, header_tags: &[u32], words: &mut [u32]) -> Begun
     requires { ⌜ (length (now message) < 2 ^ 32) × (length (now words) ≡ 6150) ⌝ }
-    ensures { λ r. ⌜ startTold (config .separator) (now (message .entry)) r (now (words .exit)) ≡ startOf (now («header_tags» .entry)) (config .separator) (now (message .entry)) ⌝ }
+    ensures { λ r. ⌜ startTold (config .mode) (now (message .entry)) r (now (words .exit)) ≡ startOf (now («header_tags» .entry)) (config .mode) (now (message .entry)) ⌝ }
     ensures { λ r. ⌜ Begins (now (message .entry)) (now (words .exit)) r ⌝ }
 {
-    match integrity::verify(message, config) {
+    match integrity::verify(message, config.mode) {
         Integrity::Garbled(reason) => Begun::Refused(Answer::Garbled(reason)),
         Integrity::Sound(verified) => {
             let msg_type = verified.msg_type;
@@ -197,7 +196,7 @@ fn read_headed(
     words: &mut [u32],
 ) -> Finished
     requires { ⌜ (length (now message) < 2 ^ 32) × (length (now words) ≡ 6150) × HeaderEnds (now message) (now words) headed × Prepared (now dictionary) (now index) × (now «trailer_tags» ≡ trailerTags (dictionaryOf (now dictionary))) ⌝ }
-    ensures { λ r. ⌜ finishTold (headed .progress .records) r (now (words .exit)) ≡ afterType (dictionaryOf (now (dictionary .entry))) (config .validate) (headed .stop) (fieldsFrom (config .separator) (now (message .entry)) (headed .stop .next)) (headed .progress .room) (partOf 0 (headed .progress .records) (now (words .entry))) (headed .checksum) (layoutOf (dictionaryOf (now (dictionary .entry))) (valueAt (now (message .entry)) (msgTypeRecord (partOf 0 (headed .progress .records) (now (words .entry)))))) ⌝ }
+    ensures { λ r. ⌜ finishTold (headed .progress .records) r (now (words .exit)) ≡ afterType (dictionaryOf (now (dictionary .entry))) (config .validate) (headed .stop) (fieldsFrom (config .mode) (now (message .entry)) (headed .stop .next)) (headed .progress .room) (partOf 0 (headed .progress .records) (now (words .entry))) (headed .checksum) (layoutOf (dictionaryOf (now (dictionary .entry))) (valueAt (now (message .entry)) (msgTypeRecord (partOf 0 (headed .progress .records) (now (words .entry)))))) ⌝ }
     ensures { λ r. ⌜ finishCounts r ≤ 1025 ⌝ }
 {
     let progress = headed.progress;
@@ -262,7 +261,7 @@ fn read_message(
     words: &mut [u32],
 ) -> Read
     requires { ⌜ (length (now message) < 2 ^ 32) × (length (now words) ≡ 6150) × Prepared (now dictionary) (now index) ⌝ }
-    ensures { λ r. ⌜ readTold r (now (words .exit)) ≡ messageRead (dictionaryOf (now (dictionary .entry))) (config .validate) (config .separator) (now (message .entry)) ⌝ }
+    ensures { λ r. ⌜ readTold r (now (words .exit)) ≡ messageRead (dictionaryOf (now (dictionary .entry))) config (now (message .entry)) ⌝ }
     ensures { λ r. ⌜ r .records ≤ 1025 ⌝ }
 {
     let mut header_tags = [0u32; 1024];
@@ -355,7 +354,7 @@ pub fn build(
 {
     // Only where the array is made a slice does the proof learn its length.
     let records = &mut words[..];
-    if tagvalue::is_refused_separator(config.separator) {
+    if tagvalue::is_refused_separator(config.mode.separator) {
         return untouched(Answer::InvalidSeparator);
     }
     if lent < 1024 {

@@ -8,11 +8,12 @@ use Prim.Native.Nat.{ℕ, _-_}
 use Prim.Native.String.{String}
 use native.Mathlib.Omega.{arith}
 use lib.Dec.{eqb}
+use Rattle.conformance.specs.Reading.{standardMode}
+use Rattle.tagvalue.specs.Computing.{reading-fields}
 use Rattle.tagvalue.specs.Text.{bytes}
-use Rattle.tagvalue.specs.Find.{findIn}
-use Rattle.tagvalue.specs.Number.{isDigit, allDigits, worth, numberOf, nonZero, tagOf}
-use Rattle.tagvalue.specs.Field.{fieldFrom, fieldAt, withEquals, withSeparator, withTag}
-use Rattle.tagvalue.specs.Fields.{followedBy, fieldsWithin, fieldsFrom}
+use Rattle.tagvalue.specs.Number.{worth}
+use Rattle.tagvalue.specs.Field.{startAt}
+use Rattle.tagvalue.specs.Fields.{fieldsFrom}
 use Rattle.tagvalue.specs.Standard.{All, Told, told, Int, Distinct, entries, Stands}
 use Rattle.layout.specs.Layout.{Layout, end, field, group, firstOf, positionFrom, positionIn, groupSince, groupOf, delimiterOf}
 use Rattle.records.specs.Records.{stored}
@@ -98,7 +99,7 @@ shown (ended f rest room rs) = (0, f .tag, map (λ (r : Record). (r .depth, r .n
 shown (refused refusal rs) = (numberOfRefusal refusal, 0, [])
 
 unfoldable reading : (ℕ → Bool) → Layout → String → Reading
-reading accepts layout text = shown (walk (layoutRules accepts) listStore 100 (run layout 78 1 0 ∷ []) [] (fieldsFrom 1 (bytes text) (record { at = 0 })))
+reading accepts layout text = shown (walk (layoutRules accepts) listStore 100 (run layout 78 1 0 ∷ []) [] (fieldsFrom standardMode (bytes text) (startAt 0)))
 
 abbrev one : Layout
 one = field 79 false end
@@ -142,7 +143,7 @@ unfit =
     ∷ []
 
 unfit-read : map (λ row. reading strict (row .0 .0) (row .0 .1)) unfit ≡ map (λ row. row .1) unfit
-unfolding reading shown numberOfRefusal layoutRules openedAs joinedList listStore walk moved decide inEntry kindOf declared counting opens isDelimiter recordOf positionIn positionFrom firstOf groupOf groupSince delimiterOf stored fieldsFrom fieldsWithin followedBy fieldAt fieldFrom withEquals withSeparator withTag findIn tagOf nonZero numberOf isDigit allDigits worth
+unfolding reading shown numberOfRefusal layoutRules openedAs joinedList listStore walk moved decide inEntry kindOf declared counting opens isDelimiter recordOf positionIn positionFrom firstOf groupOf groupSince delimiterOf stored reading-fields
 unfit-read = refl
 
 -- validation off: an unknown user tag behind the group joins its entry, and behind a nested group that group's entry
@@ -153,5 +154,5 @@ user =
     ∷ []
 
 user-read : map (λ row. reading lenient (row .0 .0) (row .0 .1)) user ≡ map (λ row. row .1) user
-unfolding reading shown numberOfRefusal layoutRules openedAs joinedList listStore walk moved decide inEntry kindOf declared counting opens isDelimiter recordOf positionIn positionFrom firstOf groupOf groupSince delimiterOf stored fieldsFrom fieldsWithin followedBy fieldAt fieldFrom withEquals withSeparator withTag findIn tagOf nonZero numberOf isDigit allDigits worth
+unfolding reading shown numberOfRefusal layoutRules openedAs joinedList listStore walk moved decide inEntry kindOf declared counting opens isDelimiter recordOf positionIn positionFrom firstOf groupOf groupSince delimiterOf stored reading-fields
 user-read = refl

@@ -6,17 +6,20 @@ use mathlib.Core.List.{List, [], _∷_, _++_, append-assoc, append-nil}
 use Prim.Native.Nat.{ℕ, _+_, _≤_}
 use native.Mathlib.Omega.{arith}
 use lib.ListN.{length, length-append}
-use Rattle.tagvalue.specs.Field.{fieldAt, valueOf}
-use Rattle.tagvalue.specs.FieldLaws.{past-end}
-use Rattle.tagvalue.specs.Fields.{Fields, unreadable, field, fieldsFrom}
-use Rattle.tagvalue.specs.FieldsLaws.{fields-field, fields-end}
+use Rattle.tagvalue.specs.declared.Mode.{Mode}
+use Rattle.tagvalue.specs.Field.{startAt, fieldAt, valueOf, separatedBy}
+use Rattle.tagvalue.specs.Fields.{Fields, field, fieldsFrom}
+use Rattle.tagvalue.specs.FieldsLaws.{fields-field}
 use Rattle.tagvalue.specs.Standard as standard
-use Rattle.tagvalue.specs.Standard.{All, NotDelimiter, Told, told, Message, SOH}
-use Rattle.tagvalue.specs.StandardLaws.{ReadAs, standard-field}
+use Rattle.tagvalue.specs.Standard.{All, NotDelimiter, Told, told}
+use Rattle.tagvalue.specs.StandardLaws.{standard-field}
 use Rattle.tagvalue.specs.declared.Cursor.{Cursor}
 use Rattle.tagvalue.specs.declared.Field.{Field}
 use Rattle.tagvalue.specs.declared.FieldRead.the-variants.{Read}
-use Rattle.tagvalue.specs.declared.Cause.the-variants.{NoEquals}
+
+-- how fields of the standard are read
+abbrev pub standardMode : Mode
+standardMode = separatedBy SOH
 
 -- the fields that were read tell these tags and values, up to where reading stands then
 pub data ReadsAs (message : List ℕ) : Fields → List Told → Fields → Type 0 where
@@ -28,15 +31,12 @@ pub data Readable : List Told → Type 0 where
   none : Readable []
   also : {t : ℕ} {v : List ℕ} {ts : List Told} → t ≤ 4294967295 → All NotDelimiter v → Readable ts → Readable (told t v ∷ ts)
 
-cursor-at : (c : Cursor) (n : ℕ) → c .at ≡ n → c ≡ record { at = n }
-cursor-at c n e = ap (λ (k : ℕ). record { at = k }) e
-
 -- one field of the standard is one field read
 pub reads-one : (message before bytes after : List ℕ) (n m t : ℕ) (v : List ℕ) → message ≡ before ++ (bytes ++ after) → n ≡ length before → m ≡ n + length bytes → standard.Field t v bytes → t ≤ 4294967295
-    → (f : Field) × (fieldAt SOH message (record { at = n }) ≡ Read f) × (f .tag ≡ t) × (valueOf message f ≡ v) × (f .next ≡ record { at = m })
+    → (f : Field) × (fieldAt standardMode message (startAt n) ≡ Read f) × (f .tag ≡ t) × (valueOf message f ≡ v) × (f .next ≡ startAt m)
 reads-one message before bytes after n m t v w p q s small =
     let r = standard-field t v bytes before after s small in
-    (r .got, rw (w, p) (r .reads), r .tag-is, rw w (r .value-is), cursor-at (r .got .next) m (omega (arith, r .next-is)))
+    (r .got, rw (w, p) (r .reads), r .tag-is, rw w (r .value-is), r .next-is ∙ ap (λ (k : ℕ). startAt k) (omega arith))
 
 regroup : (message before a b after : List ℕ) → message ≡ before ++ ((a ++ b) ++ after) → message ≡ before ++ (a ++ (b ++ after))
 regroup message before a b after w = w ∙ simp append-assoc
@@ -50,11 +50,11 @@ data-field t text v is-tag some plain = record { text = text; is-tag = is-tag; i
 
 module _ (message : List ℕ) where
   -- a field that was read, and then those behind it
-  pub reads-then : (n m t : ℕ) (v : List ℕ) (ts : List Told) (last : Fields) → (f : Field) × (fieldAt SOH message (record { at = n }) ≡ Read f) × (f .tag ≡ t) × (valueOf message f ≡ v) × (f .next ≡ record { at = m })
-      → ReadsAs message (fieldsFrom SOH message (record { at = m })) ts last → ReadsAs message (fieldsFrom SOH message (record { at = n })) (told t v ∷ ts) last
+  pub reads-then : (n m t : ℕ) (v : List ℕ) (ts : List Told) (last : Fields) → (f : Field) × (fieldAt standardMode message (startAt n) ≡ Read f) × (f .tag ≡ t) × (valueOf message f ≡ v) × (f .next ≡ startAt m)
+      → ReadsAs message (fieldsFrom standardMode message (startAt m)) ts last → ReadsAs message (fieldsFrom standardMode message (startAt n)) (told t v ∷ ts) last
   reads-then n m t v ts last (f, reads, tag, value, next) more =
-      let rest : ReadsAs message (fieldsFrom SOH message (f .next)) ts last = rw next more in
-      rw (fields-field SOH message (record { at = n }) f reads) (one-field tag value rest)
+      let rest : ReadsAs message (fieldsFrom standardMode message (f .next)) ts last = rw next more in
+      rw (fields-field standardMode message (startAt n) f reads) (one-field tag value rest)
 
   pub reads-append : (F G H : Fields) (ts us : List Told) → ReadsAs message F ts G → ReadsAs message G us H → ReadsAs message F (ts ++ us) H
   reads-append F G H _ us no-field b = b
@@ -63,7 +63,7 @@ module _ (message : List ℕ) where
   module _ {Pair : ℕ → ℕ → Type 0} where
     -- a sequence of fields of the standard is read field by field
     pub fields-read : (fs : List Told) (bytes before after : List ℕ) (n m : ℕ) → message ≡ before ++ (bytes ++ after) → n ≡ length before → m ≡ n + length bytes → standard.Fields Pair fs bytes → Readable fs
-        → ReadsAs message (fieldsFrom SOH message (record { at = n })) fs (fieldsFrom SOH message (record { at = m }))
+        → ReadsAs message (fieldsFrom standardMode message (startAt n)) fs (fieldsFrom standardMode message (startAt m))
     fields-read _ _ before after n m w p q standard.Fields.no-field r =
         let same : m ≡ n = omega arith in rw same no-field
     fields-read _ _ before after n m w p q (standard.Fields.plain {t = t} {v = v} {bytes = b} {rest = rest} {fs = fs} s x more) (also small plain r) =
@@ -90,10 +90,10 @@ module _ (message : List ℕ) where
 
     -- the first of them, whatever stands in the others
     pub first-read : (t : ℕ) (v : List ℕ) (fs : List Told) (bytes before after : List ℕ) (n : ℕ) → message ≡ before ++ (bytes ++ after) → n ≡ length before → standard.Fields Pair (told t v ∷ fs) bytes → t ≤ 4294967295
-        → (f : Field) × (fieldAt SOH message (record { at = n }) ≡ Read f) × (f .tag ≡ t) × (valueOf message f ≡ v)
+        → (f : Field) × (fieldAt standardMode message (startAt n) ≡ Read f) × (f .tag ≡ t) × (valueOf message f ≡ v)
     first-read t v fs bytes before after n w p s small = by-form (told t v ∷ fs) bytes w s refl
       where
-        by-form : (gs : List Told) (bytes : List ℕ) → message ≡ before ++ (bytes ++ after) → standard.Fields Pair gs bytes → gs ≡ told t v ∷ fs → (f : Field) × (fieldAt SOH message (record { at = n }) ≡ Read f) × (f .tag ≡ t) × (valueOf message f ≡ v)
+        by-form : (gs : List Told) (bytes : List ℕ) → message ≡ before ++ (bytes ++ after) → standard.Fields Pair gs bytes → gs ≡ told t v ∷ fs → (f : Field) × (fieldAt standardMode message (startAt n) ≡ Read f) × (f .tag ≡ t) × (valueOf message f ≡ v)
         by-form _ _ w standard.Fields.no-field e = let z : _≡_ {A = ℕ} 0 1 = cc in absurd (omega arith)
         by-form _ _ w (standard.Fields.plain {t = u} {v = x} {bytes = b} {rest = rest} s y more) e =
             let same : told u x ≡ told t v = cc in

@@ -9,16 +9,16 @@ use lib.ListN.{length, take, length-append}
 use lib.Seq.{take-at}
 use lib.Dec.{eqb}
 use borrow.Author.Tests.{eq-eqb}
-use Rattle.tagvalue.specs.Choice.{pick}
+use Rattle.conformance.specs.Reading.{standardMode}
 use Rattle.tagvalue.specs.Number.{numberOf}
 use Rattle.tagvalue.specs.NumberLaws.{checksum-three}
 use Rattle.tagvalue.specs.CheckSum.{sumOf, checksumOf}
-use Rattle.tagvalue.specs.Field.{fieldAt, valueOf}
+use Rattle.tagvalue.specs.Field.{startAt, fieldAt, valueOf}
 use Rattle.tagvalue.specs.FieldLaws.{past-end}
-use Rattle.tagvalue.specs.Fields.{Fields, unreadable, field, fieldsFrom}
+use Rattle.tagvalue.specs.Fields.{unreadable, fieldsFrom}
 use Rattle.tagvalue.specs.FieldsLaws.{fields-end, step-lies}
 use Rattle.tagvalue.specs.Standard as standard
-use Rattle.tagvalue.specs.Standard.{Told, told, Message, SOH}
+use Rattle.tagvalue.specs.Standard.{told, Message}
 use Rattle.tagvalue.specs.StandardLaws.{int-read}
 use Rattle.tagvalue.specs.declared.Cursor.{Cursor}
 use Rattle.tagvalue.specs.declared.Field.{Field}
@@ -30,12 +30,12 @@ use Rattle.integrity.specs.declared.Integrity.the-variants.{Sound}
 use Rattle.integrity.specs.declared.Verified.{Verified}
 use Rattle.parser.specs.MessageLaws.{seven-bytes}
 use Rattle.conformance.specs.Texts.{sum-same}
-use Rattle.conformance.specs.Reading.{ReadsAs, no-field, one-field, Readable, none, also, reads-one, reads-then, reads-append, fields-read, first-read}
+use Rattle.conformance.specs.Reading.{ReadsAs, no-field, Readable, reads-one, reads-then, reads-append, fields-read, first-read}
 
 -- integrity, where each field was read and each test passes
-sound-steps : (message : List ℕ) (a b c t : Field) (n s : ℕ) → fieldAt 1 message (record { at = 0 }) ≡ Read a → a .tag ≡ 8 → fieldAt 1 message (a .next) ≡ Read b → b .tag ≡ 9 → numberOf (valueOf message b) ≡ Worth n → length message ≡ b .next .at + n + 7
-    → fieldAt 1 message (record { at = length message - 7 }) ≡ Read c → c .tag ≡ 10 → checksumOf (valueOf message c) ≡ Worth s → s ≡ sumOf (take (c .first) message) % 256 → fieldAt 1 message (b .next) ≡ Read t → t .tag ≡ 35
-    → integrityOf 1 message ≡ Sound (record { «begin_string» = a; «body_length» = b; checksum = c; «msg_type» = t })
+sound-steps : (message : List ℕ) (a b c t : Field) (n s : ℕ) → fieldAt standardMode message (startAt 0) ≡ Read a → a .tag ≡ 8 → fieldAt standardMode message (a .next) ≡ Read b → b .tag ≡ 9 → numberOf (valueOf message b) ≡ Worth n → length message ≡ b .next .at + n + 7
+    → fieldAt standardMode message (startAt (length message - 7)) ≡ Read c → c .tag ≡ 10 → checksumOf (valueOf message c) ≡ Worth s → s ≡ sumOf (take (c .first) message) % 256 → fieldAt standardMode message (b .next) ≡ Read t → t .tag ≡ 35
+    → integrityOf standardMode message ≡ Sound (record { «begin_string» = a; «body_length» = b; checksum = c; «msg_type» = t })
 unfolding integrityOf begun counted summed typed lengthIs lengthAgrees sumIs sumAgrees
 sound-steps message a b c t n s ra ta rb tb nb lb rc tc sc ec rt tt =
     rw (ra, eq-eqb _ _ ta, rb, eq-eqb _ _ tb, nb, eq-eqb _ _ lb, rc, eq-eqb _ _ tc, sc, eq-eqb _ _ ec, rt, eq-eqb _ _ tt)
@@ -43,7 +43,7 @@ sound-steps message a b c t n s ra ta rb tb nb lb rc tc sc ec rt tt =
 -- what integrity answers to a message of the standard
 pub record SoundAs {Pair : ℕ → ℕ → Type 0} (bytes : List ℕ) (m : Message Pair bytes) : Type 0 where
   pub verified : Verified
-  pub sound : integrityOf SOH bytes ≡ Sound verified
+  pub sound : integrityOf standardMode bytes ≡ Sound verified
   pub begin-string : valueOf bytes (verified .«begin_string») ≡ m .begin-string
   pub body-length : valueOf bytes (verified .«body_length») ≡ m .body-length
   pub msg-type : valueOf bytes (verified .«msg_type») ≡ m .msg-type
@@ -77,16 +77,16 @@ module _ {Pair : ℕ → ℕ → Type 0} (bytes : List ℕ) (m : Message Pair by
   at-last : bytes ≡ summed-bytes ++ (m .last ++ [])
   at-last = m .whole ∙ simp (append-assoc, append-nil)
 
-  first-field : (f : Field) × (fieldAt SOH bytes (record { at = 0 }) ≡ Read f) × (f .tag ≡ 8) × (valueOf bytes f ≡ m .begin-string) × (f .next ≡ record { at = a })
+  first-field : (f : Field) × (fieldAt standardMode bytes (startAt 0) ≡ Read f) × (f .tag ≡ 8) × (valueOf bytes f ≡ m .begin-string) × (f .next ≡ startAt a)
   first-field = reads-one bytes [] (m .first) (m .second ++ (m .counted ++ m .last)) 0 a 8 (m .begin-string) (m .whole) refl (omega arith) (m .first-is) (omega arith)
 
-  second-field : (f : Field) × (fieldAt SOH bytes (record { at = a }) ≡ Read f) × (f .tag ≡ 9) × (valueOf bytes f ≡ m .body-length) × (f .next ≡ record { at = b })
+  second-field : (f : Field) × (fieldAt standardMode bytes (startAt a) ≡ Read f) × (f .tag ≡ 9) × (valueOf bytes f ≡ m .body-length) × (f .next ≡ startAt b)
   second-field = reads-one bytes (m .first) (m .second) (m .counted ++ m .last) a b 9 (m .body-length) at-second refl refl (m .second-is) (omega arith)
 
-  third-field : (f : Field) × (fieldAt SOH bytes (record { at = b }) ≡ Read f) × (f .tag ≡ 35) × (valueOf bytes f ≡ m .msg-type)
+  third-field : (f : Field) × (fieldAt standardMode bytes (startAt b) ≡ Read f) × (f .tag ≡ 35) × (valueOf bytes f ≡ m .msg-type)
   third-field = first-read bytes 35 (m .msg-type) (m .others) (m .counted) (m .first ++ m .second) (m .last) b at-counted (sym (length-append (m .first) (m .second))) (m .counted-is) (omega arith)
 
-  last-field : (f : Field) × (fieldAt SOH bytes (record { at = c }) ≡ Read f) × (f .tag ≡ 10) × (valueOf bytes f ≡ m .check-sum) × (f .next ≡ record { at = length bytes })
+  last-field : (f : Field) × (fieldAt standardMode bytes (startAt c) ≡ Read f) × (f .tag ≡ 10) × (valueOf bytes f ≡ m .check-sum) × (f .next ≡ startAt (length bytes))
   last-field =
       let size : length summed-bytes ≡ c = simp length-append (omega arith) in
       reads-one bytes summed-bytes (m .last) [] c (length bytes) 10 (m .check-sum) at-last (sym size) (omega (arith, all-size, last-size)) (m .last-is) (omega arith)
@@ -99,7 +99,7 @@ module _ {Pair : ℕ → ℕ → Type 0} (bytes : List ℕ) (m : Message Pair by
       let h = third-field in
       let k = last-field in
       let place : c ≡ length bytes - 7 = omega (arith, all-size) in
-      let starts : k .0 .first ≡ c = step-lies SOH bytes (record { at = c }) (k .0) (k .1) .starts in
+      let starts : k .0 .first ≡ c = step-lies standardMode bytes (startAt c) (k .0) (k .1) .starts in
       let front : take (k .0 .first) bytes ≡ summed-bytes = ap (λ (n : ℕ). take n bytes) starts ∙ ap (take c) at-last ∙ take-at summed-bytes (m .last ++ []) c (simp length-append (omega arith)) in
       let length-read : numberOf (valueOf bytes (g .0)) ≡ Worth (length (m .counted)) = ap numberOf (g .3) ∙ int-read (m .body-length) (length (m .counted)) (m .length-is) (omega (arith, all-size)) in
       let sum : ℕ = standard.total summed-bytes % 256 in
@@ -116,11 +116,11 @@ module _ {Pair : ℕ → ℕ → Type 0} (bytes : List ℕ) (m : Message Pair by
 
   -- "and its fields are read as the standard gives them"
   pub standard-read : Readable (told 35 (m .msg-type) ∷ m .others)
-      → ReadsAs bytes (fieldsFrom SOH bytes (record { at = 0 })) (told 8 (m .begin-string) ∷ (told 9 (m .body-length) ∷ ((told 35 (m .msg-type) ∷ m .others) ++ (told 10 (m .check-sum) ∷ [])))) (unreadable NoEquals (length bytes))
+      → ReadsAs bytes (fieldsFrom standardMode bytes (startAt 0)) (told 8 (m .begin-string) ∷ (told 9 (m .body-length) ∷ ((told 35 (m .msg-type) ∷ m .others) ++ (told 10 (m .check-sum) ∷ [])))) (unreadable NoEquals (length bytes))
   standard-read r =
       let size : b ≡ length (m .first ++ m .second) = sym (length-append (m .first) (m .second)) in
       let middle = fields-read bytes (told 35 (m .msg-type) ∷ m .others) (m .counted) (m .first ++ m .second) (m .last) b c at-counted size refl (m .counted-is) r in
-      let past : fieldsFrom SOH bytes (record { at = length bytes }) ≡ unreadable NoEquals (length bytes) = fields-end SOH bytes (record { at = length bytes }) NoEquals (length bytes) (past-end SOH bytes (record { at = length bytes }) (omega arith)) in
-      let end : ReadsAs bytes (fieldsFrom SOH bytes (record { at = c })) (told 10 (m .check-sum) ∷ []) (unreadable NoEquals (length bytes)) = reads-then bytes c (length bytes) 10 (m .check-sum) [] _ last-field (rw past no-field) in
+      let past : fieldsFrom standardMode bytes (startAt (length bytes)) ≡ unreadable NoEquals (length bytes) = fields-end standardMode bytes (startAt (length bytes)) NoEquals (length bytes) (past-end standardMode bytes (startAt (length bytes)) (omega arith)) in
+      let end : ReadsAs bytes (fieldsFrom standardMode bytes (startAt c)) (told 10 (m .check-sum) ∷ []) (unreadable NoEquals (length bytes)) = reads-then bytes c (length bytes) 10 (m .check-sum) [] _ last-field (rw past no-field) in
       reads-then bytes 0 a 8 (m .begin-string) _ _ first-field
       (reads-then bytes a b 9 (m .body-length) _ _ second-field (reads-append bytes _ _ _ _ _ middle end))

@@ -7,8 +7,7 @@ use Prim.Native.Nat.{ℕ, _+_, _≤_}
 use native.Mathlib.Omega.{arith}
 use lib.ListN.{length, getD}
 use lib.Dec.{leb}
-use Rattle.tagvalue.specs.Choice.{pick}
-use Rattle.tagvalue.specs.Number.{isDigit, allDigits, worth}
+use Rattle.tagvalue.specs.Number.{allDigits, worth}
 use Rattle.tagvalue.specs.CheckSum.{sumOf}
 use Rattle.tagvalue.specs.Decimal.{decimal}
 use Rattle.tagvalue.specs.DecimalLaws.{decimal-unique, all-digits-first}

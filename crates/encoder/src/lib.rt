@@ -4,6 +4,7 @@ use message::Located;
 use message::Part;
 use message::Span;
 use tagvalue::Written;
+use tagvalue::wide;
 ghost use mathlib.Core.Path.{_≡_};
 ghost use mathlib.Core.Bool.{true, false};
 ghost use mathlib.Core.List.{[]};
@@ -15,12 +16,6 @@ ghost use Rattle.tagvalue.specs.Field.{fieldBytes};
 ghost use Rattle.maps.specs.Rows.{rowAt, rowsFrom, rowsBefore, sizeOf, sizes};
 ghost use Rattle.message.specs.Changes.{placeOf};
 ghost use Rattle.encoder.specs.Writing.{chosen, rowOn, rowText, rowsText, rowBytes, bytesIn, isUncounted, uncounted, itemsAt, textAt, Spans, tailOf, Outcome, outcome, writing};
-
-fn wide(n: u32) -> usize
-    ensures { λ r. ⌜ r ≡ n ⌝ }
-{
-    n as usize
-}
 
 fn write_bytes(output: &mut [u8], at: usize, text: &[u8]) -> usize
     requires { ⌜ at + length (now text) ≤ length (now output) ⌝ }

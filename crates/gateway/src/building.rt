@@ -36,20 +36,20 @@ fn fill(records: &mut [FieldRecord], words: &[u32; 6150], shown: usize, written:
 pub extern "C" fn gateway_build(
     message: &[u8],
     separator: u8,
-    validate: bool,
+    settings: u32,
     dictionary: &[u8],
     records: &mut [FieldRecord],
     out: &mut [u32; 4],
 ) -> u32
-    ensures { λ r. ⌜ (r ≡ numberOf (builtFrom (now (message .entry)) separator validate (now (dictionary .entry)) (length (now (records .entry))) .answer))
-        × (now (records .exit) ≡ recordsLent (builtFrom (now (message .entry)) separator validate (now (dictionary .entry)) (length (now (records .entry)))) (now (records .entry)))
-        × (now (out .exit) ≡ told (builtFrom (now (message .entry)) separator validate (now (dictionary .entry)) (length (now (records .entry))) .records) (valuesOf (builtFrom (now (message .entry)) separator validate (now (dictionary .entry)) (length (now (records .entry))) .answer))) ⌝ }
+    ensures { λ r. ⌜ (r ≡ numberOf (builtFrom (now (message .entry)) separator settings (now (dictionary .entry)) (length (now (records .entry))) .answer))
+        × (now (records .exit) ≡ recordsLent (builtFrom (now (message .entry)) separator settings (now (dictionary .entry)) (length (now (records .entry)))) (now (records .entry)))
+        × (now (out .exit) ≡ told (builtFrom (now (message .entry)) separator settings (now (dictionary .entry)) (length (now (records .entry))) .records) (valuesOf (builtFrom (now (message .entry)) separator settings (now (dictionary .entry)) (length (now (records .entry))) .answer))) ⌝ }
 {
     let mut words = telling::blank_words();
     let built = telling::build(
         message,
         separator,
-        validate,
+        settings,
         dictionary,
         records.len(),
         &mut words,

@@ -6,7 +6,7 @@ use Prim.Native.Nat.{ℕ, _≤_, _<_}
 use lib.Dec.{eqb}
 use borrow.Author.Tests.{le-leb, lt-leb, lt-ltb, le-ltb}
 use Rattle.tagvalue.specs.Choice.{pick, pick-same}
-use Rattle.integrity.specs.declared.Config.{Config}
+use Rattle.build_config.specs.declared.Config.{Config}
 use Rattle.layout.specs.Table.{positionOf, groupWithin, delimiterAt}
 use Rattle.layout.specs.declared.Level.{Level}
 use Rattle.layout.specs.declared.Position.the-variants.{At, Nowhere}
@@ -16,16 +16,16 @@ use Rattle.groups.specs.Groups.{isDelimiter, opens, plain, count, joins,
 use Rattle.groups.specs.Reading.{accepted, openedBy, tableRules, opensAt, kindAt}
 use Rattle.groups.specs.declared.Group.{Group}
 
-module _ (validate : Bool) (known : ℕ → Bool) (tag : ℕ) where
-  pub validated : validate ≡ true → accepted validate known tag ≡ false
+module _ (config : Config) (known : ℕ → Bool) (tag : ℕ) where
+  pub validated : config .validate ≡ true → accepted config known tag ≡ false
   unfolding accepted
   validated v = rw v
 
-  pub not-user-defined : tag < 5000 → accepted validate known tag ≡ false
+  pub not-user-defined : tag < 5000 → accepted config known tag ≡ false
   unfolding accepted
-  not-user-defined h = rw (lt-ltb _ _ h) (pick-same validate false)
+  not-user-defined h = rw (lt-ltb _ _ h) (pick-same (config .validate) false)
 
-  pub unknown : validate ≡ false → 5000 ≤ tag → accepted validate known tag ≡ not (known tag)
+  pub unknown : config .validate ≡ false → 5000 ≤ tag → accepted config known tag ≡ not (known tag)
   unfolding accepted
   unknown v h = rw (v, le-ltb _ _ h) (turned (known tag))
     where
@@ -43,9 +43,9 @@ module _ (table : List ℕ) (level : Level) (tag : ℕ) where
   one-delimiter delimiter e = rw e
 
 -- the delimiter test is the rules' own
-pub opens-table : (validate : Bool) (table : List ℕ) (known : ℕ → Bool) (level : Level) (tag : ℕ) → opens (tableRules validate table known) level tag ≡ opensAt table level tag
+pub opens-table : (config : Config) (table : List ℕ) (known : ℕ → Bool) (level : Level) (tag : ℕ) → opens (tableRules config table known) level tag ≡ opensAt table level tag
 unfolding opens tableRules opensAt
-opens-table validate table known level tag = refl
+opens-table config table known level tag = refl
 
 module _ (config : Config) (table : List ℕ) (known : ℕ → Bool) (group : Group) (last tag : ℕ) where
   pub kind-delimiter : opensAt table (group .level) tag ≡ true → kindAt config table known group last tag ≡ ends
@@ -53,11 +53,11 @@ module _ (config : Config) (table : List ℕ) (known : ℕ → Bool) (group : Gr
   kind-delimiter o = rw o
 
   module _ (o : opensAt table (group .level) tag ≡ false) where
-    pub kind-user : positionOf table (group .level) tag ≡ Nowhere → accepted (config .validate) known tag ≡ true → kindAt config table known group last tag ≡ joins
+    pub kind-user : positionOf table (group .level) tag ≡ Nowhere → accepted config known tag ≡ true → kindAt config table known group last tag ≡ joins
     unfolding kindAt kindOf opens tableRules opensAt declared
     kind-user p a = rw (o, p, a)
 
-    pub kind-other : positionOf table (group .level) tag ≡ Nowhere → accepted (config .validate) known tag ≡ false → kindAt config table known group last tag ≡ ends
+    pub kind-other : positionOf table (group .level) tag ≡ Nowhere → accepted config known tag ≡ false → kindAt config table known group last tag ≡ ends
     unfolding kindAt kindOf opens tableRules opensAt declared
     kind-other p a = rw (o, p, a)
 

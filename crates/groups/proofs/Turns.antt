@@ -7,12 +7,13 @@ use Prim.Native.Nat.{ℕ, suc, _+_, _-_, _≤_, _<_}
 use native.Mathlib.Omega.{arith}
 use lib.Dec.{leb, ltb}
 use borrow.Author.Tests.{ltb-true}
+use Rattle.tagvalue.specs.declared.Mode.{Mode}
 use Rattle.tagvalue.specs.Choice.{pick}
 use Rattle.tagvalue.specs.Field.{fieldAt}
 use Rattle.tagvalue.specs.Fields.{fieldsFrom}
 use Rattle.tagvalue.specs.declared.Cursor.{Cursor}
 use Rattle.tagvalue.specs.declared.Field.{Field}
-use Rattle.integrity.specs.declared.Config.{Config}
+use Rattle.build_config.specs.declared.Config.{Config}
 use Rattle.layout.specs.declared.Level.{Level}
 use Rattle.layout.specs.declared.Position.{Position}
 use Rattle.layout.specs.declared.Position.the-variants.{At as position-at, Nowhere}
@@ -66,25 +67,25 @@ module _ {L : Type 0} (rules : Rules L) (level : L) (depth last tag : ℕ) (inne
 
 -- a refusal is told as it came
 pub left-refused : (message : List ℕ) (config : Config) (table : List ℕ) (known : ℕ → Bool) (stack : List (Frame Level)) (reading : Reading) (words : List ℕ) (refusal : Refusal) → reading ≡ Refused refusal →
-    toldBy (config .separator) message reading words ≡ going (tableRules (config .validate) table known) (config .separator) message stack reading words
+    toldBy (config .mode) message reading words ≡ going (tableRules config table known) (config .mode) message stack reading words
 unfolding toldBy going
 left-refused message config table known stack reading words refusal e = rw e
 
 module _ (message : List ℕ) (config : Config) (table : List ℕ) (known : ℕ → Bool) (group : Group) where
   -- what is left of an entry, and of a run
   abbrev pub entryLeft : ℕ → ℕ → ℕ → Reading → List ℕ → Outcome Memory (List ℕ)
-  entryLeft number last start reading words = going (tableRules (config .validate) table known) (config .separator) message (entry (group .level) (group .tag) (group .depth) number last start ∷ []) reading words
+  entryLeft number last start reading words = going (tableRules config table known) (config .mode) message (entry (group .level) (group .tag) (group .depth) number last start ∷ []) reading words
 
   abbrev pub runLeft : ℕ → Reading → List ℕ → Outcome Memory (List ℕ)
-  runLeft number reading words = going (tableRules (config .validate) table known) (config .separator) message (run (group .level) (group .tag) (group .depth) number ∷ []) reading words
+  runLeft number reading words = going (tableRules config table known) (config .mode) message (run (group .level) (group .tag) (group .depth) number ∷ []) reading words
 
-  pub run-starts : (cursor : Cursor) (progress : Progress) (words : List ℕ) (reading : Reading) → reading ≡ nextOf (fieldAt (config .separator) message cursor) progress →
+  pub run-starts : (cursor : Cursor) (progress : Progress) (words : List ℕ) (reading : Reading) → reading ≡ nextOf (fieldAt (config .mode) message cursor) progress →
       runOf message config table known group cursor progress words ≡ runLeft 0 reading words
   unfolding runOf
   run-starts cursor progress words reading e = rw e (walk-next _ _ _ _ progress words cursor)
 
   pub entry-starts : (number : ℕ) (delimiter : Field) (progress begun : Progress) (words words₁ : List ℕ) (r : Record) (reading : Reading) →
-      r ≡ recordOf (group .depth) number delimiter → begun ≡ further 1 progress → words₁ ≡ onRecords (inserted (progress .records) (progress .place) r) words → reading ≡ nextOf (fieldAt (config .separator) message (delimiter .next)) begun →
+      r ≡ recordOf (group .depth) number delimiter → begun ≡ further 1 progress → words₁ ≡ onRecords (inserted (progress .records) (progress .place) r) words → reading ≡ nextOf (fieldAt (config .mode) message (delimiter .next)) begun →
       entryOf message config table known group number delimiter progress words ≡ entryLeft number 0 (progress .place) reading words₁
   unfolding entryOf addedWords memory further
   entry-starts number delimiter progress begun words words₁ r reading a b c d =
@@ -92,36 +93,36 @@ module _ (message : List ℕ) (config : Config) (table : List ℕ) (known : ℕ 
 
   -- going on from a field is taking it
   at-field : (stack : List (Frame Level)) (reading : Reading) (words : List ℕ) (f : Field) (progress : Progress) → reading ≡ At f progress →
-      going (tableRules (config .validate) table known) (config .separator) message stack reading words ≡ taking (tableRules (config .validate) table known) wordStore (progress .room) stack (memory progress words) f (fieldsFrom (config .separator) message (f .next))
+      going (tableRules config table known) (config .mode) message stack reading words ≡ taking (tableRules config table known) wordStore (progress .room) stack (memory progress words) f (fieldsFrom (config .mode) message (f .next))
   unfolding going
   at-field stack reading words f progress e = rw e
 
   module _ (number : ℕ) (reading : Reading) (words : List ℕ) (f : Field) (progress : Progress) (e : reading ≡ At f progress) where
     -- what is kept after a field is what the words hold then
     added-field : (stack : List (Frame Level)) →
-        walk (tableRules (config .validate) table known) wordStore (progress .room) stack (wordStore .add (recordOf (group .depth) number f) (memory progress words)) (fieldsFrom (config .separator) message (f .next))
-        ≡ walk (tableRules (config .validate) table known) wordStore (further 1 progress .room) stack (memory (further 1 progress) (onRecords (inserted (progress .records) (progress .place) (recordOf (group .depth) number f)) words)) (fieldsFrom (config .separator) message (f .next))
+        walk (tableRules config table known) wordStore (progress .room) stack (wordStore .add (recordOf (group .depth) number f) (memory progress words)) (fieldsFrom (config .mode) message (f .next))
+        ≡ walk (tableRules config table known) wordStore (further 1 progress .room) stack (memory (further 1 progress) (onRecords (inserted (progress .records) (progress .place) (recordOf (group .depth) number f)) words)) (fieldsFrom (config .mode) message (f .next))
     unfolding wordStore addedWords memory further
     added-field stack = refl
 
     joined-field : (stack : List (Frame Level)) (start : ℕ) → let k = makes (standingIn start (progress .place) (recordOf (group .depth) number f) words) in
-        walk (tableRules (config .validate) table known) wordStore (progress .room) stack (wordStore .join start (recordOf (group .depth) number f) (memory progress words)) (fieldsFrom (config .separator) message (f .next))
-        ≡ walk (tableRules (config .validate) table known) wordStore (further k progress .room) stack (memory (further k progress) (onRecords (storedBetween (progress .records) start (progress .place) (recordOf (group .depth) number f)) words)) (fieldsFrom (config .separator) message (f .next))
+        walk (tableRules config table known) wordStore (progress .room) stack (wordStore .join start (recordOf (group .depth) number f) (memory progress words)) (fieldsFrom (config .mode) message (f .next))
+        ≡ walk (tableRules config table known) wordStore (further k progress .room) stack (memory (further k progress) (onRecords (storedBetween (progress .records) start (progress .place) (recordOf (group .depth) number f)) words)) (fieldsFrom (config .mode) message (f .next))
     unfolding wordStore joinedWords memory further
     joined-field stack start = refl
 
     module _ (last start : ℕ) (kind : CodeKind) (k : meant kind ≡ kindAt config table known group last (f .tag)) where
-      pub left-ends : kind ≡ Ends → toldBy (config .separator) message (At f progress) words ≡ entryLeft number last start reading words
+      pub left-ends : kind ≡ Ends → toldBy (config .mode) message (At f progress) words ≡ entryLeft number last start reading words
       unfolding going toldBy meant kindAt
       left-ends q = rw e (sym (entry-ends _ _ _ _ _ _ _ _ _ _ _ _ (sym k ∙ ap meant q)))
 
-      pub left-wrong : kind ≡ Wrong → toldBy (config .separator) message (Refused (InvalidOrderInGroup (f .tag) (group .tag))) words ≡ entryLeft number last start reading words
+      pub left-wrong : kind ≡ Wrong → toldBy (config .mode) message (Refused (InvalidOrderInGroup (f .tag) (group .tag))) words ≡ entryLeft number last start reading words
       unfolding going toldBy meant kindAt wordStore memory
       left-wrong q = rw e (sym (entry-wrong _ _ _ _ _ _ _ _ _ _ _ _ (sym k ∙ ap meant q)))
 
       module _ (r : Record) (is : r ≡ recordOf (group .depth) number f) (stored : Progress) (words₁ : List ℕ) (reading₁ : Reading) where
         pub turn-joins : kind ≡ Joins → stored ≡ further (makes (standingIn start (progress .place) r words)) progress → words₁ ≡ onRecords (storedBetween (progress .records) start (progress .place) r) words →
-            reading₁ ≡ nextOf (fieldAt (config .separator) message (f .next)) stored →
+            reading₁ ≡ nextOf (fieldAt (config .mode) message (f .next)) stored →
             entryLeft number last start reading words ≡ entryLeft number last start reading₁ words₁
         unfolding meant kindAt
         turn-joins q a b c =
@@ -130,7 +131,7 @@ module _ (message : List ℕ) (config : Config) (table : List ℕ) (known : ℕ 
             ∙ rw (c, b, a, is) (joined-field _ start ∙ walk-next _ _ _ _ (further (makes (standingIn start (progress .place) (recordOf (group .depth) number f) words)) progress) (onRecords (storedBetween (progress .records) start (progress .place) (recordOf (group .depth) number f)) words) (f .next))
 
         module _ (a : stored ≡ further 1 progress) (b : words₁ ≡ onRecords (inserted (progress .records) (progress .place) r) words) where
-          pub turn-plain : (position : ℕ) → kind ≡ Plain position → reading₁ ≡ nextOf (fieldAt (config .separator) message (f .next)) stored →
+          pub turn-plain : (position : ℕ) → kind ≡ Plain position → reading₁ ≡ nextOf (fieldAt (config .mode) message (f .next)) stored →
               entryLeft number last start reading words ≡ entryLeft number position start reading₁ words₁
           unfolding meant kindAt
           turn-plain position q c =
@@ -139,7 +140,7 @@ module _ (message : List ℕ) (config : Config) (table : List ℕ) (known : ℕ 
               ∙ rw (c, b, a, is) (added-field _ ∙ walk-next _ _ _ _ (further 1 progress) (onRecords (inserted (progress .records) (progress .place) (recordOf (group .depth) number f)) words) (f .next))
 
           pub turn-count : (inner : Level) (position : ℕ) → kind ≡ Count inner position → (words₂ : List ℕ) →
-              toldBy (config .separator) message reading₁ words₂ ≡ runOf message config table known (record { level = inner; tag = f .tag; depth = group .depth + 1 }) (f .next) stored words₁ →
+              toldBy (config .mode) message reading₁ words₂ ≡ runOf message config table known (record { level = inner; tag = f .tag; depth = group .depth + 1 }) (f .next) stored words₁ →
               entryLeft number last start reading words ≡ entryLeft number position start reading₁ words₂
           unfolding meant kindAt runOf
           turn-count inner position q words₂ t =
@@ -149,23 +150,23 @@ module _ (message : List ℕ) (config : Config) (table : List ℕ) (known : ℕ 
 
     -- a field in a run
     pub turn-entry : opensAt table (group .level) (f .tag) ≡ true → (reading₁ : Reading) (words₁ : List ℕ) →
-        toldBy (config .separator) message reading₁ words₁ ≡ entryOf message config table known group (number + 1) f progress words →
+        toldBy (config .mode) message reading₁ words₁ ≡ entryOf message config table known group (number + 1) f progress words →
         runLeft number reading words ≡ runLeft (number + 1) reading₁ words₁
     unfolding entryOf wordStore memory
     turn-entry o reading₁ words₁ t =
         at-field _ reading words f progress e
-        ∙ run-entry _ _ _ _ _ _ _ _ _ _ (opens-table (config .validate) table known (group .level) (f .tag) ∙ o)
+        ∙ run-entry _ _ _ _ _ _ _ _ _ _ (opens-table config table known (group .level) (f .tag) ∙ o)
         ∙ going-on _ _ _ _ reading₁ words₁ _ t
 
     pub left-first : opensAt table (group .level) (f .tag) ≡ false → number ≡ 0 →
-        toldBy (config .separator) message (Refused (InvalidOrderInGroup (f .tag) (group .tag))) words ≡ runLeft number reading words
+        toldBy (config .mode) message (Refused (InvalidOrderInGroup (f .tag) (group .tag))) words ≡ runLeft number reading words
     unfolding going toldBy wordStore memory
-    left-first o z = rw e (sym (run-first _ _ _ _ _ _ _ _ _ _ (opens-table (config .validate) table known (group .level) (f .tag) ∙ o) z))
+    left-first o z = rw e (sym (run-first _ _ _ _ _ _ _ _ _ _ (opens-table config table known (group .level) (f .tag) ∙ o) z))
 
     pub left-over : opensAt table (group .level) (f .tag) ≡ false → (number ≡ 0 → ⊥) →
-        toldBy (config .separator) message (At f progress) words ≡ runLeft number reading words
+        toldBy (config .mode) message (At f progress) words ≡ runLeft number reading words
     unfolding going toldBy
-    left-over o n = rw e (sym (run-over _ _ _ _ _ _ _ _ _ _ (opens-table (config .validate) table known (group .level) (f .tag) ∙ o) n))
+    left-over o n = rw e (sym (run-over _ _ _ _ _ _ _ _ _ _ (opens-table config table known (group .level) (f .tag) ∙ o) n))
 
 pub count-below : (config : Config) (table : List ℕ) (known : ℕ → Bool) (group : Group) (last tag : ℕ) (kind : CodeKind) (inner : Level) (position : ℕ) → meant kind ≡ kindAt config table known group last tag → kind ≡ Count inner position → group .depth < 4
 unfolding meant kindAt
@@ -173,12 +174,12 @@ count-below config table known group last tag kind inner position k q = kind-bel
 
 -- where a run ended, and where an entry did
 pub run-follows : (message : List ℕ) (config : Config) (table : List ℕ) (known : ℕ → Bool) (group : Group) (cursor : Cursor) (progress : Progress) (words : List ℕ) → Fits message progress → (reading : Reading) (words₁ : List ℕ) →
-    toldBy (config .separator) message reading words₁ ≡ runOf message config table known group cursor progress words → Follows message (progress .room) reading
+    toldBy (config .mode) message reading words₁ ≡ runOf message config table known group cursor progress words → Follows message (progress .room) reading
 unfolding runOf
 run-follows message config table known group cursor progress words fits reading words₁ e = told-follows _ _ message _ cursor progress words fits reading words₁ e
 
 pub entry-follows : (message : List ℕ) (config : Config) (table : List ℕ) (known : ℕ → Bool) (group : Group) (number : ℕ) (delimiter : Field) (progress : Progress) (words : List ℕ) → FitsAt message delimiter progress → (reading : Reading) (words₁ : List ℕ) →
-    toldBy (config .separator) message reading words₁ ≡ entryOf message config table known group number delimiter progress words → Follows message (progress .room) reading
+    toldBy (config .mode) message reading words₁ ≡ entryOf message config table known group number delimiter progress words → Follows message (progress .room) reading
 unfolding entryOf addedWords memory further
 entry-follows message config table known group number delimiter progress words fits reading words₁ e =
     told-follows _ _ message _ (delimiter .next) (further 1 progress) _ (record { short = fits .short; counted = omega (arith, fits .counted); placed = omega (arith, fits .placed) }) reading words₁ e
@@ -199,12 +200,12 @@ unfolding further
 stored-room progress stored k e = rw e
 
 -- the field after one that was stored
-pub stored-follows : (separator : ℕ) (message : List ℕ) (c : Cursor) (f : Field) (progress stored : Progress) (k : ℕ) (reading : Reading) → k ≤ 1 → FitsAt message f progress → stored ≡ further k progress → reading ≡ nextOf (fieldAt separator message c) stored → Follows message (progress .room) reading
-stored-follows separator message c f progress stored k reading h fits e q =
-    rw (q, ← stored-room progress stored k e) (next-follows separator message c stored (stored-fits message f progress stored k h fits e))
+pub stored-follows : (mode : Mode) (message : List ℕ) (c : Cursor) (f : Field) (progress stored : Progress) (k : ℕ) (reading : Reading) → k ≤ 1 → FitsAt message f progress → stored ≡ further k progress → reading ≡ nextOf (fieldAt mode message c) stored → Follows message (progress .room) reading
+stored-follows mode message c f progress stored k reading h fits e q =
+    rw (q, ← stored-room progress stored k e) (next-follows mode message c stored (stored-fits message f progress stored k h fits e))
 
 -- the entries after a count that was stored
 pub count-follows : (message : List ℕ) (config : Config) (table : List ℕ) (known : ℕ → Bool) (group : Group) (f : Field) (progress stored : Progress) (words : List ℕ) → FitsAt message f progress → stored ≡ further 1 progress → (reading : Reading) (words₁ : List ℕ) →
-    toldBy (config .separator) message reading words₁ ≡ runOf message config table known group (f .next) stored words → Follows message (progress .room) reading
+    toldBy (config .mode) message reading words₁ ≡ runOf message config table known group (f .next) stored words → Follows message (progress .room) reading
 count-follows message config table known group f progress stored words fits e reading words₁ t =
     rw (← stored-room progress stored 1 e) (run-follows message config table known group (f .next) stored words (stored-fits message f progress stored 1 (omega arith) fits e) reading words₁ t)

@@ -5,11 +5,11 @@ use mathlib.Core.List.{List, [], _∷_, map}
 use mathlib.Core.Bool.{Bool, true, false}
 use Prim.Native.Nat.{ℕ, _-_}
 use Prim.Native.String.{String}
+use Rattle.tagvalue.specs.Computing.{reading-fields}
 use Rattle.tagvalue.specs.Text.{bytes}
-use Rattle.tagvalue.specs.Find.{findIn}
-use Rattle.tagvalue.specs.Number.{isDigit, allDigits, worth, numberOf, nonZero, tagOf}
-use Rattle.tagvalue.specs.Field.{fieldFrom, fieldAt, withEquals, withSeparator, withTag}
-use Rattle.tagvalue.specs.Fields.{followedBy, fieldsWithin, fieldsFrom}
+use Rattle.tagvalue.specs.Field.{separatedBy, startAt}
+use Rattle.build_config.specs.Settings.{validating}
+use Rattle.tagvalue.specs.Fields.{fieldsFrom}
 use Rattle.layout.specs.Layout.{Layout, end, field, group, firstOf, positionFrom, positionIn, groupSince, groupOf, delimiterOf}
 use lib.Dec.{eqb}
 use Rattle.records.specs.Records.{stored}
@@ -33,7 +33,7 @@ allocations = field 79 true (field 80 true (group 539 false (field 524 true (fie
 -- the fields behind `78=..|`, of which so many may be read; 5002 is known, and stands in no layout
 unfoldable reading : Bool → Layout → ℕ → String → Told
 reading validate layout room text =
-    told (walk (layoutRules (accepted validate (λ (tag : ℕ). eqb tag 5002))) listStore room (run layout 78 1 0 ∷ []) [] (fieldsFrom 1 (bytes text) (record { at = 0 })))
+    told (walk (layoutRules (accepted (validating validate) (λ (tag : ℕ). eqb tag 5002))) listStore room (run layout 78 1 0 ∷ []) [] (fieldsFrom (separatedBy 1) (bytes text) (startAt 0)))
 
 abbrev strict : List (String × Told)
 strict =
@@ -53,7 +53,7 @@ strict =
     ∷ []
 
 groups-read : map (λ row. reading true allocations 100 (row .0)) strict ≡ map (λ row. row .1) strict
-unfolding reading told numberOfRefusal valuesOfRefusal layoutRules openedAs accepted joinedList listStore walk moved decide inEntry kindOf declared counting opens isDelimiter recordOf positionIn positionFrom firstOf groupOf groupSince delimiterOf stored fieldsFrom fieldsWithin followedBy fieldAt fieldFrom withEquals withSeparator withTag findIn tagOf nonZero numberOf isDigit allDigits worth
+unfolding reading told numberOfRefusal valuesOfRefusal layoutRules openedAs accepted joinedList listStore walk moved decide inEntry kindOf declared counting opens isDelimiter recordOf positionIn positionFrom firstOf groupOf groupSince delimiterOf stored reading-fields
 groups-read = refl
 
 -- validation off: a user tag joins the innermost open entry, twice it replaces the value and keeps the position; right after a count it
@@ -69,7 +69,7 @@ lenient =
     ∷ []
 
 user-tags : map (λ row. reading false allocations 100 (row .0)) lenient ≡ map (λ row. row .1) lenient
-unfolding reading told numberOfRefusal valuesOfRefusal layoutRules openedAs accepted joinedList listStore walk moved decide inEntry kindOf declared counting opens isDelimiter recordOf positionIn positionFrom firstOf groupOf groupSince delimiterOf stored fieldsFrom fieldsWithin followedBy fieldAt fieldFrom withEquals withSeparator withTag findIn tagOf nonZero numberOf isDigit allDigits worth
+unfolding reading told numberOfRefusal valuesOfRefusal layoutRules openedAs accepted joinedList listStore walk moved decide inEntry kindOf declared counting opens isDelimiter recordOf positionIn positionFrom firstOf groupOf groupSince delimiterOf stored reading-fields
 user-tags = refl
 
 -- 21 comes before any other verdict on a field, 10 before 21: a field that can't be read is none
@@ -84,7 +84,7 @@ narrow =
     ∷ []
 
 rooms : map (λ row. reading false allocations (row .0 .0) (row .0 .1)) narrow ≡ map (λ row. row .1) narrow
-unfolding reading told numberOfRefusal valuesOfRefusal layoutRules openedAs accepted joinedList listStore walk moved decide inEntry kindOf declared counting opens isDelimiter recordOf positionIn positionFrom firstOf groupOf groupSince delimiterOf stored fieldsFrom fieldsWithin followedBy fieldAt fieldFrom withEquals withSeparator withTag findIn tagOf nonZero numberOf isDigit allDigits worth
+unfolding reading told numberOfRefusal valuesOfRefusal layoutRules openedAs accepted joinedList listStore walk moved decide inEntry kindOf declared counting opens isDelimiter recordOf positionIn positionFrom firstOf groupOf groupSince delimiterOf stored reading-fields
 rooms = refl
 
 -- a delimiter that is itself a group tag is stored plain
@@ -111,5 +111,5 @@ odd =
     ∷ []
 
 odd-layouts : map (λ row. reading true (row .0 .0) 100 (row .0 .1)) odd ≡ map (λ row. row .1) odd
-unfolding reading told numberOfRefusal valuesOfRefusal layoutRules openedAs accepted joinedList listStore walk moved decide inEntry kindOf declared counting opens isDelimiter recordOf positionIn positionFrom firstOf groupOf groupSince delimiterOf stored fieldsFrom fieldsWithin followedBy fieldAt fieldFrom withEquals withSeparator withTag findIn tagOf nonZero numberOf isDigit allDigits worth
+unfolding reading told numberOfRefusal valuesOfRefusal layoutRules openedAs accepted joinedList listStore walk moved decide inEntry kindOf declared counting opens isDelimiter recordOf positionIn positionFrom firstOf groupOf groupSince delimiterOf stored reading-fields
 odd-layouts = refl

@@ -8,7 +8,7 @@ use native.Mathlib.Omega.{arith}
 use lib.Dec.{eqb}
 use borrow.Author.Tests.{eq-eqb, ne-eqb}
 use Rattle.tagvalue.specs.Choice.{pick}
-use Rattle.tagvalue.specs.Fields.{Fields, unreadable, field}
+use Rattle.tagvalue.specs.Fields.{Fields, unreadable, field, Each, each-field}
 use Rattle.tagvalue.specs.declared.Cause.{Cause}
 use Rattle.tagvalue.specs.declared.Field.{Field}
 use Rattle.records.specs.declared.Record.{Record}
@@ -126,11 +126,6 @@ module _ {L S W : Type 0} (rules : Rules L) (store : Store S W) where
         taking rules store room (entry level group depth number last start ∷ []) s f rest ≡ ended f rest room s
     unfolding taking decide inEntry moved
     entry-ends k = rw k
-
--- each field of a list has a property
-pub data Each (P : Field → Type 0) : Fields → Type 0 where
-  each-end : {cause : Cause} {place : ℕ} → Each P (unreadable cause place)
-  each-field : {f : Field} {rest : Fields} → P f → Each P rest → Each P (field f rest)
 
 module _ {L S W : Type 0} (rules : Rules L) (store : Store S W) (P : ℕ → S → Type 0) (Q : Field → Type 0)
     (on-add : (room : ℕ) (r : Record) (s : S) → P (suc room) s → P room (store .add r s))

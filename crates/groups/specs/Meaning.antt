@@ -11,7 +11,7 @@ use lib.Seq.{length-take-le, take-append-seam, drop-append-le}
 use borrow.Author.Tests.{ltb-true, ltb-false}
 use Rattle.tagvalue.specs.Fields.{Fields, fieldsFrom}
 use Rattle.tagvalue.specs.declared.Cursor.{Cursor}
-use Rattle.integrity.specs.declared.Config.{Config}
+use Rattle.build_config.specs.declared.Config.{Config}
 use Rattle.layout.specs.Layout.{Layout, Group as LayoutGroup}
 use Rattle.layout.specs.Tabled.{Tabled, Opens, neither, both, position-means, delimiter-means, group-means}
 use Rattle.layout.specs.declared.Level.{Level}
@@ -34,9 +34,9 @@ opens-alike table neither = none-alike
 opens-alike table (both t) = opened-alike t
 
 -- a table answers as the layouts that it holds
-pub rules-alike : (validate : Bool) (table : List ℕ) (known has : ℕ → Bool) → ((tag : ℕ) → known tag ≡ has tag) → RulesAlike (Tabled table) (tableRules validate table known) (layoutRules (accepted validate has))
+pub rules-alike : (config : Config) (table : List ℕ) (known has : ℕ → Bool) → ((tag : ℕ) → known tag ≡ has tag) → RulesAlike (Tabled table) (tableRules config table known) (layoutRules (accepted config has))
 unfolding tableRules layoutRules accepted
-rules-alike validate table known has same = record { delimiters = delimiter-means table; positions = position-means table; groups = λ level layout t tag. opens-alike table (group-means table level layout t tag); accepting = λ tag. rw (same tag) refl }
+rules-alike config table known has same = record { delimiters = delimiter-means table; positions = position-means table; groups = λ level layout t tag. opens-alike table (group-means table level layout t tag); accepting = λ tag. rw (same tag) refl }
 
 same-store : {S W : Type 0} (store : Store S W) → StoresAlike (λ room s t. s ≡ t) (λ w x. w ≡ x) store store
 same-store store = record { places = λ room s t e. ap (store .place) e; adding = λ room s t r e. ap (store .add r) e; joining = λ room s t start r e. ap (store .join start r) e; leaving = λ room s t e. ap (store .left) e }
@@ -46,10 +46,10 @@ outcome-same (ended-alike {f} {rest} {room} e) = ap (ended f rest room) e
 outcome-same (refused-alike {refusal} e) = ap (refused refusal) e
 
 -- whatever keeps the records, a level of a table is read as the layout that the table holds there
-pub table-reads : {S W : Type 0} (store : Store S W) (validate : Bool) (table : List ℕ) (known has : ℕ → Bool) → ((tag : ℕ) → known tag ≡ has tag) → (level : Level) (layout : Layout) → Tabled table level layout → (room group depth number : ℕ) (s : S) (fields : Fields) →
-    walk (tableRules validate table known) store room (run level group depth number ∷ []) s fields ≡ walk (layoutRules (accepted validate has)) store room (run layout group depth number ∷ []) s fields
-table-reads store validate table known has same level layout t room group depth number s fields =
-    outcome-same (walk-alike (Tabled table) (λ room s t. s ≡ t) (λ w x. w ≡ x) _ _ (rules-alike validate table known has same) store store (same-store store) room _ _ s s fields (run-alike t empty-alike) refl)
+pub table-reads : {S W : Type 0} (store : Store S W) (config : Config) (table : List ℕ) (known has : ℕ → Bool) → ((tag : ℕ) → known tag ≡ has tag) → (level : Level) (layout : Layout) → Tabled table level layout → (room group depth number : ℕ) (s : S) (fields : Fields) →
+    walk (tableRules config table known) store room (run level group depth number ∷ []) s fields ≡ walk (layoutRules (accepted config has)) store room (run layout group depth number ∷ []) s fields
+table-reads store config table known has same level layout t room group depth number s fields =
+    outcome-same (walk-alike (Tabled table) (λ room s t. s ≡ t) (λ w x. w ≡ x) _ _ (rules-alike config table known has same) store store (same-store store) room _ _ s s fields (run-alike t empty-alike) refl)
 
 -- words hold a list of records, then others, then slack; words that make no record stay as they are
 pub record Lays (after : List Record) (tail : List ℕ) (words : List ℕ) (done : List Record) : Type 0 where
@@ -158,7 +158,7 @@ stores-alike after tail = record { places = λ room m done h. h .place; adding =
 
 -- a run that was read from a table into words is the run of the layout that the table holds, its records as a list
 pub run-means : (message : List ℕ) (config : Config) (table : List ℕ) (known has : ℕ → Bool) → ((tag : ℕ) → known tag ≡ has tag) → (group : Group) (layout : Layout) → Tabled table (group .level) layout → (cursor : Cursor) (progress : Progress) (words : List ℕ) (done after : List Record) (tail : List ℕ) → Holds after tail (progress .room) (memory progress words) done →
-    OutcomeAlike (Holds after tail) (Lays after tail) (runOf message config table known group cursor progress words) (walk (layoutRules (accepted (config .validate) has)) listStore (progress .room) (run layout (group .tag) (group .depth) 0 ∷ []) done (fieldsFrom (config .separator) message cursor))
+    OutcomeAlike (Holds after tail) (Lays after tail) (runOf message config table known group cursor progress words) (walk (layoutRules (accepted config has)) listStore (progress .room) (run layout (group .tag) (group .depth) 0 ∷ []) done (fieldsFrom (config .mode) message cursor))
 unfolding runOf
 run-means message config table known has same group layout t cursor progress words done after tail h =
-    walk-alike (Tabled table) (Holds after tail) (Lays after tail) _ _ (rules-alike (config .validate) table known has same) wordStore listStore (stores-alike after tail) (progress .room) _ _ (memory progress words) done _ (run-alike t empty-alike) h
+    walk-alike (Tabled table) (Holds after tail) (Lays after tail) _ _ (rules-alike config table known has same) wordStore listStore (stores-alike after tail) (progress .room) _ _ (memory progress words) done _ (run-alike t empty-alike) h

@@ -5,13 +5,14 @@ use mathlib.Core.List.{List, [], _∷_, _++_}
 use mathlib.Core.Bool.{Bool, true, false}
 use lib.ListN.{length, take, drop}
 use lib.Dec.{ltb}
+use Rattle.tagvalue.specs.declared.Mode.{Mode}
 use Rattle.tagvalue.specs.Choice.{pick}
-use Rattle.tagvalue.specs.Fields.{fieldsFrom}
+use Rattle.tagvalue.specs.Fields.{fieldsFrom, Inside}
 use Rattle.tagvalue.specs.declared.Cursor.{Cursor}
 use Rattle.tagvalue.specs.declared.Field.{Field}
 use Rattle.tagvalue.specs.declared.FieldRead.{FieldRead}
 use Rattle.tagvalue.specs.declared.FieldRead.the-variants.{Read, Unreadable}
-use Rattle.integrity.specs.declared.Config.{Config}
+use Rattle.build_config.specs.declared.Config.{Config}
 use Rattle.layout.specs.Layout.{Layout, Group as LayoutGroup, none as no-group, entries, positionIn, groupOf, delimiterOf}
 use Rattle.layout.specs.Table.{positionOf, groupWithin, delimiterAt}
 use Rattle.layout.specs.declared.Level.{Level}
@@ -43,16 +44,16 @@ valuesOfRefusal TooManyFields = []
 valuesOfRefusal (InvalidOrderInGroup tag group) = tag ∷ group ∷ []
 
 -- "with validation off, tags of 5000 and above that the dictionary lacks"
-unfoldable pub accepted : Bool → (ℕ → Bool) → ℕ → Bool
-accepted validate known tag = pick validate false (pick (ltb tag 5000) false (pick (known tag) false true))
+unfoldable pub accepted : Config → (ℕ → Bool) → ℕ → Bool
+accepted config known tag = pick (config .validate) false (pick (ltb tag 5000) false (pick (known tag) false true))
 
 unfoldable pub openedBy : Nested → Opened Level
 openedBy NoGroup = none
 openedBy (Within level) = opened level
 
 -- levels looked up in a table
-unfoldable pub tableRules : Bool → List ℕ → (ℕ → Bool) → Rules Level
-tableRules validate table known = record { delimiter = delimiterAt table; position = positionOf table; group = λ level tag. openedBy (groupWithin table level tag); accepts = accepted validate known }
+unfoldable pub tableRules : Config → List ℕ → (ℕ → Bool) → Rules Level
+tableRules config table known = record { delimiter = delimiterAt table; position = positionOf table; group = λ level tag. openedBy (groupWithin table level tag); accepts = accepted config known }
 
 unfoldable pub openedAs : LayoutGroup → Opened Layout
 openedAs no-group = none
@@ -74,7 +75,7 @@ meant Wrong = wrong
 meant Ends = ends
 
 unfoldable pub kindAt : Config → List ℕ → (ℕ → Bool) → Group → ℕ → ℕ → Kind Level
-kindAt config table known group last tag = kindOf (tableRules (config .validate) table known) (group .level) (group .depth) last tag
+kindAt config table known group last tag = kindOf (tableRules config table known) (group .level) (group .depth) last tag
 
 -- records as a list: a new one comes last, and what joins an entry is stored in the entry's own map
 unfoldable pub joinedList : ℕ → Record → List Record → List Record
@@ -123,8 +124,7 @@ pub record Fits (message : List ℕ) (progress : Progress) : Type 0 where
 -- the same where a field is read already, whose record may still have to be made
 pub record FitsAt (message : List ℕ) (f : Field) (progress : Progress) : Type 0 where
   pub short : length message < 2 ^ 32
-  pub begins : f .place ≤ length message
-  pub ends : f .length ≤ length message
+  pub inside : Inside message f
   pub counted : progress .records + suc (progress .room) < 2 ^ 32
   pub placed : progress .place + suc (progress .room) < 2 ^ 32
 
@@ -137,19 +137,19 @@ unfoldable pub nextOf : FieldRead → Progress → Reading
 nextOf (Unreadable cause place) progress = Refused (Malformed cause place)
 nextOf (Read f) progress = roomFor f progress (progress .room)
 
-module _ (separator : ℕ) (message : List ℕ) where
+module _ (mode : Mode) (message : List ℕ) where
   -- what the code's answer says, with the words that it leaves
   unfoldable pub toldBy : Reading → List ℕ → Outcome Memory (List ℕ)
-  toldBy (At f progress) words = ended f (fieldsFrom separator message (f .next)) (progress .room) (memory progress words)
+  toldBy (At f progress) words = ended f (fieldsFrom mode message (f .next)) (progress .room) (memory progress words)
   toldBy (Refused refusal) words = refused refusal words
 
 module _ (message : List ℕ) (config : Config) (table : List ℕ) (known : ℕ → Bool) where
   -- the entries of a group, from the field behind its count on
   unfoldable pub runOf : Group → Cursor → Progress → List ℕ → Outcome Memory (List ℕ)
   runOf group cursor progress words =
-      walk (tableRules (config .validate) table known) wordStore (progress .room) (run (group .level) (group .tag) (group .depth) 0 ∷ []) (memory progress words) (fieldsFrom (config .separator) message cursor)
+      walk (tableRules config table known) wordStore (progress .room) (run (group .level) (group .tag) (group .depth) 0 ∷ []) (memory progress words) (fieldsFrom (config .mode) message cursor)
 
   -- an entry of a number, from its delimiter on
   unfoldable pub entryOf : Group → ℕ → Field → Progress → List ℕ → Outcome Memory (List ℕ)
   entryOf group number delimiter progress words =
-      walk (tableRules (config .validate) table known) wordStore (progress .room) (entry (group .level) (group .tag) (group .depth) number 0 (progress .place) ∷ []) (addedWords (recordOf (group .depth) number delimiter) (memory progress words)) (fieldsFrom (config .separator) message (delimiter .next))
+      walk (tableRules config table known) wordStore (progress .room) (entry (group .level) (group .tag) (group .depth) number 0 (progress .place) ∷ []) (addedWords (recordOf (group .depth) number delimiter) (memory progress words)) (fieldsFrom (config .mode) message (delimiter .next))

@@ -6,9 +6,10 @@ use Prim.Native.Nat.{ℕ, zero, suc, _+_, _-_, _≤_, _<_, _^_}
 use native.Mathlib.Omega.{arith}
 use native.Mathlib.Nat.{add-zero}
 use lib.ListN.{length}
+use Rattle.tagvalue.specs.declared.Mode.{Mode}
 use Rattle.tagvalue.specs.Field.{fieldAt}
-use Rattle.tagvalue.specs.Fields.{field, followedBy, fieldsWithin, fieldsFrom}
-use Rattle.tagvalue.specs.FieldsLaws.{step-lies, fields-field, fields-end}
+use Rattle.tagvalue.specs.Fields.{field, fieldsFrom, Inside}
+use Rattle.tagvalue.specs.FieldsLaws.{step-inside, all-inside, fields-field, fields-end}
 use Rattle.tagvalue.specs.declared.Cursor.{Cursor}
 use Rattle.tagvalue.specs.declared.Cause.{Cause}
 use Rattle.tagvalue.specs.declared.Field.{Field}
@@ -19,37 +20,13 @@ use Rattle.records.specs.declared.Record.{Record}
 use Rattle.records.specs.declared.Standing.{Standing}
 use Rattle.records.specs.declared.Standing.the-variants.{At as held-at, Nowhere as not-held}
 use Rattle.groups.specs.Groups.{Rules, Frame, Outcome, refused, walk, taking, andThen}
-use Rattle.groups.specs.GroupLaws.{walk-unreadable, walk-full, walk-field, Each, each-end, each-field, keeps}
+use Rattle.groups.specs.GroupLaws.{walk-unreadable, walk-full, walk-field, keeps}
 use Rattle.groups.specs.Reading.{Memory, memory, addedWords, makes, standingIn, joinedWords, wordStore, further, Fits, FitsAt, roomFor, nextOf, toldBy}
 use Rattle.groups.specs.declared.Progress.{Progress}
 use Rattle.groups.specs.declared.Refusal.{Refusal}
 use Rattle.groups.specs.declared.Refusal.the-variants.{Malformed, TooManyFields}
 use Rattle.groups.specs.declared.Reading.{Reading}
 use Rattle.groups.specs.declared.Reading.the-variants.{At, Refused}
-
--- a field of a message lies within it
-pub record Inside (message : List ℕ) (f : Field) : Type 0 where
-  pub begins : f .place ≤ length message
-  pub ends : f .length ≤ length message
-
-step-inside : (separator : ℕ) (message : List ℕ) (c : Cursor) (f : Field) → fieldAt separator message c ≡ Read f → Inside message f
-step-inside separator message c f h =
-    let l = step-lies separator message c f h in
-    record { begins = omega (arith, l .ends, l .within, l .falls, l .value-after); ends = omega (arith, l .ends, l .within, l .falls, l .value-after) }
-
--- every field that can be read lies within the message
-fields-inside : (fuel separator : ℕ) (message : List ℕ) (c : Cursor) → Each (Inside message) (fieldsWithin fuel separator message c)
-unfolding fieldsWithin followedBy
-fields-inside zero separator message c = each-end
-fields-inside (suc fuel) separator message c = go (fieldAt separator message c) refl (λ f. fields-inside fuel separator message (f .next))
-  where
-    go : (r : FieldRead) → fieldAt separator message c ≡ r → ((f : Field) → Each (Inside message) (fieldsWithin fuel separator message (f .next))) → Each (Inside message) (followedBy r (λ f. fieldsWithin fuel separator message (f .next)))
-    go (Unreadable cause place) e later = each-end
-    go (Read f) e later = each-field (step-inside separator message c f e) (later f)
-
-pub all-inside : (separator : ℕ) (message : List ℕ) (c : Cursor) → Each (Inside message) (fieldsFrom separator message c)
-unfolding fieldsFrom
-all-inside separator message c = fields-inside (length message - c .at) separator message c
 
 -- each way that the next field goes
 module _ (read : FieldRead) (progress : Progress) where
@@ -92,35 +69,35 @@ pub record Follows (message : List ℕ) (room : ℕ) (reading : Reading) : Type 
   pub fits : (f : Field) (progress : Progress) → reading ≡ At f progress → FitsAt message f progress
 
 -- what is left to be read of a stack from where a reading stands
-module _ (rules : Rules Level) (separator : ℕ) (message : List ℕ) where
+module _ (rules : Rules Level) (mode : Mode) (message : List ℕ) where
   unfoldable pub going : List (Frame Level) → Reading → List ℕ → Outcome Memory (List ℕ)
-  going stack (At f progress) words = taking rules wordStore (progress .room) stack (memory progress words) f (fieldsFrom separator message (f .next))
+  going stack (At f progress) words = taking rules wordStore (progress .room) stack (memory progress words) f (fieldsFrom mode message (f .next))
   going stack (Refused refusal) words = refused refusal words
 
-module _ (rules : Rules Level) (separator : ℕ) (message : List ℕ) (stack : List (Frame Level)) (progress : Progress) (words : List ℕ) (c : Cursor) where
-  by-field : (r : FieldRead) → fieldAt separator message c ≡ r → (room : ℕ) → progress .room ≡ room →
-      walk rules wordStore (progress .room) stack (memory progress words) (fieldsFrom separator message c) ≡ going rules separator message stack (nextOf (fieldAt separator message c) progress) words
+module _ (rules : Rules Level) (mode : Mode) (message : List ℕ) (stack : List (Frame Level)) (progress : Progress) (words : List ℕ) (c : Cursor) where
+  by-field : (r : FieldRead) → fieldAt mode message c ≡ r → (room : ℕ) → progress .room ≡ room →
+      walk rules wordStore (progress .room) stack (memory progress words) (fieldsFrom mode message c) ≡ going rules mode message stack (nextOf (fieldAt mode message c) progress) words
   unfolding going wordStore memory
   by-field (Unreadable cause place) e room q =
-      rw (fields-end separator message c cause place e, next-unreadable _ progress cause place e) (walk-unreadable rules wordStore (progress .room) stack (memory progress words) cause place)
+      rw (fields-end mode message c cause place e, next-unreadable _ progress cause place e) (walk-unreadable rules wordStore (progress .room) stack (memory progress words) cause place)
   by-field (Read f) e zero q =
-      rw (fields-field separator message c f e, next-full _ progress f e q, q) (walk-full rules wordStore stack (memory progress words) f (fieldsFrom separator message (f .next)))
+      rw (fields-field mode message c f e, next-full _ progress f e q, q) (walk-full rules wordStore stack (memory progress words) f (fieldsFrom mode message (f .next)))
   by-field (Read f) e (suc room) q =
       let r : progress .room - 1 ≡ room = omega arith in
-      rw (fields-field separator message c f e, next-field _ progress f e (omega arith))
-      (ap (λ (k : ℕ). walk rules wordStore k stack (memory progress words) (field f (fieldsFrom separator message (f .next)))) q
-      ∙ walk-field rules wordStore room stack (memory progress words) f (fieldsFrom separator message (f .next))
-      ∙ ap (λ (k : ℕ). taking rules wordStore k stack (memory progress words) f (fieldsFrom separator message (f .next))) (sym r))
+      rw (fields-field mode message c f e, next-field _ progress f e (omega arith))
+      (ap (λ (k : ℕ). walk rules wordStore k stack (memory progress words) (field f (fieldsFrom mode message (f .next)))) q
+      ∙ walk-field rules wordStore room stack (memory progress words) f (fieldsFrom mode message (f .next))
+      ∙ ap (λ (k : ℕ). taking rules wordStore k stack (memory progress words) f (fieldsFrom mode message (f .next))) (sym r))
 
-module _ (rules : Rules Level) (separator : ℕ) (message : List ℕ) where
+module _ (rules : Rules Level) (mode : Mode) (message : List ℕ) where
   -- reading the next field is a step of the walk
   pub walk-next : (stack : List (Frame Level)) (progress : Progress) (words : List ℕ) (c : Cursor) →
-      walk rules wordStore (progress .room) stack (memory progress words) (fieldsFrom separator message c) ≡ going rules separator message stack (nextOf (fieldAt separator message c) progress) words
-  walk-next stack progress words c = by-field rules separator message stack progress words c (fieldAt separator message c) refl (progress .room) refl
+      walk rules wordStore (progress .room) stack (memory progress words) (fieldsFrom mode message c) ≡ going rules mode message stack (nextOf (fieldAt mode message c) progress) words
+  walk-next stack progress words c = by-field rules mode message stack progress words c (fieldAt mode message c) refl (progress .room) refl
 
   -- going on from where a reading ended
-  pub going-on : (stack : List (Frame Level)) (reading : Reading) (words : List ℕ) (outcome : Outcome Memory (List ℕ)) → toldBy separator message reading words ≡ outcome →
-      andThen outcome (λ room s f rest. taking rules wordStore room stack s f rest) ≡ going rules separator message stack reading words
+  pub going-on : (stack : List (Frame Level)) (reading : Reading) (words : List ℕ) (outcome : Outcome Memory (List ℕ)) → toldBy mode message reading words ≡ outcome →
+      andThen outcome (λ room s f rest. taking rules wordStore room stack s f rest) ≡ going rules mode message stack reading words
   unfolding going toldBy andThen
   going-on stack (At f progress) words outcome e = rw (← e)
   going-on stack (Refused refusal) words outcome e = rw (← e)
@@ -140,16 +117,16 @@ at-follows message room f progress h fits = record { falls = h; fits = same }
         rw (← a, ← b) fits
 
 -- the next field lies within the message, and the room falls
-pub next-follows : (separator : ℕ) (message : List ℕ) (c : Cursor) (progress : Progress) → Fits message progress → Follows message (progress .room) (nextOf (fieldAt separator message c) progress)
-next-follows separator message c progress fits = go (fieldAt separator message c) refl (progress .room) refl
+pub next-follows : (mode : Mode) (message : List ℕ) (c : Cursor) (progress : Progress) → Fits message progress → Follows message (progress .room) (nextOf (fieldAt mode message c) progress)
+next-follows mode message c progress fits = go (fieldAt mode message c) refl (progress .room) refl
   where
-    go : (r : FieldRead) → fieldAt separator message c ≡ r → (room : ℕ) → progress .room ≡ room → Follows message (progress .room) (nextOf (fieldAt separator message c) progress)
+    go : (r : FieldRead) → fieldAt mode message c ≡ r → (room : ℕ) → progress .room ≡ room → Follows message (progress .room) (nextOf (fieldAt mode message c) progress)
     go (Unreadable cause place) e room q = rw (next-unreadable _ progress cause place e) (refused-follows message (progress .room) (Malformed cause place))
     go (Read f) e zero q = rw (next-full _ progress f e q) (refused-follows message (progress .room) TooManyFields)
     go (Read f) e (suc room) q =
-        let inside = step-inside separator message c f e in
+        let inside = step-inside mode message c f e in
         rw (next-field _ progress f e (omega arith))
-        (at-follows message (progress .room) f _ (omega arith) (record { short = fits .short; begins = inside .begins; ends = inside .ends; counted = omega (arith, fits .counted); placed = omega (arith, fits .placed) }))
+        (at-follows message (progress .room) f _ (omega arith) (record { short = fits .short; inside = inside; counted = omega (arith, fits .counted); placed = omega (arith, fits .placed) }))
 
 -- counts that leave room
 record Leaves (limit room : ℕ) (m : Memory) : Type 0 where
@@ -173,10 +150,10 @@ leaves-join limit room start r m l =
     record { within = omega (arith, l .within); counted = omega (arith, l .counted, one); placed = omega (arith, l .placed, one) }
 
 -- where a run or an entry ended lies within the message, and the room falls
-pub told-follows : (rules : Rules Level) (separator : ℕ) (message : List ℕ) (stack : List (Frame Level)) (c : Cursor) (progress : Progress) (words : List ℕ) → Fits message progress → (reading : Reading) (words₁ : List ℕ) →
-    toldBy separator message reading words₁ ≡ walk rules wordStore (progress .room) stack (memory progress words) (fieldsFrom separator message c) → Follows message (progress .room) reading
+pub told-follows : (rules : Rules Level) (mode : Mode) (message : List ℕ) (stack : List (Frame Level)) (c : Cursor) (progress : Progress) (words : List ℕ) → Fits message progress → (reading : Reading) (words₁ : List ℕ) →
+    toldBy mode message reading words₁ ≡ walk rules wordStore (progress .room) stack (memory progress words) (fieldsFrom mode message c) → Follows message (progress .room) reading
 unfolding toldBy memory
-told-follows rules separator message stack c progress words fits (Refused refusal) words₁ e = refused-follows message (progress .room) refusal
-told-follows rules separator message stack c progress words fits (At f p) words₁ e =
-    let k = keeps rules wordStore (Leaves (progress .room)) (Inside message) (leaves-add (progress .room)) (leaves-join (progress .room)) (progress .room) stack (memory progress words) (fieldsFrom separator message c) (all-inside separator message c) (record { within = omega arith; counted = fits .counted; placed = fits .placed }) f (fieldsFrom separator message (f .next)) (p .room) (memory p words₁) (sym e) in
-    at-follows message (progress .room) f p (k .holds .within) (record { short = fits .short; begins = k .has .begins; ends = k .has .ends; counted = k .holds .counted; placed = k .holds .placed })
+told-follows rules mode message stack c progress words fits (Refused refusal) words₁ e = refused-follows message (progress .room) refusal
+told-follows rules mode message stack c progress words fits (At f p) words₁ e =
+    let k = keeps rules wordStore (Leaves (progress .room)) (Inside message) (leaves-add (progress .room)) (leaves-join (progress .room)) (progress .room) stack (memory progress words) (fieldsFrom mode message c) (all-inside mode message c) (record { within = omega arith; counted = fits .counted; placed = fits .placed }) f (fieldsFrom mode message (f .next)) (p .room) (memory p words₁) (sym e) in
+    at-follows message (progress .room) f p (k .holds .within) (record { short = fits .short; inside = k .has; counted = k .holds .counted; placed = k .holds .placed })

@@ -1,6 +1,6 @@
 // groups: reading repeating groups. The run reader and the entry reader call each other, and the depth that is left falls.
 // It reads through look-up tables only, counts fields by the room that is left for them, and never compares a count's value.
-use integrity::Config;
+use build_config::Config;
 use layout::FirstTag;
 use layout::Level;
 use layout::Nested;
@@ -63,7 +63,7 @@ enum Kind {
 
 // With validation off, a user-defined tag that the dictionary lacks.
 pub fn accepted(config: Config, index: &[u16; 96150], tag: u32) -> bool
-    ensures { λ r. ⌜ r ≡ accepted (config .validate) (tagAt (now (index .entry))) tag ⌝ }
+    ensures { λ r. ⌜ r ≡ accepted config (tagAt (now (index .entry))) tag ⌝ }
 {
     if config.validate {
         return false;
@@ -120,9 +120,9 @@ fn kind_of(
 
 // The next field, where one can be read and there is room for it.
 pub fn next_field(message: &[u8], config: Config, cursor: Cursor, progress: Progress) -> Reading
-    ensures { λ r. ⌜ r ≡ nextOf (fieldAt (config .separator) (now (message .entry)) cursor) progress ⌝ }
+    ensures { λ r. ⌜ r ≡ nextOf (fieldAt (config .mode) (now (message .entry)) cursor) progress ⌝ }
 {
-    match cursor.next_field(message, config.separator) {
+    match cursor.next_field(message, config.mode) {
         FieldRead::Unreadable(cause, place) => Reading::Refused(Refusal::Malformed(cause, place)),
         FieldRead::Read(field) => {
             if progress.room == 0 {
@@ -197,7 +197,7 @@ pub fn read_run(
     progress: Progress,
 ) -> Reading
     requires { ⌜ Fits (now message) progress ⌝ }
-    ensures { λ r. ⌜ toldBy (config .separator) (now (message .entry)) r (now (words .exit)) ≡ runOf (now (message .entry)) config (now (table .entry)) (tagAt (now (index .entry))) group cursor progress (now (words .entry)) ⌝ }
+    ensures { λ r. ⌜ toldBy (config .mode) (now (message .entry)) r (now (words .exit)) ≡ runOf (now (message .entry)) config (now (table .entry)) (tagAt (now (index .entry))) group cursor progress (now (words .entry)) ⌝ }
 {
     let mut reading = next_field(message, config, cursor, progress);
     let mut number: u32 = 0;
@@ -239,7 +239,7 @@ pub fn read_entry(
     progress: Progress,
 ) -> Reading
     requires { ⌜ FitsAt (now message) delimiter progress ⌝ }
-    ensures { λ r. ⌜ toldBy (config .separator) (now (message .entry)) r (now (words .exit)) ≡ entryOf (now (message .entry)) config (now (table .entry)) (tagAt (now (index .entry))) group number delimiter progress (now (words .entry)) ⌝ }
+    ensures { λ r. ⌜ toldBy (config .mode) (now (message .entry)) r (now (words .exit)) ≡ entryOf (now (message .entry)) config (now (table .entry)) (tagAt (now (index .entry))) group number delimiter progress (now (words .entry)) ⌝ }
 {
     let start = progress.place;
     let begun = add(words, progress, record_of(group.depth, number, delimiter));

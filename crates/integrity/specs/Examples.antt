@@ -3,11 +3,10 @@ use mathlib.Core.Path.{_≡_, refl}
 use mathlib.Core.List.{List, [], _∷_, map}
 use Prim.Native.Nat.{ℕ}
 use Prim.Native.String.{String}
+use Rattle.tagvalue.specs.Computing.{reading-fields}
 use Rattle.tagvalue.specs.Text.{bytes}
-use Rattle.tagvalue.specs.Find.{findIn}
-use Rattle.tagvalue.specs.Number.{isDigit, allDigits, worth, numberOf, nonZero, tagOf}
 use Rattle.tagvalue.specs.CheckSum.{sumOf, checksumOf}
-use Rattle.tagvalue.specs.Field.{fieldFrom, fieldAt, valueOf, withEquals, withSeparator, withTag}
+use Rattle.tagvalue.specs.Field.{separatedBy}
 use Rattle.integrity.specs.declared.Integrity.{Integrity}
 use Rattle.integrity.specs.declared.Integrity.the-variants.{Sound, Garbled}
 use Rattle.integrity.specs.Integrity.{numberOfReason, integrityOf, begun, counted, summed, typed, lengthIs, lengthAgrees, sumIs, sumAgrees}
@@ -40,6 +39,6 @@ table =
     ∷ ("8=FIX.4.4|9=5|36=0|10=163|", 14)
     ∷ []
 
-pub all-hold : map (λ row. numberOfIntegrity (integrityOf 1 (bytes (row .0)))) table ≡ map (λ row. row .1) table
-unfolding numberOfIntegrity numberOfReason integrityOf begun counted summed typed lengthIs lengthAgrees sumIs sumAgrees fieldAt fieldFrom valueOf withEquals withSeparator withTag findIn tagOf nonZero numberOf isDigit allDigits worth sumOf checksumOf
+pub all-hold : map (λ row. numberOfIntegrity (integrityOf (separatedBy 1) (bytes (row .0)))) table ≡ map (λ row. row .1) table
+unfolding numberOfIntegrity numberOfReason integrityOf begun counted summed typed lengthIs lengthAgrees sumIs sumAgrees sumOf checksumOf reading-fields
 all-hold = refl

@@ -7,8 +7,8 @@ use lib.Dec.{eqb}
 use Rattle.tagvalue.specs.Choice.{pick}
 use Rattle.tagvalue.specs.Number.{numberOf}
 use Rattle.tagvalue.specs.CheckSum.{sumOf, checksumOf}
-use Rattle.tagvalue.specs.Field.{fieldAt, valueOf}
-use Rattle.tagvalue.specs.declared.Cursor.{Cursor}
+use Rattle.tagvalue.specs.Field.{startAt, fieldAt, valueOf}
+use Rattle.tagvalue.specs.declared.Mode.{Mode}
 use Rattle.tagvalue.specs.declared.Field.{Field}
 use Rattle.tagvalue.specs.declared.Number.{Number}
 use Rattle.tagvalue.specs.declared.Number.the-variants.{Worth, NoNumber}
@@ -44,11 +44,11 @@ unfoldable pub sumAgrees : List ℕ → Field → Bool
 sumAgrees message f = sumIs message f (checksumOf (valueOf message f))
 
 -- "a field with tag 10 can be read at length minus 7, else 14"
-unfoldable pub summed : ℕ → List ℕ → Field → Field → FieldRead → Integrity
-summed separator message begin body (Unreadable cause place) = Garbled InvalidChecksum
-summed separator message begin body (Read f) =
+unfoldable pub summed : Mode → List ℕ → Field → Field → FieldRead → Integrity
+summed mode message begin body (Unreadable cause place) = Garbled InvalidChecksum
+summed mode message begin body (Read f) =
     pick (eqb (f .tag) 10)
-    (pick (sumAgrees message f) (typed begin body f (fieldAt separator message (body .next))) (Garbled InvalidChecksum))
+    (pick (sumAgrees message f) (typed begin body f (fieldAt mode message (body .next))) (Garbled InvalidChecksum))
     (Garbled InvalidChecksum)
 
 -- "its value is one or more digits and the message length is the place after field 2, plus that number, plus 7"
@@ -60,18 +60,18 @@ unfoldable pub lengthAgrees : List ℕ → Field → Bool
 lengthAgrees message f = lengthIs message f (numberOf (valueOf message f))
 
 -- "field 2 has tag 9, else 12"
-unfoldable pub counted : ℕ → List ℕ → Field → FieldRead → Integrity
-counted separator message begin (Unreadable cause place) = Garbled InvalidBodyLength
-counted separator message begin (Read f) =
+unfoldable pub counted : Mode → List ℕ → Field → FieldRead → Integrity
+counted mode message begin (Unreadable cause place) = Garbled InvalidBodyLength
+counted mode message begin (Read f) =
     pick (eqb (f .tag) 9)
-    (pick (lengthAgrees message f) (summed separator message begin f (fieldAt separator message (record { at = length message - 7 }))) (Garbled InvalidBodyLength))
+    (pick (lengthAgrees message f) (summed mode message begin f (fieldAt mode message (startAt (length message - 7)))) (Garbled InvalidBodyLength))
     (Garbled InvalidBodyLength)
 
 -- "field 1 has tag 8, else 11"
-unfoldable pub begun : ℕ → List ℕ → FieldRead → Integrity
-begun separator message (Unreadable cause place) = Garbled InvalidBeginString
-begun separator message (Read f) =
-    pick (eqb (f .tag) 8) (counted separator message f (fieldAt separator message (f .next))) (Garbled InvalidBeginString)
+unfoldable pub begun : Mode → List ℕ → FieldRead → Integrity
+begun mode message (Unreadable cause place) = Garbled InvalidBeginString
+begun mode message (Read f) =
+    pick (eqb (f .tag) 8) (counted mode message f (fieldAt mode message (f .next))) (Garbled InvalidBeginString)
 
-unfoldable pub integrityOf : ℕ → List ℕ → Integrity
-integrityOf separator message = begun separator message (fieldAt separator message (record { at = 0 }))
+unfoldable pub integrityOf : Mode → List ℕ → Integrity
+integrityOf mode message = begun mode message (fieldAt mode message (startAt 0))

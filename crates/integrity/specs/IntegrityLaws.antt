@@ -7,10 +7,11 @@ use native.Mathlib.Omega.{arith}
 use lib.ListN.{length, take}
 use lib.Dec.{eqb}
 use borrow.Author.Tests.{eq-eqb, ne-eqb, eqb-true}
-use Rattle.tagvalue.specs.Choice.{pick, pick-same}
+use Rattle.tagvalue.specs.declared.Mode.{Mode}
+use Rattle.tagvalue.specs.Choice.{pick-same}
 use Rattle.tagvalue.specs.Number.{numberOf}
 use Rattle.tagvalue.specs.CheckSum.{sumOf, checksumOf}
-use Rattle.tagvalue.specs.Field.{fieldAt, valueOf}
+use Rattle.tagvalue.specs.Field.{startAt, fieldAt, valueOf}
 use Rattle.tagvalue.specs.declared.Field.{Field}
 use Rattle.tagvalue.specs.declared.Cause.{Cause}
 use Rattle.tagvalue.specs.declared.Number.{Number}
@@ -21,50 +22,50 @@ use Rattle.integrity.specs.declared.GarbledReason.the-variants.{InvalidB
 use Rattle.integrity.specs.declared.Integrity.the-variants.{Sound, Garbled}
 use Rattle.integrity.specs.Integrity.{begun, counted, summed, typed, lengthIs, lengthAgrees, sumIs, sumAgrees}
 
-module _ (separator : ℕ) (message : List ℕ) (r : FieldRead) where
+module _ (mode : Mode) (message : List ℕ) (r : FieldRead) where
   module _ (cause : Cause) (place : ℕ) (e : r ≡ Unreadable cause place) where
-    pub begun-none : begun separator message r ≡ Garbled InvalidBeginString
+    pub begun-none : begun mode message r ≡ Garbled InvalidBeginString
     unfolding begun
     begun-none = rw e
 
-    pub counted-none : (begin : Field) → counted separator message begin r ≡ Garbled InvalidBodyLength
+    pub counted-none : (begin : Field) → counted mode message begin r ≡ Garbled InvalidBodyLength
     unfolding counted
     counted-none begin = rw e
 
-    pub summed-none : (begin body : Field) → summed separator message begin body r ≡ Garbled InvalidChecksum
+    pub summed-none : (begin body : Field) → summed mode message begin body r ≡ Garbled InvalidChecksum
     unfolding summed
     summed-none begin body = rw e
 
   module _ (f : Field) (e : r ≡ Read f) where
-    pub begun-tag : (f .tag ≡ 8 → ⊥) → begun separator message r ≡ Garbled InvalidBeginString
+    pub begun-tag : (f .tag ≡ 8 → ⊥) → begun mode message r ≡ Garbled InvalidBeginString
     unfolding begun
     begun-tag h = rw (e, ne-eqb _ _ h)
 
-    pub begun-on : f .tag ≡ 8 → begun separator message r ≡ counted separator message f (fieldAt separator message (f .next))
+    pub begun-on : f .tag ≡ 8 → begun mode message r ≡ counted mode message f (fieldAt mode message (f .next))
     unfolding begun
     begun-on h = rw (e, eq-eqb _ _ h)
 
-    pub counted-tag : (begin : Field) → (f .tag ≡ 9 → ⊥) → counted separator message begin r ≡ Garbled InvalidBodyLength
+    pub counted-tag : (begin : Field) → (f .tag ≡ 9 → ⊥) → counted mode message begin r ≡ Garbled InvalidBodyLength
     unfolding counted
     counted-tag begin h = rw (e, ne-eqb _ _ h)
 
-    pub counted-wrong : (begin : Field) → lengthAgrees message f ≡ false → counted separator message begin r ≡ Garbled InvalidBodyLength
+    pub counted-wrong : (begin : Field) → lengthAgrees message f ≡ false → counted mode message begin r ≡ Garbled InvalidBodyLength
     unfolding counted
     counted-wrong begin g = rw (e, g, pick-same)
 
-    pub counted-on : (begin : Field) → f .tag ≡ 9 → lengthAgrees message f ≡ true → counted separator message begin r ≡ summed separator message begin f (fieldAt separator message (record { at = length message - 7 }))
+    pub counted-on : (begin : Field) → f .tag ≡ 9 → lengthAgrees message f ≡ true → counted mode message begin r ≡ summed mode message begin f (fieldAt mode message (startAt (length message - 7)))
     unfolding counted
     counted-on begin h g = rw (e, eq-eqb _ _ h, g)
 
-    pub summed-tag : (begin body : Field) → (f .tag ≡ 10 → ⊥) → summed separator message begin body r ≡ Garbled InvalidChecksum
+    pub summed-tag : (begin body : Field) → (f .tag ≡ 10 → ⊥) → summed mode message begin body r ≡ Garbled InvalidChecksum
     unfolding summed
     summed-tag begin body h = rw (e, ne-eqb _ _ h)
 
-    pub summed-wrong : (begin body : Field) → sumAgrees message f ≡ false → summed separator message begin body r ≡ Garbled InvalidChecksum
+    pub summed-wrong : (begin body : Field) → sumAgrees message f ≡ false → summed mode message begin body r ≡ Garbled InvalidChecksum
     unfolding summed
     summed-wrong begin body g = rw (e, g, pick-same)
 
-    pub summed-on : (begin body : Field) → f .tag ≡ 10 → sumAgrees message f ≡ true → summed separator message begin body r ≡ typed begin body f (fieldAt separator message (body .next))
+    pub summed-on : (begin body : Field) → f .tag ≡ 10 → sumAgrees message f ≡ true → summed mode message begin body r ≡ typed begin body f (fieldAt mode message (body .next))
     unfolding summed
     summed-on begin body h g = rw (e, eq-eqb _ _ h, g)
 

@@ -6,8 +6,9 @@ use Prim.Native.Nat.{ℕ, _-_}
 use native.Mathlib.Omega.{arith}
 use lib.ListN.{length}
 use lib.Dec.{eqb}
+use Rattle.tagvalue.specs.declared.Mode.{Mode}
 use Rattle.tagvalue.specs.Choice.{pick}
-use Rattle.tagvalue.specs.Field.{fieldAt}
+use Rattle.tagvalue.specs.Field.{startAt, fieldAt}
 use Rattle.tagvalue.specs.declared.Field.{Field}
 use Rattle.tagvalue.specs.declared.FieldRead.{FieldRead}
 use Rattle.tagvalue.specs.declared.FieldRead.the-variants.{Read, Unreadable}
@@ -18,19 +19,19 @@ use Rattle.integrity.specs.declared.GarbledReason.{GarbledReason}
 use Rattle.integrity.specs.declared.GarbledReason.the-variants.{InvalidBeginString, InvalidBodyLength, InvalidMsgType, InvalidChecksum}
 use Rattle.integrity.specs.declared.Verified.{Verified}
 
-pub record VerifiedRead (separator : ℕ) (message : List ℕ) (v : Verified) : Type 0 where
-  pub begins : fieldAt separator message (record { at = 0 }) ≡ Read (v .«begin_string»)
-  pub counts : fieldAt separator message (v .«begin_string» .next) ≡ Read (v .«body_length»)
-  pub types : fieldAt separator message (v .«body_length» .next) ≡ Read (v .«msg_type»)
-  pub sums : fieldAt separator message (record { at = length message - 7 }) ≡ Read (v .checksum)
+pub record VerifiedRead (mode : Mode) (message : List ℕ) (v : Verified) : Type 0 where
+  pub begins : fieldAt mode message (startAt 0) ≡ Read (v .«begin_string»)
+  pub counts : fieldAt mode message (v .«begin_string» .next) ≡ Read (v .«body_length»)
+  pub types : fieldAt mode message (v .«body_length» .next) ≡ Read (v .«msg_type»)
+  pub sums : fieldAt mode message (startAt (length message - 7)) ≡ Read (v .checksum)
 
-module _ (separator : ℕ) (message : List ℕ) (v : Verified) where
+module _ (mode : Mode) (message : List ℕ) (v : Verified) where
   passed : (b : Bool) (on : Integrity) (reason : GarbledReason) → pick b on (Garbled reason) ≡ Sound v → on ≡ Sound v
   passed true on reason e = e
   passed false on reason e = let z : _≡_ {A = ℕ} 0 1 = cc in absurd (omega arith)
 
-  typed-read : (begin body check : Field) (r : FieldRead) → fieldAt separator message (body .next) ≡ r → fieldAt separator message (record { at = 0 }) ≡ Read begin → fieldAt separator message (begin .next) ≡ Read body
-      → fieldAt separator message (record { at = length message - 7 }) ≡ Read check → typed begin body check r ≡ Sound v → VerifiedRead separator message v
+  typed-read : (begin body check : Field) (r : FieldRead) → fieldAt mode message (body .next) ≡ r → fieldAt mode message (startAt 0) ≡ Read begin → fieldAt mode message (begin .next) ≡ Read body
+      → fieldAt mode message (startAt (length message - 7)) ≡ Read check → typed begin body check r ≡ Sound v → VerifiedRead mode message v
   unfolding typed
   typed-read begin body check (Unreadable cause place) t b c s e = let z : _≡_ {A = ℕ} 0 1 = cc in absurd (omega arith)
   typed-read begin body check (Read f) t b c s e =
@@ -38,24 +39,24 @@ module _ (separator : ℕ) (message : List ℕ) (v : Verified) where
       let w : record { «begin_string» = begin; «body_length» = body; checksum = check; «msg_type» = f } ≡ v = cc in
       rw (← w) (record { begins = b; counts = c; types = t; sums = s })
 
-  summed-read : (begin body : Field) (r : FieldRead) → fieldAt separator message (record { at = length message - 7 }) ≡ r → fieldAt separator message (record { at = 0 }) ≡ Read begin → fieldAt separator message (begin .next) ≡ Read body
-      → summed separator message begin body r ≡ Sound v → VerifiedRead separator message v
+  summed-read : (begin body : Field) (r : FieldRead) → fieldAt mode message (startAt (length message - 7)) ≡ r → fieldAt mode message (startAt 0) ≡ Read begin → fieldAt mode message (begin .next) ≡ Read body
+      → summed mode message begin body r ≡ Sound v → VerifiedRead mode message v
   unfolding summed
   summed-read begin body (Unreadable cause place) s b c e = let z : _≡_ {A = ℕ} 0 1 = cc in absurd (omega arith)
   summed-read begin body (Read f) s b c e =
-      typed-read begin body f (fieldAt separator message (body .next)) refl b c s (passed (sumAgrees message f) _ InvalidChecksum (passed (eqb (f .tag) 10) _ InvalidChecksum e))
+      typed-read begin body f (fieldAt mode message (body .next)) refl b c s (passed (sumAgrees message f) _ InvalidChecksum (passed (eqb (f .tag) 10) _ InvalidChecksum e))
 
-  counted-read : (begin : Field) (r : FieldRead) → fieldAt separator message (begin .next) ≡ r → fieldAt separator message (record { at = 0 }) ≡ Read begin → counted separator message begin r ≡ Sound v → VerifiedRead separator message v
+  counted-read : (begin : Field) (r : FieldRead) → fieldAt mode message (begin .next) ≡ r → fieldAt mode message (startAt 0) ≡ Read begin → counted mode message begin r ≡ Sound v → VerifiedRead mode message v
   unfolding counted
   counted-read begin (Unreadable cause place) c b e = let z : _≡_ {A = ℕ} 0 1 = cc in absurd (omega arith)
   counted-read begin (Read f) c b e =
-      summed-read begin f (fieldAt separator message (record { at = length message - 7 })) refl b c (passed (lengthAgrees message f) _ InvalidBodyLength (passed (eqb (f .tag) 9) _ InvalidBodyLength e))
+      summed-read begin f (fieldAt mode message (startAt (length message - 7))) refl b c (passed (lengthAgrees message f) _ InvalidBodyLength (passed (eqb (f .tag) 9) _ InvalidBodyLength e))
 
-  begun-read : (r : FieldRead) → fieldAt separator message (record { at = 0 }) ≡ r → begun separator message r ≡ Sound v → VerifiedRead separator message v
+  begun-read : (r : FieldRead) → fieldAt mode message (startAt 0) ≡ r → begun mode message r ≡ Sound v → VerifiedRead mode message v
   unfolding begun
   begun-read (Unreadable cause place) b e = let z : _≡_ {A = ℕ} 0 1 = cc in absurd (omega arith)
-  begun-read (Read f) b e = counted-read f (fieldAt separator message (f .next)) refl b (passed (eqb (f .tag) 8) _ InvalidBeginString e)
+  begun-read (Read f) b e = counted-read f (fieldAt mode message (f .next)) refl b (passed (eqb (f .tag) 8) _ InvalidBeginString e)
 
-  pub verified-read : integrityOf separator message ≡ Sound v → VerifiedRead separator message v
+  pub verified-read : integrityOf mode message ≡ Sound v → VerifiedRead mode message v
   unfolding integrityOf
-  verified-read e = begun-read (fieldAt separator message (record { at = 0 })) refl e
+  verified-read e = begun-read (fieldAt mode message (startAt 0)) refl e

@@ -1,17 +1,12 @@
 // integrity: whether a message's frame is sound, before anything else is read (11 to 14).
 // It looks at four fields and knows no dictionary; what it answers is all that later reading needs of them.
-use tagvalue::Cursor;
 use tagvalue::Field;
 use tagvalue::FieldRead;
+use tagvalue::Mode;
 use tagvalue::Number;
+use tagvalue::wide;
 ghost use mathlib.Core.Path.{_≡_};
 ghost use Rattle.integrity.specs.Integrity.{integrityOf, lengthAgrees, sumAgrees};
-
-// How to read: the separator of fields, and whether unknown user-defined tags are refused.
-pub struct Config {
-    pub separator: u8,
-    pub validate: bool,
-}
 
 // Why a message is garbled.
 pub enum GarbledReason {
@@ -33,12 +28,6 @@ pub struct Verified {
 pub enum Integrity {
     Sound(Verified),
     Garbled(GarbledReason),
-}
-
-fn wide(n: u32) -> usize
-    ensures { λ r. ⌜ r ≡ n ⌝ }
-{
-    n as usize
 }
 
 fn widened(byte: u8) -> u32
@@ -81,19 +70,18 @@ fn sum_agrees(message: &[u8], checksum: Field) -> bool
 }
 
 // The checks in their order: 11, 12, 12, 14, 14, 13.
-pub fn verify(message: &[u8], config: Config) -> Integrity
-    ensures { λ r. ⌜ r ≡ integrityOf (config .separator) (now (message .entry)) ⌝ }
+pub fn verify(message: &[u8], mode: Mode) -> Integrity
+    ensures { λ r. ⌜ r ≡ integrityOf mode (now (message .entry)) ⌝ }
 {
-    let separator = config.separator;
-    let start = Cursor { at: 0 };
-    let FieldRead::Read(begin_string) = start.next_field(message, separator) else {
+    let start = tagvalue::start_at(0);
+    let FieldRead::Read(begin_string) = start.next_field(message, mode) else {
         return Integrity::Garbled(GarbledReason::InvalidBeginString);
     };
     if begin_string.tag != 8 {
         return Integrity::Garbled(GarbledReason::InvalidBeginString);
     }
     let second = begin_string.next;
-    let FieldRead::Read(body_length) = second.next_field(message, separator) else {
+    let FieldRead::Read(body_length) = second.next_field(message, mode) else {
         return Integrity::Garbled(GarbledReason::InvalidBodyLength);
     };
     if body_length.tag != 9 {
@@ -102,10 +90,8 @@ pub fn verify(message: &[u8], config: Config) -> Integrity
     if !length_agrees(message, body_length) {
         return Integrity::Garbled(GarbledReason::InvalidBodyLength);
     }
-    let last = Cursor {
-        at: message.len() - 7,
-    };
-    let FieldRead::Read(checksum) = last.next_field(message, separator) else {
+    let last = tagvalue::start_at(message.len() - 7);
+    let FieldRead::Read(checksum) = last.next_field(message, mode) else {
         return Integrity::Garbled(GarbledReason::InvalidChecksum);
     };
     if checksum.tag != 10 {
@@ -115,7 +101,7 @@ pub fn verify(message: &[u8], config: Config) -> Integrity
         return Integrity::Garbled(GarbledReason::InvalidChecksum);
     }
     let third = body_length.next;
-    let FieldRead::Read(msg_type) = third.next_field(message, separator) else {
+    let FieldRead::Read(msg_type) = third.next_field(message, mode) else {
         return Integrity::Garbled(GarbledReason::InvalidMsgType);
     };
     if msg_type.tag != 35 {

@@ -1,5 +1,6 @@
 // layout: what a dictionary means, and the tables that reading uses.
 // Look-ups work on lent tables of numbers, have an answer for every content, and never look at a dictionary's bytes.
+use tagvalue::wide;
 ghost use mathlib.Core.Path.{_≡_};
 ghost use Prim.Native.Nat.{_<_, _/_};
 ghost use lib.ListN.{length};
@@ -34,12 +35,6 @@ pub enum FirstTag {
 pub enum Marked {
     Required(u32, Level),
     NoMore,
-}
-
-fn wide(word: u32) -> usize
-    ensures { λ r. ⌜ r ≡ word ⌝ }
-{
-    word as usize
 }
 
 // Where a level ends, or the table does.

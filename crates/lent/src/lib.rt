@@ -1,16 +1,11 @@
 // lent: whether what a caller lends is a message, and how many fields it stores. It changes nothing and demands nothing of what is lent.
+use tagvalue::wide;
 ghost use mathlib.Core.Path.{_≡_};
 ghost use mathlib.Core.List.{[]};
 ghost use Prim.Native.Nat.{_+_, _-_, _≤_, _<_};
 ghost use lib.ListN.{length, getD};
 ghost use Rattle.maps.specs.Rows.{rowAt, rowsFrom, rowsBefore, levelOf, sizes};
 ghost use Rattle.lent.specs.Lent.{heldBefore, continues, followsOn, deepest, fieldAllowed, headAllowed, rowAllowed, rowsAllowed, isPart, nextPart, partsFrom, isOwn, ownBelow, weight, fieldsIn, rowCount, rowsOf, isLaid, isMessage};
-
-fn wide(n: u32) -> usize
-    ensures { λ r. ⌜ r ≡ n ⌝ }
-{
-    n as usize
-}
 
 pub fn held_before(words: &[u32], row: usize, kind: u32, level: u32, tag: u32) -> bool
     requires { ⌜ (row ≤ 2051) × (length (now words) ≡ 8205) ⌝ }

@@ -1,5 +1,6 @@
 // maps: field maps in lent words and bytes. It finds rows and cuts, moves and inserts them; it knows no tag's meaning and refuses nothing
 // by number. Only `lent`, `message`, `encoder` and `taking` call it: its functions may ask that the words are whole.
+use tagvalue::wide;
 ghost use mathlib.Core.Path.{_≡_};
 ghost use mathlib.Core.List.{_++_, []};
 ghost use mathlib.Core.Bool.{true, false};
@@ -7,12 +8,6 @@ ghost use Prim.Native.Nat.{_+_, _-_, _*_, _≤_, _<_};
 ghost use lib.ListN.{length, getD, take, drop};
 ghost use Rattle.tagvalue.specs.Decimal.{writtenAt};
 ghost use Rattle.maps.specs.Rows.{rowAt, rowsFrom, rowsBefore, levelOf, sizeOf, matches, findFrom, endFrom, inRun, runEndFrom, sizes, padded, part, spliced};
-
-fn wide(n: u32) -> usize
-    ensures { λ r. ⌜ r ≡ n ⌝ }
-{
-    n as usize
-}
 
 pub fn kind_of(words: &[u32], row: usize) -> u32
     requires { ⌜ (row < 2051) × (length (now words) ≡ 8205) ⌝ }

@@ -6,9 +6,10 @@ use Prim.Native.Nat.{ℕ, zero, suc, _+_, _-_, _/_, _≤_, _<_}
 use native.Mathlib.Omega.{arith}
 use lib.ListN.{length, getD, take, drop, set, length-append, length-set, length-drop, take-append-drop}
 use lib.Seq.{drop-cons, drop-drop, length-take-le}
+use Rattle.tagvalue.specs.declared.Mode.{Mode}
 use Rattle.tagvalue.specs.Field.{fieldAt}
-use Rattle.tagvalue.specs.Fields.{field, fieldsFrom}
-use Rattle.tagvalue.specs.FieldsLaws.{fields-field, step-lies, step-falls}
+use Rattle.tagvalue.specs.Fields.{field, fieldsFrom, Inside}
+use Rattle.tagvalue.specs.FieldsLaws.{fields-field, step-inside}
 use Rattle.tagvalue.specs.declared.Cursor.{Cursor}
 use Rattle.tagvalue.specs.declared.Cause.{Cause}
 use Rattle.tagvalue.specs.declared.Field.{Field}
@@ -21,7 +22,6 @@ use Rattle.records.specs.declared.Record.{Record}
 use Rattle.records.specs.declared.Standing.the-variants.{At, Nowhere}
 use Rattle.parts.specs.Parts.{partOf, Kept, nextOf, Ends, Stays}
 use Rattle.parts.specs.declared.Answer.the-variants.{Malformed, TooManyFields}
-use Rattle.groups.specs.ReadingLaws.{Inside}
 use Rattle.parts.specs.declared.Answer.{Answer}
 use Rattle.parts.specs.declared.Progress.{Progress}
 use Rattle.parts.specs.declared.PartRead.the-variants.{At as at-field, Refused}
@@ -105,27 +105,22 @@ module _ (room : ℕ) (r : FieldRead) where
     next-got some = let one : room ≡ suc (room - 1) = omega arith in rw e (ap (λ (n : ℕ). nextOf n (Read f)) one)
 
 -- a field that was read is the first of those that are left, there was room for it, and it lies in the message
-pub record Taken (separator : ℕ) (message : List ℕ) (c : Cursor) (room : ℕ) (f : Field) : Type 0 where
-  pub fields : fieldsFrom separator message c ≡ field f (fieldsFrom separator message (f .next))
+pub record Taken (mode : Mode) (message : List ℕ) (c : Cursor) (room : ℕ) (f : Field) : Type 0 where
+  pub fields : fieldsFrom mode message c ≡ field f (fieldsFrom mode message (f .next))
   pub one-less : room ≡ suc (room - 1)
   pub inside : Inside message f
 
-module _ (separator : ℕ) (message : List ℕ) (c : Cursor) (f : Field) where
-  pub read-inside : fieldAt separator message c ≡ Read f → Inside message f
-  read-inside e = let l = step-lies separator message c f e in
-      let g = step-falls separator message c f e .1 in
-      record { begins = omega (arith, l .ends); ends = omega (arith, l .ends) }
-
-  pub taken : (room : ℕ) → nextOf room (fieldAt separator message c) ≡ Got f → Taken separator message c room f
+module _ (mode : Mode) (message : List ℕ) (c : Cursor) (f : Field) where
+  pub taken : (room : ℕ) → nextOf room (fieldAt mode message c) ≡ Got f → Taken mode message c room f
   unfolding nextOf
-  taken room h = go (fieldAt separator message c) refl room h
+  taken room h = go (fieldAt mode message c) refl room h
     where
-      go : (r : FieldRead) → fieldAt separator message c ≡ r → (room : ℕ) → nextOf room r ≡ Got f → Taken separator message c room f
+      go : (r : FieldRead) → fieldAt mode message c ≡ r → (room : ℕ) → nextOf room r ≡ Got f → Taken mode message c room f
       go (Unreadable cause place) e room h = let z : _≡_ {A = ℕ} 0 1 = cc in absurd (omega arith)
       go (Read g) e zero h = let z : _≡_ {A = ℕ} 0 1 = cc in absurd (omega arith)
       go (Read g) e (suc room) h =
-          let same : fieldAt separator message c ≡ Read f = cc in
-          record { fields = fields-field separator message c f same; one-less = omega arith; inside = read-inside same }
+          let same : fieldAt mode message c ≡ Read f = cc in
+          record { fields = fields-field mode message c f same; one-less = omega arith; inside = step-inside mode message c f same }
 
 -- before the first part there is nothing
 pub none-before : (words other : List ℕ) → partOf 0 0 words ≡ partOf 0 0 other

@@ -3,7 +3,8 @@ use Prim.Native.Nat.{ℕ, zero, suc, _+_, _/_, _≤_, _<_}
 use mathlib.Core.Path.{_≡_}
 use mathlib.Core.List.{List}
 use lib.ListN.{length}
-use Rattle.tagvalue.specs.Fields.{Fields, fieldsFrom}
+use Rattle.tagvalue.specs.Fields.{Fields, fieldsFrom, Inside}
+use Rattle.tagvalue.specs.declared.Mode.{Mode}
 use Rattle.tagvalue.specs.declared.Field.{Field}
 use Rattle.tagvalue.specs.declared.FieldRead.{FieldRead}
 use Rattle.tagvalue.specs.declared.FieldRead.the-variants.{Read, Unreadable}
@@ -11,7 +12,6 @@ use Rattle.records.specs.Records.{recordsOf, between, stored}
 use Rattle.records.specs.declared.Record.{Record}
 use Rattle.parts.specs.declared.Answer.{Answer}
 use Rattle.parts.specs.declared.Answer.the-variants.{Malformed, TooManyFields}
-use Rattle.groups.specs.ReadingLaws.{Inside}
 use Rattle.parts.specs.declared.Progress.{Progress}
 use Rattle.parts.specs.declared.PartRead.{PartRead}
 use Rattle.parts.specs.declared.PartRead.the-variants.{At, Refused}
@@ -45,9 +45,9 @@ pub data Reading : Type 0 where
   refused : Answer → Reading
 
 -- what the code answers, with the words that it leaves
-unfoldable pub partTold : ℕ → List ℕ → ℕ → PartRead → List ℕ → Reading
-partTold separator message from (At f p) words = ended f (fieldsFrom separator message (f .next)) (p .room) (partOf from (p .records) words)
-partTold separator message from (Refused answer) words = refused answer
+unfoldable pub partTold : Mode → List ℕ → ℕ → PartRead → List ℕ → Reading
+partTold mode message from (At f p) words = ended f (fieldsFrom mode message (f .next)) (p .room) (partOf from (p .records) words)
+partTold mode message from (Refused answer) words = refused answer
 
 -- where a part ended: there are words for its records, for the field that was read and for all that may still be; the room has fallen
 pub record Ends (message entry : List ℕ) (from room : ℕ) (f : Field) (p : Progress) : Type 0 where

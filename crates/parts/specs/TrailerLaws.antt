@@ -6,7 +6,7 @@ use Prim.Native.Nat.{ℕ, zero, suc, _+_, _-_, _<_}
 use native.Mathlib.Omega.{arith}
 use lib.Dec.{eqb}
 use borrow.Author.Tests.{eq-eqb, ne-eqb}
-use Rattle.tagvalue.specs.Choice.{pick}
+use Rattle.tagvalue.specs.declared.Mode.{Mode}
 use Rattle.tagvalue.specs.Field.{fieldAt}
 use Rattle.tagvalue.specs.Fields.{Fields, unreadable, field, fieldsFrom}
 use Rattle.tagvalue.specs.FieldsLaws.{fields-field, fields-end}
@@ -16,7 +16,7 @@ use Rattle.tagvalue.specs.declared.FieldRead.the-variants.{Read, Unreadable}
 use Rattle.records.specs.Records.{stored}
 use Rattle.records.specs.declared.Record.{Record}
 use Rattle.parts.specs.Parts.{recordOf}
-use Rattle.parts.specs.Trailer.{Trailer, stopped, unstopped, crowded, trailerFrom}
+use Rattle.parts.specs.Trailer.{stopped, unstopped, crowded, trailerFrom}
 
 -- room for a field that is read already, and for those behind it
 one-more : (room : ℕ) → room + 1 ≡ suc room
@@ -39,16 +39,16 @@ module _ (f : Field) (rest : Fields) (room : ℕ) (records : List Record) where
   pub trailer-crowded : (f .tag ≡ 10 → ⊥) → room ≡ 0 → trailerFrom (field f rest) (room + 1) records ≡ crowded
   trailer-crowded h z = trailer-takes h ∙ rw z (crowds rest (stored (recordOf 3 f) records))
 
-module _ (separator : ℕ) (message : List ℕ) (f : Field) (room : ℕ) (records : List Record) (other : f .tag ≡ 10 → ⊥) (some : 0 < room) where
-  left : trailerFrom (field f (fieldsFrom separator message (f .next))) (room + 1) records ≡ trailerFrom (fieldsFrom separator message (f .next)) (room - 1 + 1) (stored (recordOf 3 f) records)
+module _ (mode : Mode) (message : List ℕ) (f : Field) (room : ℕ) (records : List Record) (other : f .tag ≡ 10 → ⊥) (some : 0 < room) where
+  left : trailerFrom (field f (fieldsFrom mode message (f .next))) (room + 1) records ≡ trailerFrom (fieldsFrom mode message (f .next)) (room - 1 + 1) (stored (recordOf 3 f) records)
   left =
       let one : room ≡ room - 1 + 1 = omega arith in
-      trailer-takes f (fieldsFrom separator message (f .next)) room records other
-      ∙ ap (λ (n : ℕ). trailerFrom (fieldsFrom separator message (f .next)) n (stored (recordOf 3 f) records)) one
+      trailer-takes f (fieldsFrom mode message (f .next)) room records other
+      ∙ ap (λ (n : ℕ). trailerFrom (fieldsFrom mode message (f .next)) n (stored (recordOf 3 f) records)) one
 
-  pub trailer-ends : (cause : Cause) (place : ℕ) → fieldAt separator message (f .next) ≡ Unreadable cause place → trailerFrom (field f (fieldsFrom separator message (f .next))) (room + 1) records ≡ unstopped (stored (recordOf 3 f) records)
+  pub trailer-ends : (cause : Cause) (place : ℕ) → fieldAt mode message (f .next) ≡ Unreadable cause place → trailerFrom (field f (fieldsFrom mode message (f .next))) (room + 1) records ≡ unstopped (stored (recordOf 3 f) records)
   unfolding trailerFrom
-  trailer-ends cause place e = left ∙ rw (fields-end separator message (f .next) cause place e, one-more (room - 1))
+  trailer-ends cause place e = left ∙ rw (fields-end mode message (f .next) cause place e, one-more (room - 1))
 
-  pub trailer-on : (g : Field) → fieldAt separator message (f .next) ≡ Read g → trailerFrom (field f (fieldsFrom separator message (f .next))) (room + 1) records ≡ trailerFrom (field g (fieldsFrom separator message (g .next))) (room - 1 + 1) (stored (recordOf 3 f) records)
-  trailer-on g e = left ∙ ap (λ (l : Fields). trailerFrom l (room - 1 + 1) (stored (recordOf 3 f) records)) (fields-field separator message (f .next) g e)
+  pub trailer-on : (g : Field) → fieldAt mode message (f .next) ≡ Read g → trailerFrom (field f (fieldsFrom mode message (f .next))) (room + 1) records ≡ trailerFrom (field g (fieldsFrom mode message (g .next))) (room - 1 + 1) (stored (recordOf 3 f) records)
+  trailer-on g e = left ∙ ap (λ (l : Fields). trailerFrom l (room - 1 + 1) (stored (recordOf 3 f) records)) (fields-field mode message (f .next) g e)

@@ -1,7 +1,7 @@
 // parts: header and trailer, read one field at a time, and what all parts share: the answer to a message, a field's record, storing it.
 // It keeps records through `records` only and knows nothing of layouts and groups; only the body and the builder call it.
 use flat_steps::Checked;
-use integrity::Config;
+use build_config::Config;
 use integrity::GarbledReason;
 use records::Record;
 use records::Standing;
@@ -12,9 +12,8 @@ use tagvalue::FieldRead;
 ghost use mathlib.Core.Path.{_≡_};
 ghost use Prim.Native.Nat.{_+_, _≤_, _<_, _/_, _^_};
 ghost use lib.ListN.{length};
-ghost use Rattle.tagvalue.specs.Fields.{field, fieldsFrom};
+ghost use Rattle.tagvalue.specs.Fields.{field, fieldsFrom, Inside};
 ghost use Rattle.tagvalue.specs.Field.{fieldAt};
-ghost use Rattle.groups.specs.ReadingLaws.{Inside};
 ghost use Rattle.integrity.specs.Integrity.{numberOfReason};
 ghost use Rattle.parts.specs.Answer.{numberOf, valuesOf};
 ghost use Rattle.parts.specs.Parts.{recordOf, partOf, Kept, nextOf, partTold, Stays};
@@ -157,9 +156,9 @@ pub fn keep(words: &mut [u32], from: usize, records: usize, stored: Record) -> u
 
 // The next field, where one can be read and there is room for it.
 pub fn next_field(message: &[u8], config: Config, cursor: Cursor, room: usize) -> Next
-    ensures { λ r. ⌜ r ≡ nextOf room (fieldAt (config .separator) (now (message .entry)) cursor) ⌝ }
+    ensures { λ r. ⌜ r ≡ nextOf room (fieldAt (config .mode) (now (message .entry)) cursor) ⌝ }
 {
-    match cursor.next_field(message, config.separator) {
+    match cursor.next_field(message, config.mode) {
         FieldRead::Unreadable(cause, place) => Next::Missing(Answer::Malformed(cause, place)),
         FieldRead::Read(field) => {
             if room == 0 {
@@ -180,7 +179,7 @@ pub fn read_header(
     progress: Progress,
 ) -> PartRead
     requires { ⌜ (length (now message) < 2 ^ 32) × (progress .records + progress .room ≤ length (now words) / 6) ⌝ }
-    ensures { λ r. ⌜ partTold (config .separator) (now (message .entry)) 0 r (now (words .exit)) ≡ headerFrom (now («header_tags» .entry)) (fieldsFrom (config .separator) (now (message .entry)) cursor) (progress .room) (partOf 0 (progress .records) (now (words .entry))) ⌝ }
+    ensures { λ r. ⌜ partTold (config .mode) (now (message .entry)) 0 r (now (words .exit)) ≡ headerFrom (now («header_tags» .entry)) (fieldsFrom (config .mode) (now (message .entry)) cursor) (progress .room) (partOf 0 (progress .records) (now (words .entry))) ⌝ }
     ensures { λ r. ⌜ Stays (now (message .entry)) (now (words .entry)) (now (words .exit)) 0 (progress .room) r ⌝ }
 {
     let mut at = cursor;
@@ -213,7 +212,7 @@ pub fn read_trailer(
     progress: Progress,
 ) -> TrailerRead
     requires { ⌜ (length (now message) < 2 ^ 32) × (Inside (now message) first) × (from ≤ progress .records) × (progress .records + progress .room ≤ length (now words) / 6) ⌝ }
-    ensures { λ r. ⌜ trailerTold r from (now (words .exit)) ≡ trailerFrom (field first (fieldsFrom (config .separator) (now (message .entry)) (first .next))) (progress .room + 1) (partOf from (progress .records) (now (words .entry))) ⌝ }
+    ensures { λ r. ⌜ trailerTold r from (now (words .exit)) ≡ trailerFrom (field first (fieldsFrom (config .mode) (now (message .entry)) (first .next))) (progress .room + 1) (partOf from (progress .records) (now (words .entry))) ⌝ }
     ensures { λ r. ⌜ (from ≤ trailerCounts from r) × (trailerCounts from r ≤ progress .records + progress .room) ⌝ }
     ensures { λ r. ⌜ partOf 0 from (now (words .exit)) ≡ partOf 0 from (now (words .entry)) ⌝ }
 {
@@ -230,7 +229,7 @@ pub fn read_trailer(
         room -= 1;
         records = keep(words, from, records, record_of(records::TRAILER, field));
         let next = field.next;
-        let FieldRead::Read(read) = next.next_field(message, config.separator) else {
+        let FieldRead::Read(read) = next.next_field(message, config.mode) else {
             return TrailerRead::Unstopped(records);
         };
         field = read;

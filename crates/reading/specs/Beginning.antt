@@ -7,6 +7,7 @@ use lib.Dec.{eqb}
 use Rattle.tagvalue.specs.Choice.{pick}
 use Rattle.tagvalue.specs.Fields.{Fields, fieldsFrom}
 use Rattle.tagvalue.specs.declared.Field.{Field}
+use Rattle.build_config.specs.declared.Config.{Config}
 use Rattle.integrity.specs.Integrity.{integrityOf}
 use Rattle.integrity.specs.declared.Integrity.{Integrity}
 use Rattle.integrity.specs.declared.Integrity.the-variants.{Sound, Garbled}
@@ -26,8 +27,8 @@ verifiedRecords v = stored (recordOf 1 (v .«msg_type»)) (stored (recordOf 1 (v
 abbrev pub roomBehind : ℕ
 roomBehind = 1021
 
-unfoldable pub headerOf : List ℕ → ℕ → List ℕ → Verified → Reading
-headerOf tags separator message v = headerFrom tags (fieldsFrom separator message (v .«msg_type» .next)) roomBehind (verifiedRecords v)
+unfoldable pub headerOf : List ℕ → Config → List ℕ → Verified → Reading
+headerOf tags config message v = headerFrom tags (fieldsFrom (config .mode) message (v .«msg_type» .next)) roomBehind (verifiedRecords v)
 
 -- the header and the verified CheckSum, or why reading was refused
 pub data Start : Type 0 where
@@ -38,12 +39,12 @@ unfoldable pub withChecksum : Field → Reading → Start
 withChecksum checksum (ended f rest room records) = started f rest room records checksum
 withChecksum checksum (refused answer) = unsound answer
 
-unfoldable pub startedBy : List ℕ → ℕ → List ℕ → Integrity → Start
-startedBy tags separator message (Sound v) = withChecksum (v .checksum) (headerOf tags separator message v)
-startedBy tags separator message (Garbled reason) = unsound (garbled reason)
+unfoldable pub startedBy : List ℕ → Config → List ℕ → Integrity → Start
+startedBy tags config message (Sound v) = withChecksum (v .checksum) (headerOf tags config message v)
+startedBy tags config message (Garbled reason) = unsound (garbled reason)
 
-unfoldable pub startOf : List ℕ → ℕ → List ℕ → Start
-startOf tags separator message = startedBy tags separator message (integrityOf separator message)
+unfoldable pub startOf : List ℕ → Config → List ℕ → Start
+startOf tags config message = startedBy tags config message (integrityOf (config .mode) message)
 
 -- MsgType is the value that was stored last under 35
 unfoldable pub msgTypeRecord : List Record → Record

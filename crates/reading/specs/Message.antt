@@ -3,6 +3,7 @@ use Prim.Native.Nat.{ℕ, suc}
 use mathlib.Core.List.{List, [], _∷_, _++_}
 use mathlib.Core.Bool.{Bool, true, false}
 use lib.Dec.{leb}
+use Rattle.build_config.specs.declared.Config.{Config}
 use Rattle.tagvalue.specs.Choice.{pick}
 use Rattle.tagvalue.specs.Fields.{Fields, field}
 use Rattle.tagvalue.specs.declared.Field.{Field}
@@ -46,16 +47,16 @@ unfoldable pub afterBody : List Record → Field → Reading → Outcome
 afterBody header checksum (refused answer) = refusal answer header
 afterBody header checksum (ended f rest room body) = afterTrailer header body (trailerFrom (field f rest) (suc room) (recordOf 3 checksum ∷ []))
 
-module _ (dictionary : Dictionary) (validate : Bool) where
+module _ (dictionary : Dictionary) (config : Config) where
   -- "and then MsgType must be in the dictionary, else 3"
   unfoldable pub afterType : Field → Fields → ℕ → List Record → Field → Choice → Outcome
   afterType f rest room header checksum noMessage = refusal (InvalidMsgType (msgTypeRecord header .place) (msgTypeRecord header .length)) header
   afterType f rest room header checksum (laidOut layout) =
-      afterBody header checksum (bodyFrom (bodyOf (layoutRules (accepted validate (knows dictionary))) layoutDemands (trailerTags dictionary) layout) (field f rest) (suc room) [])
+      afterBody header checksum (bodyFrom (bodyOf (layoutRules (accepted config (knows dictionary))) layoutDemands (trailerTags dictionary) layout) (field f rest) (suc room) [])
 
   unfoldable pub afterHeader : List ℕ → Start → Outcome
   afterHeader message (unsound answer) = refusal answer []
   afterHeader message (started f rest room header checksum) = afterType f rest room header checksum (layoutOf dictionary (valueAt message (msgTypeRecord header)))
 
-  unfoldable pub messageRead : ℕ → List ℕ → Outcome
-  messageRead separator message = afterHeader message (startOf (headerTags dictionary) separator message)
+  unfoldable pub messageRead : List ℕ → Outcome
+  messageRead message = afterHeader message (startOf (headerTags dictionary) config message)

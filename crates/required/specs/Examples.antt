@@ -4,11 +4,11 @@ use mathlib.Core.List.{List, [], _∷_, map}
 use mathlib.Core.Bool.{true, false}
 use Prim.Native.Nat.{ℕ, _-_}
 use Prim.Native.String.{String}
+use Rattle.build_config.specs.Settings.{validating}
+use Rattle.tagvalue.specs.Computing.{reading-fields}
 use Rattle.tagvalue.specs.Text.{bytes}
-use Rattle.tagvalue.specs.Find.{findIn}
-use Rattle.tagvalue.specs.Number.{isDigit, allDigits, worth, numberOf, nonZero, tagOf}
-use Rattle.tagvalue.specs.Field.{fieldFrom, fieldAt, withEquals, withSeparator, withTag}
-use Rattle.tagvalue.specs.Fields.{followedBy, fieldsWithin, fieldsFrom}
+use Rattle.tagvalue.specs.Field.{startAt, separatedBy}
+use Rattle.tagvalue.specs.Fields.{fieldsFrom}
 use Rattle.layout.specs.Layout.{Layout, end, field, group, firstOf, positionFrom, positionIn, groupSince, groupOf, delimiterOf, requiredTags}
 use Rattle.layout.specs.Tree.{holdsTag}
 use Rattle.records.specs.Records.{stored}
@@ -32,7 +32,7 @@ checked layout (refused refusal rs) = (numberOfRefusal refusal, valuesOfRefusal 
 
 unfoldable verdict : Layout → String → Told
 verdict layout text =
-    checked layout (walk (layoutRules (accepted false (λ (tag : ℕ). false))) listStore 100 (run layout 78 1 0 ∷ []) [] (fieldsFrom 1 (bytes text) (record { at = 0 })))
+    checked layout (walk (layoutRules (accepted (validating false) (λ (tag : ℕ). false))) listStore 100 (run layout 78 1 0 ∷ []) [] (fieldsFrom (separatedBy 1) (bytes text) (startAt 0)))
 
 -- "group 78 (79 and 80 required; group 539 with 524 required, 525)"
 abbrev allocations : Layout
@@ -61,5 +61,5 @@ table =
     ∷ []
 
 all-hold : map (λ row. verdict (row .0 .0) (row .0 .1)) table ≡ map (λ row. row .1) table
-unfolding verdict checked answer numberOfLack valuesOfLack layoutDemands runLack entryLack opensEntry entriesLack nestedLack runLacks shallow before fieldsLack has orElse requiredTags numberOfRefusal valuesOfRefusal layoutRules openedAs accepted joinedList listStore walk moved decide inEntry kindOf declared counting opens isDelimiter recordOf positionIn positionFrom firstOf groupOf groupSince delimiterOf holdsTag stored fieldsFrom fieldsWithin followedBy fieldAt fieldFrom withEquals withSeparator withTag findIn tagOf nonZero numberOf isDigit allDigits worth
+unfolding verdict checked answer numberOfLack valuesOfLack layoutDemands runLack entryLack opensEntry entriesLack nestedLack runLacks shallow before fieldsLack has orElse requiredTags numberOfRefusal valuesOfRefusal layoutRules openedAs accepted joinedList listStore walk moved decide inEntry kindOf declared counting opens isDelimiter recordOf positionIn positionFrom firstOf groupOf groupSince delimiterOf holdsTag stored reading-fields
 all-hold = refl

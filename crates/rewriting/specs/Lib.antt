@@ -6,7 +6,6 @@ pub mod EncodedFit
 pub mod EncodedParts
 pub mod PlainLaws
 pub mod ReadPlaces
-pub mod ReadSpelled
 pub mod ReadWritten
 pub mod Copied
 pub mod ReadSound

@@ -6,8 +6,9 @@ use mathlib.Core.List.{List, _∷_, _++_, append-assoc}
 use Prim.Native.Nat.{ℕ, _-_}
 use native.Mathlib.Omega.{arith}
 use lib.ListN.{length, drop}
+use Rattle.tagvalue.specs.declared.Mode.{Mode}
 use Rattle.tagvalue.specs.Decimal.{decimal}
-use Rattle.tagvalue.specs.Field.{fieldBytes, valueOf}
+use Rattle.tagvalue.specs.Field.{startAt, fieldBytes, valueOf}
 use Rattle.tagvalue.specs.Fields.{Fields, field, fieldsFrom}
 use Rattle.tagvalue.specs.declared.Field.{Field}
 use Rattle.integrity.specs.Integrity.{integrityOf}
@@ -22,24 +23,26 @@ use Rattle.rewriting.specs.EncodedText.{written-append}
 use Rattle.rewriting.specs.Plain.{plainTags, plainLength, threeDigits}
 use Rattle.rewriting.specs.PlainRewritten.{clean-rewritten}
 use Rattle.rewriting.specs.ReadMessage.{Followed}
-use Rattle.rewriting.specs.ReadPlaces.{startOf, fields-start, follows-cursor, stop-verified}
+use Rattle.rewriting.specs.ReadPlaces.{follows-cursor, stop-verified}
+use Rattle.tagvalue.specs.Fields.{startOf}
+use Rattle.tagvalue.specs.PlaceLaws.{fields-start}
 use Rattle.rewriting.specs.ReadWritten.{follows-written}
 use Rattle.rewriting.specs.Written.{written, rewritten}
 
 -- where the trailer stops at a field that starts where the CheckSum stands, all before it is the text of the records
-pub followed-written : (separator : ℕ) (message : List ℕ) (header body trailer : List Record) (stop : Field) (more : Fields) → Followed separator message header body trailer (field stop more)
-    → plainTags message (stop .first) (fieldsFrom separator message (record { at = 0 })) ≡ true → message ≡ written separator message (header ++ (body ++ trailer)) ++ drop (stop .first) message
+pub followed-written : (mode : Mode) (message : List ℕ) (header body trailer : List Record) (stop : Field) (more : Fields) → Followed mode message header body trailer (field stop more)
+    → plainTags message (stop .first) (fieldsFrom mode message (startAt 0)) ≡ true → message ≡ written (mode .separator) message (header ++ (body ++ trailer)) ++ drop (stop .first) message
 unfolding startOf
-followed-written separator message header body trailer stop more followed plain =
-    let first = follows-cursor separator message (followed .header-follows) (record { at = 0 }) refl in
-    let second = follows-cursor separator message (followed .body-follows) (first .cursor) (first .left) in
-    let third = follows-cursor separator message (followed .trailer-follows) (second .cursor) (second .left) in
-    let stops : stop .first ≡ third .cursor .at = ap startOf (third .left) ∙ fields-start separator message (third .cursor) in
-    let of-header = follows-written separator message (followed .header-follows) (stop .first) (record { at = 0 }) (first .cursor) refl (first .left) (omega (arith, second .behind, third .behind, stops)) plain in
-    let of-body = follows-written separator message (followed .body-follows) (stop .first) (first .cursor) (second .cursor) (first .left) (second .left) (omega (arith, third .behind, stops)) (of-header .plain) in
-    let of-trailer = follows-written separator message (followed .trailer-follows) (stop .first) (second .cursor) (third .cursor) (second .left) (third .left) (omega (arith, stops)) (of-body .plain) in
+followed-written mode message header body trailer stop more followed plain =
+    let first = follows-cursor mode message (followed .header-follows) (startAt 0) refl in
+    let second = follows-cursor mode message (followed .body-follows) (first .cursor) (first .left) in
+    let third = follows-cursor mode message (followed .trailer-follows) (second .cursor) (second .left) in
+    let stops : stop .first ≡ third .cursor .at = ap startOf (third .left) ∙ fields-start mode message (third .cursor) in
+    let of-header = follows-written mode message (followed .header-follows) (stop .first) (startAt 0) (first .cursor) refl (first .left) (omega (arith, second .behind, third .behind, stops)) plain in
+    let of-body = follows-written mode message (followed .body-follows) (stop .first) (first .cursor) (second .cursor) (first .left) (second .left) (omega (arith, third .behind, stops)) (of-header .plain) in
+    let of-trailer = follows-written mode message (followed .trailer-follows) (stop .first) (second .cursor) (third .cursor) (second .left) (third .left) (omega (arith, stops)) (of-body .plain) in
     of-header .bytes
-    ∙ ap (λ (l : List ℕ). written separator message header ++ l) (of-body .bytes ∙ ap (λ (l : List ℕ). written separator message body ++ l) (of-trailer .bytes ∙ ap (λ (n : ℕ). written separator message trailer ++ drop n message) (sym stops)))
+    ∙ ap (λ (l : List ℕ). written (mode .separator) message header ++ l) (of-body .bytes ∙ ap (λ (l : List ℕ). written (mode .separator) message body ++ l) (of-trailer .bytes ∙ ap (λ (n : ℕ). written (mode .separator) message trailer ++ drop n message) (sym stops)))
     ∙ simp (written-append, append-assoc)
 
 -- the header's 8 and 9 come first
@@ -48,26 +51,26 @@ opened : (separator : ℕ) (message : List ℕ) (begin size : Field) (others : L
 unfolding written recordOf valueAt valueOf
 opened separator message begin size others rest eight nine = rw (eight, nine) (simp append-assoc)
 
-closed : (separator : ℕ) (message : List ℕ) (begin : Field) (others : List Record) → begin .tag ≡ 8
-    → rewritten separator message (recordOf 1 begin) others ≡ summed separator (fieldBytes separator (decimal 8) (valueOf message begin) ++ (fieldBytes separator (decimal 9) (decimal (length (written separator message others))) ++ written separator message others))
+closed : (mode : Mode) (message : List ℕ) (begin : Field) (others : List Record) → begin .tag ≡ 8
+    → rewritten (mode .separator) message (recordOf 1 begin) others ≡ summed (mode .separator) (fieldBytes (mode .separator) (decimal 8) (valueOf message begin) ++ (fieldBytes (mode .separator) (decimal 9) (decimal (length (written (mode .separator) message others))) ++ written (mode .separator) message others))
 unfolding rewritten recordOf valueAt valueOf
-closed separator message begin others eight = rw eight
+closed mode message begin others eight = rw eight
 
 -- "clean": then the message is what its records are rewritten to
-pub clean-message : (separator : ℕ) (message : List ℕ) (v : Verified) → integrityOf separator message ≡ Sound v → (others body trailer : List Record) (stop : Field) (more : Fields)
-    → Followed separator message (recordOf 1 (v .«begin_string») ∷ recordOf 1 (v .«body_length») ∷ others) body trailer (field stop more) → stop .first ≡ length message - 7
-    → plainTags message (stop .first) (fieldsFrom separator message (record { at = 0 })) ≡ true → plainLength message (fieldsFrom separator message (record { at = 0 })) ≡ true → threeDigits message stop ≡ true
-    → message ≡ rewritten separator message (recordOf 1 (v .«begin_string»)) (others ++ (body ++ trailer))
-clean-message separator message v sound others body trailer stop more followed at-checksum tags-plain length-plain three =
-    let checked = verified-checked separator message v sound in
-    let first = follows-cursor separator message (followed .header-follows) (record { at = 0 }) refl in
-    let second = follows-cursor separator message (followed .body-follows) (first .cursor) (first .left) in
-    let third = follows-cursor separator message (followed .trailer-follows) (second .cursor) (second .left) in
-    let same : stop ≡ v .checksum = stop-verified separator message v sound (third .cursor) stop more (third .left) at-checksum in
-    let whole : message ≡ written separator message (recordOf 1 (v .«begin_string») ∷ recordOf 1 (v .«body_length») ∷ (others ++ (body ++ trailer))) ++ drop (length message - 7) message =
-    followed-written separator message (recordOf 1 (v .«begin_string») ∷ recordOf 1 (v .«body_length») ∷ others) body trailer stop more followed tags-plain
-    ∙ ap (λ (n : ℕ). written separator message (recordOf 1 (v .«begin_string») ∷ recordOf 1 (v .«body_length») ∷ (others ++ (body ++ trailer))) ++ drop n message) at-checksum in
-    clean-rewritten separator message v sound (written separator message (others ++ (body ++ trailer)))
-    (whole ∙ opened separator message (v .«begin_string») (v .«body_length») (others ++ (body ++ trailer)) (drop (length message - 7) message) (checked .tags .begins) (checked .tags .counts))
+pub clean-message : (mode : Mode) (message : List ℕ) (v : Verified) → integrityOf mode message ≡ Sound v → (others body trailer : List Record) (stop : Field) (more : Fields)
+    → Followed mode message (recordOf 1 (v .«begin_string») ∷ recordOf 1 (v .«body_length») ∷ others) body trailer (field stop more) → stop .first ≡ length message - 7
+    → plainTags message (stop .first) (fieldsFrom mode message (startAt 0)) ≡ true → plainLength message (fieldsFrom mode message (startAt 0)) ≡ true → threeDigits message stop ≡ true
+    → message ≡ rewritten (mode .separator) message (recordOf 1 (v .«begin_string»)) (others ++ (body ++ trailer))
+clean-message mode message v sound others body trailer stop more followed at-checksum tags-plain length-plain three =
+    let checked = verified-checked mode message v sound in
+    let first = follows-cursor mode message (followed .header-follows) (startAt 0) refl in
+    let second = follows-cursor mode message (followed .body-follows) (first .cursor) (first .left) in
+    let third = follows-cursor mode message (followed .trailer-follows) (second .cursor) (second .left) in
+    let same : stop ≡ v .checksum = stop-verified mode message v sound (third .cursor) stop more (third .left) at-checksum in
+    let whole : message ≡ written (mode .separator) message (recordOf 1 (v .«begin_string») ∷ recordOf 1 (v .«body_length») ∷ (others ++ (body ++ trailer))) ++ drop (length message - 7) message =
+    followed-written mode message (recordOf 1 (v .«begin_string») ∷ recordOf 1 (v .«body_length») ∷ others) body trailer stop more followed tags-plain
+    ∙ ap (λ (n : ℕ). written (mode .separator) message (recordOf 1 (v .«begin_string») ∷ recordOf 1 (v .«body_length») ∷ (others ++ (body ++ trailer))) ++ drop n message) at-checksum in
+    clean-rewritten mode message v sound (written (mode .separator) message (others ++ (body ++ trailer)))
+    (whole ∙ opened (mode .separator) message (v .«begin_string») (v .«body_length») (others ++ (body ++ trailer)) (drop (length message - 7) message) (checked .tags .begins) (checked .tags .counts))
     length-plain (ap (threeDigits message) (sym same) ∙ three)
-    ∙ sym (closed separator message (v .«begin_string») (others ++ (body ++ trailer)) (checked .tags .begins))
+    ∙ sym (closed mode message (v .«begin_string») (others ++ (body ++ trailer)) (checked .tags .begins))

@@ -7,9 +7,10 @@ use native.Mathlib.Omega.{arith}
 use lib.ListN.{length}
 use lib.Dec.{eqb}
 use borrow.Author.Tests.{eqb-true}
+use Rattle.tagvalue.specs.declared.Mode.{Mode}
 use Rattle.tagvalue.specs.Number.{numberOf}
 use Rattle.tagvalue.specs.Decimal.{decimal}
-use Rattle.tagvalue.specs.Field.{fieldAt, valueOf}
+use Rattle.tagvalue.specs.Field.{startAt, fieldAt, valueOf}
 use Rattle.tagvalue.specs.FieldsLaws.{fields-field}
 use Rattle.tagvalue.specs.Fields.{fieldsFrom}
 use Rattle.tagvalue.specs.declared.Cursor.{Cursor}
@@ -23,7 +24,7 @@ use Rattle.integrity.specs.declared.Integrity.the-variants.{Sound}
 use Rattle.integrity.specs.declared.Verified.{Verified}
 use Rattle.rewriting.specs.Plain.{isPlain, plainLength}
 use Rattle.rewriting.specs.PlainLaws.{number-digits, plain-digits, plain-leads}
-use Rattle.rewriting.specs.ReadSpelled.{value-stands, value-size}
+use Rattle.tagvalue.specs.SpelledLaws.{value-stands, value-size}
 
 -- a BodyLength that is right
 pub record RightLength (message : List ℕ) (f : Field) : Type 0 where
@@ -40,17 +41,17 @@ right-length message f e = by-number (numberOf (valueOf message f)) refl e
     by-number (Worth n) is e = record { number = n; reads = is; right = eqb-true (length message) (f .next .at + n + 7) e }
 
 -- a plain BodyLength is the digits of its number
-pub plain-value : (separator : ℕ) (message : List ℕ) (c : Cursor) (f : Field) → fieldAt separator message c ≡ Read f → (n : ℕ) → numberOf (valueOf message f) ≡ Worth n → isPlain message (f .place) (f .length) ≡ true → valueOf message f ≡ decimal n
-plain-value separator message c f read n reads plain =
+pub plain-value : (mode : Mode) (message : List ℕ) (c : Cursor) (f : Field) → fieldAt mode message c ≡ Read f → (n : ℕ) → numberOf (valueOf message f) ≡ Worth n → isPlain message (f .place) (f .length) ≡ true → valueOf message f ≡ decimal n
+plain-value mode message c f read n reads plain =
     let d = number-digits (valueOf message f) n reads in
     plain-digits (valueOf message f) n d
-    (plain-leads message (f .place) (valueOf message f) _ (d .some) (value-stands separator message c f read)
-    (ap (λ (k : ℕ). isPlain message (f .place) k) (value-size separator message c f read) ∙ plain))
+    (plain-leads message (f .place) (valueOf message f) _ (d .some) (value-stands mode message c f read)
+    (ap (λ (k : ℕ). isPlain message (f .place) k) (value-size mode message c f read) ∙ plain))
 
 -- the plain BodyLength is that of the second field
-pub plain-second : (separator : ℕ) (message : List ℕ) (v : Verified) → integrityOf separator message ≡ Sound v → plainLength message (fieldsFrom separator message (record { at = 0 })) ≡ true
+pub plain-second : (mode : Mode) (message : List ℕ) (v : Verified) → integrityOf mode message ≡ Sound v → plainLength message (fieldsFrom mode message (startAt 0)) ≡ true
     → isPlain message (v .«body_length» .place) (v .«body_length» .length) ≡ true
 unfolding plainLength
-plain-second separator message v sound plain =
-    let r = verified-read separator message v sound in
-    rw (fields-field separator message (record { at = 0 }) (v .«begin_string») (r .begins), fields-field separator message (v .«begin_string» .next) (v .«body_length») (r .counts)) at plain
+plain-second mode message v sound plain =
+    let r = verified-read mode message v sound in
+    rw (fields-field mode message (startAt 0) (v .«begin_string») (r .begins), fields-field mode message (v .«begin_string» .next) (v .«body_length») (r .counts)) at plain

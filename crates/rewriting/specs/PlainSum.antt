@@ -9,12 +9,13 @@ use lib.ListN.{length, getD, take, drop, length-append, length-drop}
 use lib.Seq.{getD-drop}
 use lib.Dec.{eqb}
 use borrow.Author.Tests.{eqb-true}
+use Rattle.tagvalue.specs.declared.Mode.{Mode}
 use Rattle.tagvalue.specs.Choice.{pick}
 use Rattle.tagvalue.specs.CheckSum.{sumOf, checksumOf, checksumDigits}
 use Rattle.tagvalue.specs.Number.{isDigit, allDigits, worth}
 use Rattle.tagvalue.specs.NumberLaws.{number-good, checksum-three}
 use Rattle.tagvalue.specs.DecimalLaws.{all-digits-first}
-use Rattle.tagvalue.specs.Field.{fieldAt, fieldBytes, valueOf}
+use Rattle.tagvalue.specs.Field.{startAt, fieldAt, fieldBytes, valueOf}
 use Rattle.tagvalue.specs.FieldTextLaws.{bytes-size}
 use Rattle.tagvalue.specs.FieldsLaws.{step-lies}
 use Rattle.tagvalue.specs.declared.Field.{Field}
@@ -25,7 +26,7 @@ use Rattle.integrity.specs.IntegrityLaws.{sum-is}
 use Rattle.written_form.specs.Encoding.{sumDigits}
 use Rattle.rewriting.specs.Plain.{threeDigits}
 use Rattle.rewriting.specs.PlainLaws.{Digits, tag-text}
-use Rattle.rewriting.specs.ReadSpelled.{spells, value-is, value-stands, value-size}
+use Rattle.tagvalue.specs.SpelledLaws.{spells, value-is, value-stands, value-size}
 
 -- three digits are those of the number that they are worth
 record Three (s : List ℕ) (n : ℕ) : Type 0 where
@@ -102,30 +103,30 @@ no-bytes (x ∷ s) e = absurd (omega (arith, e))
 three-reads : (s : List ℕ) → length s ≡ 3 → allDigits s ≡ true → checksumOf s ≡ Worth (worth 0 s)
 three-reads s three digits = checksum-three s three ∙ number-good s (worth 0 s) (λ e. omega (arith, e, three)) digits refl (three-worth s (worth 0 s) three digits refl .small)
 
-module _ (separator : ℕ) (message : List ℕ) (f : Field) (long : 7 ≤ length message) (read : fieldAt separator message (record { at = length message - 7 }) ≡ Read f) (ten : f .tag ≡ 10) (right : sumAgrees message f ≡ true)
+module _ (mode : Mode) (message : List ℕ) (f : Field) (long : 7 ≤ length message) (read : fieldAt mode message (startAt (length message - 7)) ≡ Read f) (ten : f .tag ≡ 10) (right : sumAgrees message f ≡ true)
     (three : threeDigits message f ≡ true) where
   -- the value is the sum's digits
   sum-value : valueOf message f ≡ sumDigits (take (length message - 7) message)
   unfolding sumDigits
   sum-value =
       let value = valueOf message f in
-      let digits = three-digits message f value _ (value-stands separator message _ f read) (value-size separator message _ f read) three in
+      let digits = three-digits message f value _ (value-stands mode message _ f read) (value-size mode message _ f read) three in
       let same : worth 0 value ≡ sumOf (take (f .first) message) % 256 = eqb-true _ _ (sym (sum-is message f (worth 0 value) (three-reads value (digits .0) (digits .1))) ∙ right) in
-      let first : f .first ≡ length message - 7 = step-lies separator message _ f read .starts in
+      let first : f .first ≡ length message - 7 = step-lies mode message _ f read .starts in
       three-worth value (worth 0 value) (digits .0) (digits .1) refl .digits ∙ ap checksumDigits (same ∙ ap (λ (n : ℕ). sumOf (take n message) % 256) first)
 
-  pub last-seven : drop (length message - 7) message ≡ 49 ∷ 48 ∷ 61 ∷ (sumDigits (take (length message - 7) message) ++ (separator ∷ []))
+  pub last-seven : drop (length message - 7) message ≡ 49 ∷ 48 ∷ 61 ∷ (sumDigits (take (length message - 7) message) ++ (mode .separator ∷ []))
   last-seven =
-      let w = spells separator message (record { at = length message - 7 }) f read in
-      let digits = three-digits message f (valueOf message f) _ (value-stands separator message _ f read) (value-size separator message _ f read) three in
-      let value = value-is separator message (record { at = length message - 7 }) f read in
+      let w = spells mode message (startAt (length message - 7)) f read in
+      let digits = three-digits message f (valueOf message f) _ (value-stands mode message _ f read) (value-size mode message _ f read) three in
+      let value = value-is mode message (startAt (length message - 7)) f read in
       let size : 7 ≡ length (w .text) + 1 + length (w .value) + 1 + length (w .rest) =
-      omega (arith, long, length-drop (length message - 7) message, ap length (w .whole), length-append (fieldBytes separator (w .text) (w .value)) (w .rest), bytes-size separator (w .text) (w .value)) in
+      omega (arith, long, length-drop (length message - 7) message, ap length (w .whole), length-append (fieldBytes (mode .separator) (w .text) (w .value)) (w .rest), bytes-size (mode .separator) (w .text) (w .value)) in
       let text : Digits (w .text) 10 = tag-text (w .text) 10 (w .is-tag ∙ ap Worth ten) .digits in
       let text-is : w .text ≡ 49 ∷ 48 ∷ [] = ten-text (w .text) text (omega (arith, size, digits .0, ap length value)) in
       let none : w .rest ≡ [] = no-bytes (w .rest) (omega (arith, size, digits .0, ap length value, ap length text-is)) in
       w .whole
-      ∙ ap (λ (l : List ℕ). fieldBytes separator (w .text) (w .value) ++ l) none
-      ∙ append-nil (fieldBytes separator (w .text) (w .value))
-      ∙ ap (λ (l : List ℕ). fieldBytes separator l (w .value)) text-is
-      ∙ ap (λ (l : List ℕ). fieldBytes separator (49 ∷ 48 ∷ []) l) (sym value ∙ sum-value)
+      ∙ ap (λ (l : List ℕ). fieldBytes (mode .separator) (w .text) (w .value) ++ l) none
+      ∙ append-nil (fieldBytes (mode .separator) (w .text) (w .value))
+      ∙ ap (λ (l : List ℕ). fieldBytes (mode .separator) l (w .value)) text-is
+      ∙ ap (λ (l : List ℕ). fieldBytes (mode .separator) (49 ∷ 48 ∷ []) l) (sym value ∙ sum-value)

@@ -5,6 +5,7 @@ use mathlib.Core.List.{List, [], _∷_, _++_}
 use Prim.Native.Nat.{ℕ}
 use native.Mathlib.Omega.{arith}
 use lib.ListN.{length}
+use Rattle.tagvalue.specs.declared.Mode.{Mode}
 use Rattle.tagvalue.specs.Field.{valueOf}
 use Rattle.tagvalue.specs.Fields.{Fields, field}
 use Rattle.tagvalue.specs.declared.Field.{Field}
@@ -74,8 +75,8 @@ pub record CarriedAll (bytes copy : List ℕ) (begin type : Record) (others body
   pub of-body : Carried bytes copy body again-body
   pub of-trailer : Carried bytes copy trailer again-trailer
 
-module _ (separator : ℕ) (bytes copy : List ℕ) (begin type : Record) (others body trailer : List Record) (again-begin again-size again-type : Record) (again-others again-body again-trailer : List Record) (last : Fields)
-    (like : ReadsLike separator bytes copy begin type (others ++ (body ++ trailer))) (followed : Followed separator copy (again-begin ∷ again-size ∷ again-type ∷ again-others) again-body again-trailer last)
+module _ (mode : Mode) (bytes copy : List ℕ) (begin type : Record) (others body trailer : List Record) (again-begin again-size again-type : Record) (again-others again-body again-trailer : List Record) (last : Fields)
+    (like : ReadsLike mode bytes copy begin type (others ++ (body ++ trailer))) (followed : Followed mode copy (again-begin ∷ again-size ∷ again-type ∷ again-others) again-body again-trailer last)
     (as-many-others : length again-others ≡ length others) (as-many-body : length again-body ≡ length body) (as-many-trailer : length again-trailer ≡ length trailer) where
   -- what is rewritten and read again in as many records comes back with its values, and the CheckSum is read behind it
   pub read-again : CarriedAll bytes copy begin type others body trailer again-begin again-type again-others again-body again-trailer × (last ≡ field (like .verified .checksum) (like .end))

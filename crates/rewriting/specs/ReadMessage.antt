@@ -5,6 +5,8 @@ use mathlib.Core.Bool.{false}
 use mathlib.Core.List.{List, _∷_, _++_}
 use Prim.Native.Nat.{ℕ, _≤_}
 use lib.ListN.{length}
+use Rattle.tagvalue.specs.declared.Mode.{Mode}
+use Rattle.tagvalue.specs.Field.{startAt}
 use Rattle.tagvalue.specs.Number.{isDigit}
 use Rattle.tagvalue.specs.Fields.{Fields, fieldsFrom}
 use Rattle.records.specs.declared.Record.{Record}
@@ -16,31 +18,31 @@ use Rattle.rewriting.specs.ReadWritten.{Writable, follows-writable}
 use Rattle.rewriting.specs.Written.{rewritten}
 
 -- header, body and trailer were read one behind the other, and their records stand in that order
-pub record Followed (separator : ℕ) (message : List ℕ) (header body trailer : List Record) (last : Fields) : Type 0 where
+pub record Followed (mode : Mode) (message : List ℕ) (header body trailer : List Record) (last : Fields) : Type 0 where
   pub behind-header : Fields
   pub behind-body : Fields
-  pub header-follows : Follows 1 (fieldsFrom separator message (record { at = 0 })) header behind-header
+  pub header-follows : Follows 1 (fieldsFrom mode message (startAt 0)) header behind-header
   pub body-follows : Follows 2 behind-header body behind-body
   pub trailer-follows : Follows 3 behind-body trailer last
 
-module _ {separator : ℕ} {message : List ℕ} {header body trailer : List Record} {last : Fields} where
-  pub followed-writable : Followed separator message header body trailer last → All (Writable separator message) (header ++ (body ++ trailer))
+module _ {mode : Mode} {message : List ℕ} {header body trailer : List Record} {last : Fields} where
+  pub followed-writable : Followed mode message header body trailer last → All (Writable (mode .separator) message) (header ++ (body ++ trailer))
   followed-writable w =
-      let first = follows-cursor separator message (w .header-follows) (record { at = 0 }) refl in
-      let second = follows-cursor separator message (w .body-follows) (first .cursor) (first .left) in
-      all-append (Writable separator message) (follows-writable separator message (w .header-follows) (record { at = 0 }) refl)
-      (all-append (Writable separator message) (follows-writable separator message (w .body-follows) (first .cursor) (first .left))
-      (follows-writable separator message (w .trailer-follows) (second .cursor) (second .left)))
+      let first = follows-cursor mode message (w .header-follows) (startAt 0) refl in
+      let second = follows-cursor mode message (w .body-follows) (first .cursor) (first .left) in
+      all-append (Writable (mode .separator) message) (follows-writable mode message (w .header-follows) (startAt 0) refl)
+      (all-append (Writable (mode .separator) message) (follows-writable mode message (w .body-follows) (first .cursor) (first .left))
+      (follows-writable mode message (w .trailer-follows) (second .cursor) (second .left)))
 
 all-rest : (P : Record → Type 0) {r : Record} {rs : List Record} → All P (r ∷ rs) → P r × All P rs
 all-rest P (all-more p a) = (p, a)
 
 -- what the records of a message are rewritten to reads like them
-pub followed-sound : (separator : ℕ) (message : List ℕ) (begin size type : Record) (others body trailer : List Record) (last : Fields) → Followed separator message (begin ∷ size ∷ type ∷ others) body trailer last
-    → isDigit separator ≡ false → begin .tag ≡ 8 → type .tag ≡ 35 → length (rewritten separator message begin (type ∷ (others ++ (body ++ trailer)))) ≤ 8192
-    → ReadsLike separator message (rewritten separator message begin (type ∷ (others ++ (body ++ trailer)))) begin type (others ++ (body ++ trailer))
-followed-sound separator message begin size type others body trailer last followed other eight thirty-five small =
-    let (begins, behind-begin) = all-rest (Writable separator message) (followed-writable followed) in
-    let (sizes, behind-size) = all-rest (Writable separator message) behind-begin in
-    let (types, behind-type) = all-rest (Writable separator message) behind-size in
-    rewritten-sound separator other message begin type (others ++ (body ++ trailer)) eight thirty-five begins types behind-type small
+pub followed-sound : (mode : Mode) (message : List ℕ) (begin size type : Record) (others body trailer : List Record) (last : Fields) → Followed mode message (begin ∷ size ∷ type ∷ others) body trailer last
+    → isDigit mode ≡ false → begin .tag ≡ 8 → type .tag ≡ 35 → length (rewritten (mode .separator) message begin (type ∷ (others ++ (body ++ trailer)))) ≤ 8192
+    → ReadsLike mode message (rewritten (mode .separator) message begin (type ∷ (others ++ (body ++ trailer)))) begin type (others ++ (body ++ trailer))
+followed-sound mode message begin size type others body trailer last followed other eight thirty-five small =
+    let (begins, behind-begin) = all-rest (Writable (mode .separator) message) (followed-writable followed) in
+    let (sizes, behind-size) = all-rest (Writable (mode .separator) message) behind-begin in
+    let (types, behind-type) = all-rest (Writable (mode .separator) message) behind-size in
+    rewritten-sound mode other message begin type (others ++ (body ++ trailer)) eight thirty-five begins types behind-type small

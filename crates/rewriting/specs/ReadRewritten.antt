@@ -7,12 +7,13 @@ use Prim.Native.Nat.{ℕ, _+_, _-_, _/_, _%_, _≤_}
 use native.Mathlib.Omega.{arith}
 use lib.ListN.{length, length-append}
 use lib.Dec.{eqb}
+use Rattle.tagvalue.specs.declared.Mode.{Mode}
 use Rattle.tagvalue.specs.Choice.{pick}
 use Rattle.tagvalue.specs.CheckSum.{sumOf, checksumOf, checksumDigits}
 use Rattle.tagvalue.specs.Number.{isDigit, allDigits, numberOf}
 use Rattle.tagvalue.specs.Decimal.{decimal, decimalWithin}
 use Rattle.tagvalue.specs.DecimalLaws.{digit-byte, last-digit, decimal-digits, number-reads, checksum-reads}
-use Rattle.tagvalue.specs.Field.{valueOf}
+use Rattle.tagvalue.specs.Field.{startAt, valueOf}
 use Rattle.tagvalue.specs.Fields.{Fields, field, fieldsFrom}
 use Rattle.tagvalue.specs.declared.Field.{Field}
 use Rattle.tagvalue.specs.declared.Number.the-variants.{Worth}
@@ -24,7 +25,8 @@ use Rattle.nesting.specs.Entries.{All}
 use Rattle.taking.specs.Taking.{valueAt}
 use Rattle.written_form.specs.Encoding.{summed, sumDigits}
 use Rattle.tagvalue.specs.Separator.{isRefusedSeparator}
-use Rattle.rewriting.specs.Copied.{onto, Copied, CopiedAt, copied-read, digits-absent}
+use Rattle.rewriting.specs.Copied.{onto, Copied, CopiedAt, copied-read}
+use Rattle.tagvalue.specs.SpelledLaws.{digits-absent}
 use Rattle.rewriting.specs.ReadSound.{tagged, placed, framed, framedFields, Unseparated, framed-sound, framed-start, framed-end, framed-begin, framed-type, framed-size, placed-tag, placed-first}
 use Rattle.rewriting.specs.ReadWritten.{Writable}
 use Rattle.rewriting.specs.Written.{written, rewritten}
@@ -53,9 +55,9 @@ unfolding sumDigits
 sum-reads s = checksum-reads (sumOf s % 256) (omega arith)
 
 -- a copy of records reads like them
-pub record ReadsLike (separator : ℕ) (bytes copy : List ℕ) (begin type : Record) (others : List Record) : Type 0 where
+pub record ReadsLike (mode : Mode) (bytes copy : List ℕ) (begin type : Record) (others : List Record) : Type 0 where
   pub verified : Verified
-  pub sound : integrityOf separator copy ≡ Sound verified
+  pub sound : integrityOf mode copy ≡ Sound verified
   pub begin-tag : verified .«begin_string» .tag ≡ 8
   pub begin-value : valueOf copy (verified .«begin_string») ≡ valueAt bytes begin
   pub length-tag : verified .«body_length» .tag ≡ 9
@@ -66,24 +68,24 @@ pub record ReadsLike (separator : ℕ) (bytes copy : List ℕ) (begin type : Rec
   pub fields : List Field
   pub copied : Copied bytes copy others fields
   pub end : Fields
-  pub reads : fieldsFrom separator copy (record { at = 0 }) ≡ field (verified .«begin_string») (field (verified .«body_length») (field (verified .«msg_type») (onto fields (field (verified .checksum) end))))
+  pub reads : fieldsFrom mode copy (startAt 0) ≡ field (verified .«begin_string») (field (verified .«body_length») (field (verified .«msg_type») (onto fields (field (verified .checksum) end))))
 
 -- the text that is summed ends with 10
-summed-text : (separator : ℕ) (before : List ℕ) → summed separator before ≡ before ++ (tagged separator 10 (sumDigits before) ++ [])
+summed-text : (mode : Mode) (before : List ℕ) → summed (mode .separator) before ≡ before ++ (tagged (mode .separator) 10 (sumDigits before) ++ [])
 unfolding summed tagged decimal decimalWithin
-summed-text separator before = ap (λ (l : List ℕ). before ++ l) (sym (append-nil _))
+summed-text mode before = ap (λ (l : List ℕ). before ++ l) (sym (append-nil _))
 
-rewritten-text : (separator : ℕ) (bytes : List ℕ) (begin type : Record) (others : List Record) → begin .tag ≡ 8 → type .tag ≡ 35
-    → rewritten separator bytes begin (type ∷ others) ≡ summed separator (framed separator (valueAt bytes begin) (decimal (length (tagged separator 35 (valueAt bytes type) ++ written separator bytes others))) (tagged separator 35 (valueAt bytes type) ++ written separator bytes others))
+rewritten-text : (mode : Mode) (bytes : List ℕ) (begin type : Record) (others : List Record) → begin .tag ≡ 8 → type .tag ≡ 35
+    → rewritten (mode .separator) bytes begin (type ∷ others) ≡ summed (mode .separator) (framed (mode .separator) (valueAt bytes begin) (decimal (length (tagged (mode .separator) 35 (valueAt bytes type) ++ written (mode .separator) bytes others))) (tagged (mode .separator) 35 (valueAt bytes type) ++ written (mode .separator) bytes others))
 unfolding rewritten written framed tagged
-rewritten-text separator bytes begin type others eight thirty-five = rw (eight, thirty-five)
+rewritten-text mode bytes begin type others eight thirty-five = rw (eight, thirty-five)
 
 -- reading behind 35: a field for each further record, and 10
-others-read : (separator : ℕ) (bytes copy b n t s : List ℕ) (others : List Record) → All (Writable separator bytes) others → copy ≡ framed separator b n (tagged separator 35 t ++ written separator bytes others) ++ (tagged separator 10 s ++ [])
-    → CopiedAt separator bytes copy (length ((tagged separator 8 b ++ tagged separator 9 n) ++ tagged separator 35 t)) others
+others-read : (mode : Mode) (bytes copy b n t s : List ℕ) (others : List Record) → All (Writable (mode .separator) bytes) others → copy ≡ framed (mode .separator) b n (tagged (mode .separator) 35 t ++ written (mode .separator) bytes others) ++ (tagged (mode .separator) 10 s ++ [])
+    → CopiedAt mode bytes copy (length ((tagged (mode .separator) 8 b ++ tagged (mode .separator) 9 n) ++ tagged (mode .separator) 35 t)) others
 unfolding framed
-others-read separator bytes copy b n t s others writable whole =
-    copied-read separator bytes others writable copy ((tagged separator 8 b ++ tagged separator 9 n) ++ tagged separator 35 t) (tagged separator 10 s ++ []) (whole ∙ simp append-assoc)
+others-read mode bytes copy b n t s others writable whole =
+    copied-read mode bytes others writable copy ((tagged (mode .separator) 8 b ++ tagged (mode .separator) 9 n) ++ tagged (mode .separator) 35 t) (tagged (mode .separator) 10 s ++ []) (whole ∙ simp append-assoc)
 
 others-end : (separator : ℕ) (b n t rest : List ℕ) → length ((tagged separator 8 b ++ tagged separator 9 n) ++ tagged separator 35 t) + length rest ≡ length (framed separator b n (tagged separator 35 t ++ rest))
 unfolding framed
@@ -93,58 +95,58 @@ counted-fits : (separator : ℕ) (b n counted : List ℕ) → length counted ≤
 unfolding framed
 counted-fits separator b n counted = simp length-append (omega arith)
 
-module _ (separator : ℕ) (bytes copy n s : List ℕ) (begin type : Record) (others : List Record) (writable : All (Writable separator bytes) others)
-    (whole : copy ≡ framed separator (valueAt bytes begin) n (tagged separator 35 (valueAt bytes type) ++ written separator bytes others) ++ (tagged separator 10 s ++ []))
-    (apart : Unseparated separator (valueAt bytes begin) n (valueAt bytes type) s) (three : length s ≡ 3)
-    (right-length : numberOf n ≡ Worth (length (tagged separator 35 (valueAt bytes type) ++ written separator bytes others)))
-    (right-sum : checksumOf s ≡ Worth (sumOf (framed separator (valueAt bytes begin) n (tagged separator 35 (valueAt bytes type) ++ written separator bytes others)) % 256)) where
-  framed-like : CopiedAt separator bytes copy (length ((tagged separator 8 (valueAt bytes begin) ++ tagged separator 9 n) ++ tagged separator 35 (valueAt bytes type))) others → ReadsLike separator bytes copy begin type others
+module _ (mode : Mode) (bytes copy n s : List ℕ) (begin type : Record) (others : List Record) (writable : All (Writable (mode .separator) bytes) others)
+    (whole : copy ≡ framed (mode .separator) (valueAt bytes begin) n (tagged (mode .separator) 35 (valueAt bytes type) ++ written (mode .separator) bytes others) ++ (tagged (mode .separator) 10 s ++ []))
+    (apart : Unseparated (mode .separator) (valueAt bytes begin) n (valueAt bytes type) s) (three : length s ≡ 3)
+    (right-length : numberOf n ≡ Worth (length (tagged (mode .separator) 35 (valueAt bytes type) ++ written (mode .separator) bytes others)))
+    (right-sum : checksumOf s ≡ Worth (sumOf (framed (mode .separator) (valueAt bytes begin) n (tagged (mode .separator) 35 (valueAt bytes type) ++ written (mode .separator) bytes others)) % 256)) where
+  framed-like : CopiedAt mode bytes copy (length ((tagged (mode .separator) 8 (valueAt bytes begin) ++ tagged (mode .separator) 9 n) ++ tagged (mode .separator) 35 (valueAt bytes type))) others → ReadsLike mode bytes copy begin type others
   unfolding framedFields
   framed-like later =
-      let rest = written separator bytes others in
+      let rest = written (mode .separator) bytes others in
       let b = valueAt bytes begin in
       let t = valueAt bytes type in
-      let size = framed-size separator copy b n t rest s whole apart three in
+      let size = framed-size mode copy b n t rest s whole apart three in
       record {
-        verified = framedFields separator b n t rest s;
-        sound = framed-sound separator copy b n t rest s whole apart three right-length right-sum;
+        verified = framedFields (mode .separator) b n t rest s;
+        sound = framed-sound mode copy b n t rest s whole apart three right-length right-sum;
         begin-tag = placed-tag _ 8 b;
-        begin-value = framed-begin separator copy b n t rest s whole apart;
+        begin-value = framed-begin mode copy b n t rest s whole apart;
         length-tag = placed-tag _ 9 n;
         type-tag = placed-tag _ 35 t;
-        type-value = framed-type separator copy b n t rest s whole apart;
+        type-value = framed-type mode copy b n t rest s whole apart;
         sum-tag = placed-tag _ 10 s;
-        sum-first = placed-first (length (framed separator b n (tagged separator 35 t ++ rest))) 10 s ∙ omega (arith, size);
+        sum-first = placed-first (length (framed (mode .separator) b n (tagged (mode .separator) 35 t ++ rest))) 10 s ∙ omega (arith, size);
         fields = later .fields;
         copied = later .copied;
-        end = fieldsFrom separator copy (record { at = length (framed separator b n (tagged separator 35 t ++ rest) ++ tagged separator 10 s) });
+        end = fieldsFrom mode copy (startAt (length (framed (mode .separator) b n (tagged (mode .separator) 35 t ++ rest) ++ tagged (mode .separator) 10 s)));
         reads =
-            framed-start separator copy b n t rest s whole apart
-            ∙ ap (λ (fs : Fields). field (placed 0 8 b) (field (placed (length (tagged separator 8 b)) 9 n) (field (placed (length (tagged separator 8 b ++ tagged separator 9 n)) 35 t) fs)))
+            framed-start mode copy b n t rest s whole apart
+            ∙ ap (λ (fs : Fields). field (placed 0 8 b) (field (placed (length (tagged (mode .separator) 8 b)) 9 n) (field (placed (length (tagged (mode .separator) 8 b ++ tagged (mode .separator) 9 n)) 35 t) fs)))
             (later .reads
-            ∙ ap (λ (n : ℕ). onto (later .fields) (fieldsFrom separator copy (record { at = n }))) (others-end separator b n t rest)
-            ∙ ap (onto (later .fields)) (framed-end separator copy b n t rest s whole apart));
+            ∙ ap (λ (n : ℕ). onto (later .fields) (fieldsFrom mode copy (startAt n))) (others-end (mode .separator) b n t rest)
+            ∙ ap (onto (later .fields)) (framed-end mode copy b n t rest s whole apart));
       }
 
 -- the encoding of records is sound, and reads like them
-pub rewritten-sound : (separator : ℕ) → isDigit separator ≡ false → (bytes : List ℕ) (begin type : Record) (others : List Record) → begin .tag ≡ 8 → type .tag ≡ 35
-    → Writable separator bytes begin → Writable separator bytes type → All (Writable separator bytes) others → length (rewritten separator bytes begin (type ∷ others)) ≤ 8192
-    → ReadsLike separator bytes (rewritten separator bytes begin (type ∷ others)) begin type others
-rewritten-sound separator other bytes begin type others eight thirty-five begins types writable small =
+pub rewritten-sound : (mode : Mode) → isDigit mode ≡ false → (bytes : List ℕ) (begin type : Record) (others : List Record) → begin .tag ≡ 8 → type .tag ≡ 35
+    → Writable (mode .separator) bytes begin → Writable (mode .separator) bytes type → All (Writable (mode .separator) bytes) others → length (rewritten (mode .separator) bytes begin (type ∷ others)) ≤ 8192
+    → ReadsLike mode bytes (rewritten (mode .separator) bytes begin (type ∷ others)) begin type others
+rewritten-sound mode other bytes begin type others eight thirty-five begins types writable small =
     let b = valueAt bytes begin in
     let t = valueAt bytes type in
-    let counted = tagged separator 35 t ++ written separator bytes others in
+    let counted = tagged (mode .separator) 35 t ++ written (mode .separator) bytes others in
     let n = decimal (length counted) in
-    let before = framed separator b n counted in
-    let whole = rewritten-text separator bytes begin type others eight thirty-five ∙ summed-text separator before in
-    let apart : Unseparated separator b n t (sumDigits before) =
+    let before = framed (mode .separator) b n counted in
+    let whole = rewritten-text mode bytes begin type others eight thirty-five ∙ summed-text mode before in
+    let apart : Unseparated (mode .separator) b n t (sumDigits before) =
     record {
       begin = begins .no-separator;
-      count = digits-absent separator other n (decimal-digits (length counted));
+      count = digits-absent (mode .separator) other n (decimal-digits (length counted));
       type = types .no-separator;
-      sum = digits-absent separator other (sumDigits before) (sum-some before);
+      sum = digits-absent (mode .separator) other (sumDigits before) (sum-some before);
     } in
-    let size = framed-size separator (rewritten separator bytes begin (type ∷ others)) b n t (written separator bytes others) (sumDigits before) whole apart (sum-three before) in
-    let few : length counted ≤ 4294967295 = omega (arith, size, small, counted-fits separator b n counted) in
-    framed-like separator bytes _ n (sumDigits before) begin type others writable whole apart (sum-three before) (number-reads (length counted) few) (sum-reads before)
-    (others-read separator bytes _ b n t (sumDigits before) others writable whole)
+    let size = framed-size mode (rewritten (mode .separator) bytes begin (type ∷ others)) b n t (written (mode .separator) bytes others) (sumDigits before) whole apart (sum-three before) in
+    let few : length counted ≤ 4294967295 = omega (arith, size, small, counted-fits (mode .separator) b n counted) in
+    framed-like mode bytes _ n (sumDigits before) begin type others writable whole apart (sum-three before) (number-reads (length counted) few) (sum-reads before)
+    (others-read mode bytes _ b n t (sumDigits before) others writable whole)

@@ -8,6 +8,7 @@ use native.Mathlib.Omega.{arith}
 use lib.ListN.{length, drop}
 use lib.Dec.{eqb}
 use borrow.Author.Tests.{eqb-true}
+use Rattle.tagvalue.specs.declared.Mode.{Mode}
 use Rattle.tagvalue.specs.Choice.{pick}
 use Rattle.tagvalue.specs.Decimal.{decimal}
 use Rattle.tagvalue.specs.FindLaws.{Absent}
@@ -24,8 +25,9 @@ use Rattle.standing.specs.Counting.{Of}
 use Rattle.sequence.specs.Follows.{Follows, no-field, one-field}
 use Rattle.rewriting.specs.Plain.{isPlain, plainTags}
 use Rattle.rewriting.specs.PlainLaws.{tag-text, plain-leads, plain-digits}
-use Rattle.rewriting.specs.ReadPlaces.{first-read, one-place, follows-cursor}
-use Rattle.rewriting.specs.ReadSpelled.{spells, value-is, value-ends, behind-text}
+use Rattle.rewriting.specs.ReadPlaces.{follows-cursor}
+use Rattle.tagvalue.specs.PlaceLaws.{first-read, one-place}
+use Rattle.tagvalue.specs.SpelledLaws.{spells, value-is, value-ends, behind-text}
 use Rattle.rewriting.specs.Written.{written}
 
 -- a record whose text reads as it was written
@@ -59,67 +61,67 @@ module _ (message : List ℕ) (place : ℕ) (f : Field) (rest : Fields) (plain :
       by-tests true false is e = e
       by-tests false b is e = let z : _≡_ {A = ℕ} 0 1 = cc in absurd (omega arith)
 
-module _ (separator : ℕ) (message : List ℕ) where
-  module _ (c : Cursor) (f : Field) (h : fieldAt separator message c ≡ Read f) where
-    text-plain : isPlain message (f .first) (f .place - f .first - 1) ≡ true → spells separator message c f h .text ≡ decimal (f .tag)
+module _ (mode : Mode) (message : List ℕ) where
+  module _ (c : Cursor) (f : Field) (h : fieldAt mode message c ≡ Read f) where
+    text-plain : isPlain message (f .first) (f .place - f .first - 1) ≡ true → spells mode message c f h .text ≡ decimal (f .tag)
     text-plain plain =
-        let w = spells separator message c f h in
+        let w = spells mode message c f h in
         let tagged = tag-text (w .text) (f .tag) (w .is-tag) in
         let first : f .first ≡ c .at = ap (λ (g : Field). g .first) (w .is) in
         let size : f .place - f .first - 1 ≡ length (w .text) = omega (arith, ap (λ (g : Field). g .place) (w .is)) in
         plain-digits (w .text) (f .tag) (tagged .digits)
-        (plain-leads message (c .at) (w .text) (61 ∷ (w .value ++ (separator ∷ w .rest))) (tagged .digits .some) (w .whole ∙ simp append-assoc)
+        (plain-leads message (c .at) (w .text) (61 ∷ (w .value ++ (mode .separator ∷ w .rest))) (tagged .digits .some) (w .whole ∙ simp append-assoc)
         (ap (λ (n : ℕ). isPlain message n (length (w .text))) (sym first) ∙ ap (λ (n : ℕ). isPlain message (f .first) n) (sym size) ∙ plain))
 
-    field-written : isPlain message (f .first) (f .place - f .first - 1) ≡ true → drop (c .at) message ≡ fieldBytes separator (decimal (f .tag)) (valueOf message f) ++ drop (f .next .at) message
+    field-written : isPlain message (f .first) (f .place - f .first - 1) ≡ true → drop (c .at) message ≡ fieldBytes (mode .separator) (decimal (f .tag)) (valueOf message f) ++ drop (f .next .at) message
     field-written plain =
-        let w = spells separator message c f h in
+        let w = spells mode message c f h in
         w .whole
-        ∙ ap (λ (t : List ℕ). fieldBytes separator t (w .value) ++ w .rest) (text-plain plain)
-        ∙ ap (λ (v : List ℕ). fieldBytes separator (decimal (f .tag)) v ++ w .rest) (sym (value-is separator message c f h))
-        ∙ ap (λ (l : List ℕ). fieldBytes separator (decimal (f .tag)) (valueOf message f) ++ l) (behind-text separator message c f h)
+        ∙ ap (λ (t : List ℕ). fieldBytes (mode .separator) t (w .value) ++ w .rest) (text-plain plain)
+        ∙ ap (λ (v : List ℕ). fieldBytes (mode .separator) (decimal (f .tag)) v ++ w .rest) (sym (value-is mode message c f h))
+        ∙ ap (λ (l : List ℕ). fieldBytes (mode .separator) (decimal (f .tag)) (valueOf message f) ++ l) (behind-text mode message c f h)
 
-    of-writable : (part : ℕ) (r : Record) → Of part f r → Writable separator message r
+    of-writable : (part : ℕ) (r : Record) → Of part f r → Writable (mode .separator) message r
     of-writable part r o =
-        let w = spells separator message c f h in
+        let w = spells mode message c f h in
         let tagged = tag-text (w .text) (f .tag) (w .is-tag) in
-        let lies = step-lies separator message c f h in
-        let falls = step-falls separator message c f h in
+        let lies = step-lies mode message c f h in
+        let falls = step-falls mode message c f h in
         let tag = o .tagged in
         record {
           least = omega (arith, tagged .least);
           most = omega (arith, tagged .digits .most);
-          no-separator = rw (of-value message f r o) (value-ends separator message c f h);
+          no-separator = rw (of-value message f r o) (value-ends mode message c f h);
           inside = omega (arith, o .placed, o .sized, lies .ends, falls .1);
         }
 
   -- the bytes up to where reading stands then are those of the records, and the tags from there on are plain too
   pub record WrittenTo (place : ℕ) (c d : Cursor) (rs : List Record) (last : Fields) : Type 0 where
-    pub bytes : drop (c .at) message ≡ written separator message rs ++ drop (d .at) message
+    pub bytes : drop (c .at) message ≡ written (mode .separator) message rs ++ drop (d .at) message
     pub plain : plainTags message place last ≡ true
 
-  pub follows-written : {part : ℕ} {fields last : Fields} {rs : List Record} → Follows part fields rs last → (place : ℕ) (c d : Cursor) → fields ≡ fieldsFrom separator message c → last ≡ fieldsFrom separator message d → d .at ≤ place
+  pub follows-written : {part : ℕ} {fields last : Fields} {rs : List Record} → Follows part fields rs last → (place : ℕ) (c d : Cursor) → fields ≡ fieldsFrom mode message c → last ≡ fieldsFrom mode message d → d .at ≤ place
       → plainTags message place fields ≡ true → WrittenTo place c d rs last
   unfolding written
   follows-written no-field place c d e g before plain =
-      record { bytes = ap (λ (n : ℕ). drop n message) (one-place separator message c d (sym e ∙ g)); plain = plain }
+      record { bytes = ap (λ (n : ℕ). drop n message) (one-place mode message c d (sym e ∙ g)); plain = plain }
   follows-written (one-field {f = f} {rest = rest} {last = last} {rs = rs} r of follows) place c d e g before plain =
-      let first = first-read separator message c f rest e in
-      let falls = step-falls separator message c f (first .reads) in
-      let starts = step-lies separator message c f (first .reads) .starts in
-      let end = follows-cursor separator message follows (f .next) (first .others) in
-      let same : end .cursor .at ≡ d .at = one-place separator message (end .cursor) d (sym (end .left) ∙ g) in
+      let first = first-read mode message c f rest e in
+      let falls = step-falls mode message c f (first .reads) in
+      let starts = step-lies mode message c f (first .reads) .starts in
+      let end = follows-cursor mode message follows (f .next) (first .others) in
+      let same : end .cursor .at ≡ d .at = one-place mode message (end .cursor) d (sym (end .left) ∙ g) in
       let later = follows-written follows place (f .next) d (first .others) g before
       (plain-others message place f rest plain (omega (arith, starts, falls .0, end .behind, same))) in
       record {
         bytes =
             field-written c f (first .reads) (plain-first message place f rest plain)
-            ∙ rw (later .bytes, ← of-value message f r of, ← of .tagged) (sym (append-assoc (fieldBytes separator (decimal (r .tag)) (valueAt message r)) (written separator message rs) (drop (d .at) message)));
+            ∙ rw (later .bytes, ← of-value message f r of, ← of .tagged) (sym (append-assoc (fieldBytes (mode .separator) (decimal (r .tag)) (valueAt message r)) (written (mode .separator) message rs) (drop (d .at) message)));
         plain = later .plain;
       }
 
-  pub follows-writable : {part : ℕ} {fields last : Fields} {rs : List Record} → Follows part fields rs last → (c : Cursor) → fields ≡ fieldsFrom separator message c → All (Writable separator message) rs
+  pub follows-writable : {part : ℕ} {fields last : Fields} {rs : List Record} → Follows part fields rs last → (c : Cursor) → fields ≡ fieldsFrom mode message c → All (Writable (mode .separator) message) rs
   follows-writable no-field c e = all-none
   follows-writable {part} (one-field {f = f} {rest = rest} r of follows) c e =
-      let first = first-read separator message c f rest e in
+      let first = first-read mode message c f rest e in
       all-more (of-writable c f (first .reads) part r of) (follows-writable follows (f .next) (first .others))

@@ -6,6 +6,8 @@ use mathlib.Core.List.{List, [], _∷_, _++_}
 use Prim.Native.Nat.{ℕ, suc, _+_}
 use native.Mathlib.Omega.{arith}
 use lib.ListN.{length}
+use Rattle.build_config.specs.declared.Config.{Config}
+use Rattle.tagvalue.specs.Field.{startAt}
 use Rattle.tagvalue.specs.Fields.{Fields, field, fieldsFrom}
 use Rattle.layout.specs.Tree.{Dictionary}
 use Rattle.records.specs.declared.Record.{Record}
@@ -32,14 +34,14 @@ use Rattle.roundtrip.specs.AgainRead.{ReadAlong, read-along}
 use Rattle.roundtrip.specs.AgainValues.{similar-first, similar-rest, carried-append, given-same, Split, keptOf}
 
 -- the records of a message that was read in order, split; the header is told as it starts
-module _ {dictionary : Dictionary} {validate : Bool} {separator : ℕ} {message : List ℕ} {outcome : Outcome} (parts : InParts dictionary validate separator message outcome) {one two three last : Fields} {others trailer : List Record}
+module _ {dictionary : Dictionary} {config : Config} {message : List ℕ} {outcome : Outcome} (parts : InParts dictionary config message outcome) {one two three last : Fields} {others trailer : List Record}
     (header-starts : parts .header ≡ recordOf 1 (parts .verified .«begin_string») ∷ recordOf 1 (parts .verified .«body_length») ∷ recordOf 1 (parts .verified .«msg_type») ∷ others)
     (trailer-starts : parts .whole-trailer ≡ recordOf 3 (parts .verified .checksum) ∷ trailer)
     (header-follows : Follows 1 one (parts .header) two) (body-follows : Follows 2 two (parts .body) three) (trailer-follows : Follows 3 three trailer last) where
   unfoldable pub split-parts : Split (outcome .records)
   split-parts =
       let v = parts .verified in
-      let tags = verified-tags separator message v (parts .sound) in
+      let tags = verified-tags (config .mode) message v (parts .sound) in
       record {
         begin = recordOf 1 (v .«begin_string»);
         size = recordOf 1 (v .«body_length»);
@@ -71,20 +73,20 @@ pub record Again (message : List ℕ) {rs : List Record} (before : Split rs) (co
   pub similar : Similar rs (outcome .records)
   pub same : given copy (keptOf after) ≡ given message (keptOf before)
 
-module _ (dictionary : Dictionary) (validate : Bool) (separator : ℕ) (message : List ℕ) (order : InOrder dictionary validate separator message) where
-  unfoldable pub splitOf : Split (messageRead dictionary validate separator message .records)
+module _ (dictionary : Dictionary) (config : Config) (message : List ℕ) (order : InOrder dictionary config message) where
+  unfoldable pub splitOf : Split (messageRead dictionary config message .records)
   splitOf = split-parts (order .parts) (order .header-starts) (order .trailer-starts) (order .header-follows) (order .body-follows) (order .trailer-follows)
 
   module _ (copy : List ℕ)
-      (like : ReadsLike separator message copy (recordOf 1 (order .parts .verified .«begin_string»)) (recordOf 1 (order .parts .verified .«msg_type»)) (order .others ++ (order .parts .body ++ order .trailer))) where
-    along : ReadAlong dictionary validate separator message order copy like
-    along = read-along dictionary validate separator message order copy like
+      (like : ReadsLike (config .mode) message copy (recordOf 1 (order .parts .verified .«begin_string»)) (recordOf 1 (order .parts .verified .«msg_type»)) (order .others ++ (order .parts .body ++ order .trailer))) where
+    along : ReadAlong dictionary config message order copy like
+    along = read-along dictionary config message order copy like
 
-    abbrev q : InParts dictionary validate separator copy (along .outcome)
+    abbrev q : InParts dictionary config copy (along .outcome)
     q = along .parts
 
-    counts : Sizes dictionary validate separator copy (along .outcome) q
-    counts = sizes dictionary validate separator copy (along .outcome) q
+    counts : Sizes dictionary config copy (along .outcome) q
+    counts = sizes dictionary config copy (along .outcome) q
 
     -- each part has as many records as fields were read
     header-many : length (q .header) ≡ counts .of-header .read
@@ -96,7 +98,7 @@ module _ (dictionary : Dictionary) (validate : Bool) (separator : ℕ) (message 
     trailer-many : length (q .whole-trailer) ≡ suc (counts .of-trailer .stores .read)
     trailer-many = omega (arith, counts .of-trailer .counted, along .trailer-few, counts .of-trailer .stores .at-most, similar-length (along .trailer-similar))
 
-    header-follows : Follows 1 (fieldsFrom separator copy (record { at = 0 })) (q .header) (field (q .f) (q .rest))
+    header-follows : Follows 1 (fieldsFrom (config .mode) copy (startAt 0)) (q .header) (field (q .f) (q .rest))
     header-follows =
         let o = counts .of-header .ordered (omega (arith, header-many)) in
         follows-as (sym (o .appended)) (o .follows)
@@ -110,7 +112,7 @@ module _ (dictionary : Dictionary) (validate : Bool) (separator : ℕ) (message 
     trailer-ordered = counts .of-trailer .stores .ordered (omega (arith, trailer-many))
 
     -- its fields in the order of reading
-    followed : Followed separator copy (recordOf 1 (q .verified .«begin_string») ∷ recordOf 1 (q .verified .«body_length») ∷ recordOf 1 (q .verified .«msg_type») ∷ along .others) (q .body) (trailer-ordered .new) (counts .of-trailer .last)
+    followed : Followed (config .mode) copy (recordOf 1 (q .verified .«begin_string») ∷ recordOf 1 (q .verified .«body_length») ∷ recordOf 1 (q .verified .«msg_type») ∷ along .others) (q .body) (trailer-ordered .new) (counts .of-trailer .last)
     followed =
         record {
           behind-header = field (q .f) (q .rest);
@@ -122,7 +124,7 @@ module _ (dictionary : Dictionary) (validate : Bool) (separator : ℕ) (message 
 
     carried : CarriedAll message copy (recordOf 1 (order .parts .verified .«begin_string»)) (recordOf 1 (order .parts .verified .«msg_type»)) (order .others) (order .parts .body) (order .trailer) (recordOf 1 (q .verified .«begin_string»)) (recordOf 1 (q .verified .«msg_type»)) (along .others) (q .body) (trailer-ordered .new)
     carried =
-        read-again separator message copy _ _ (order .others) (order .parts .body) (order .trailer) _ (recordOf 1 (q .verified .«body_length»)) _ (along .others) (q .body) (trailer-ordered .new) (counts .of-trailer .last) like followed
+        read-again (config .mode) message copy _ _ (order .others) (order .parts .body) (order .trailer) _ (recordOf 1 (q .verified .«body_length»)) _ (along .others) (q .body) (trailer-ordered .new) (counts .of-trailer .last) like followed
         (omega (arith, similar-length (along .header-similar), ap length (order .header-starts), ap length (along .header-starts)))
         (omega (arith, similar-length (along .body-similar)))
         (omega (arith, similar-length (along .trailer-similar), ap length (trailer-ordered .appended)))
@@ -134,7 +136,7 @@ module _ (dictionary : Dictionary) (validate : Bool) (separator : ℕ) (message 
     similar-trailers : Similar (recordOf 3 (order .parts .verified .checksum) ∷ order .trailer) (recordOf 3 (q .verified .checksum) ∷ trailer-ordered .new)
     similar-trailers = similar-as refl (trailer-ordered .appended) (along .trailer-similar)
 
-    similar-all : Similar (messageRead dictionary validate separator message .records) (along .outcome .records)
+    similar-all : Similar (messageRead dictionary config message .records) (along .outcome .records)
     similar-all = similar-as (sym (order .records)) (sym (q .records)) (similar-append (along .header-similar) (similar-append (along .body-similar) (along .trailer-similar)))
 
     again-along : Again message splitOf copy (along .outcome)
@@ -154,18 +156,18 @@ module _ (dictionary : Dictionary) (validate : Bool) (separator : ℕ) (message 
               (carried-append (carried .of-others) (carried-append (carried .of-body) (carried .of-trailer)))));
         }
 
-    pub read-same : Again message splitOf copy (messageRead dictionary validate separator copy)
+    pub read-same : Again message splitOf copy (messageRead dictionary config copy)
     read-same = rw (along .is) again-along
 
     -- no tag is stored twice in one map of the copy
-    pub once-again : storedTwice dictionary validate separator copy ≡ false
-    once-again = by-test (storedTwice dictionary validate separator copy) refl
+    pub once-again : storedTwice dictionary config copy ≡ false
+    once-again = by-test (storedTwice dictionary config copy) refl
       where
-        counted : length (along .outcome .records) ≡ fieldsCounted separator copy (along .outcome .stop)
+        counted : length (along .outcome .records) ≡ fieldsCounted (config .mode) copy (along .outcome .stop)
         counted = omega (arith, counts .counted, counts .size, header-many, body-many, trailer-many)
 
-        by-test : (b : Bool) → storedTwice dictionary validate separator copy ≡ b → b ≡ false
+        by-test : (b : Bool) → storedTwice dictionary config copy ≡ b → b ≡ false
         by-test false e = refl
         by-test true e =
-            let fewer = rw (along .is) at (twice-fewer dictionary validate separator copy (rw (along .is) (along .valid)) e) in
+            let fewer = rw (along .is) at (twice-fewer dictionary config copy (rw (along .is) (along .valid)) e) in
             absurd (omega (arith, fewer, counted))

@@ -8,7 +8,7 @@ use native.Mathlib.Nat.{lt-of-not-le}
 use native.Mathlib.Decide.{decLe}
 use native.Mathlib.Omega.{arith}
 use lib.ListN.{length, drop}
-use Rattle.integrity.specs.declared.Config.{Config}
+use Rattle.build_config.specs.declared.Config.{Config}
 use Rattle.flattening.specs.Meaning.{dictionaryOf}
 use Rattle.lent.specs.Meaning.{Message, wordsOf, valuesOf}
 use Rattle.parts.specs.declared.Answer.the-variants.{Valid}
@@ -31,7 +31,7 @@ use Rattle.roundtrip.specs.AgainTheorem.{comes-back}
 module _ (message : List ℕ) (config : Config) (dictionary : List ℕ) (lent : ℕ) where
   -- what is read of some bytes with the dictionary and the setting
   abbrev pub readOf : List ℕ → Outcome
-  readOf bytes = messageRead (dictionaryOf dictionary) (config .validate) (config .separator) bytes
+  readOf bytes = messageRead (dictionaryOf dictionary) config bytes
 
   -- a second build that answers 0, with as many records as the first, and the same of each but the 9 and the 10
   pub record BuiltAgain (before : Split (readOf message .records)) (copy second : List ℕ) : Type 0 where
@@ -42,11 +42,11 @@ module _ (message : List ℕ) (config : Config) (dictionary : List ℕ) (lent : 
 
   -- "encoding what was built succeeds or passes 8,192 bytes"
   pub data Encodes (before : Split (readOf message .records)) (m : Message) (output second : List ℕ) : Type 0 where
-    succeeds : length (encoding (config .separator) m) ≤ 8192
-        → encodingOf (config .separator) (wordsOf m) (valuesOf m) output
-        ≡ left (Written (length (encoding (config .separator) m))) (wordsOf (encodedMessage (config .separator) m)) (valuesOf (encodedMessage (config .separator) m)) (encoding (config .separator) m ++ drop (length (encoding (config .separator) m)) output)
-        → BuiltAgain before (encoding (config .separator) m) second → Encodes before m output second
-    passes : 8192 < length (encoding (config .separator) m) → encodingOf (config .separator) (wordsOf m) (valuesOf m) output ≡ left TooLong (wordsOf m) (valuesOf m) output → Encodes before m output second
+    succeeds : length (encoding (config .mode .separator) m) ≤ 8192
+        → encodingOf (config .mode .separator) (wordsOf m) (valuesOf m) output
+        ≡ left (Written (length (encoding (config .mode .separator) m))) (wordsOf (encodedMessage (config .mode .separator) m)) (valuesOf (encodedMessage (config .mode .separator) m)) (encoding (config .mode .separator) m ++ drop (length (encoding (config .mode .separator) m)) output)
+        → BuiltAgain before (encoding (config .mode .separator) m) second → Encodes before m output second
+    passes : 8192 < length (encoding (config .mode .separator) m) → encodingOf (config .mode .separator) (wordsOf m) (valuesOf m) output ≡ left TooLong (wordsOf m) (valuesOf m) output → Encodes before m output second
 
   -- what the operations leave, one after the other
   pub record RoundTrip (first words values output second : List ℕ) : Type 0 where
@@ -73,12 +73,12 @@ module _ (message : List ℕ) (config : Config) (dictionary : List ℕ) (lent : 
 
   -- "Encoded and, if within 8,192 bytes, built again with the same separator, setting and dictionary, it gives 0 and the same"
   pub repeat-free-again : (first words values output second : List ℕ) → length words ≡ 8205 → length values ≡ 8192 → 8192 ≤ length output → buildOf message config dictionary lent first .answer ≡ Valid
-      → RepeatFree (dictionaryOf dictionary) (config .validate) (config .separator) message → RoundTrip first words values output second
+      → RepeatFree (dictionaryOf dictionary) config message → RoundTrip first words values output second
   repeat-free-again first words values output second whole store room a free =
       let s = build-shown message config dictionary lent first a in
       let (t, made) = build-of-taken message config dictionary lent first words values whole store a in
-      let separates : isRefusedSeparator (config .separator) ≡ false = s .separates in
-      let back = comes-back (dictionaryOf dictionary) (config .validate) (config .separator) message free separates (t .takes) in
+      let separates : isRefusedSeparator (config .mode .separator) ≡ false = s .separates in
+      let back = comes-back (dictionaryOf dictionary) config message free separates (t .takes) in
       record {
         count = s .count;
         built = s .words;
@@ -87,7 +87,7 @@ module _ (message : List ℕ) (config : Config) (dictionary : List ℕ) (lent : 
         made = made;
         kept = t .same;
         encodes =
-            elim (decLe (length (encoding (config .separator) (t .takes .meant))) 8192) [
+            elim (decLe (length (encoding (config .mode .separator) (t .takes .meant))) 8192) [
               | yes short ↦ succeeds short (back .written output short (omega arith)) (second-build (back .before) _ s _ second short (back .again short))
               | no long ↦ passes (lt-of-not-le long) (back .too-long output (lt-of-not-le long))
             ];

@@ -4,6 +4,7 @@ use mathlib.Core.Path.{_≡_, refl, sym, _∙_}
 use mathlib.Core.Bool.{Bool}
 use mathlib.Core.List.{List, [], _∷_, _++_}
 use Prim.Native.Nat.{ℕ, suc}
+use Rattle.build_config.specs.declared.Config.{Config}
 use Rattle.tagvalue.specs.Field.{valueOf}
 use Rattle.tagvalue.specs.Fields.{Fields, field}
 use Rattle.tagvalue.specs.declared.Field.{Field}
@@ -46,11 +47,11 @@ unfolding msgTypeRecord recordOf valueAt valueOf
 msg-type-third message v header others t e = rw (e, t .begins, t .counts, t .types) refl
 
 -- a message that was read in parts, put together again
-module _ (dictionary : Dictionary) (validate : Bool) (separator : ℕ) (message : List ℕ) (v : Verified) (sound : integrityOf separator message ≡ Sound v) where
-  pub put-together : (layout : _) (f g : Field) (rest behind : Fields) (room room₂ : ℕ) (header body trailer : List Record) (stop : Field) → headerOf (headerTags dictionary) separator message v ≡ ended f rest room header
+module _ (dictionary : Dictionary) (config : Config) (message : List ℕ) (v : Verified) (sound : integrityOf (config .mode) message ≡ Sound v) where
+  pub put-together : (layout : _) (f g : Field) (rest behind : Fields) (room room₂ : ℕ) (header body trailer : List Record) (stop : Field) → headerOf (headerTags dictionary) config message v ≡ ended f rest room header
       → layoutOf dictionary (valueAt message (msgTypeRecord header)) ≡ laidOut layout
-      → bodyFrom (bodyOf (layoutRules (accepted validate (knows dictionary))) layoutDemands (trailerTags dictionary) layout) (field f rest) (suc room) [] ≡ ended g behind room₂ body
+      → bodyFrom (bodyOf (layoutRules (accepted config (knows dictionary))) layoutDemands (trailerTags dictionary) layout) (field f rest) (suc room) [] ≡ ended g behind room₂ body
       → trailerFrom (field g behind) (suc room₂) (recordOf 3 (v .checksum) ∷ []) ≡ stopped stop trailer
-      → messageRead dictionary validate separator message ≡ record { answer = Valid; records = header ++ (body ++ trailer); stop = At stop }
+      → messageRead dictionary config message ≡ record { answer = Valid; records = header ++ (body ++ trailer); stop = At stop }
   unfolding messageRead startOf startedBy withChecksum afterHeader afterType afterBody afterTrailer
   put-together layout f g rest behind room room₂ header body trailer stop h c b t = rw (sound, h, c, b, t) refl

@@ -6,6 +6,8 @@ use mathlib.Core.List.{List, [], _∷_, _++_, append-nil}
 use Prim.Native.Nat.{ℕ, suc, _+_, _≤_}
 use native.Mathlib.Omega.{arith}
 use lib.ListN.{length, length-append}
+use Rattle.build_config.specs.declared.Config.{Config}
+use Rattle.tagvalue.specs.Field.{startAt}
 use Rattle.tagvalue.specs.Fields.{Fields, field, fieldsFrom}
 use Rattle.tagvalue.specs.FieldsLaws.{fields-field}
 use Rattle.integrity.specs.VerifiedLaws.{verified-read}
@@ -47,9 +49,9 @@ use Rattle.standing.specs.PartReading.{of-field}
 use Rattle.roundtrip.specs.AgainFields.{copied-agree, copied-none-agree, stopFields, end-agree, trailer-some, reaches-onto, reaches-rest, ten-ends}
 use Rattle.roundtrip.specs.AgainParts.{verified-first, verified-similar, msg-type-third, put-together}
 
-module _ (dictionary : Dictionary) (validate : Bool) (separator : ℕ) (message : List ℕ) (order : InOrder dictionary validate separator message) (copy : List ℕ)
-    (like : ReadsLike separator message copy (recordOf 1 (order .parts .verified .«begin_string»)) (recordOf 1 (order .parts .verified .«msg_type»)) (order .others ++ (order .parts .body ++ order .trailer))) where
-  abbrev p : InParts dictionary validate separator message (messageRead dictionary validate separator message)
+module _ (dictionary : Dictionary) (config : Config) (message : List ℕ) (order : InOrder dictionary config message) (copy : List ℕ)
+    (like : ReadsLike (config .mode) message copy (recordOf 1 (order .parts .verified .«begin_string»)) (recordOf 1 (order .parts .verified .«msg_type»)) (order .others ++ (order .parts .body ++ order .trailer))) where
+  abbrev p : InParts dictionary config message (messageRead dictionary config message)
   p = order .parts
 
   abbrev v : Verified
@@ -59,25 +61,25 @@ module _ (dictionary : Dictionary) (validate : Bool) (separator : ℕ) (message 
   w = like .verified
 
   abbrev stop : Stop
-  stop = messageRead dictionary validate separator message .stop
+  stop = messageRead dictionary config message .stop
 
   abbrev fields : Fields
-  fields = fieldsFrom separator copy (like .verified .«msg_type» .next)
+  fields = fieldsFrom (config .mode) copy (like .verified .«msg_type» .next)
 
   -- a field for each record behind MsgType, and then the CheckSum
   behind-type : fields ≡ onto (like .fields) (field (w .checksum) (like .end))
   behind-type =
-      let r = verified-read separator copy w (like .sound) in
+      let r = verified-read (config .mode) copy w (like .sound) in
       let e : field (w .«begin_string») (field (w .«body_length») (field (w .«msg_type») fields)) ≡ field (w .«begin_string») (field (w .«body_length») (field (w .«msg_type») (onto (like .fields) (field (w .checksum) (like .end))))) =
-      sym (fields-field separator copy (record { at = 0 }) (w .«begin_string») (r .begins)
+      sym (fields-field (config .mode) copy (startAt 0) (w .«begin_string») (r .begins)
       ∙ ap (λ (fs : Fields). field (w .«begin_string») fs)
-      (fields-field separator copy (w .«begin_string» .next) (w .«body_length») (r .counts)
-      ∙ ap (λ (fs : Fields). field (w .«body_length») fs) (fields-field separator copy (w .«body_length» .next) (w .«msg_type») (r .types))))
+      (fields-field (config .mode) copy (w .«begin_string» .next) (w .«body_length») (r .counts)
+      ∙ ap (λ (fs : Fields). field (w .«body_length») fs) (fields-field (config .mode) copy (w .«body_length» .next) (w .«msg_type») (r .types))))
       ∙ like .reads in
       cc
 
   -- so the fields behind MsgType agree, up to a 10 that stopped the message's trailer
-  all-agree : Agree (length (order .others) + (length (p .body) + (length (order .trailer) + stopFields stop))) (fieldsFrom separator message (v .«msg_type» .next)) fields
+  all-agree : Agree (length (order .others) + (length (p .body) + (length (order .trailer) + stopFields stop))) (fieldsFrom (config .mode) message (v .«msg_type» .next)) fields
   all-agree =
       let end = field (w .checksum) (like .end) in
       rw behind-type
@@ -90,14 +92,14 @@ module _ (dictionary : Dictionary) (validate : Bool) (separator : ℕ) (message 
   some-trailer = trailer-some (order .is-last) (order .trailer-follows) refl
 
   tags : VerifiedTags v
-  tags = verified-tags separator message v (p .sound)
+  tags = verified-tags (config .mode) message v (p .sound)
 
   tags-again : VerifiedTags w
-  tags-again = verified-tags separator copy w (like .sound)
+  tags-again = verified-tags (config .mode) copy w (like .sound)
 
   header-along : Alongside ended (headerFrom (headerTags dictionary) fields 1021 (verifiedRecords w)) (length (order .others) + (length (p .body) + (length (order .trailer) + stopFields stop))) 1021 (p .f) (p .rest) (p .room) (p .header)
   header-along =
-      header-same (headerTags dictionary) (fieldsFrom separator message (v .«msg_type» .next)) fields 1021 _ (verifiedRecords v) (verifiedRecords w) (p .f) (p .rest) (p .room) (p .header) (unfold headerOf in p .header-read)
+      header-same (headerTags dictionary) (fieldsFrom (config .mode) message (v .«msg_type» .next)) fields 1021 _ (verifiedRecords v) (verifiedRecords w) (p .f) (p .rest) (p .room) (p .header) (unfold headerOf in p .header-read)
       (verified-similar v w tags tags-again) all-agree (omega (arith, some-trailer, order .others-room))
 
   -- the verified fields stand first in the copy's header too
@@ -123,15 +125,15 @@ module _ (dictionary : Dictionary) (validate : Bool) (separator : ℕ) (message 
       ∙ sym (msg-type-third message v (p .header) (order .others) tags (order .header-starts)))
       ∙ p .chosen
 
-  body-along : Alongside ended (bodyFrom (bodyOf (layoutRules (accepted validate (knows dictionary))) layoutDemands (trailerTags dictionary) (p .layout)) (field (header-along .found) (header-along .behind)) (suc (p .room)) []) (suc (header-along .left)) (suc (p .room)) (p .g) (p .more) (p .room₂) (p .body)
+  body-along : Alongside ended (bodyFrom (bodyOf (layoutRules (accepted config (knows dictionary))) layoutDemands (trailerTags dictionary) (p .layout)) (field (header-along .found) (header-along .behind)) (suc (p .room)) []) (suc (header-along .left)) (suc (p .room)) (p .g) (p .more) (p .room₂) (p .body)
   body-along =
-      body-same (layoutRules (accepted validate (knows dictionary))) layoutDemands (trailerTags dictionary) (p .layout) (field (p .f) (p .rest)) (field (header-along .found) (header-along .behind)) (suc (p .room)) (suc (header-along .left)) [] [] (p .g) (p .more) (p .room₂) (p .body) (p .body-read)
+      body-same (layoutRules (accepted config (knows dictionary))) layoutDemands (trailerTags dictionary) (p .layout) (field (p .f) (p .rest)) (field (header-along .found) (header-along .behind)) (suc (p .room)) (suc (header-along .left)) [] [] (p .g) (p .more) (p .room₂) (p .body) (p .body-read)
       none (same (header-along .tag) (header-along .agree)) (omega (arith, some-trailer, order .others-room, order .body-room, header-along .counted))
 
   -- behind the body as many fields stand before the copy's CheckSum as the message's trailer has records
   checksum-reached : Reaches (field (body-along .found) (body-along .behind)) (length (order .trailer)) (field (w .checksum) (like .end))
   checksum-reached =
-      let b = body-stores (layoutRules (accepted validate (knows dictionary))) layoutDemands (trailerTags dictionary) (p .layout) (field (header-along .found) (header-along .behind)) (suc (p .room)) [] (body-along .found) (body-along .behind) (p .room₂) (body-along .kept) (body-along .is) in
+      let b = body-stores (layoutRules (accepted config (knows dictionary))) layoutDemands (trailerTags dictionary) (p .layout) (field (header-along .found) (header-along .behind)) (suc (p .room)) [] (body-along .found) (body-along .behind) (p .room₂) (body-along .kept) (body-along .is) in
       let all : Reaches fields (length (like .fields)) (field (w .checksum) (like .end)) = rw behind-type (reaches-onto (like .fields) (field (w .checksum) (like .end))) in
       reaches-rest (reaches-then (header-stored .reaches) (b .reaches)) all
       (omega (arith, header-stored .room-is, b .room-is, order .others-room, order .body-room, copied-length (like .copied), length-append (order .others) (p .body ++ order .trailer), length-append (p .body) (order .trailer)))
@@ -158,9 +160,9 @@ module _ (dictionary : Dictionary) (validate : Bool) (separator : ℕ) (message 
   -- the copy, read with 0 in parts whose records are similar, with as much room left
   pub record ReadAlong : Type 0 where
     pub outcome : Outcome
-    pub is : messageRead dictionary validate separator copy ≡ outcome
+    pub is : messageRead dictionary config copy ≡ outcome
     pub valid : outcome .answer ≡ Valid
-    pub parts : InParts dictionary validate separator copy outcome
+    pub parts : InParts dictionary config copy outcome
     pub others : List Record
     pub header-starts : parts .header ≡ recordOf 1 (parts .verified .«begin_string») ∷ recordOf 1 (parts .verified .«body_length») ∷ recordOf 1 (parts .verified .«msg_type») ∷ others
     pub header-similar : Similar (order .parts .header) (parts .header)
@@ -174,7 +176,7 @@ module _ (dictionary : Dictionary) (validate : Bool) (separator : ℕ) (message 
   read-along =
       record {
         outcome = record { answer = Valid; records = header-along .kept ++ (body-along .kept ++ trailer-along .kept); stop = At (trailer-along .found) };
-        is = put-together dictionary validate separator copy w (like .sound) (p .layout) (header-along .found) (body-along .found) (header-along .behind) (body-along .behind) (p .room) (p .room₂) (header-along .kept) (body-along .kept) (trailer-along .kept) (trailer-along .found)
+        is = put-together dictionary config copy w (like .sound) (p .layout) (header-along .found) (body-along .found) (header-along .behind) (body-along .behind) (p .room) (p .room₂) (header-along .kept) (body-along .kept) (trailer-along .kept) (trailer-along .found)
             (unfold headerOf in header-along .is) chosen-again (body-along .is) (trailer-along .is);
         valid = refl;
         parts =

@@ -5,6 +5,7 @@ use mathlib.Core.Bool.{Bool, false}
 use mathlib.Core.List.{List, _∷_, _++_}
 use Prim.Native.Nat.{ℕ, _≤_, _<_}
 use lib.ListN.{length, drop}
+use Rattle.build_config.specs.declared.Config.{Config}
 use Rattle.layout.specs.Tree.{Dictionary}
 use Rattle.records.specs.declared.Record.{Record}
 use Rattle.lent.specs.Meaning.{Message, wordsOf, valuesOf}
@@ -31,23 +32,23 @@ use Rattle.roundtrip.specs.AgainValues.{Split}
 use Rattle.roundtrip.specs.Again.{follows-as, split-parts, Again, splitOf, read-same, once-again}
 
 -- a message that was read, and what its records stand for: encoding it "succeeds or passes 8,192 bytes", and what is written reads the same
-pub record ComesBack (dictionary : Dictionary) (validate : Bool) (separator : ℕ) (message : List ℕ) (m : Message) : Type 0 where
-  pub written : (output : List ℕ) → length (encoding separator m) ≤ 8192 → length (encoding separator m) ≤ length output
-      → encodingOf separator (wordsOf m) (valuesOf m) output ≡ left (Written (length (encoding separator m))) (wordsOf (encodedMessage separator m)) (valuesOf (encodedMessage separator m)) (encoding separator m ++ drop (length (encoding separator m)) output)
-  pub too-long : (output : List ℕ) → 8192 < length (encoding separator m) → encodingOf separator (wordsOf m) (valuesOf m) output ≡ left TooLong (wordsOf m) (valuesOf m) output
-  pub before : Split (messageRead dictionary validate separator message .records)
-  pub again : length (encoding separator m) ≤ 8192 → Again message before (encoding separator m) (messageRead dictionary validate separator (encoding separator m))
-  pub repeat-free : length (encoding separator m) ≤ 8192 → RepeatFree dictionary validate separator (encoding separator m)
+pub record ComesBack (dictionary : Dictionary) (config : Config) (message : List ℕ) (m : Message) : Type 0 where
+  pub written : (output : List ℕ) → length (encoding (config .mode .separator) m) ≤ 8192 → length (encoding (config .mode .separator) m) ≤ length output
+      → encodingOf (config .mode .separator) (wordsOf m) (valuesOf m) output ≡ left (Written (length (encoding (config .mode .separator) m))) (wordsOf (encodedMessage (config .mode .separator) m)) (valuesOf (encodedMessage (config .mode .separator) m)) (encoding (config .mode .separator) m ++ drop (length (encoding (config .mode .separator) m)) output)
+  pub too-long : (output : List ℕ) → 8192 < length (encoding (config .mode .separator) m) → encodingOf (config .mode .separator) (wordsOf m) (valuesOf m) output ≡ left TooLong (wordsOf m) (valuesOf m) output
+  pub before : Split (messageRead dictionary config message .records)
+  pub again : length (encoding (config .mode .separator) m) ≤ 8192 → Again message before (encoding (config .mode .separator) m) (messageRead dictionary config (encoding (config .mode .separator) m))
+  pub repeat-free : length (encoding (config .mode .separator) m) ≤ 8192 → RepeatFree dictionary config (encoding (config .mode .separator) m)
 
-module _ (dictionary : Dictionary) (validate : Bool) (separator : ℕ) (message : List ℕ) (free : RepeatFree dictionary validate separator message) where
+module _ (dictionary : Dictionary) (config : Config) (message : List ℕ) (free : RepeatFree dictionary config message) where
   -- "no tag stored twice in one map": each field has a record of its own, in the order of reading
-  order : InOrder dictionary validate separator message
-  order = repeat-free-order dictionary validate separator message free
+  order : InOrder dictionary config message
+  order = repeat-free-order dictionary config message free
 
-  abbrev before : Split (messageRead dictionary validate separator message .records)
-  before = splitOf dictionary validate separator message order
+  abbrev before : Split (messageRead dictionary config message .records)
+  before = splitOf dictionary config message order
 
-  module _ (separates : isRefusedSeparator separator ≡ false) (takes : Takes message (messageRead dictionary validate separator message .records)) where
+  module _ (separates : isRefusedSeparator (config .mode .separator) ≡ false) (takes : Takes message (messageRead dictionary config message .records)) where
     abbrev begin : Record
     begin = recordOf 1 (order .parts .verified .«begin_string»)
 
@@ -61,7 +62,7 @@ module _ (dictionary : Dictionary) (validate : Bool) (separator : ℕ) (message 
     check = recordOf 3 (order .parts .verified .checksum)
 
     abbrev copy : List ℕ
-    copy = rewritten separator message begin (type ∷ (order .others ++ (order .parts .body ++ order .trailer)))
+    copy = rewritten (config .mode .separator) message begin (type ∷ (order .others ++ (order .parts .body ++ order .trailer)))
 
     header-own : All (Own 0 0) (begin ∷ size ∷ type ∷ order .others)
     header-own = rw (order .header-starts) at (order .header-own)
@@ -73,10 +74,10 @@ module _ (dictionary : Dictionary) (validate : Bool) (separator : ℕ) (message 
         (follows-as (order .header-starts) (order .header-follows)) (order .body-follows) (order .trailer-follows)
         header-own (all-more (own-field 3 (order .parts .verified .checksum)) (order .trailer-own))
 
-    copied : encoding separator (takes .meant) ≡ copy
-    copied = encoding-rewritten separator built
+    copied : encoding (config .mode .separator) (takes .meant) ≡ copy
+    copied = encoding-rewritten (config .mode) built
 
-    followed : Followed separator message (begin ∷ size ∷ type ∷ order .others) (order .parts .body) (order .trailer) (order .last)
+    followed : Followed (config .mode) message (begin ∷ size ∷ type ∷ order .others) (order .parts .body) (order .trailer) (order .last)
     followed =
         record {
           behind-header = _;
@@ -86,28 +87,28 @@ module _ (dictionary : Dictionary) (validate : Bool) (separator : ℕ) (message 
           trailer-follows = order .trailer-follows;
         }
 
-    like : length copy ≤ 8192 → ReadsLike separator message copy begin type (order .others ++ (order .parts .body ++ order .trailer))
+    like : length copy ≤ 8192 → ReadsLike (config .mode) message copy begin type (order .others ++ (order .parts .body ++ order .trailer))
     unfolding splitOf split-parts
-    like short = followed-sound separator message begin size type (order .others) (order .parts .body) (order .trailer) (order .last) followed (no-digit separator separates) (before .begins) (before .types) short
+    like short = followed-sound (config .mode) message begin size type (order .others) (order .parts .body) (order .trailer) (order .last) followed (no-digit (config .mode .separator) separates) (before .begins) (before .types) short
 
-    copy-again : length copy ≤ 8192 → Again message before copy (messageRead dictionary validate separator copy)
-    copy-again short = read-same dictionary validate separator message order copy (like short)
+    copy-again : length copy ≤ 8192 → Again message before copy (messageRead dictionary config copy)
+    copy-again short = read-same dictionary config message order copy (like short)
 
-    copy-free : length copy ≤ 8192 → RepeatFree dictionary validate separator copy
+    copy-free : length copy ≤ 8192 → RepeatFree dictionary config copy
     copy-free short =
         record {
           valid = copy-again short .valid;
           holds-begin-string = free .holds-begin-string;
           holds-body-length = free .holds-body-length;
           holds-msg-type = free .holds-msg-type;
-          none-twice = once-again dictionary validate separator message order copy (like short);
+          none-twice = once-again dictionary config message order copy (like short);
         }
 
-    pub comes-back : ComesBack dictionary validate separator message (takes .meant)
+    pub comes-back : ComesBack dictionary config message (takes .meant)
     comes-back =
         record {
-          written = λ output short fits. rw copied (encoding-written built separator separates output (rw copied at short) (rw copied at fits));
-          too-long = λ output long. encoding-too-long built separator separates output (rw copied at long);
+          written = λ output short fits. rw copied (encoding-written built (config .mode) separates output (rw copied at short) (rw copied at fits));
+          too-long = λ output long. encoding-too-long built (config .mode) separates output (rw copied at long);
           before = before;
           again = λ short. rw copied (copy-again (rw copied at short));
           repeat-free = λ short. rw copied (copy-free (rw copied at short));

@@ -5,11 +5,12 @@ use mathlib.Core.Bool.{Bool}
 use mathlib.Core.List.{List, [], _∷_, _++_}
 use Prim.Native.Nat.{ℕ, _-_, _≤_}
 use lib.ListN.{length}
+use Rattle.tagvalue.specs.Field.{startAt}
 use Rattle.tagvalue.specs.Fields.{field}
 use Rattle.tagvalue.specs.FieldsLaws.{fields-field}
 use Rattle.tagvalue.specs.Standard as standard
 use Rattle.integrity.specs.VerifiedLaws.{verified-read}
-use Rattle.integrity.specs.declared.Config.{Config}
+use Rattle.build_config.specs.declared.Config.{Config}
 use Rattle.layout.specs.Tree.{Dictionary}
 use Rattle.flattening.specs.Meaning.{dictionaryOf}
 use Rattle.records.specs.declared.Record.{Record}
@@ -33,40 +34,40 @@ use Rattle.conformance.specs.EncodedClean.{built-standard}
 use Rattle.roundtrip.specs.Clean.{Clean}
 use Rattle.roundtrip.specs.ComesBack.{repeat-free-order, order-built, clean-text}
 
-module _ (dictionary : Dictionary) (validate : Bool) (separator : ℕ) (message : List ℕ) (o : InOrder dictionary validate separator message) where
+module _ (dictionary : Dictionary) (config : Config) (message : List ℕ) (o : InOrder dictionary config message) where
   abbrev check : Record
   check = recordOf 3 (o .parts .verified .checksum)
 
   -- the CheckSum's record is that of the field that was verified
-  check-writable : All (Writable separator message) (check ∷ [])
+  check-writable : All (Writable (config .mode .separator) message) (check ∷ [])
   check-writable =
-      let sums = verified-read separator message (o .parts .verified) (o .parts .sound) .sums in
-      follows-writable separator message (one-field check (of-field 3 (o .parts .verified .checksum)) no-field) (record { at = length message - 7 })
-      (sym (fields-field separator message (record { at = length message - 7 }) (o .parts .verified .checksum) sums))
+      let sums = verified-read (config .mode) message (o .parts .verified) (o .parts .sound) .sums in
+      follows-writable (config .mode) message (one-field check (of-field 3 (o .parts .verified .checksum)) no-field) (startAt (length message - 7))
+      (sym (fields-field (config .mode) message (startAt (length message - 7)) (o .parts .verified .checksum) sums))
 
   -- all that was read can be written
-  order-writable : All (Writable separator message) (o .parts .header ++ (o .parts .body ++ (check ∷ o .trailer)))
+  order-writable : All (Writable (config .mode .separator) message) (o .parts .header ++ (o .parts .body ++ (check ∷ o .trailer)))
   order-writable =
-      let read : Followed separator message (o .parts .header) (o .parts .body) (o .trailer) (o .last) =
+      let read : Followed (config .mode) message (o .parts .header) (o .parts .body) (o .trailer) (o .last) =
       record { behind-header = field (o .parts .f) (o .parts .rest); behind-body = field (o .parts .g) (o .parts .more); header-follows = o .header-follows; body-follows = o .body-follows; trailer-follows = o .trailer-follows } in
       let all = followed-writable read in
       let behind = all-right (o .parts .header) (o .parts .body ++ o .trailer) all in
-      all-append (Writable separator message) (all-left (o .parts .header) (o .parts .body ++ o .trailer) all)
-      (all-append (Writable separator message) (all-left (o .parts .body) (o .trailer) behind)
-      (all-append (Writable separator message) check-writable (all-right (o .parts .body) (o .trailer) behind)))
+      all-append (Writable (config .mode .separator) message) (all-left (o .parts .header) (o .parts .body ++ o .trailer) all)
+      (all-append (Writable (config .mode .separator) message) (all-left (o .parts .body) (o .trailer) behind)
+      (all-append (Writable (config .mode .separator) message) check-writable (all-right (o .parts .body) (o .trailer) behind)))
 
 -- THE STANDARD, clean messages
-pub clean-standard : (dictionary : Dictionary) (validate : Bool) (message : List ℕ) → Clean dictionary validate 1 message → length message ≤ 8192 → StandardRecords message (messageRead dictionary validate 1 message .records) → standard.Message NoPair message
-clean-standard dictionary validate message c short given =
-    let o = repeat-free-order dictionary validate 1 message (c .repeat-free) in
-    let t = build-takes dictionary validate 1 message short (c .repeat-free .valid) in
-    let built = order-built dictionary validate 1 message o (t .meant) t refl in
-    let same : message ≡ encoding 1 (t .meant) = clean-text dictionary validate 1 message o c ∙ sym (encoding-rewritten 1 built) in
+pub clean-standard : (dictionary : Dictionary) (config : Config) (message : List ℕ) → Clean dictionary config 1 message → length message ≤ 8192 → StandardRecords message (messageRead dictionary config 1 message .records) → standard.Message NoPair message
+clean-standard dictionary config message c short given =
+    let o = repeat-free-order dictionary config 1 message (c .repeat-free) in
+    let t = build-takes dictionary config 1 message short (c .repeat-free .valid) in
+    let built = order-built dictionary config 1 message o (t .meant) t refl in
+    let same : message ≡ encoding 1 (t .meant) = clean-text dictionary config 1 message o c ∙ sym (encoding-rewritten 1 built) in
     let starts = ap (λ (l : List Record). l ++ (o .parts .body ++ (recordOf 3 (o .parts .verified .checksum) ∷ o .trailer))) (o .header-starts) in
-    built-standard built (subst (All (Writable 1 message)) starts (order-writable dictionary validate 1 message o)) (subst (StandardRecords message) (o .records ∙ starts) given) same
+    built-standard built (subst (All (Writable 1 message)) starts (order-writable dictionary config 1 message o)) (subst (StandardRecords message) (o .records ∙ starts) given) same
 
 -- and of the call: what build answers with 0 is within 8,192 bytes
-pub clean-message-standard : (message : List ℕ) (config : Config) (dictionary : List ℕ) (lent : ℕ) (before : List ℕ) → config .separator ≡ 1 → buildOf message config dictionary lent before .answer ≡ Valid
-    → Clean (dictionaryOf dictionary) (config .validate) (config .separator) message → StandardRecords message (messageRead (dictionaryOf dictionary) (config .validate) (config .separator) message .records) → standard.Message NoPair message
-clean-message-standard message config dictionary lent before separator valid c given =
-    clean-standard (dictionaryOf dictionary) (config .validate) message (rw separator at c) (build-shown message config dictionary lent before valid .short) (rw separator at given)
+pub clean-message-standard : (message : List ℕ) (config : Config) (dictionary : List ℕ) (lent : ℕ) (before : List ℕ) → config .mode .separator ≡ 1 → buildOf message config dictionary lent before .answer ≡ Valid
+    → Clean (dictionaryOf dictionary) config message → StandardRecords message (messageRead (dictionaryOf dictionary) config message .records) → standard.Message NoPair message
+clean-message-standard message config dictionary lent before mode valid c given =
+    clean-standard (dictionaryOf dictionary) (config .validate) message (rw mode at c) (build-shown message config dictionary lent before valid .short) (rw mode at given)

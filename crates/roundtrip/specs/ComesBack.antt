@@ -6,22 +6,21 @@ use mathlib.Core.List.{List, [], _∷_, _++_}
 use Prim.Native.Nat.{ℕ, _-_, _≤_}
 use native.Mathlib.Omega.{arith}
 use lib.ListN.{length, drop}
+use Rattle.tagvalue.specs.Field.{startAt}
 use Rattle.tagvalue.specs.Fields.{Fields, field, fieldsFrom}
-use Rattle.tagvalue.specs.declared.Field.{Field}
 use Rattle.layout.specs.Tree.{Dictionary}
 use Rattle.records.specs.declared.Record.{Record}
-use Rattle.nesting.specs.Entries.{All, all-more}
-use Rattle.nesting.specs.Formed.{Own}
+use Rattle.nesting.specs.Entries.{all-more}
 use Rattle.parts.specs.Parts.{recordOf}
-use Rattle.reading.specs.Message.{Outcome, messageRead}
+use Rattle.reading.specs.Message.{messageRead}
 use Rattle.reading.specs.declared.Stop.{Stop}
-use Rattle.reading.specs.declared.Stop.the-variants.{At, Nowhere}
+use Rattle.reading.specs.declared.Stop.the-variants.{At}
 use Rattle.lent.specs.Meaning.{Message, wordsOf, valuesOf}
 use Rattle.written_form.specs.Encoding.{encodedMessage}
 use Rattle.tagvalue.specs.Separator.{isRefusedSeparator}
 use Rattle.encoding.specs.Encode.{left, encodingOf}
 use Rattle.encoding.specs.declared.Encoding.the-variants.{Written}
-use Rattle.integrity.specs.declared.Config.{Config}
+use Rattle.build_config.specs.declared.Config.{Config}
 use Rattle.flattening.specs.Meaning.{dictionaryOf}
 use Rattle.parts.specs.declared.Answer.the-variants.{Valid}
 use Rattle.builder.specs.Build.{BuildOutcome, buildOf}
@@ -32,7 +31,6 @@ use Rattle.standing.specs.Parted.{Takes}
 use Rattle.standing.specs.PartReading.{own-field}
 use Rattle.sequence.specs.Follows.{Follows}
 use Rattle.sequence.specs.TrailerStores.{Last, at-stop, at-end}
-use Rattle.sequence.specs.InParts.{InParts}
 use Rattle.sequence.specs.InOrder.{InOrder, in-order}
 use Rattle.sequence.specs.VerifiedTags.{verified-tags}
 use Rattle.sequence.specs.TwiceMessage.{once-all}
@@ -40,16 +38,15 @@ use Rattle.rewriting.specs.Written.{rewritten}
 use Rattle.rewriting.specs.EncodedBuilt.{Built}
 use Rattle.rewriting.specs.EncodedFit.{encoding-written}
 use Rattle.rewriting.specs.EncodedParts.{read-built}
-use Rattle.rewriting.specs.ReadMessage.{Followed}
 use Rattle.rewriting.specs.PlainMessage.{clean-message}
 use Rattle.roundtrip.specs.Clean.{RepeatFree, Clean}
 
-module _ (dictionary : Dictionary) (validate : Bool) (separator : ℕ) (message : List ℕ) where
+module _ (dictionary : Dictionary) (config : Config) (message : List ℕ) where
   -- "no tag stored twice in one map": the records stand in the order of reading
-  pub repeat-free-order : RepeatFree dictionary validate separator message → InOrder dictionary validate separator message
-  repeat-free-order r = in-order dictionary validate separator message (r .valid) (once-all dictionary validate separator message (r .valid) (r .none-twice))
+  pub repeat-free-order : RepeatFree dictionary config message → InOrder dictionary config message
+  repeat-free-order r = in-order dictionary config message (r .valid) (once-all dictionary config message (r .valid) (r .none-twice))
 
-  module _ (o : InOrder dictionary validate separator message) where
+  module _ (o : InOrder dictionary config message) where
     abbrev begin : Record
     begin = recordOf 1 (o .parts .verified .«begin_string»)
 
@@ -64,16 +61,16 @@ module _ (dictionary : Dictionary) (validate : Bool) (separator : ℕ) (message 
 
     -- what the encoding of the records comes to
     abbrev pub encodingBack : List ℕ
-    encodingBack = rewritten separator message begin (type ∷ (o .others ++ (o .parts .body ++ o .trailer)))
+    encodingBack = rewritten (config .mode .separator) message begin (type ∷ (o .others ++ (o .parts .body ++ o .trailer)))
 
-    header-follows : Follows 1 (fieldsFrom separator message (record { at = 0 })) (begin ∷ size ∷ type ∷ o .others) (field (o .parts .f) (o .parts .rest))
+    header-follows : Follows 1 (fieldsFrom (config .mode) message (startAt 0)) (begin ∷ size ∷ type ∷ o .others) (field (o .parts .f) (o .parts .rest))
     header-follows = rw (← o .header-starts) (o .header-follows)
 
     -- the records of a message that was taken over are those of a message that was built
-    pub order-built : (m : Message) → (t : Takes message (messageRead dictionary validate separator message .records)) → t .meant ≡ m → Built message m begin size type (o .others) (o .parts .body) check (o .trailer)
+    pub order-built : (m : Message) → (t : Takes message (messageRead dictionary config message .records)) → t .meant ≡ m → Built message m begin size type (o .others) (o .parts .body) check (o .trailer)
     unfolding recordOf
     order-built m t same =
-        let tags = verified-tags separator message (o .parts .verified) (o .parts .sound) in
+        let tags = verified-tags (config .mode) message (o .parts .verified) (o .parts .sound) in
         let records = o .records ∙ ap (λ (l : List Record). l ++ (o .parts .body ++ (check ∷ o .trailer))) (o .header-starts) in
         rw (← same)
         (read-built (t .stand) (t .within) records
@@ -81,13 +78,13 @@ module _ (dictionary : Dictionary) (validate : Bool) (separator : ℕ) (message 
         (rw (← o .header-starts) (o .header-own)) (all-more {r = check} (own-field 3 (o .parts .verified .checksum)) (o .trailer-own)))
 
     -- a clean message is the text of its own records
-    pub clean-text : Clean dictionary validate separator message → message ≡ encodingBack
-    clean-text c = by-last (messageRead dictionary validate separator message .stop) (o .last) (o .is-last) (c .stops) (o .trailer-follows)
+    pub clean-text : Clean dictionary config message → message ≡ encodingBack
+    clean-text c = by-last (messageRead dictionary config message .stop) (o .last) (o .is-last) (c .stops) (o .trailer-follows)
       where
         by-last : (stop : Stop) (last : Fields) → Last stop last → stop ≡ At (c .stop) → Follows 3 (field (o .parts .g) (o .parts .more)) (o .trailer) last → message ≡ encodingBack
         by-last _ _ (at-stop {f = f} {rest = rest} ten) e follows =
             let same : f ≡ c .stop = cc in
-            clean-message separator message (o .parts .verified) (o .parts .sound) (type ∷ o .others) (o .parts .body) (o .trailer) (c .stop) rest
+            clean-message (config .mode) message (o .parts .verified) (o .parts .sound) (type ∷ o .others) (o .parts .body) (o .trailer) (c .stop) rest
             (record { behind-header = field (o .parts .f) (o .parts .rest); behind-body = field (o .parts .g) (o .parts .more); header-follows = header-follows; body-follows = o .body-follows; trailer-follows = rw (← same) follows })
             (c .at-checksum) (c .tags-plain) (c .length-plain) (c .three-digits)
         by-last _ _ at-end e follows = let z : _≡_ {A = ℕ} 0 1 = cc in absurd (omega arith)
@@ -100,21 +97,21 @@ pub record Back (separator : ℕ) (message words values output : List ℕ) (rs :
   pub encoded : encodingOf separator (wordsOf (taken .takes .meant)) (valuesOf (taken .takes .meant)) output ≡ left (Written (length message)) left-words left-values (message ++ drop (length message) output)
 
 -- "A clean valid message encodes back to its own bytes"
-pub clean-comes-back : (dictionary : Dictionary) (validate : Bool) (separator : ℕ) (message words values output : List ℕ) → Clean dictionary validate separator message → isRefusedSeparator separator ≡ false
-    → length message ≤ 8192 → length words ≡ 8205 → length values ≡ 8192 → length message ≤ length output → Back separator message words values output (messageRead dictionary validate separator message .records)
-clean-comes-back dictionary validate separator message words values output c separates short whole store room =
+pub clean-comes-back : (dictionary : Dictionary) (config : Config) (message words values output : List ℕ) → Clean dictionary config message → isRefusedSeparator (config .mode .separator) ≡ false
+    → length message ≤ 8192 → length words ≡ 8205 → length values ≡ 8192 → length message ≤ length output → Back (config .mode .separator) message words values output (messageRead dictionary config message .records)
+clean-comes-back dictionary config message words values output c separates short whole store room =
     let r = c .repeat-free in
-    let t = build-taken dictionary validate separator message words values short whole store (r .valid) in
-    let o = repeat-free-order dictionary validate separator message r in
+    let t = build-taken dictionary config message words values short whole store (r .valid) in
+    let o = repeat-free-order dictionary config message r in
     let m = t .takes .meant in
-    let same = clean-text dictionary validate separator message o c in
-    let built = order-built dictionary validate separator message o m (t .takes) refl in
+    let same = clean-text dictionary config message o c in
+    let built = order-built dictionary config message o m (t .takes) refl in
     let size = ap length same in
     record {
       taken = t;
-      left-words = wordsOf (encodedMessage separator m);
-      left-values = valuesOf (encodedMessage separator m);
-      encoded = encoding-written built separator separates output (omega (arith, size)) (omega (arith, size)) ∙ sym (ap (λ (e : List ℕ). left (Written (length e)) (wordsOf (encodedMessage separator m)) (valuesOf (encodedMessage separator m)) (e ++ drop (length e) output)) same);
+      left-words = wordsOf (encodedMessage (config .mode .separator) m);
+      left-values = valuesOf (encodedMessage (config .mode .separator) m);
+      encoded = encoding-written built (config .mode) separates output (omega (arith, size)) (omega (arith, size)) ∙ sym (ap (λ (e : List ℕ). left (Written (length e)) (wordsOf (encodedMessage (config .mode .separator) m)) (valuesOf (encodedMessage (config .mode .separator) m)) (e ++ drop (length e) output)) same);
     }
 
 -- the bytes that the calls of build, take-over and encode make of a message, one after the other
@@ -124,16 +121,16 @@ pub record ComesBack (message : List ℕ) (config : Config) (built : BuildOutcom
   pub left-words : List ℕ
   pub left-values : List ℕ
   pub takes-over : takingOver (built .words) (built .records) message words values ≡ after Made taken-words taken-values
-  pub encodes : encodingOf (config .separator) taken-words taken-values output ≡ left (Written (length message)) left-words left-values (message ++ drop (length message) output)
+  pub encodes : encodingOf (config .mode .separator) taken-words taken-values output ≡ left (Written (length message)) left-words left-values (message ++ drop (length message) output)
 
 -- CLEAN: "For every message, dictionary, separator and setting: if the build answers 0 and the message is clean, taking over what was built and
 -- encoding it answers with the message's own bytes."
 pub clean-message-comes-back : (message : List ℕ) (config : Config) (dictionary : List ℕ) (lent : ℕ) (before words values output : List ℕ) → length words ≡ 8205 → length values ≡ 8192 → length message ≤ length output
-    → buildOf message config dictionary lent before .answer ≡ Valid → Clean (dictionaryOf dictionary) (config .validate) (config .separator) message
+    → buildOf message config dictionary lent before .answer ≡ Valid → Clean (dictionaryOf dictionary) config message
     → ComesBack message config (buildOf message config dictionary lent before) words values output
 clean-message-comes-back message config dictionary lent before words values output whole store room a c =
     let s = build-shown message config dictionary lent before a in
-    let b = clean-comes-back (dictionaryOf dictionary) (config .validate) (config .separator) message words values output c (s .separates) (s .short) whole store room in
+    let b = clean-comes-back (dictionaryOf dictionary) config message words values output c (s .separates) (s .short) whole store room in
     record {
       taken-words = wordsOf (b .taken .takes .meant);
       taken-values = valuesOf (b .taken .takes .meant);

@@ -9,6 +9,7 @@ use native.Mathlib.Omega.{arith}
 use lib.ListN.{length, length-append}
 use lib.Dec.{eqb}
 use borrow.Author.Tests.{eqb-true, eq-eqb}
+use Rattle.build_config.specs.declared.Config.{Config}
 use Rattle.tagvalue.specs.Choice.{pick, pick-same}
 use Rattle.tagvalue.specs.Fields.{Fields, unreadable, field, fieldsFrom}
 use Rattle.tagvalue.specs.declared.Field.{Field}
@@ -125,17 +126,17 @@ trailer-held {tag} (field g more) (suc room) rs stop ts e h = by-tag (eqb (g .ta
     by-tag true q later = let d = stopped-with rs ts g stop q in rw (← d) h
     by-tag false q later = later q
 
-module _ (dictionary : Dictionary) (validate : Bool) (separator : ℕ) (message : List ℕ) (outcome : Outcome) (p : InParts dictionary validate separator message outcome) where
+module _ (dictionary : Dictionary) (config : Config) (message : List ℕ) (outcome : Outcome) (p : InParts dictionary config message outcome) where
   pub length-held : Held 1 9 (outcome .records)
   length-held =
       let v = p .verified in
-      let h = header-held (headerTags dictionary) (fieldsFrom separator message (v .«msg_type» .next)) 1021 (verifiedRecords v) (p .f) (p .rest) (p .room) (p .header) (unfold headerOf in p .header-read) (verified-held v (verified-tags separator message v (p .sound))) in
+      let h = header-held (headerTags dictionary) (fieldsFrom (config .mode) message (v .«msg_type» .next)) 1021 (verifiedRecords v) (p .f) (p .rest) (p .room) (p .header) (unfold headerOf in p .header-read) (verified-held v (verified-tags (config .mode) message v (p .sound))) in
       rw (p .records) (held-left (p .body ++ p .whole-trailer) h)
 
   pub checksum-held : Held 3 10 (outcome .records)
   checksum-held =
       let v = p .verified in
-      let t = trailer-held (field (p .g) (p .more)) (suc (p .room₂)) (recordOf 3 (v .checksum) ∷ []) (outcome .stop) (p .whole-trailer) (p .trailer-read) (held-first (under-field 3 10 (v .checksum) (verified-tags separator message v (p .sound) .sums))) in
+      let t = trailer-held (field (p .g) (p .more)) (suc (p .room₂)) (recordOf 3 (v .checksum) ∷ []) (outcome .stop) (p .whole-trailer) (p .trailer-read) (held-first (under-field 3 10 (v .checksum) (verified-tags (config .mode) message v (p .sound) .sums))) in
       rw (p .records) (held-right (p .header) (held-right (p .body) t))
 
 -- the records that stand for a map are of its part

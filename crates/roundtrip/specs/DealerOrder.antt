@@ -7,16 +7,17 @@ use Prim.Native.Nat.{ℕ, _≤_}
 use native.Mathlib.Omega.{arith}
 use lib.ListN.{length, drop}
 use lib.Dec.{eqb}
+use Rattle.build_config.specs.Settings.{validating}
+use Rattle.tagvalue.specs.Computing.{reading-fields}
 use Rattle.tagvalue.specs.Choice.{pick}
 use Rattle.tagvalue.specs.Text.{bytes}
 use Rattle.tagvalue.specs.Fields.{Fields, unreadable, field}
 use Rattle.tagvalue.specs.Decimal.{decimal}
-use Rattle.tagvalue.specs.Find.{findIn}
-use Rattle.tagvalue.specs.Number.{isDigit, allDigits, worth, numberOf as worthOf, nonZero, tagOf}
+use Rattle.tagvalue.specs.Number.{isDigit, numberOf as worthOf}
 use Rattle.tagvalue.specs.CheckSum.{sumOf, checksumOf, checksumDigits}
 use Rattle.tagvalue.specs.Decimal.{decimalWithin}
-use Rattle.tagvalue.specs.Field.{fieldFrom, fieldAt, valueOf, withEquals, withSeparator, withTag}
-use Rattle.tagvalue.specs.Fields.{followedBy, fieldsWithin, fieldsFrom}
+use Rattle.tagvalue.specs.Field.{startAt, valueOf, separatedBy}
+use Rattle.tagvalue.specs.Fields.{fieldsFrom}
 use Rattle.integrity.specs.Integrity.{integrityOf, begun, counted, summed, typed, lengthIs, lengthAgrees, sumIs, sumAgrees}
 use Rattle.layout.specs.Layout.{followedBy as layoutThen, firstOf, positionFrom, positionIn, groupSince, groupOf}
 use Rattle.layout.specs.Tree.{holdsTag, knows, plainFields, headerTags, trailerTags, flattened, sameBytes, messageOf, layoutOf}
@@ -85,7 +86,7 @@ recordedUnder tag message (r ∷ rs) = pick (eqb (r .tag) tag) (valueAt message 
 
 -- what it is read to
 abbrev pub read : Outcome
-read = messageRead dictionary true 1 sent
+read = messageRead dictionary (validating true) sent
 
 -- it is valid, 38 is stored twice, seven fields are counted and six have records: of `600` and `800`, both read under 38, only `800` is there
 pub record OrderRead : Type 0 where
@@ -94,11 +95,11 @@ pub record OrderRead : Type 0 where
   pub records : read .records ≡ (begin ∷ size ∷ type ∷ []) ++ (ofBody ++ (check ∷ []))
   pub fields-counted : fieldsCounted 1 sent (read .stop) ≡ 7
   pub fields-recorded : length (read .records) ≡ 6
-  pub both-read : readUnder 38 sent (fieldsFrom 1 sent (record { at = 0 })) ≡ bytes "600" ∷ bytes "800" ∷ []
+  pub both-read : readUnder 38 sent (fieldsFrom (separatedBy 1) sent (startAt 0)) ≡ bytes "600" ∷ bytes "800" ∷ []
   pub one-recorded : recordedUnder 38 sent (read .records) ≡ bytes "800" ∷ []
 
 order-read : OrderRead
-unfolding storedTwice twiceFromHeader twiceFromBody twiceInBody twiceWithin twiceTaking twiceBehind twiceInTrailer twiceInHeader fieldsCounted countedFields countedTo readUnder recordedUnder messageRead startOf startedBy headerOf verifiedRecords withChecksum headerFrom afterHeader afterType afterBody afterTrailer msgTypeRecord valueAt trailerFrom recordOf bodyFrom bodyWithin takes nextFrom andThen bodyOf kindOf placedKind groupKind integrityOf begun counted summed typed lengthIs lengthAgrees sumIs sumAgrees fieldAt fieldFrom valueOf withEquals withSeparator withTag findIn tagOf nonZero worthOf isDigit allDigits worth sumOf checksumOf checksumDigits decimalWithin followedBy fieldsWithin fieldsFrom layoutThen positionFrom firstOf positionIn groupSince groupOf holdsTag knows plainFields headerTags trailerTags flattened sameBytes messageOf layoutOf stored accepted layoutRules has layoutDemands openedAs
+unfolding storedTwice twiceFromHeader twiceFromBody twiceInBody twiceWithin twiceTaking twiceBehind twiceInTrailer twiceInHeader fieldsCounted countedFields countedTo readUnder recordedUnder messageRead startOf startedBy headerOf verifiedRecords withChecksum headerFrom afterHeader afterType afterBody afterTrailer msgTypeRecord valueAt trailerFrom recordOf bodyFrom bodyWithin takes nextFrom andThen bodyOf kindOf placedKind groupKind integrityOf begun counted summed typed lengthIs lengthAgrees sumIs sumAgrees worthOf sumOf checksumOf checksumDigits decimalWithin layoutThen positionFrom firstOf positionIn groupSince groupOf holdsTag knows plainFields headerTags trailerTags flattened sameBytes messageOf layoutOf stored accepted layoutRules has layoutDemands openedAs reading-fields
 order-read = record { valid = refl; twice = refl; records = refl; fields-counted = refl; fields-recorded = refl; both-read = refl; one-recorded = refl }
 
 -- the records stand for a message of that shape, whichever take-over made of them

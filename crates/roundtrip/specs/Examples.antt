@@ -5,13 +5,14 @@ use mathlib.Core.List.{List, [], _∷_, _++_, map}
 use Prim.Native.Nat.{ℕ, _-_}
 use lib.ListN.{length}
 use lib.Dec.{eqb}
+use Rattle.build_config.specs.Settings.{validating}
+use Rattle.tagvalue.specs.Computing.{reading-fields}
 use Rattle.tagvalue.specs.Text.{bytes}
-use Rattle.tagvalue.specs.Find.{findIn}
-use Rattle.tagvalue.specs.Number.{isDigit, allDigits, worth, numberOf as worthOf, nonZero, tagOf}
+use Rattle.tagvalue.specs.Number.{numberOf as worthOf}
 use Rattle.tagvalue.specs.CheckSum.{sumOf, checksumOf, checksumDigits}
 use Rattle.tagvalue.specs.Decimal.{decimalWithin}
-use Rattle.tagvalue.specs.Field.{fieldFrom, fieldAt, valueOf, withEquals, withSeparator, withTag}
-use Rattle.tagvalue.specs.Fields.{followedBy, fieldsWithin, fieldsFrom}
+use Rattle.tagvalue.specs.Field.{startAt, separatedBy}
+use Rattle.tagvalue.specs.Fields.{fieldsFrom}
 use Rattle.integrity.specs.Integrity.{integrityOf, begun, counted, summed, typed, lengthIs, lengthAgrees, sumIs, sumAgrees}
 use Rattle.layout.specs.Layout.{followedBy as layoutThen, firstOf, positionFrom, positionIn, groupSince, groupOf, delimiterOf, requiredTags}
 use Rattle.layout.specs.Tree.{holdsTag, knows, plainFields, headerTags, trailerTags, flattened, sameBytes, messageOf, layoutOf}
@@ -26,13 +27,13 @@ use Rattle.parts.specs.Trailer.{trailerFrom}
 use Rattle.body.specs.Body.{behindRun, storedRun, andThen, nextFrom, withRun, takes, bodyWithin, bodyFrom}
 use Rattle.body.specs.Kinds.{groupKind, placedKind, kindOf, checked, ranAs, runFrom, bodyOf}
 use Rattle.reading.specs.Beginning.{verifiedRecords, headerOf, withChecksum, startedBy, startOf, msgTypeRecord, valueAt}
-use Rattle.reading.specs.Message.{Outcome, afterTrailer, afterBody, afterType, afterHeader, messageRead}
+use Rattle.reading.specs.Message.{afterTrailer, afterBody, afterType, afterHeader, messageRead}
 use Rattle.reading.specs.declared.Stop.{Stop}
 use Rattle.reading.specs.declared.Stop.the-variants.{At, Nowhere}
 use Rattle.reading.specs.Examples.{dictionary, closed, order}
 use Rattle.sequence.specs.Twice.{twiceInHeader, twiceInTrailer, twiceMoved, twiceInRun, twiceBehind, twiceTaking, twiceWithin, twiceInBody, twiceFromBody, twiceFromHeader, storedTwice}
 use Rattle.rewriting.specs.Plain.{isPlain, plainTags, plainLength, threeDigits}
-use Rattle.roundtrip.specs.Clean.{RepeatFree, Clean}
+use Rattle.roundtrip.specs.Clean.{Clean}
 
 -- a tag stored twice; plain tags; a plain BodyLength; a CheckSum of three digits; the trailer stops at length minus 7
 abbrev Tests : Type 0
@@ -40,11 +41,11 @@ Tests = Bool × Bool × Bool × Bool × Bool
 
 abbrev testsAt : List ℕ → Stop → Tests
 testsAt message (At f) =
-    (storedTwice dictionary true 1 message, plainTags message (f .first) (fieldsFrom 1 message (record { at = 0 })), plainLength message (fieldsFrom 1 message (record { at = 0 })), threeDigits message f, eqb (f .first) (length message - 7))
-testsAt message Nowhere = (storedTwice dictionary true 1 message, true, plainLength message (fieldsFrom 1 message (record { at = 0 })), false, false)
+    (storedTwice dictionary (validating true) message, plainTags message (f .first) (fieldsFrom (separatedBy 1) message (startAt 0)), plainLength message (fieldsFrom (separatedBy 1) message (startAt 0)), threeDigits message f, eqb (f .first) (length message - 7))
+testsAt message Nowhere = (storedTwice dictionary (validating true) message, true, plainLength message (fieldsFrom (separatedBy 1) message (startAt 0)), false, false)
 
 abbrev tests : List ℕ → Tests
-tests message = testsAt message (messageRead dictionary true 1 message .stop)
+tests message = testsAt message (messageRead dictionary (validating true) message .stop)
 
 abbrev heartbeat : List ℕ
 heartbeat = bytes "8=FIX.4.4|9=5|35=0|10=163|"
@@ -67,16 +68,16 @@ table =
     ∷ []
 
 pub tests-hold : map (λ (row : Row). tests (row .0)) table ≡ map (λ (row : Row). row .1) table
-unfolding storedTwice twiceFromHeader twiceFromBody twiceInBody twiceWithin twiceTaking twiceBehind twiceInRun twiceMoved twiceInTrailer twiceInHeader isPlain plainTags plainLength threeDigits messageRead startOf startedBy headerOf verifiedRecords withChecksum headerFrom afterHeader afterType afterBody afterTrailer msgTypeRecord valueAt trailerFrom recordOf bodyFrom bodyWithin takes withRun nextFrom andThen storedRun behindRun bodyOf runFrom ranAs checked kindOf placedKind groupKind integrityOf begun counted summed typed lengthIs lengthAgrees sumIs sumAgrees fieldAt fieldFrom valueOf withEquals withSeparator withTag findIn tagOf nonZero worthOf isDigit allDigits worth sumOf checksumOf checksumDigits decimalWithin followedBy fieldsWithin fieldsFrom layoutThen positionFrom firstOf positionIn groupSince groupOf delimiterOf requiredTags holdsTag knows plainFields headerTags trailerTags flattened sameBytes messageOf layoutOf stored isDelimiter counting opens declared entryKind inEntry decide entryRecord moved walk accepted openedAs layoutRules joinedList listStore orElse has fieldsLack before shallow runLacks nestedLack entriesLack opensEntry entryLack runLack layoutDemands
+unfolding storedTwice twiceFromHeader twiceFromBody twiceInBody twiceWithin twiceTaking twiceBehind twiceInRun twiceMoved twiceInTrailer twiceInHeader isPlain plainTags plainLength threeDigits messageRead startOf startedBy headerOf verifiedRecords withChecksum headerFrom afterHeader afterType afterBody afterTrailer msgTypeRecord valueAt trailerFrom recordOf bodyFrom bodyWithin takes withRun nextFrom andThen storedRun behindRun bodyOf runFrom ranAs checked kindOf placedKind groupKind integrityOf begun counted summed typed lengthIs lengthAgrees sumIs sumAgrees worthOf sumOf checksumOf checksumDigits decimalWithin layoutThen positionFrom firstOf positionIn groupSince groupOf delimiterOf requiredTags holdsTag knows plainFields headerTags trailerTags flattened sameBytes messageOf layoutOf stored isDelimiter counting opens declared entryKind inEntry decide entryRecord moved walk accepted openedAs layoutRules joinedList listStore orElse has fieldsLack before shallow runLacks nestedLack entriesLack opensEntry entryLack runLack layoutDemands reading-fields
 tests-hold = refl
 
 -- P1 is clean
 pub heartbeat-clean : Clean dictionary true 1 heartbeat
-unfolding storedTwice twiceFromHeader twiceFromBody twiceInBody twiceWithin twiceTaking twiceBehind twiceInRun twiceMoved twiceInTrailer twiceInHeader isPlain plainTags plainLength threeDigits messageRead startOf startedBy headerOf verifiedRecords withChecksum headerFrom afterHeader afterType afterBody afterTrailer msgTypeRecord valueAt trailerFrom recordOf bodyFrom bodyWithin takes withRun nextFrom andThen storedRun behindRun bodyOf runFrom ranAs checked kindOf placedKind groupKind integrityOf begun counted summed typed lengthIs lengthAgrees sumIs sumAgrees fieldAt fieldFrom valueOf withEquals withSeparator withTag findIn tagOf nonZero worthOf isDigit allDigits worth sumOf checksumOf checksumDigits decimalWithin followedBy fieldsWithin fieldsFrom layoutThen positionFrom firstOf positionIn groupSince groupOf delimiterOf requiredTags holdsTag knows plainFields headerTags trailerTags flattened sameBytes messageOf layoutOf stored isDelimiter counting opens declared entryKind inEntry decide entryRecord moved walk accepted openedAs layoutRules joinedList listStore orElse has fieldsLack before shallow runLacks nestedLack entriesLack opensEntry entryLack runLack layoutDemands
+unfolding storedTwice twiceFromHeader twiceFromBody twiceInBody twiceWithin twiceTaking twiceBehind twiceInRun twiceMoved twiceInTrailer twiceInHeader isPlain plainTags plainLength threeDigits messageRead startOf startedBy headerOf verifiedRecords withChecksum headerFrom afterHeader afterType afterBody afterTrailer msgTypeRecord valueAt trailerFrom recordOf bodyFrom bodyWithin takes withRun nextFrom andThen storedRun behindRun bodyOf runFrom ranAs checked kindOf placedKind groupKind integrityOf begun counted summed typed lengthIs lengthAgrees sumIs sumAgrees worthOf sumOf checksumOf checksumDigits decimalWithin layoutThen positionFrom firstOf positionIn groupSince groupOf delimiterOf requiredTags holdsTag knows plainFields headerTags trailerTags flattened sameBytes messageOf layoutOf stored isDelimiter counting opens declared entryKind inEntry decide entryRecord moved walk accepted openedAs layoutRules joinedList listStore orElse has fieldsLack before shallow runLacks nestedLack entriesLack opensEntry entryLack runLack layoutDemands reading-fields
 heartbeat-clean =
     record {
       repeat-free = record { valid = refl; holds-begin-string = refl; holds-body-length = refl; holds-msg-type = refl; none-twice = refl };
-      stop = record { first = 19; tag = 10; place = 22; length = 3; next = record { at = 26 } };
+      stop = record { first = 19; tag = 10; place = 22; length = 3; next = startAt 26 };
       stops = refl;
       at-checksum = refl;
       tags-plain = refl;

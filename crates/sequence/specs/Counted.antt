@@ -2,9 +2,10 @@
 use Prim.Native.Nat.{ℕ, suc}
 use mathlib.Core.List.{List}
 use lib.Dec.{eqb}
+use Rattle.tagvalue.specs.declared.Mode.{Mode}
+use Rattle.tagvalue.specs.Field.{startAt}
 use Rattle.tagvalue.specs.Choice.{pick}
 use Rattle.tagvalue.specs.Fields.{Fields, unreadable, field, fieldsFrom}
-use Rattle.tagvalue.specs.declared.Field.{Field}
 use Rattle.reading.specs.declared.Stop.{Stop}
 use Rattle.reading.specs.declared.Stop.the-variants.{At, Nowhere}
 
@@ -23,8 +24,8 @@ countedFields (At stop) fields = countedTo (stop .first) fields
 countedFields Nowhere fields = countedAll fields
 
 -- of a whole message
-unfoldable pub fieldsCounted : ℕ → List ℕ → Stop → ℕ
-fieldsCounted separator message stop = countedFields stop (fieldsFrom separator message (record { at = 0 }))
+unfoldable pub fieldsCounted : Mode → List ℕ → Stop → ℕ
+fieldsCounted mode message stop = countedFields stop (fieldsFrom mode message (startAt 0))
 
 -- how many fields the trailer takes: those before the first tag 10
 unfoldable pub trailerFields : Fields → ℕ

@@ -5,14 +5,13 @@ use mathlib.Core.List.{List}
 use Prim.Native.Nat.{ℕ, zero, suc, _≤_}
 use native.Mathlib.Omega.{arith}
 use borrow.Author.Tests.{eq-eqb, ne-eqb}
-use Rattle.tagvalue.specs.Field.{fieldAt}
-use Rattle.tagvalue.specs.Fields.{Fields, unreadable, field, followedBy, fieldsWithin, fieldsFrom}
-use Rattle.tagvalue.specs.FieldsLaws.{step-lies}
+use Rattle.tagvalue.specs.declared.Mode.{Mode}
+use Rattle.tagvalue.specs.Field.{startAt}
+use Rattle.tagvalue.specs.Fields.{Fields, unreadable, field, fieldsFrom}
+use Rattle.tagvalue.specs.FieldsLaws.{step-lies, by-fields}
 use Rattle.tagvalue.specs.declared.Cause.{Cause}
 use Rattle.tagvalue.specs.declared.Cursor.{Cursor}
 use Rattle.tagvalue.specs.declared.Field.{Field}
-use Rattle.tagvalue.specs.declared.FieldRead.{FieldRead}
-use Rattle.tagvalue.specs.declared.FieldRead.the-variants.{Read, Unreadable}
 use Rattle.reading.specs.declared.Stop.{Stop}
 use Rattle.sequence.specs.Counted.{countedTo, countedAll, countedFields, fieldsCounted}
 use Rattle.sequence.specs.Follows.{Reaches, here, further}
@@ -27,18 +26,10 @@ rising-from : {place before : ℕ} {fields : Fields} → before ≤ place → Ri
 rising-from h rising-end = rising-end
 rising-from {place} {before} h (rising-field {f = f} p r) = rising-field {place = before} {f = f} (omega arith) r
 
-within-rising : (separator : ℕ) (message : List ℕ) (fuel : ℕ) (c : Cursor) → Rising (c .at) (fieldsWithin fuel separator message c)
-unfolding fieldsWithin
-within-rising separator message zero c = rising-end
-within-rising separator message (suc fuel) c = go (fieldAt separator message c) refl (λ f. within-rising separator message fuel (f .next))
-  where
-    go : (r : FieldRead) → fieldAt separator message c ≡ r → ((f : Field) → Rising (f .next .at) (fieldsWithin fuel separator message (f .next))) → Rising (c .at) (followedBy r (λ f. fieldsWithin fuel separator message (f .next)))
-    go (Unreadable cause place) e later = unfold followedBy in rising-end
-    go (Read f) e later = let l = step-lies separator message c f e in unfold followedBy in rising-field {place = c .at} {f = f} (omega (arith, l .starts)) (rising-from (omega (arith, l .starts, l .falls)) (later f))
-
-fields-rising : (separator : ℕ) (message : List ℕ) (c : Cursor) → Rising (c .at) (fieldsFrom separator message c)
-unfolding fieldsFrom
-fields-rising separator message c = within-rising separator message _ c
+fields-rising : (mode : Mode) (message : List ℕ) (c : Cursor) → Rising (c .at) (fieldsFrom mode message c)
+fields-rising mode message =
+    by-fields mode message (λ c fields. Rising (c .at) fields) (λ c cause place e. rising-end)
+    (λ c f e later. let l = step-lies mode message c f e in rising-field {place = c .at} {f = f} (omega (arith, l .starts)) (rising-from (omega (arith, l .starts, l .falls)) later))
 
 reached-behind : {place n : ℕ} {fields rest : Fields} {f : Field} → Rising place fields → Reaches fields n (field f rest) → place ≤ f .first
 reached-behind (rising-field p r) here = p
@@ -55,7 +46,7 @@ counted-all here = refl
 counted-all (further a) = ap suc (counted-all a)
 
 -- "Counted are the fields read in sequence, the 10 that stops the trailer included; where none stops it, the verified 10 counts last."
-pub counted-read : (separator : ℕ) (message : List ℕ) {n : ℕ} {stop : Stop} {last : Fields} → Reaches (fieldsFrom separator message (record { at = 0 })) n last → Last stop last → fieldsCounted separator message stop ≡ suc n
+pub counted-read : (mode : Mode) (message : List ℕ) {n : ℕ} {stop : Stop} {last : Fields} → Reaches (fieldsFrom mode message (startAt 0)) n last → Last stop last → fieldsCounted mode message stop ≡ suc n
 unfolding fieldsCounted countedFields
-counted-read separator message r (at-stop ten) = counted-to (fields-rising separator message (record { at = 0 })) r
-counted-read separator message r at-end = counted-all r
+counted-read mode message r (at-stop ten) = counted-to (fields-rising mode message (startAt 0)) r
+counted-read mode message r at-end = counted-all r

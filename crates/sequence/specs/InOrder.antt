@@ -6,6 +6,8 @@ use mathlib.Core.List.{List, [], _∷_, _++_}
 use Prim.Native.Nat.{ℕ, suc, _+_, _≤_}
 use native.Mathlib.Omega.{arith}
 use lib.ListN.{length, length-append}
+use Rattle.build_config.specs.declared.Config.{Config}
+use Rattle.tagvalue.specs.Field.{startAt}
 use Rattle.tagvalue.specs.Fields.{Fields, field, fieldsFrom}
 use Rattle.integrity.specs.VerifiedLaws.{verified-read}
 use Rattle.integrity.specs.declared.Verified.{Verified}
@@ -51,24 +53,24 @@ verified-own : (v : Verified) → All (Own 0 0) (verifiedRecords v)
 unfolding verifiedRecords
 verified-own v = all-stored _ _ (own-field 1 (v .«msg_type»)) (all-stored _ _ (own-field 1 (v .«body_length»)) (all-stored _ _ (own-field 1 (v .«begin_string»)) all-none))
 
-module _ (dictionary : Dictionary) (validate : Bool) (separator : ℕ) (message : List ℕ) where
+module _ (dictionary : Dictionary) (config : Config) (message : List ℕ) where
   -- how much was read and stored of a message in parts, from its start on
-  pub record Sizes (outcome : Outcome) (p : InParts dictionary validate separator message outcome) : Type 0 where
-    from-verified : Stores 1 (fieldsFrom separator message (p .verified .«msg_type» .next)) 1021 (verifiedRecords (p .verified)) (field (p .f) (p .rest)) (suc (p .room)) (p .header)
-    pub of-header : Stores 1 (fieldsFrom separator message (record { at = 0 })) 1024 [] (field (p .f) (p .rest)) (suc (p .room)) (p .header)
+  pub record Sizes (outcome : Outcome) (p : InParts dictionary config message outcome) : Type 0 where
+    from-verified : Stores 1 (fieldsFrom (config .mode) message (p .verified .«msg_type» .next)) 1021 (verifiedRecords (p .verified)) (field (p .f) (p .rest)) (suc (p .room)) (p .header)
+    pub of-header : Stores 1 (fieldsFrom (config .mode) message (startAt 0)) 1024 [] (field (p .f) (p .rest)) (suc (p .room)) (p .header)
     verified-few : length (verifiedRecords (p .verified)) ≤ 3
     pub of-body : Stores 2 (field (p .f) (p .rest)) (suc (p .room)) [] (field (p .g) (p .more)) (suc (p .room₂)) (p .body)
     pub of-trailer : TrailerStores (field (p .g) (p .more)) (suc (p .room₂)) (recordOf 3 (p .verified .checksum) ∷ []) (outcome .stop) (p .whole-trailer)
-    pub counted : fieldsCounted separator message (outcome .stop) ≡ suc (of-header .read + (of-body .read + of-trailer .stores .read))
+    pub counted : fieldsCounted (config .mode) message (outcome .stop) ≡ suc (of-header .read + (of-body .read + of-trailer .stores .read))
     pub size : length (outcome .records) ≡ length (p .header) + (length (p .body) + length (p .whole-trailer))
 
-  pub sizes : (outcome : Outcome) (p : InParts dictionary validate separator message outcome) → Sizes outcome p
+  pub sizes : (outcome : Outcome) (p : InParts dictionary config message outcome) → Sizes outcome p
   sizes outcome p =
       let v = p .verified in
-      let w = verified-stores separator message v (verified-read separator message v (p .sound)) in
-      let h = header-stores (headerTags dictionary) (fieldsFrom separator message (v .«msg_type» .next)) 1021 (verifiedRecords v) (p .f) (p .rest) (p .room) (p .header) (unfold headerOf in p .header-read) in
+      let w = verified-stores (config .mode) message v (verified-read (config .mode) message v (p .sound)) in
+      let h = header-stores (headerTags dictionary) (fieldsFrom (config .mode) message (v .«msg_type» .next)) 1021 (verifiedRecords v) (p .f) (p .rest) (p .room) (p .header) (unfold headerOf in p .header-read) in
       let a = stores-then w h in
-      let b = body-stores (layoutRules (accepted validate (knows dictionary))) layoutDemands (trailerTags dictionary) (p .layout) (field (p .f) (p .rest)) (suc (p .room)) [] (p .g) (p .more) (p .room₂) (p .body) (p .body-read) in
+      let b = body-stores (layoutRules (accepted config (knows dictionary))) layoutDemands (trailerTags dictionary) (p .layout) (field (p .f) (p .rest)) (suc (p .room)) [] (p .g) (p .more) (p .room₂) (p .body) (p .body-read) in
       let c = trailer-stores (field (p .g) (p .more)) (suc (p .room₂)) (recordOf 3 (v .checksum) ∷ []) (outcome .stop) (p .whole-trailer) (p .trailer-read) in
       record {
         from-verified = h;
@@ -76,29 +78,29 @@ module _ (dictionary : Dictionary) (validate : Bool) (separator : ℕ) (message 
         verified-few = omega (arith, w .at-most, w .room-is);
         of-body = b;
         of-trailer = c;
-        counted = counted-read separator message (reaches-then (a .reaches) (reaches-then (b .reaches) (c .stores .reaches))) (c .is-last);
+        counted = counted-read (config .mode) message (reaches-then (a .reaches) (reaches-then (b .reaches) (c .stores .reaches))) (c .is-last);
         size = ap length (p .records) ∙ length-append (p .header) (p .body ++ p .whole-trailer) ∙ ap (λ (n : ℕ). length (p .header) + n) (length-append (p .body) (p .whole-trailer));
       }
 
   -- a field makes one record at the most
-  pub never-more : messageRead dictionary validate separator message .answer ≡ Valid → length (messageRead dictionary validate separator message .records) ≤ fieldsCounted separator message (messageRead dictionary validate separator message .stop)
+  pub never-more : messageRead dictionary config message .answer ≡ Valid → length (messageRead dictionary config message .records) ≤ fieldsCounted (config .mode) message (messageRead dictionary config message .stop)
   never-more a =
-      let s = sizes _ (in-parts dictionary validate separator message a) in
+      let s = sizes _ (in-parts dictionary config message a) in
       omega (arith, s .counted, s .size, s .of-header .at-most, s .of-body .at-most, s .of-trailer .stores .at-most)
 
   -- a message in parts with its records in the order of reading; the trailer is that behind the verified CheckSum
   pub record InOrder : Type 0 where
-    pub parts : InParts dictionary validate separator message (messageRead dictionary validate separator message)
+    pub parts : InParts dictionary config message (messageRead dictionary config message)
     pub others : List Record
     pub trailer : List Record
     pub last : Fields
-    pub is-last : Last (messageRead dictionary validate separator message .stop) last
+    pub is-last : Last (messageRead dictionary config message .stop) last
     pub header-starts : parts .header ≡ recordOf 1 (parts .verified .«begin_string») ∷ recordOf 1 (parts .verified .«body_length») ∷ recordOf 1 (parts .verified .«msg_type») ∷ others
     pub trailer-starts : parts .whole-trailer ≡ recordOf 3 (parts .verified .checksum) ∷ trailer
-    pub trailer-read : trailerFrom (field (parts .g) (parts .more)) (suc (parts .room₂)) (recordOf 3 (parts .verified .checksum) ∷ []) ≡ trailerAt (messageRead dictionary validate separator message .stop) (recordOf 3 (parts .verified .checksum) ∷ trailer)
-    pub records : messageRead dictionary validate separator message .records ≡ parts .header ++ (parts .body ++ (recordOf 3 (parts .verified .checksum) ∷ trailer))
-    pub header-follows : Follows 1 (fieldsFrom separator message (record { at = 0 })) (parts .header) (field (parts .f) (parts .rest))
-    pub others-follow : Follows 1 (fieldsFrom separator message (parts .verified .«msg_type» .next)) others (field (parts .f) (parts .rest))
+    pub trailer-read : trailerFrom (field (parts .g) (parts .more)) (suc (parts .room₂)) (recordOf 3 (parts .verified .checksum) ∷ []) ≡ trailerAt (messageRead dictionary config message .stop) (recordOf 3 (parts .verified .checksum) ∷ trailer)
+    pub records : messageRead dictionary config message .records ≡ parts .header ++ (parts .body ++ (recordOf 3 (parts .verified .checksum) ∷ trailer))
+    pub header-follows : Follows 1 (fieldsFrom (config .mode) message (startAt 0)) (parts .header) (field (parts .f) (parts .rest))
+    pub others-follow : Follows 1 (fieldsFrom (config .mode) message (parts .verified .«msg_type» .next)) others (field (parts .f) (parts .rest))
     pub others-room : length others + suc (parts .room) ≡ 1021
     pub body-follows : Follows 2 (field (parts .f) (parts .rest)) (parts .body) (field (parts .g) (parts .more))
     pub body-room : length (parts .body) + suc (parts .room₂) ≡ suc (parts .room)
@@ -108,14 +110,14 @@ module _ (dictionary : Dictionary) (validate : Bool) (separator : ℕ) (message 
     pub trailer-own : All (Own 0 0) trailer
 
   -- where there are as many records as fields, so there are in each part
-  record Full (outcome : Outcome) (p : InParts dictionary validate separator message outcome) (s : Sizes outcome p) : Type 0 where
+  record Full (outcome : Outcome) (p : InParts dictionary config message outcome) (s : Sizes outcome p) : Type 0 where
     header : length (p .header) ≡ s .of-header .read
     verified : length (verifiedRecords (p .verified)) ≡ 3
     behind : length (p .header) ≡ length (verifiedRecords (p .verified)) + s .from-verified .read
     body : length (p .body) ≡ s .of-body .read
     trailer : length (p .whole-trailer) ≡ suc (s .of-trailer .stores .read)
 
-  full : (outcome : Outcome) (p : InParts dictionary validate separator message outcome) (s : Sizes outcome p) → length (outcome .records) ≡ fieldsCounted separator message (outcome .stop) → Full outcome p s
+  full : (outcome : Outcome) (p : InParts dictionary config message outcome) (s : Sizes outcome p) → length (outcome .records) ≡ fieldsCounted (config .mode) message (outcome .stop) → Full outcome p s
   full outcome p s e =
       let c = s .counted in
       let n = s .size in
@@ -134,7 +136,7 @@ module _ (dictionary : Dictionary) (validate : Bool) (separator : ℕ) (message 
         trailer = omega (arith, c, n, h, b, t, e);
       }
 
-  in-order-of : (p : InParts dictionary validate separator message (messageRead dictionary validate separator message)) (s : Sizes (messageRead dictionary validate separator message) p) → Full (messageRead dictionary validate separator message) p s → InOrder
+  in-order-of : (p : InParts dictionary config message (messageRead dictionary config message)) (s : Sizes (messageRead dictionary config message) p) → Full (messageRead dictionary config message) p s → InOrder
   in-order-of p s e =
       let v = p .verified in
       let check = recordOf 3 (v .checksum) in
@@ -161,7 +163,7 @@ module _ (dictionary : Dictionary) (validate : Bool) (separator : ℕ) (message 
         body-room = omega (arith, e .body, s .of-body .room-is);
         trailer-follows = t .follows;
         trailer-count = omega (arith, ap length same, e .trailer, s .of-trailer .counted);
-        header-own = header-own (headerTags dictionary) (fieldsFrom separator message (v .«msg_type» .next)) 1021 (verifiedRecords v) (p .f) (p .rest) (p .room) (p .header) (unfold headerOf in p .header-read) (verified-own v);
+        header-own = header-own (headerTags dictionary) (fieldsFrom (config .mode) message (v .«msg_type» .next)) 1021 (verifiedRecords v) (p .f) (p .rest) (p .room) (p .header) (unfold headerOf in p .header-read) (verified-own v);
         trailer-own = all-rest (rw same at own);
       }
     where
@@ -169,8 +171,8 @@ module _ (dictionary : Dictionary) (validate : Bool) (separator : ℕ) (message 
       followed q a = rw q a
 
   -- "no tag stored twice in one map": the records stand in the order of reading
-  pub in-order : messageRead dictionary validate separator message .answer ≡ Valid → length (messageRead dictionary validate separator message .records) ≡ fieldsCounted separator message (messageRead dictionary validate separator message .stop) → InOrder
+  pub in-order : messageRead dictionary config message .answer ≡ Valid → length (messageRead dictionary config message .records) ≡ fieldsCounted (config .mode) message (messageRead dictionary config message .stop) → InOrder
   in-order a e =
-      let p = in-parts dictionary validate separator message a in
+      let p = in-parts dictionary config message a in
       let s = sizes _ p in
       in-order-of p s (full _ p s e)

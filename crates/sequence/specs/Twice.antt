@@ -5,6 +5,7 @@ use mathlib.Core.List.{List, [], _∷_, _++_}
 use mathlib.Core.Bool.{Bool, true, false}
 use lib.ListN.{length, drop}
 use lib.Dec.{eqb}
+use Rattle.build_config.specs.declared.Config.{Config}
 use Rattle.tagvalue.specs.Choice.{pick}
 use Rattle.tagvalue.specs.Fields.{Fields, unreadable, field, fieldsFrom}
 use Rattle.tagvalue.specs.declared.Field.{Field}
@@ -76,21 +77,21 @@ module _ {L : Type 0} (rules : Rules L) (body : Body L) where
 unfoldable pub twiceInBody : {L : Type 0} → Rules L → Demands L → List ℕ → L → Fields → ℕ → List Record → Bool
 twiceInBody rules demands tags level fields room records = twiceWithin rules (bodyOf rules demands tags level) (suc room) fields room records
 
-module _ (dictionary : Dictionary) (validate : Bool) (separator : ℕ) (message : List ℕ) where
+module _ (dictionary : Dictionary) (config : Config) (message : List ℕ) where
   -- in the body of a message with a layout, or in the trailer behind it: "The verified CheckSum stands first in the trailer."
   unfoldable pub twiceFromBody : Field → Fields → ℕ → Choice → Bool
   twiceFromBody checksum fields room noMessage = false
   twiceFromBody checksum fields room (laidOut layout) =
-      pick (twiceInBody (layoutRules (accepted validate (knows dictionary))) layoutDemands (trailerTags dictionary) layout fields room []) true
-      (twiceBehind (bodyFrom (bodyOf (layoutRules (accepted validate (knows dictionary))) layoutDemands (trailerTags dictionary) layout) fields room []) (λ behind left body. twiceInTrailer behind (recordOf 3 checksum ∷ [])))
+      pick (twiceInBody (layoutRules (accepted config (knows dictionary))) layoutDemands (trailerTags dictionary) layout fields room []) true
+      (twiceBehind (bodyFrom (bodyOf (layoutRules (accepted config (knows dictionary))) layoutDemands (trailerTags dictionary) layout) fields room []) (λ behind left body. twiceInTrailer behind (recordOf 3 checksum ∷ [])))
 
   -- in the header, where the three verified fields stand first, each with a tag of its own; or behind it
   unfoldable pub twiceFromHeader : Integrity → Bool
   twiceFromHeader (Garbled reason) = false
   twiceFromHeader (Sound v) =
-      pick (twiceInHeader (headerTags dictionary) (fieldsFrom separator message (v .«msg_type» .next)) (verifiedRecords v)) true
-      (twiceBehind (headerOf (headerTags dictionary) separator message v) (λ behind left header. twiceFromBody (v .checksum) behind left (layoutOf dictionary (valueAt message (msgTypeRecord header)))))
+      pick (twiceInHeader (headerTags dictionary) (fieldsFrom (config .mode) message (v .«msg_type» .next)) (verifiedRecords v)) true
+      (twiceBehind (headerOf (headerTags dictionary) config message v) (λ behind left header. twiceFromBody (v .checksum) behind left (layoutOf dictionary (valueAt message (msgTypeRecord header)))))
 
   -- "no tag stored twice in one map", for the fields of a message as far as it is read
   unfoldable pub storedTwice : Bool
-  storedTwice = twiceFromHeader (integrityOf separator message)
+  storedTwice = twiceFromHeader (integrityOf (config .mode) message)

@@ -7,6 +7,7 @@ use Prim.Native.Nat.{ℕ}
 use native.Mathlib.Omega.{arith}
 use lib.Dec.{eqb}
 use borrow.Author.Tests.{eqb-true}
+use Rattle.tagvalue.specs.declared.Mode.{Mode}
 use Rattle.tagvalue.specs.Choice.{pick}
 use Rattle.integrity.specs.Integrity.{integrityOf, begun, counted, summed, typed, lengthAgrees, sumAgrees}
 use Rattle.integrity.specs.VerifiedLaws.{verified-read}
@@ -33,10 +34,10 @@ passes : (b : Bool) (on : Integrity) (reason : GarbledReason) (v : Verified) →
 passes true on reason v e = (refl, e)
 passes false on reason v e = let z : _≡_ {A = ℕ} 0 1 = cc in absurd (omega arith)
 
-pub verified-checked : (separator : ℕ) (message : List ℕ) (v : Verified) → integrityOf separator message ≡ Sound v → Checked message v
+pub verified-checked : (mode : Mode) (message : List ℕ) (v : Verified) → integrityOf mode message ≡ Sound v → Checked message v
 unfolding integrityOf begun counted summed typed
-verified-checked separator message v e =
-    let r = verified-read separator message v e in
+verified-checked mode message v e =
+    let r = verified-read mode message v e in
     let eight = passes (eqb (v .«begin_string» .tag) 8) _ InvalidBeginString v (rw (r .begins) at e) in
     let nine = passes (eqb (v .«body_length» .tag) 9) _ InvalidBodyLength v (rw (r .counts) at (eight .1)) in
     let long = passes (lengthAgrees message (v .«body_length»)) _ InvalidBodyLength v (nine .1) in
@@ -49,5 +50,5 @@ verified-checked separator message v e =
       sum-right = sum .0;
     }
 
-pub verified-tags : (separator : ℕ) (message : List ℕ) (v : Verified) → integrityOf separator message ≡ Sound v → VerifiedTags v
-verified-tags separator message v e = verified-checked separator message v e .tags
+pub verified-tags : (mode : Mode) (message : List ℕ) (v : Verified) → integrityOf mode message ≡ Sound v → VerifiedTags v
+verified-tags mode message v e = verified-checked mode message v e .tags

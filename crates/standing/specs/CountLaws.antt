@@ -6,22 +6,18 @@ use Prim.Native.Nat.{ℕ, zero, suc, _+_, _-_, _≤_}
 use native.Mathlib.Omega.{arith}
 use lib.ListN.{length, take, drop, length-append, take-append-drop}
 use lib.Dec.{eqb}
+use Rattle.tagvalue.specs.SpelledLaws.{step-tag}
+use Rattle.tagvalue.specs.declared.Mode.{Mode}
 use Rattle.tagvalue.specs.Choice.{pick}
-use Rattle.tagvalue.specs.Number.{numberOf, nonZero, tagOf}
 use Rattle.tagvalue.specs.Field.{fieldAt}
-use Rattle.tagvalue.specs.FieldTextLaws.{read-spelled}
-use Rattle.tagvalue.specs.FieldsLaws.{step-lies}
-use Rattle.tagvalue.specs.Fields.{Fields, field, followedBy, fieldsWithin, fieldsFrom}
+use Rattle.tagvalue.specs.FieldsLaws.{step-lies, by-fields, step-inside, each-read}
+use Rattle.tagvalue.specs.Fields.{Fields, field, fieldsFrom, Each, each-field}
 use Rattle.tagvalue.specs.declared.Cursor.{Cursor}
 use Rattle.tagvalue.specs.declared.Field.{Field}
-use Rattle.tagvalue.specs.declared.FieldRead.{FieldRead}
-use Rattle.tagvalue.specs.declared.FieldRead.the-variants.{Read, Unreadable}
-use Rattle.tagvalue.specs.declared.Number.{Number}
-use Rattle.tagvalue.specs.declared.Number.the-variants.{Worth, NoNumber}
+use Rattle.tagvalue.specs.declared.FieldRead.the-variants.{Read}
 use borrow.Author.Tests.{eqb-false}
 use Rattle.records.specs.Records.{stored}
 use Rattle.records.specs.declared.Record.{Record}
-use Rattle.groups.specs.GroupLaws.{Each, each-end, each-field}
 use Rattle.groups.specs.Reading.{joinedList}
 use Rattle.nesting.specs.Entries.{all-none, all-more, all-append, all-stored}
 use Rattle.standing.specs.ShapeLaws.{all-left, all-right}
@@ -100,45 +96,15 @@ counts-on {message} {part} r c o g =
     }
 
 -- the fields of a message are fine, and take no more bytes than there are
-not-zero : (n : Number) (t : ℕ) → nonZero n ≡ Worth t → t ≡ 0 → ⊥
-unfolding nonZero
-not-zero NoNumber t e z = let y : _≡_ {A = ℕ} 0 1 = cc in omega arith
-not-zero (Worth m) t e z = by-test (eqb m 0) refl e
-  where
-    by-test : (b : Bool) → eqb m 0 ≡ b → pick b NoNumber (Worth m) ≡ Worth t → ⊥
-    by-test true p e = let y : _≡_ {A = ℕ} 0 1 = cc in omega arith
-    by-test false p e = let y : m ≡ t = cc in eqb-false m 0 p (y ∙ z)
+module _ (mode : Mode) (message : List ℕ) where
+  pub read-fine : (c : Cursor) (f : Field) → fieldAt mode message c ≡ Read f → Fine message f
+  read-fine c f e = record { some = step-tag mode message c f e; inside = step-inside mode message c f e .within }
 
-module _ (separator : ℕ) (message : List ℕ) where
-  pub read-fine : (c : Cursor) (f : Field) → fieldAt separator message c ≡ Read f → Fine message f
-  unfolding fieldAt tagOf
-  read-fine c f e =
-      let l = step-lies separator message c f e in
-      let s = read-spelled separator (c .at) (drop (c .at) message) f e in
-      record { some = not-zero (numberOf (s .text)) (f .tag) (s .is-tag); inside = omega (arith, l .ends, l .within, l .falls, l .value-after) }
+  pub all-fine : (c : Cursor) → Each (Fine message) (fieldsFrom mode message c)
+  all-fine = each-read mode message (Fine message) read-fine
 
-  within-fine : (fuel : ℕ) (c : Cursor) → Each (Fine message) (fieldsWithin fuel separator message c)
-  unfolding fieldsWithin
-  within-fine zero c = each-end
-  within-fine (suc fuel) c = go (fieldAt separator message c) refl (λ f. within-fine fuel (f .next))
-    where
-      go : (r : FieldRead) → fieldAt separator message c ≡ r → ((f : Field) → Each (Fine message) (fieldsWithin fuel separator message (f .next))) → Each (Fine message) (followedBy r (λ f. fieldsWithin fuel separator message (f .next)))
-      go (Unreadable cause place) e later = unfold followedBy in each-end
-      go (Read f) e later = unfold followedBy in each-field (read-fine c f e) (later f)
-
-  within-budget : (fuel : ℕ) (c : Cursor) → budget (fieldsWithin fuel separator message c) ≤ length message - c .at
-  unfolding fieldsWithin budget
-  within-budget zero c = omega arith
-  within-budget (suc fuel) c = go (fieldAt separator message c) refl (λ f. within-budget fuel (f .next))
-    where
-      go : (r : FieldRead) → fieldAt separator message c ≡ r → ((f : Field) → budget (fieldsWithin fuel separator message (f .next)) ≤ length message - f .next .at) → budget (followedBy r (λ f. fieldsWithin fuel separator message (f .next))) ≤ length message - c .at
-      go (Unreadable cause place) e later = unfold followedBy in omega arith
-      go (Read f) e later = let l = step-lies separator message c f e in unfold followedBy in omega (arith, l .ends, l .within, l .falls, l .value-after, later f)
-
-  pub all-fine : (c : Cursor) → Each (Fine message) (fieldsFrom separator message c)
-  unfolding fieldsFrom
-  all-fine c = within-fine (length message - c .at) c
-
-  pub all-budget : (c : Cursor) → budget (fieldsFrom separator message c) ≤ length message - c .at
-  unfolding fieldsFrom
-  all-budget c = within-budget (length message - c .at) c
+  pub all-budget : (c : Cursor) → budget (fieldsFrom mode message c) ≤ length message - c .at
+  unfolding budget
+  all-budget =
+      by-fields mode message (λ c fields. budget fields ≤ length message - c .at) (λ c cause place e. omega arith)
+      (λ c f e later. let l = step-lies mode message c f e in omega (arith, l .ends, l .within, l .falls, l .value-after, later))

@@ -3,10 +3,9 @@ use Prim.Native.Nat.{ℕ, _+_, _≤_}
 use mathlib.Core.Path.{_≡_}
 use mathlib.Core.List.{List, [], _∷_}
 use lib.ListN.{length}
-use Rattle.tagvalue.specs.Fields.{Fields, unreadable, field}
+use Rattle.tagvalue.specs.Fields.{Fields, unreadable, field, Each}
 use Rattle.tagvalue.specs.declared.Field.{Field}
 use Rattle.records.specs.declared.Record.{Record}
-use Rattle.groups.specs.GroupLaws.{Each}
 use Rattle.nesting.specs.Entries.{All}
 use Rattle.standing.specs.Shapes.{Placed, Tagged}
 

@@ -5,6 +5,8 @@ use mathlib.Core.List.{List, [], _∷_, _++_}
 use Prim.Native.Nat.{ℕ, suc, _+_, _-_, _≤_}
 use native.Mathlib.Omega.{arith}
 use lib.ListN.{length, drop, length-append, length-take}
+use Rattle.tagvalue.specs.declared.Mode.{Mode}
+use Rattle.tagvalue.specs.Field.{startAt}
 use Rattle.tagvalue.specs.Fields.{Fields, field, fieldsFrom}
 use Rattle.tagvalue.specs.FieldsLaws.{step-lies}
 use Rattle.tagvalue.specs.declared.Field.{Field}
@@ -57,9 +59,9 @@ values-small bytes (r ∷ rs) = omega (arith, length-append (valueAt bytes r) (v
     value-short : (r : Record) → length (valueAt bytes r) ≤ r .length
     value-short r = unfold valueAt in omega (arith, length-take (r .length) (drop (r .place) bytes))
 
-module _ (separator : ℕ) (message : List ℕ) (v : Verified) (w : VerifiedRead separator message v) where
+module _ (mode : Mode) (message : List ℕ) (v : Verified) (w : VerifiedRead mode message v) where
   -- the fields that were verified
-  verified-reads : Reads message 1 1024 (length message - 9) (fieldsFrom separator message (v .«msg_type» .next)) 1021 (stored (recordOf 1 (v .«msg_type»)) (stored (recordOf 1 (v .«body_length»)) (stored (recordOf 1 (v .«begin_string»)) [])))
+  verified-reads : Reads message 1 1024 (length message - 9) (fieldsFrom mode message (v .«msg_type» .next)) 1021 (stored (recordOf 1 (v .«msg_type»)) (stored (recordOf 1 (v .«body_length»)) (stored (recordOf 1 (v .«begin_string»)) [])))
   verified-reads =
       let a = v .«begin_string» in
       let b = v .«body_length» in
@@ -67,12 +69,12 @@ module _ (separator : ℕ) (message : List ℕ) (v : Verified) (w : VerifiedRead
       let p = recordOf 1 a in
       let q = recordOf 1 b in
       let r = recordOf 1 c in
-      let la = step-lies separator message (record { at = 0 }) a (w .begins) in
-      let lb = step-lies separator message (a .next) b (w .counts) in
-      let lc = step-lies separator message (b .next) c (w .types) in
-      let fa = fine-record a (read-fine separator message (record { at = 0 }) a (w .begins)) in
-      let fb = fine-record b (read-fine separator message (a .next) b (w .counts)) in
-      let fc = fine-record c (read-fine separator message (b .next) c (w .types)) in
+      let la = step-lies mode message (startAt 0) a (w .begins) in
+      let lb = step-lies mode message (a .next) b (w .counts) in
+      let lc = step-lies mode message (b .next) c (w .types) in
+      let fa = fine-record a (read-fine mode message (startAt 0) a (w .begins)) in
+      let fb = fine-record b (read-fine mode message (a .next) b (w .counts)) in
+      let fc = fine-record c (read-fine mode message (b .next) c (w .types)) in
       let one = stored p [] in
       let two = stored q one in
       let g₁ = grows-stored p [] in
@@ -86,8 +88,8 @@ module _ (separator : ℕ) (message : List ℕ) (v : Verified) (w : VerifiedRead
           tagged = g₃ .tags (fc .0) (g₂ .tags (fb .0) (g₁ .tags (fa .0) all-none));
           placed = g₃ .places message 1 (fc .1) (g₂ .places message 1 (fb .1) (g₁ .places message 1 (fa .1) all-none));
           few = omega (arith, g₁ .longer, g₂ .longer, g₃ .longer);
-          small = omega (arith, s₁, g₁ .larger, g₂ .larger, g₃ .larger, of-field 1 a .sized, of-field 1 b .sized, of-field 1 c .sized, la .falls, la .ends, la .value-after, la .within, lb .falls, lb .ends, lb .value-after, lb .within, lc .falls, lc .ends, lc .value-after, lc .within, all-budget separator message (c .next));
-          each = all-fine separator message (c .next);
+          small = omega (arith, s₁, g₁ .larger, g₂ .larger, g₃ .larger, of-field 1 a .sized, of-field 1 b .sized, of-field 1 c .sized, la .falls, la .ends, la .value-after, la .within, lb .falls, lb .ends, lb .value-after, lb .within, lc .falls, lc .ends, lc .value-after, lc .within, all-budget mode message (c .next));
+          each = all-fine mode message (c .next);
         };
       }
     where
@@ -99,7 +101,7 @@ module _ (separator : ℕ) (message : List ℕ) (v : Verified) (w : VerifiedRead
   trailer-begins f rest room most bytes r =
       let k = v .checksum in
       let o = of-field 3 k in
-      let fine = read-fine separator message (record { at = length message - 7 }) k (w .sums) in
+      let fine = read-fine mode message (startAt (length message - 7)) k (w .sums) in
       let some : recordOf 3 k .tag ≡ 0 → ⊥ = λ z. fine .some (sym (o .tagged) ∙ z) in
       record {
         built = build-start message (recordOf 3 k) (own-field 3 k) some;
@@ -114,7 +116,7 @@ module _ (separator : ℕ) (message : List ℕ) (v : Verified) (w : VerifiedRead
 
   -- the CheckSum's value is short: it lies in the last seven bytes
   checksum-short : v .checksum .length ≤ 9
-  checksum-short = let l = step-lies separator message (record { at = length message - 7 }) (v .checksum) (w .sums) in omega (arith, l .falls, l .ends, l .value-after, l .within)
+  checksum-short = let l = step-lies mode message (startAt (length message - 7)) (v .checksum) (w .sums) in omega (arith, l .falls, l .ends, l .value-after, l .within)
 
   -- nothing of a part is read yet
   none-read : (most bytes : ℕ) (f : Field) (rest : Fields) (room : ℕ) → suc room ≤ most → budget (field f rest) ≤ bytes → {part : ℕ} {rs : List Record} {m b : ℕ} → Counts message part m b (field f rest) (suc room) rs → Counts message 2 most bytes (field f rest) (suc room) []
@@ -122,7 +124,7 @@ module _ (separator : ℕ) (message : List ℕ) (v : Verified) (w : VerifiedRead
 
   module _ {L : Type 0} (rules : Rules L) (first : (level : L) (tag : ℕ) → opens rules level tag ≡ true → rules .position level tag ≡ At 0) (demands : Demands L) (headerTags trailerTags : List ℕ) (level : L) where
     pub parts-take : (f g : Field) (rest more : Fields) (room room₂ : ℕ) (h b t : List Record) (trailer : Trailer) → length message ≤ 8192
-        → headerFrom headerTags (fieldsFrom separator message (v .«msg_type» .next)) 1021 (stored (recordOf 1 (v .«msg_type»)) (stored (recordOf 1 (v .«body_length»)) (stored (recordOf 1 (v .«begin_string»)) []))) ≡ ended f rest room h
+        → headerFrom headerTags (fieldsFrom mode message (v .«msg_type» .next)) 1021 (stored (recordOf 1 (v .«msg_type»)) (stored (recordOf 1 (v .«body_length»)) (stored (recordOf 1 (v .«begin_string»)) []))) ≡ ended f rest room h
         → bodyFrom (bodyOf rules demands trailerTags level) (field f rest) (suc room) [] ≡ ended g more room₂ b
         → trailerFrom (field g more) (suc room₂) (recordOf 3 (v .checksum) ∷ []) ≡ trailer → Ended trailer t → Takes message (h ++ (b ++ t))
     unfolding bodyFrom

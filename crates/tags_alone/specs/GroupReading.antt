@@ -5,12 +5,12 @@ use mathlib.Core.List.{List, [], _∷_, _++_}
 use Prim.Native.Nat.{ℕ, zero, suc, _+_, _≤_, _<_}
 use native.Mathlib.Omega.{arith}
 use lib.ListN.{length}
-use Rattle.tagvalue.specs.Fields.{Fields, unreadable, field}
+use Rattle.tagvalue.specs.Fields.{Fields, unreadable, field, Each, each-end, each-field}
 use Rattle.tagvalue.specs.declared.Field.{Field}
 use Rattle.records.specs.declared.Record.{Record}
 use Rattle.groups.specs.Groups.{Rules, Frame, Move, adds, joinsAt, disorders, leaves, decide, moved, walk}
 use Rattle.groups.specs.Groups.{ended as ran, recordOf as entryRecord}
-use Rattle.groups.specs.GroupLaws.{Each, each-end, each-field, keeps}
+use Rattle.groups.specs.GroupLaws.{keeps}
 use Rattle.groups.specs.Reading.{listStore, joinedList}
 use Rattle.tags_alone.specs.Agree.{Agree, enough, same, Similar, none, more}
 use Rattle.tags_alone.specs.Alongside.{Alongside, one-more, at-first}

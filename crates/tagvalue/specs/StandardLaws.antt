@@ -60,7 +60,7 @@ pub record ReadAs (mode : Mode) (message : List ℕ) (at tag : ℕ) (value : Lis
   pub starts : got .first ≡ at
   pub tag-is : got .tag ≡ tag
   pub value-is : valueOf message got ≡ value
-  pub next-is : got .next .at ≡ next
+  pub next-is : got .next ≡ startAt next
 
 -- THE STANDARD, one field: wherever it stands in a message, a field of the standard is read with its tag and value, and reading goes
 -- on right behind it. The standard sets no limit to tags; 01 does.
@@ -88,5 +88,5 @@ standard-field tag value bytes before rest s h =
       starts = refl;
       tag-is = refl;
       value-is = step-value (separatedBy SOH) message c f w;
-      next-is = omega (arith, ap length (s .whole), bytes-size SOH text value);
+      next-is = ap (λ (n : ℕ). startAt n) (omega (arith, ap length (s .whole), bytes-size SOH text value));
     }

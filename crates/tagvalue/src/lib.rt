@@ -36,7 +36,14 @@ pub enum Number {
     NoNumber,
 }
 
-fn wide(byte: u8) -> u64
+// A number as an index.
+pub fn wide(n: u32) -> usize
+    ensures { λ r. ⌜ r ≡ n ⌝ }
+{
+    n as usize
+}
+
+fn widened(byte: u8) -> u64
     ensures { λ r. ⌜ r ≡ byte ⌝ }
 {
     byte as u64
@@ -59,7 +66,7 @@ pub fn number_of(text: &[u8]) -> Number
         if 57 < digit {
             return Number::NoNumber;
         }
-        n = n * 10 + wide(digit - 48);
+        n = n * 10 + widened(digit - 48);
         if 4294967295 < n {
             return Number::NoNumber;
         }

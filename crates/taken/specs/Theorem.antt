@@ -15,7 +15,7 @@ use Rattle.tagvalue.specs.Separator.{isRefusedSeparator}
 use Rattle.tagvalue.specs.Fields.{Fields, field, fieldsFrom}
 use Rattle.tagvalue.specs.declared.Field.{Field}
 use Rattle.integrity.specs.Integrity.{integrityOf}
-use Rattle.integrity.specs.declared.Config.{Config}
+use Rattle.build_config.specs.declared.Config.{Config}
 use Rattle.integrity.specs.declared.Integrity.{Integrity}
 use Rattle.integrity.specs.declared.Integrity.the-variants.{Sound, Garbled}
 use Rattle.integrity.specs.declared.Verified.{Verified}
@@ -47,7 +47,7 @@ use Rattle.integrity.specs.VerifiedLaws.{verified-read}
 use Rattle.standing.specs.Parted.{Takes, parts-take}
 use Rattle.standing.specs.Refusals.{header-never, body-never}
 
-module _ (dictionary : Dictionary) (validate : Bool) (separator : ℕ) (message : List ℕ) (short : length message ≤ 8192) where
+module _ (dictionary : Dictionary) (config : Config) (message : List ℕ) (short : length message ≤ 8192) where
   -- behind the trailer
   trailer-takes : (h b : List Record) (t : Trailer) → ((rs : List Record) → Ended t rs → Takes message (h ++ (b ++ rs))) → afterTrailer h b t .answer ≡ Valid → Takes message (afterTrailer h b t .records)
   unfolding afterTrailer
@@ -55,39 +55,39 @@ module _ (dictionary : Dictionary) (validate : Bool) (separator : ℕ) (message 
   trailer-takes h b (unstopped rs) takes e = takes rs at-end
   trailer-takes h b crowded takes e = let z : _≡_ {A = ℕ} 0 1 = unfold refusal in cc in absurd (omega arith)
 
-  module _ (v : Verified) (sound : integrityOf separator message ≡ Sound v) (f : Field) (rest : Fields) (room : ℕ) (h : List Record) (header : headerOf (headerTags dictionary) separator message v ≡ ended f rest room h) where
+  module _ (v : Verified) (sound : integrityOf (config .mode) message ≡ Sound v) (f : Field) (rest : Fields) (room : ℕ) (h : List Record) (header : headerOf (headerTags dictionary) config message v ≡ ended f rest room h) where
     -- behind the body
-    body-takes : (layout : _) (r : Reading) → bodyFrom (bodyOf (layoutRules (accepted validate (knows dictionary))) layoutDemands (trailerTags dictionary) layout) (field f rest) (suc room) [] ≡ r
+    body-takes : (layout : _) (r : Reading) → bodyFrom (bodyOf (layoutRules (accepted config (knows dictionary))) layoutDemands (trailerTags dictionary) layout) (field f rest) (suc room) [] ≡ r
         → afterBody h (v .checksum) r .answer ≡ Valid → Takes message (afterBody h (v .checksum) r .records)
     unfolding afterBody
-    body-takes layout (refused answer) e a = absurd (body-never (layoutRules (accepted validate (knows dictionary))) layoutDemands (trailerTags dictionary) layout (suc (suc room)) (field f rest) (suc room) [] (unfold bodyFrom in (e ∙ ap refused (unfold refusal in a))))
+    body-takes layout (refused answer) e a = absurd (body-never (layoutRules (accepted config (knows dictionary))) layoutDemands (trailerTags dictionary) layout (suc (suc room)) (field f rest) (suc room) [] (unfold bodyFrom in (e ∙ ap refused (unfold refusal in a))))
     body-takes layout (ended g more room₂ b) e a =
         trailer-takes h b (trailerFrom (field g more) (suc room₂) (recordOf 3 (v .checksum) ∷ []))
-        (λ rs end-of-it. parts-take separator message v (verified-read separator message v sound) (layoutRules (accepted validate (knows dictionary))) (layout-first (accepted validate (knows dictionary))) layoutDemands (headerTags dictionary) (trailerTags dictionary) layout f g rest more room room₂ h b rs (trailerFrom (field g more) (suc room₂) (recordOf 3 (v .checksum) ∷ [])) short (unfold headerOf verifiedRecords in header) e refl end-of-it)
+        (λ rs end-of-it. parts-take (config .mode) message v (verified-read (config .mode) message v sound) (layoutRules (accepted config (knows dictionary))) (layout-first (accepted config (knows dictionary))) layoutDemands (headerTags dictionary) (trailerTags dictionary) layout f g rest more room room₂ h b rs (trailerFrom (field g more) (suc room₂) (recordOf 3 (v .checksum) ∷ [])) short (unfold headerOf verifiedRecords in header) e refl end-of-it)
         a
 
-    type-takes : (choice : Choice) → afterType dictionary validate f rest room h (v .checksum) choice .answer ≡ Valid → Takes message (afterType dictionary validate f rest room h (v .checksum) choice .records)
+    type-takes : (choice : Choice) → afterType dictionary config f rest room h (v .checksum) choice .answer ≡ Valid → Takes message (afterType dictionary config f rest room h (v .checksum) choice .records)
     unfolding afterType
     type-takes noMessage a = let z : _≡_ {A = ℕ} 0 1 = unfold refusal in cc in absurd (omega arith)
-    type-takes (laidOut layout) a = body-takes layout (bodyFrom (bodyOf (layoutRules (accepted validate (knows dictionary))) layoutDemands (trailerTags dictionary) layout) (field f rest) (suc room) []) refl a
+    type-takes (laidOut layout) a = body-takes layout (bodyFrom (bodyOf (layoutRules (accepted config (knows dictionary))) layoutDemands (trailerTags dictionary) layout) (field f rest) (suc room) []) refl a
 
   -- behind the header
-  header-takes : (v : Verified) → integrityOf separator message ≡ Sound v → (r : Reading) → headerOf (headerTags dictionary) separator message v ≡ r
-      → afterHeader dictionary validate message (withChecksum (v .checksum) r) .answer ≡ Valid → Takes message (afterHeader dictionary validate message (withChecksum (v .checksum) r) .records)
+  header-takes : (v : Verified) → integrityOf (config .mode) message ≡ Sound v → (r : Reading) → headerOf (headerTags dictionary) config message v ≡ r
+      → afterHeader dictionary config message (withChecksum (v .checksum) r) .answer ≡ Valid → Takes message (afterHeader dictionary config message (withChecksum (v .checksum) r) .records)
   unfolding afterHeader withChecksum
-  header-takes v sound (refused answer) e a = absurd (header-never (headerTags dictionary) (fieldsFrom separator message (v .«msg_type» .next)) 1021 (verifiedRecords v) (unfold headerOf in (e ∙ ap refused (unfold refusal in a))))
+  header-takes v sound (refused answer) e a = absurd (header-never (headerTags dictionary) (fieldsFrom (config .mode) message (v .«msg_type» .next)) 1021 (verifiedRecords v) (unfold headerOf in (e ∙ ap refused (unfold refusal in a))))
   header-takes v sound (ended f rest room h) e a = type-takes v sound f rest room h e (layoutOf dictionary (valueAt message (msgTypeRecord h))) a
 
-  integrity-takes : (i : Integrity) → integrityOf separator message ≡ i → afterHeader dictionary validate message (startedBy (headerTags dictionary) separator message i) .answer ≡ Valid
-      → Takes message (afterHeader dictionary validate message (startedBy (headerTags dictionary) separator message i) .records)
+  integrity-takes : (i : Integrity) → integrityOf (config .mode) message ≡ i → afterHeader dictionary config message (startedBy (headerTags dictionary) config message i) .answer ≡ Valid
+      → Takes message (afterHeader dictionary config message (startedBy (headerTags dictionary) config message i) .records)
   unfolding startedBy
   integrity-takes (Garbled reason) e a = let z : _≡_ {A = ℕ} 0 1 = unfold afterHeader refusal in cc in absurd (omega arith)
-  integrity-takes (Sound v) e a = header-takes v e (headerOf (headerTags dictionary) separator message v) refl a
+  integrity-takes (Sound v) e a = header-takes v e (headerOf (headerTags dictionary) config message v) refl a
 
   -- the records of a message that was read with 0 stand for a message within the limits
-  pub build-takes : messageRead dictionary validate separator message .answer ≡ Valid → Takes message (messageRead dictionary validate separator message .records)
+  pub build-takes : messageRead dictionary config message .answer ≡ Valid → Takes message (messageRead dictionary config message .records)
   unfolding messageRead startOf
-  build-takes a = integrity-takes (integrityOf separator message) refl a
+  build-takes a = integrity-takes (integrityOf (config .mode) message) refl a
 
 -- the words that the build leaves hold its records
 words-hold : (rs : List Record) → between 0 (length rs) (recordsOf (wordsWith rs)) ≡ rs
@@ -106,11 +106,11 @@ pub record TakenOver (message : List ℕ) (rs : List Record) (words values : Lis
   pub same : derived (takes .meant) ≡ given message rs
 
 -- "what a build answered with 0 is never refused at take-over, and keeps its records"
-pub build-taken : (dictionary : Dictionary) (validate : Bool) (separator : ℕ) (message words values : List ℕ) → length message ≤ 8192 → length words ≡ 8205 → length values ≡ 8192 → messageRead dictionary validate separator message .answer ≡ Valid
-    → TakenOver message (messageRead dictionary validate separator message .records) words values
-build-taken dictionary validate separator message words values short whole store a =
-    let rs = messageRead dictionary validate separator message .records in
-    let t = build-takes dictionary validate separator message short a in
+pub build-taken : (dictionary : Dictionary) (config : Config) (message words values : List ℕ) → length message ≤ 8192 → length words ≡ 8205 → length values ≡ 8192 → messageRead dictionary config message .answer ≡ Valid
+    → TakenOver message (messageRead dictionary config message .records) words values
+build-taken dictionary config message words values short whole store a =
+    let rs = messageRead dictionary config message .records in
+    let t = build-takes dictionary config message short a in
     record {
       takes = t;
       made = stand-taken (wordsWith rs) (length rs) message words values (t .meant) whole store (words-many rs) (t .few) (rw (words-hold rs) (t .stand)) (t .within);
@@ -120,22 +120,22 @@ build-taken dictionary validate separator message words values short whole store
 
 -- the same of what the build answers: none of "22, 23, 20, 30 to 37", and the words and the number of records that it leaves
 pub record Shown (message : List ℕ) (config : Config) (dictionary : List ℕ) (lent : ℕ) (built : BuildOutcome) : Type 0 where
-  pub separates : isRefusedSeparator (config .separator) ≡ false
+  pub separates : isRefusedSeparator (config .mode .separator) ≡ false
   pub enough : ltb lent 1024 ≡ false
   pub short : length message ≤ 8192
   pub checked : eqb (numberOf (checkOf dictionary)) 0 ≡ true
-  pub valid : messageRead (dictionaryOf dictionary) (config .validate) (config .separator) message .answer ≡ Valid
-  pub count : built .records ≡ length (messageRead (dictionaryOf dictionary) (config .validate) (config .separator) message .records)
-  pub words : built .words ≡ wordsWith (messageRead (dictionaryOf dictionary) (config .validate) (config .separator) message .records)
+  pub valid : messageRead (dictionaryOf dictionary) config message .answer ≡ Valid
+  pub count : built .records ≡ length (messageRead (dictionaryOf dictionary) config message .records)
+  pub words : built .words ≡ wordsWith (messageRead (dictionaryOf dictionary) config message .records)
 
 module _ (message : List ℕ) (config : Config) (dictionary : List ℕ) (lent : ℕ) (before : List ℕ) where
-  shown-valid : isRefusedSeparator (config .separator) ≡ false → ltb lent 1024 ≡ false → length message ≤ 8192 → shown lent (checkedRead message config dictionary (checkOf dictionary)) .answer ≡ Valid
+  shown-valid : isRefusedSeparator (config .mode .separator) ≡ false → ltb lent 1024 ≡ false → length message ≤ 8192 → shown lent (checkedRead message config dictionary (checkOf dictionary)) .answer ≡ Valid
       → Shown message config dictionary lent (shown lent (checkedRead message config dictionary (checkOf dictionary)))
   unfolding shown checkedRead
   shown-valid separates enough short a = by-check (eqb (numberOf (checkOf dictionary)) 0) refl a
     where
       out : Bool → Outcome
-      out b = pick b (messageRead (dictionaryOf dictionary) (config .validate) (config .separator) message) (refusal (BadDictionary (checkOf dictionary)) [])
+      out b = pick b (messageRead (dictionaryOf dictionary) config message) (refusal (BadDictionary (checkOf dictionary)) [])
 
       by-check : (b : Bool) → eqb (numberOf (checkOf dictionary)) 0 ≡ b → out b .answer ≡ Valid → Shown message config dictionary lent (shown lent (out b))
       by-check true c a = record { separates = separates; enough = enough; short = short; checked = c; valid = a; count = refl; words = refl }
@@ -144,9 +144,9 @@ module _ (message : List ℕ) (config : Config) (dictionary : List ℕ) (lent : 
   -- a build that answers 0, taken apart
   pub build-shown : buildOf message config dictionary lent before .answer ≡ Valid → Shown message config dictionary lent (buildOf message config dictionary lent before)
   unfolding buildOf
-  build-shown a = by-tests (isRefusedSeparator (config .separator)) (ltb lent 1024) (ltb 8192 (length message)) refl refl refl a
+  build-shown a = by-tests (isRefusedSeparator (config .mode .separator)) (ltb lent 1024) (ltb 8192 (length message)) refl refl refl a
     where
-      by-tests : (x y z : Bool) → isRefusedSeparator (config .separator) ≡ x → ltb lent 1024 ≡ y → ltb 8192 (length message) ≡ z
+      by-tests : (x y z : Bool) → isRefusedSeparator (config .mode .separator) ≡ x → ltb lent 1024 ≡ y → ltb 8192 (length message) ≡ z
           → pick x (untouched InvalidSeparator before) (pick y (untouched TooFewRecords before) (pick z (untouched MessageTooLong before) (shown lent (checkedRead message config dictionary (checkOf dictionary))))) .answer ≡ Valid
           → Shown message config dictionary lent (pick x (untouched InvalidSeparator before) (pick y (untouched TooFewRecords before) (pick z (untouched MessageTooLong before) (shown lent (checkedRead message config dictionary (checkOf dictionary))))))
       by-tests true y z q r s a = let e : _≡_ {A = ℕ} 0 1 = unfold untouched in cc in absurd (omega arith)
@@ -155,17 +155,17 @@ module _ (message : List ℕ) (config : Config) (dictionary : List ℕ) (lent : 
       by-tests false false false q r s a = shown-valid q r (ltb-false 8192 (length message) s) a
 
   -- and put together again: past its checks the build shows what is read
-  pub shown-build : isRefusedSeparator (config .separator) ≡ false → ltb lent 1024 ≡ false → length message ≤ 8192 → eqb (numberOf (checkOf dictionary)) 0 ≡ true
-      → buildOf message config dictionary lent before ≡ shown lent (messageRead (dictionaryOf dictionary) (config .validate) (config .separator) message)
+  pub shown-build : isRefusedSeparator (config .mode .separator) ≡ false → ltb lent 1024 ≡ false → length message ≤ 8192 → eqb (numberOf (checkOf dictionary)) 0 ≡ true
+      → buildOf message config dictionary lent before ≡ shown lent (messageRead (dictionaryOf dictionary) config message)
   unfolding buildOf checkedRead
   shown-build separates enough short checked = rw (separates, enough, le-ltb 8192 (length message) short, checked) refl
 
 -- for every message, dictionary, separator, setting and number of lent records: what the build leaves is taken over
 pub build-of-taken : (message : List ℕ) (config : Config) (dictionary : List ℕ) (lent : ℕ) (before words values : List ℕ) → length words ≡ 8205 → length values ≡ 8192 → (a : buildOf message config dictionary lent before .answer ≡ Valid)
     → let built = buildOf message config dictionary lent before in
-    let rs = messageRead (dictionaryOf dictionary) (config .validate) (config .separator) message .records in
+    let rs = messageRead (dictionaryOf dictionary) config message .records in
     (t : TakenOver message rs words values) × (takingOver (built .words) (built .records) message words values ≡ after Made (wordsOf (t .takes .meant)) (valuesOf (t .takes .meant)))
 build-of-taken message config dictionary lent before words values whole store a =
     let s = build-shown message config dictionary lent before a in
-    let t = build-taken (dictionaryOf dictionary) (config .validate) (config .separator) message words values (s .short) whole store (s .valid) in
+    let t = build-taken (dictionaryOf dictionary) config message words values (s .short) whole store (s .valid) in
     (t, rw (s .words, s .count) (t .made))

@@ -1,6 +1,7 @@
 // taking: what a build answered, taken over into a lent message, so that reading, changing and writing are one path. It lays the records out
 // as rows and lets `lent` judge them; it demands nothing of what it is given: what is no message is refused with 27.
 use records::Record;
+use tagvalue::wide;
 ghost use mathlib.Core.Path.{_≡_};
 ghost use mathlib.Core.Bool.{true, false};
 ghost use mathlib.Core.List.{[], _∷_};
@@ -40,12 +41,6 @@ pub struct Laying {
 pub enum Step {
     On(Laying),
     Refused,
-}
-
-fn wide(n: u32) -> usize
-    ensures { λ r. ⌜ r ≡ n ⌝ }
-{
-    n as usize
 }
 
 fn nearest_before(records: &[u32], to: usize, depth: u32) -> Nearest

@@ -13,7 +13,8 @@ use Rattle.parts.specs.Answer.{numberOf, valuesOf}
 use Rattle.builder.specs.Build.{BuildOutcome, buildOf}
 use Rattle.telling.specs.declared.FieldRecord.{FieldRecord}
 use Rattle.telling.specs.declared.Shown.{Shown}
-use Rattle.telling.specs.Told.{told, configOf}
+use Rattle.telling.specs.Told.{told}
+use Rattle.build_config.specs.Settings.{configOf}
 
 abbrev pub blankField : FieldRecord
 blankField = record { part = 0; depth = 0; entry = 0; tag = 0; place = 0; length = 0 }
@@ -48,8 +49,8 @@ unfoldable pub recordsLent : BuildOutcome → List FieldRecord → List FieldRec
 recordsLent built lent = filled (built .words) (built .records) (built .written) lent
 
 -- a build of what the caller gives, over so many lent records
-unfoldable pub builtFrom : List ℕ → ℕ → Bool → List ℕ → ℕ → BuildOutcome
-builtFrom message separator validate dictionary lent = buildOf message (configOf separator validate) dictionary lent (replicate 6150 0)
+unfoldable pub builtFrom : List ℕ → ℕ → ℕ → List ℕ → ℕ → BuildOutcome
+builtFrom message separator settings dictionary lent = buildOf message (configOf settings separator) dictionary lent (replicate 6150 0)
 
 -- ===== lent records, taken over =====
 

@@ -9,13 +9,13 @@ use lib.Dec.{ltb}
 use lib.ListN.{length, replicate}
 use Rattle.tagvalue.specs.Choice.{pick}
 use Rattle.tagvalue.specs.Separator.{isRefusedSeparator}
-use Rattle.integrity.specs.declared.Config.{Config}
+use Rattle.build_config.specs.declared.Config.{Config}
 use Rattle.records.specs.declared.Record.{Record}
 use Rattle.records.specs.Records.{recordsOf, recordAt}
 use Rattle.builder.specs.Build.{BuildOutcome, untouched, shown, buildOf}
 use Rattle.telling.specs.declared.FieldRecord.{FieldRecord}
 use Rattle.telling.specs.declared.Shown.{Shown}
-use Rattle.telling.specs.Told.{configOf}
+use Rattle.build_config.specs.Settings.{configOf}
 use Rattle.telling.specs.Lent.{blankField, fieldOf, fieldAt, shownOf, toldOf, filled, recordsLent, builtFrom}
 
 pub field-past : (words : List ℕ) (shown i : ℕ) → shown ≤ i → blankField ≡ fieldAt words shown i
@@ -36,24 +36,24 @@ pick-written false x y lent hx hy = hy
 pub written-lent : (message : List ℕ) (config : Config) (dictionary : List ℕ) (lent : ℕ) (words : List ℕ) → buildOf message config dictionary lent words .written ≤ lent
 unfolding buildOf untouched shown
 written-lent message config dictionary lent words =
-    pick-written (isRefusedSeparator (config .separator)) _ _ lent (omega arith)
+    pick-written (isRefusedSeparator (config .mode .separator)) _ _ lent (omega arith)
     (pick-written (ltb lent 1024) _ _ lent (omega arith) (pick-written (ltb 8192 (length message)) _ _ lent (omega arith) (omega arith)))
 
 -- a build over blank words, as the core says it of its words, and as the caller reads it
-module _ (message : List ℕ) (separator : ℕ) (validate : Bool) (dictionary : List ℕ) (lent : ℕ) (words : List ℕ) (fresh : words ≡ replicate 6150 0) where
+module _ (message : List ℕ) (separator settings : ℕ) (dictionary : List ℕ) (lent : ℕ) (words : List ℕ) (fresh : words ≡ replicate 6150 0) where
   abbrev over : List ℕ → BuildOutcome
-  over cs = buildOf message (configOf separator validate) dictionary lent cs
+  over cs = buildOf message (configOf settings separator) dictionary lent cs
 
-  pub shown-from : (r : Shown) → r ≡ shownOf (over words) → r ≡ shownOf (builtFrom message separator validate dictionary lent)
+  pub shown-from : (r : Shown) → r ≡ shownOf (over words) → r ≡ shownOf (builtFrom message separator settings dictionary lent)
   unfolding builtFrom
   shown-from r e = e ∙ ap (λ (cs : List ℕ). shownOf (over cs)) fresh
 
-  pub told-from : (out : List ℕ) → out ≡ toldOf (over words) → out ≡ toldOf (builtFrom message separator validate dictionary lent)
+  pub told-from : (out : List ℕ) → out ≡ toldOf (over words) → out ≡ toldOf (builtFrom message separator settings dictionary lent)
   unfolding builtFrom
   told-from out e = e ∙ ap (λ (cs : List ℕ). toldOf (over cs)) fresh
 
   pub records-from : (r : Shown) (left : List ℕ) (before after : List FieldRecord) → r ≡ shownOf (over words) → left ≡ over words .words → after ≡ filled left (r .records) (r .written) before
-      → after ≡ recordsLent (builtFrom message separator validate dictionary lent) before
+      → after ≡ recordsLent (builtFrom message separator settings dictionary lent) before
   unfolding builtFrom recordsLent shownOf
   records-from r left before after er el ea =
       ea ∙ ap (λ (x : Shown). filled left (x .records) (x .written) before) er

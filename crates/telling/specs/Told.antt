@@ -4,7 +4,6 @@ use mathlib.Core.Bool.{Bool}
 use mathlib.Core.List.{List, [], _∷_}
 use lib.Dec.{eqb}
 use Rattle.tagvalue.specs.Choice.{pick}
-use Rattle.integrity.specs.declared.Config.{Config}
 use Rattle.message.specs.declared.Part.{Part}
 use Rattle.message.specs.declared.Part.the-variants.{Header, Body, Trailer}
 use Rattle.message.specs.Changes.{After, after, numberOfChange}
@@ -20,9 +19,6 @@ use Rattle.taking.specs.Taking.{After as AfterTaking, after as afterTaking, num
 -- "`[records, first value, second value, 0]`, fixed on every answer", each of them as a word of 32 bits
 unfoldable pub told : ℕ → ℕ × ℕ → List ℕ
 told records values = records % 2 ^ 32 ∷ values .0 % 2 ^ 32 ∷ values .1 % 2 ^ 32 ∷ 0 ∷ []
-
-unfoldable pub configOf : ℕ → Bool → Config
-configOf separator validate = record { separator = separator; validate = validate }
 
 -- "part (1 header, 2 body, 3 trailer)"; every other number is the trailer as well
 unfoldable pub partNumbered : ℕ → Part

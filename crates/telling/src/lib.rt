@@ -1,7 +1,6 @@
 // telling: what a caller in another language is told of a core's answer: 01's number, four lent words, and records of twelve bytes.
 // It takes answers and values apart and decides nothing; `gateway` lends what the caller lent.
 use encoding::Encoding;
-use integrity::Config;
 use look_ups::FoundMap;
 use look_ups::FoundValue;
 use message::Change;
@@ -17,7 +16,8 @@ ghost use Rattle.taking.specs.Taking.{numberOfTaken, takingOver};
 ghost use Rattle.records.specs.Records.{onRecords, replaced};
 ghost use Rattle.look_ups.specs.LookUps.{numberOfValue, numberOfMap};
 ghost use Rattle.builder.specs.Build.{buildOf};
-ghost use Rattle.telling.specs.Told.{told, configOf, partNumbered, lengthOfEncoding, toldMap, toldValue, takingNumber, takenWords, takenValues};
+ghost use Rattle.build_config.specs.Settings.{configOf};
+ghost use Rattle.telling.specs.Told.{told, partNumbered, lengthOfEncoding, toldMap, toldValue, takingNumber, takenWords, takenValues};
 ghost use Rattle.telling.specs.Lent.{fieldAt, shownOf, toldOf, recordOf, readCount};
 
 // A record as it is lent: twelve bytes. Depth and entry are 0 outside groups, else they start from 1.
@@ -104,20 +104,17 @@ pub fn blank_words() -> [u32; 6150]
 pub fn build(
     message: &[u8],
     separator: u8,
-    validate: bool,
+    settings: u32,
     dictionary: &[u8],
     lent: usize,
     words: &mut [u32; 6150],
     out: &mut [u32; 4],
 ) -> Shown
-    ensures { λ r. ⌜ (r ≡ shownOf (buildOf (now (message .entry)) (configOf separator validate) (now (dictionary .entry)) lent (now (words .entry))))
-        × (now (words .exit) ≡ buildOf (now (message .entry)) (configOf separator validate) (now (dictionary .entry)) lent (now (words .entry)) .words)
-        × (now (out .exit) ≡ toldOf (buildOf (now (message .entry)) (configOf separator validate) (now (dictionary .entry)) lent (now (words .entry)))) ⌝ }
+    ensures { λ r. ⌜ (r ≡ shownOf (buildOf (now (message .entry)) (configOf settings separator) (now (dictionary .entry)) lent (now (words .entry))))
+        × (now (words .exit) ≡ buildOf (now (message .entry)) (configOf settings separator) (now (dictionary .entry)) lent (now (words .entry)) .words)
+        × (now (out .exit) ≡ toldOf (buildOf (now (message .entry)) (configOf settings separator) (now (dictionary .entry)) lent (now (words .entry)))) ⌝ }
 {
-    let config = Config {
-        separator,
-        validate,
-    };
+    let config = build_config::config_of(settings, separator);
     let built = builder::build(message, config, dictionary, lent, words);
     let answer = built.answer;
     let values = parts::values_of(answer);

@@ -8,6 +8,7 @@ use mathlib.Core.List.{List, [], _∷_}
 use native.Mathlib.Omega.{arith}
 use lib.Dec.{leb}
 use lib.ListN.{length}
+use Rattle.build_config.specs.declared.Config.{Config}
 use Rattle.tagvalue.specs.Choice.{pick}
 use Rattle.tagvalue.specs.Fields.{Fields, unreadable, field, fieldsFrom}
 use Rattle.tagvalue.specs.declared.Field.{Field}
@@ -71,13 +72,13 @@ unfolding afterBody
 body-few h checksum (refused answer) n = refusal-few answer h n
 body-few h checksum (ended f rest room b) n = trailer-few h b (trailerFrom (field f rest) (suc room) (recordOf 3 checksum ∷ [])) n
 
-module _ (dictionary : Dictionary) (validate : Bool) (separator : ℕ) (message : List ℕ) where
-  type-few : (f : Field) (rest : Fields) (room : ℕ) (h : List Record) (checksum : Field) (choice : Choice) → length h ≤ 1024 → Few (afterType dictionary validate f rest room h checksum choice)
+module _ (dictionary : Dictionary) (config : Config) (message : List ℕ) where
+  type-few : (f : Field) (rest : Fields) (room : ℕ) (h : List Record) (checksum : Field) (choice : Choice) → length h ≤ 1024 → Few (afterType dictionary config f rest room h checksum choice)
   unfolding afterType
   type-few f rest room h checksum noMessage n = refusal-few _ h n
-  type-few f rest room h checksum (laidOut layout) n = body-few h checksum (bodyFrom (bodyOf (layoutRules (accepted validate (knows dictionary))) layoutDemands (trailerTags dictionary) layout) (field f rest) (suc room) []) n
+  type-few f rest room h checksum (laidOut layout) n = body-few h checksum (bodyFrom (bodyOf (layoutRules (accepted config (knows dictionary))) layoutDemands (trailerTags dictionary) layout) (field f rest) (suc room) []) n
 
-  start-few : (checksum : Field) (r : Reading) → ((f : Field) (rest : Fields) (room : ℕ) (h : List Record) → r ≡ ended f rest room h → length h ≤ 1024) → Few (afterHeader dictionary validate message (withChecksum checksum r))
+  start-few : (checksum : Field) (r : Reading) → ((f : Field) (rest : Fields) (room : ℕ) (h : List Record) → r ≡ ended f rest room h → length h ≤ 1024) → Few (afterHeader dictionary config message (withChecksum checksum r))
   unfolding afterHeader withChecksum
   start-few checksum (refused answer) n = refusal-few answer [] (omega arith)
   start-few checksum (ended f rest room h) n = type-few f rest room h checksum (layoutOf dictionary (valueAt message (msgTypeRecord h))) (n f rest room h refl)
@@ -89,16 +90,16 @@ module _ (dictionary : Dictionary) (validate : Bool) (separator : ℕ) (message 
       let two = stored (recordOf 1 (v .«body_length»)) one in
       omega (arith, grows-stored (recordOf 1 (v .«begin_string»)) [] .longer, grows-stored (recordOf 1 (v .«body_length»)) one .longer, grows-stored (recordOf 1 (v .«msg_type»)) two .longer)
 
-  integrity-few : (i : Integrity) → Few (afterHeader dictionary validate message (startedBy (headerTags dictionary) separator message i))
+  integrity-few : (i : Integrity) → Few (afterHeader dictionary config message (startedBy (headerTags dictionary) config message i))
   unfolding startedBy
   integrity-few (Garbled reason) = unfold afterHeader in refusal-few _ [] (omega arith)
   integrity-few (Sound v) =
-      start-few (v .checksum) (headerOf (headerTags dictionary) separator message v)
-      (λ f rest room h q. header-few (headerTags dictionary) (fieldsFrom separator message (v .«msg_type» .next)) 1021 (verifiedRecords v) (omega (arith, verified-few v)) f rest room h (unfold headerOf in q))
+      start-few (v .checksum) (headerOf (headerTags dictionary) config message v)
+      (λ f rest room h q. header-few (headerTags dictionary) (fieldsFrom (config .mode) message (v .«msg_type» .next)) 1021 (verifiedRecords v) (omega (arith, verified-few v)) f rest room h (unfold headerOf in q))
 
-  pub read-few : length message ≤ 8192 → length (messageRead dictionary validate separator message .records) ≤ 1024
-  read-few short = by-answer (unfold messageRead startOf in integrity-few (integrityOf separator message))
+  pub read-few : length message ≤ 8192 → length (messageRead dictionary config message .records) ≤ 1024
+  read-few short = by-answer (unfold messageRead startOf in integrity-few (integrityOf (config .mode) message))
     where
-      by-answer : Few (messageRead dictionary validate separator message) → length (messageRead dictionary validate separator message .records) ≤ 1024
-      by-answer (inl valid) = build-takes dictionary validate separator message short valid .few
+      by-answer : Few (messageRead dictionary config message) → length (messageRead dictionary config message .records) ≤ 1024
+      by-answer (inl valid) = build-takes dictionary config message short valid .few
       by-answer (inr few) = few

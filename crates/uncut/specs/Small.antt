@@ -9,7 +9,7 @@ use borrow.Author.Tests.{ltb-true}
 use lib.ListN.{length, take, drop, take-append-drop}
 use lib.Dec.{eqb, ltb, leb}
 use Rattle.tagvalue.specs.Choice.{pick}
-use Rattle.tagvalue.specs.Fields.{Fields, unreadable, field}
+use Rattle.tagvalue.specs.Fields.{Fields, unreadable, field, Each}
 use Rattle.tagvalue.specs.declared.Field.{Field}
 use Rattle.layout.specs.Tree.{holdsTag}
 use Rattle.layout.specs.declared.Position.{Position}
@@ -18,7 +18,6 @@ use Rattle.records.specs.Records.{stored}
 use Rattle.records.specs.declared.Record.{Record}
 use Rattle.groups.specs.Groups.{Rules, Opened, none, opened, Frame, run, entry, Kind, plain, count, joins, wrong, ends, counting, declared, kindOf, opens, Move, adds, joinsAt, disorders, leaves, inEntry, decide, Outcome, moved, walk}
 use Rattle.groups.specs.Groups.{recordOf as entryRecord, ended as ran, refused as stops}
-use Rattle.groups.specs.GroupLaws.{Each}
 use Rattle.groups.specs.Reading.{joinedList, listStore}
 use Rattle.required.specs.Required.{Demands, runLack}
 use Rattle.required.specs.declared.Lack.{Lack}

@@ -11,7 +11,7 @@ use lib.Dec.{eqb, ltb}
 use lib.ListN.{length, replicate, List·getD-append}
 use Rattle.tagvalue.specs.Separator.{isRefusedSeparator}
 use Rattle.tagvalue.specs.Choice.{pick}
-use Rattle.integrity.specs.declared.Config.{Config}
+use Rattle.build_config.specs.declared.Config.{Config}
 use Rattle.flat.specs.Check.{checkOf, numberOf as numberOfCheck}
 use Rattle.flat_steps.specs.declared.Checked.{Checked}
 use Rattle.flattening.specs.Meaning.{dictionaryOf}
@@ -23,7 +23,7 @@ use Rattle.parts.specs.declared.Answer.the-variants.{InvalidSeparator, TooFewRe
 use Rattle.reading.specs.Message.{Outcome, refusal, messageRead}
 use Rattle.builder.specs.Build.{wordsWith, untouched, shown, checkedRead, buildOf}
 use Rattle.telling.specs.declared.FieldRecord.{FieldRecord}
-use Rattle.telling.specs.Told.{configOf}
+use Rattle.build_config.specs.Settings.{configOf}
 use Rattle.telling.specs.Lent.{fieldOf, fieldAt, builtFrom}
 use Rattle.uncut.specs.Small.{Small}
 use Rattle.uncut.specs.Read.{refusal-small, read-small}
@@ -69,8 +69,8 @@ module _ (message : List ℕ) (config : Config) (dictionary : List ℕ) where
   unfolding checkedRead
   checked-small c = by-check (eqb (numberOfCheck c) 0)
     where
-      by-check : (b : Bool) → All (Small message) (pick b (messageRead (dictionaryOf dictionary) (config .validate) (config .separator) message) (refusal (BadDictionary c) []) .records)
-      by-check true = read-small message (dictionaryOf dictionary) (config .validate) (config .separator)
+      by-check : (b : Bool) → All (Small message) (pick b (messageRead (dictionaryOf dictionary) config message) (refusal (BadDictionary c) []) .records)
+      by-check true = read-small message (dictionaryOf dictionary) config
       by-check false = refusal-small message (BadDictionary c) [] all-none
 
   shown-at : (i : ℕ) → length message ≤ 8192 → i < length (read .records) → Uncut (recordAt i (read .records)) (fieldAt (wordsWith (read .records)) (length (read .records)) i)
@@ -80,7 +80,7 @@ module _ (message : List ℕ) (config : Config) (dictionary : List ℕ) where
   build-uncut : (lent : ℕ) (words : List ℕ) (i : ℕ) → i < buildOf message config dictionary lent words .records
       → Uncut (recordAt i (read .records)) (fieldAt (buildOf message config dictionary lent words .words) (buildOf message config dictionary lent words .records) i)
   unfolding buildOf
-  build-uncut lent words i h = by-tests (isRefusedSeparator (config .separator)) (ltb lent 1024) (ltb 8192 (length message)) refl h
+  build-uncut lent words i h = by-tests (isRefusedSeparator (config .mode .separator)) (ltb lent 1024) (ltb 8192 (length message)) refl h
     where
       by-tests : (x y z : Bool) → ltb 8192 (length message) ≡ z → i < pick x (untouched InvalidSeparator words) (pick y (untouched TooFewRecords words) (pick z (untouched MessageTooLong words) (shown lent read))) .records
           → Uncut (recordAt i (read .records)) (fieldAt (pick x (untouched InvalidSeparator words) (pick y (untouched TooFewRecords words) (pick z (untouched MessageTooLong words) (shown lent read))) .words) (pick x (untouched InvalidSeparator words) (pick y (untouched TooFewRecords words) (pick z (untouched MessageTooLong words) (shown lent read))) .records) i)
@@ -93,13 +93,13 @@ module _ (message : List ℕ) (config : Config) (dictionary : List ℕ) where
   unfolding checkedRead
   checked-few c short = by-check (eqb (numberOfCheck c) 0)
     where
-      by-check : (b : Bool) → length (pick b (messageRead (dictionaryOf dictionary) (config .validate) (config .separator) message) (refusal (BadDictionary c) []) .records) ≤ 1024
-      by-check true = read-few (dictionaryOf dictionary) (config .validate) (config .separator) message short
+      by-check : (b : Bool) → length (pick b (messageRead (dictionaryOf dictionary) config message) (refusal (BadDictionary c) []) .records) ≤ 1024
+      by-check true = read-few (dictionaryOf dictionary) config message short
       by-check false = refused-few (BadDictionary c) [] (omega arith)
 
   build-few : (lent : ℕ) (words : List ℕ) → buildOf message config dictionary lent words .records ≤ 1024
   unfolding buildOf
-  build-few lent words = by-tests (isRefusedSeparator (config .separator)) (ltb lent 1024) (ltb 8192 (length message)) refl
+  build-few lent words = by-tests (isRefusedSeparator (config .mode .separator)) (ltb lent 1024) (ltb 8192 (length message)) refl
     where
       by-tests : (x y z : Bool) → ltb 8192 (length message) ≡ z → pick x (untouched InvalidSeparator words) (pick y (untouched TooFewRecords words) (pick z (untouched MessageTooLong words) (shown lent read))) .records ≤ 1024
       by-tests true y z e = unfold untouched in omega arith
@@ -107,14 +107,14 @@ module _ (message : List ℕ) (config : Config) (dictionary : List ℕ) where
       by-tests false false true e = unfold untouched in omega arith
       by-tests false false false e = unfold shown in checked-few (checkOf dictionary) (ltb-false 8192 (length message) e)
 
-module _ (message : List ℕ) (separator : ℕ) (validate : Bool) (dictionary : List ℕ) (lent : ℕ) where
+module _ (message : List ℕ) (separator settings : ℕ) (dictionary : List ℕ) (lent : ℕ) where
   -- each lent record that is shown has the numbers of the record that was read
-  pub shown-uncut : (i : ℕ) → i < builtFrom message separator validate dictionary lent .records
-      → Uncut (recordAt i (checkedRead message (configOf separator validate) dictionary (checkOf dictionary) .records)) (fieldAt (builtFrom message separator validate dictionary lent .words) (builtFrom message separator validate dictionary lent .records) i)
+  pub shown-uncut : (i : ℕ) → i < builtFrom message separator settings dictionary lent .records
+      → Uncut (recordAt i (checkedRead message (configOf settings separator) dictionary (checkOf dictionary) .records)) (fieldAt (builtFrom message separator settings dictionary lent .words) (builtFrom message separator settings dictionary lent .records) i)
   unfolding builtFrom
-  shown-uncut i h = build-uncut message (configOf separator validate) dictionary lent (replicate 6150 0) i h
+  shown-uncut i h = build-uncut message (configOf settings separator) dictionary lent (replicate 6150 0) i h
 
   -- "record count": 1,024 at the most, so that all of them stand in the lent ones
-  pub few-records : builtFrom message separator validate dictionary lent .records ≤ 1024
+  pub few-records : builtFrom message separator settings dictionary lent .records ≤ 1024
   unfolding builtFrom
-  few-records = build-few message (configOf separator validate) dictionary lent (replicate 6150 0)
+  few-records = build-few message (configOf settings separator) dictionary lent (replicate 6150 0)

@@ -19,7 +19,7 @@ use Rattle.body.proofs.read_body.Tie as tie
 abbrev Inv-loop : tie.InvT-loop
 Inv-loop message config table index trailer-tags level words₀ from reading₀ words reading =
     (length words ≡ length words₀) × (Stays message words₀ words from (partRoom reading₀) reading)
-    × (left (tableRules (config .validate) table (tagAt index)) (tableDemands table) (config .separator) message from trailer-tags level reading₀ words₀ ≡ left (tableRules (config .validate) table (tagAt index)) (tableDemands table) (config .separator) message from trailer-tags level reading words)
+    × (left (tableRules config table (tagAt index)) (tableDemands table) (config .mode) message from trailer-tags level reading₀ words₀ ≡ left (tableRules config table (tagAt index)) (tableDemands table) (config .mode) message from trailer-tags level reading words)
 
 abbrev μ-loop : tie.MeasureT-loop
 μ-loop message config table index trailer-tags level words₀ from reading₀ words reading = partRoom reading

@@ -5,18 +5,14 @@ use mathlib.Core.List.{List}
 use Prim.Native.Nat.{ℕ, _+_, _-_, _/_, _≤_, _<_, _^_}
 use native.Mathlib.Omega.{arith}
 use lib.ListN.{length}
-use Rattle.groups.specs.Reading.{Fits, toldBy}
-use Rattle.groups.specs.declared.Reading.{Reading}
-use Rattle.parts.specs.Parts.{partTold, partOf}
-use Rattle.parts.specs.PartLaws.{stays-refused, stays-at}
-use Rattle.body.specs.Body.{withRun}
+use Rattle.groups.specs.Reading.{Fits}
 use Rattle.body.specs.GroupReading.{run-fits, answers-stopped, answers-lack, answers-complete}
 use borrow.Author.Needs.{needs}
 use Rattle.body.proofs.read_group.Statement.{statement}
 use Rattle.body.proofs.read_group.Tie as tie
 
 record-of-requires : tie.Need-record-of-requires
-record-of-requires c κs = let i = c .before .before .before .before .pre .1 in (omega (arith, i .begins), omega (arith, i .ends))
+record-of-requires c κs = let i = c .before .before .before .before .pre .1 in (omega (arith, i .within), omega (arith, i .within))
 
 open-run-requires : tie.Need-open-run-requires
 open-run-requires c κs = (omega arith, omega arith)

@@ -11,7 +11,7 @@ use Rattle.body.proofs.read_plain.Statement.{statement}
 use Rattle.body.proofs.read_plain.Tie as tie
 
 record-of-requires : tie.Need-record-of-requires
-record-of-requires c κs = let i = c .before .before .before .pre .1 in (omega (arith, i .begins), omega (arith, i .ends))
+record-of-requires c κs = let i = c .before .before .before .pre .1 in (omega (arith, i .within), omega (arith, i .within))
 
 keep-requires : tie.Need-keep-requires
 keep-requires c κs = (omega arith, omega arith)
@@ -26,7 +26,7 @@ enum-known-field : tie.Need-enum-known-field
 enum-known-field c = search needs
 
 -- the next field
-got : (c : tie.After-known-told2) → let n = c .before .before .before in let a = n .before .before .before .before .before .before .before .before .args in Taken (a .config .separator) (a .message .now) (a .plain .next) (a .progress .room) (c .before .field .given .0 .0)
+got : (c : tie.After-known-told2) → let n = c .before .before .before in let a = n .before .before .before .before .before .before .before .before .args in Taken (a .config .mode) (a .message .now) (a .plain .next) (a .progress .room) (c .before .field .given .0 .0)
 got c = taken _ _ _ _ _ (sym (c .before .before .before .next-field .ensures) ∙ c .before .field .given .1)
 
 sub-t15 : tie.Need-sub-t15

@@ -4,7 +4,7 @@ use mathlib.Core.Path.{_≡_, sym, _∙_}
 use native.Mathlib.Omega.{arith}
 use Rattle.integrity.specs.Integrity.{integrityOf}
 use Rattle.integrity.specs.declared.Integrity.the-variants.{Sound}
-use Rattle.parts.specs.PartLaws.{read-inside}
+use Rattle.tagvalue.specs.FieldsLaws.{step-inside}
 use Rattle.builder.specs.MsgTypeLaws.{msg-type-inside}
 use Rattle.integrity.specs.VerifiedLaws.{verified-read}
 use Rattle.builder.specs.BeginningLaws.{verified-inside, start-garbled, start-refused, start-headed, header-ended, begins-refused, begins-headed}
@@ -22,7 +22,7 @@ enum-known-verified : tie.Need-enum-known-verified
 enum-known-verified c = search needs
 
 -- the frame is sound
-sound : (c : tie.After-known-told2) → let a = c .before .before .before .before .before .before .before .args in integrityOf (a .config .separator) (a .message .now) ≡ Sound (c .before .verified .given .0 .0)
+sound : (c : tie.After-known-told2) → let a = c .before .before .before .before .before .before .before .args in integrityOf (a .config .mode .separator) (a .message .now) ≡ Sound (c .before .verified .given .0 .0)
 sound c = sym (c .before .before .before .verify .ensures) ∙ c .before .verified .given .1
 
 keep-verified-requires : tie.Need-keep-verified-requires
@@ -64,7 +64,7 @@ returns-3 c = let h = c .before .before .before .before .before in
       start-headed _ _ _ _ _ _ _ (k .keep-verified .ensures .0) _ (h .read-header .ensures .0) (sound s) _ _ (c .before .stop .given .1),
       begins-headed _ _ _ (record {
         stops = ends .inside;
-        sums = read-inside _ _ _ _ (verified-read _ _ _ (sound s) .sums);
+        sums = step-inside _ _ _ _ (verified-read _ _ _ (sound s) .sums);
         fits = omega (arith, ends .fits, h .read-header .kept .1 .1 .1 .1 .0);
         types = msg-type-inside _ _ _ _ _ _ _ _ (sound s) (header-ended _ _ _ _ _ _ _ (k .keep-verified .ensures .0) _ (h .read-header .ensures .0) _ _ (c .before .stop .given .1));
       }),

@@ -65,7 +65,7 @@ abbrev read-entry-μ-loop : read-entry-lts.MeasureT-loop
 read-entry-μ-loop message config table index group number words₀ start reading₀ last₀ words reading last = roomOf reading
 
 read-entry-record-of-requires : (t : ℕ) → read-entry-lts.Need-record-of-requires (entry-calls t) (read-entry-at t) read-entry.Post read-entry-Inv-loop read-entry-μ-loop
-read-entry-record-of-requires t c κs = let fits = c .before .before .before .before .pre .1 in (omega (arith, fits .short, fits .begins), omega (arith, fits .short, fits .ends))
+read-entry-record-of-requires t c κs = let fits = c .before .before .before .before .pre .1 in (omega (arith, fits .short, fits .inside .within), omega (arith, fits .short, fits .inside .within))
 
 read-entry-add-requires : (t : ℕ) → read-entry-lts.Need-add-requires (entry-calls t) (read-entry-at t) read-entry.Post read-entry-Inv-loop read-entry-μ-loop
 read-entry-add-requires t c κs = let fits = c .before .before .before .before .before .pre .1 in (omega (arith, fits .counted), omega (arith, fits .placed))
@@ -114,7 +114,7 @@ read-entry-returns : (t : ℕ) → read-entry-lts.Need-returns (entry-calls t) (
 read-entry-returns t c = left-refused _ _ _ _ _ _ _ _ (c .enum-told .given .1) ∙ sym (entry-whole t (c .before .before))
 
 read-entry-record-of-requires-2 : (t : ℕ) → read-entry-lts.Need-record-of-requires-2 (entry-calls t) (read-entry-at t) read-entry.Post read-entry-Inv-loop read-entry-μ-loop
-read-entry-record-of-requires-2 t c κs = let fits = entry-fits t (c .before) in (omega (arith, fits .short, fits .begins), omega (arith, fits .short, fits .ends))
+read-entry-record-of-requires-2 t c κs = let fits = entry-fits t (c .before) in (omega (arith, fits .short, fits .inside .within), omega (arith, fits .short, fits .inside .within))
 
 read-entry-kind-of-requires : (t : ℕ) → read-entry-lts.Need-kind-of-requires (entry-calls t) (read-entry-at t) read-entry.Post read-entry-Inv-loop read-entry-μ-loop
 read-entry-kind-of-requires t c κs = search needs
@@ -273,7 +273,7 @@ run-number t c =
     let l = run-loop t c in
     let fits = l .before .before .before .before .before .pre .1 in
     let a = l .before .before .before .before .before .args in
-    let first = next-follows (a .config .separator) (a .message .now) (a .cursor) (a .progress) fits .falls in
+    let first = next-follows (a .config .mode) (a .message .now) (a .cursor) (a .progress) fits .falls in
     let here : roomOf (l .loop .reading) ≡ suc (c .before .reading .given .0 .1 .0 .room) = ap roomOf (run-stands t c) ∙ unfold roomOf in refl in
     omega (arith, l .loop .inv .1, fits .counted, ap roomOf (l .before .next-field .ensures), first)
 

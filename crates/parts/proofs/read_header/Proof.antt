@@ -16,7 +16,7 @@ use Rattle.parts.proofs.read_header.Statement.{statement}
 use Rattle.parts.proofs.read_header.Tie as tie
 
 abbrev Inv-loop : tie.InvT-loop
-Inv-loop message config header-tags words₀ at₀ room₀ records₀ words at room records = (length words ≡ length words₀) × (records + room ≤ records₀ + room₀) × (room ≤ room₀) × (headerFrom header-tags (fieldsFrom (config .separator) message at₀) room₀ (partOf 0 records₀ words₀) ≡ headerFrom header-tags (fieldsFrom (config .separator) message at) room (partOf 0 records words))
+Inv-loop message config header-tags words₀ at₀ room₀ records₀ words at room records = (length words ≡ length words₀) × (records + room ≤ records₀ + room₀) × (room ≤ room₀) × (headerFrom header-tags (fieldsFrom (config .mode) message at₀) room₀ (partOf 0 records₀ words₀) ≡ headerFrom header-tags (fieldsFrom (config .mode) message at) room (partOf 0 records words))
 
 abbrev μ-loop : tie.MeasureT-loop
 μ-loop message config header-tags words₀ at₀ room₀ records₀ words at room records = room
@@ -44,7 +44,7 @@ enum-known-field : tie.Need-enum-known-field Inv-loop μ-loop
 enum-known-field c = search needs
 
 -- the field that was read
-got : (c : tie.After-known-told2 Inv-loop μ-loop) → let l = c .before .before .before .before in Taken (l .before .before .before .before .args .config .separator) (l .before .before .before .before .args .message .now) (l .loop .at) (l .loop .room) (c .before .field .given .0 .0)
+got : (c : tie.After-known-told2 Inv-loop μ-loop) → let l = c .before .before .before .before in Taken (l .before .before .before .before .args .config .mode) (l .before .before .before .before .args .message .now) (l .loop .at) (l .loop .room) (c .before .field .given .0 .0)
 got c = taken _ _ _ _ _ (sym (c .before .before .before .next-field .ensures) ∙ c .before .field .given .1)
 
 sub-room : tie.Need-sub-room Inv-loop μ-loop
@@ -65,7 +65,7 @@ returns-2 c = let g = c .before .before in
     )
 
 record-of-requires : tie.Need-record-of-requires Inv-loop μ-loop
-record-of-requires c κs = let i = got (c .before .before .before) .inside in (omega (arith, i .begins), omega (arith, i .ends))
+record-of-requires c κs = let i = got (c .before .before .before) .inside in (omega (arith, i .within), omega (arith, i .within))
 
 keep-requires : tie.Need-keep-requires Inv-loop μ-loop
 keep-requires c κs = (omega arith, omega (arith, got (c .before .before .before .before) .one-less))

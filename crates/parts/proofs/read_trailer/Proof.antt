@@ -6,10 +6,9 @@ use Prim.Native.Nat.{ℕ, _+_, _-_, _/_, _≤_, _<_}
 use native.Mathlib.Omega.{arith}
 use lib.ListN.{length}
 use borrow.Author.Needs.{needs}
-use Rattle.tagvalue.specs.Fields.{fieldsFrom, field as then}
-use Rattle.groups.specs.ReadingLaws.{Inside}
+use Rattle.tagvalue.specs.Fields.{fieldsFrom, field as then, Inside}
 use Rattle.parts.specs.Parts.{partOf}
-use Rattle.parts.specs.PartLaws.{read-inside}
+use Rattle.tagvalue.specs.FieldsLaws.{step-inside}
 use Rattle.parts.specs.Trailer.{trailerFrom, trailerTold, trailerCounts}
 use Rattle.parts.specs.TrailerLaws.{trailer-stops, trailer-crowded, trailer-ends, trailer-on}
 use Rattle.parts.proofs.read_trailer.Statement.{statement}
@@ -18,7 +17,7 @@ use Rattle.parts.proofs.read_trailer.Tie as tie
 abbrev Inv-loop : tie.InvT-loop
 Inv-loop message config words₀ from field₀ room₀ records₀ words field room records =
     (length words ≡ length words₀) × (records + room ≤ records₀ + room₀) × (from ≤ records) × (Inside message field) × (partOf 0 from words ≡ partOf 0 from words₀)
-    × (trailerFrom (then field₀ (fieldsFrom (config .separator) message (field₀ .next))) (room₀ + 1) (partOf from records₀ words₀) ≡ trailerFrom (then field (fieldsFrom (config .separator) message (field .next))) (room + 1) (partOf from records words))
+    × (trailerFrom (then field₀ (fieldsFrom (config .mode) message (field₀ .next))) (room₀ + 1) (partOf from records₀ words₀) ≡ trailerFrom (then field (fieldsFrom (config .mode) message (field .next))) (room + 1) (partOf from records words))
 
 abbrev μ-loop : tie.MeasureT-loop
 μ-loop message config words₀ from field₀ room₀ records₀ words field room records = room
@@ -50,7 +49,7 @@ sub-room : tie.Need-sub-room Inv-loop μ-loop
 sub-room c = omega arith
 
 record-of-requires : tie.Need-record-of-requires Inv-loop μ-loop
-record-of-requires c κs = let i = c .before .before .before .before .loop .inv .3 in (omega (arith, i .begins), omega (arith, i .ends))
+record-of-requires c κs = let i = c .before .before .before .before .loop .inv .3 in (omega (arith, i .within), omega (arith, i .within))
 
 keep-requires : tie.Need-keep-requires Inv-loop μ-loop
 keep-requires c κs = (omega arith, omega arith)
@@ -88,7 +87,7 @@ loop-again c = let k = c .before .before .before .before .before .before .before
       k .keep .kept .0 ∙ i .0,
       omega (arith, k .keep .ensures .by-one),
       omega (arith, k .keep .ensures .grows),
-      read-inside _ _ _ _ r,
+      step-inside _ _ _ _ r,
       k .keep .ensures .before ∙ i .4,
       i .5 ∙ trailer-on _ _ _ _ _ (e .before .if1 .left) (omega arith) _ r ∙ rw (k .keep .ensures .part, k .before .record-of .ensures),
     )

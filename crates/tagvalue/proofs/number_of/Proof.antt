@@ -36,8 +36,8 @@ returns-3 c = let a = c .before .before .before .before in
 mul-n : tie.Need-mul-n Inv-loop μ-loop
 mul-n c = search needs
 
-wide-requires : tie.Need-wide-requires Inv-loop μ-loop
-wide-requires c κs = search needs
+widened-requires : tie.Need-widened-requires Inv-loop μ-loop
+widened-requires c κs = search needs
 
 add-n : tie.Need-add-n Inv-loop μ-loop
 add-n c = search needs
@@ -47,7 +47,7 @@ returns-4 c = let a = c .before .before .before .before .before .before in
     let s = a .before .before .before .args .text .now in
     let i = a .loop .i in
     sym (number-large s (rw (a .loop .inv .3 ∙ worth-step s _ _ (c .before .before .before .before .before .loop-test .taken))
-    (omega (arith, worth-least (drop (i + 1) s) (a .loop .n * 10 + (getD s i 0 - 48)), c .before .wide .ensures))))
+    (omega (arith, worth-least (drop (i + 1) s) (a .loop .n * 10 + (getD s i 0 - 48)), c .before .widened .ensures))))
 
 add-i : tie.Need-add-i Inv-loop μ-loop
 add-i c = search needs
@@ -61,7 +61,7 @@ loop-again c = let a = c .before .before .before .before .before .before in
       omega arith,
       omega arith,
       a .loop .inv .2 ∙ digit-step _ _ h (omega arith) (omega arith),
-      a .loop .inv .3 ∙ worth-step _ _ _ h ∙ rw (c .before .wide .ensures),
+      a .loop .inv .3 ∙ worth-step _ _ _ h ∙ rw (c .before .widened .ensures),
     )
 
 cast-t13 : tie.Need-cast-t13 Inv-loop μ-loop
@@ -83,7 +83,7 @@ number-of-spec =
     returns-2
     returns-3
     mul-n
-    wide-requires
+    widened-requires
     add-n
     returns-4
     add-i
