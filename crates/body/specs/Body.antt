@@ -11,7 +11,7 @@ use Rattle.layout.specs.Tree.{holdsTag}
 use Rattle.records.specs.Records.{stored}
 use Rattle.records.specs.declared.Record.{Record}
 use Rattle.body.specs.declared.Opening.{Opening}
-use Rattle.parts.specs.declared.Answer.the-variants.{Malformed, TooManyFields, InvalidField}
+use Rattle.build_answers.specs.declared.Answer.the-variants.{Malformed, TooManyFields, InvalidField}
 use Rattle.parts.specs.Parts.{Reading, ended, refused, recordOf, partOf}
 
 -- what a tag is to the body: a field of the layout or an accepted one, a count with the level of its entries, or neither

@@ -15,8 +15,8 @@ use Rattle.tagvalue.specs.declared.FieldRead.the-variants.{Read, Unreadable}
 use Rattle.layout.specs.Tree.{holdsTag}
 use Rattle.records.specs.Records.{stored}
 use Rattle.records.specs.declared.Record.{Record}
-use Rattle.parts.specs.declared.Answer.{Answer}
-use Rattle.parts.specs.declared.Answer.the-variants.{InvalidField}
+use Rattle.build_answers.specs.declared.Answer.{Answer}
+use Rattle.build_answers.specs.declared.Answer.the-variants.{InvalidField}
 use Rattle.parts.specs.declared.Next.the-variants.{Got, Missing}
 use Rattle.parts.specs.Parts.{Reading, ended, refused, recordOf, nextOf}
 use Rattle.parts.specs.PartLaws.{taken}

@@ -16,7 +16,7 @@ use Rattle.records.specs.WordLaws.{records-length}
 use Rattle.records.specs.RecordLaws.{between-parts}
 use Rattle.records.specs.declared.Record.{Record}
 use Rattle.groups.specs.Groups.{run, Outcome, ended, refused, walk}
-use Rattle.groups.specs.Reading.{Memory, memory, listStore, tableRules, toldBy, runOf, Fits}
+use Rattle.groups.specs.Reading.{Memory, memory, listStore, tableRules, toldBy, runOf, Fits, answerOf}
 use Rattle.groups.specs.ReadingLaws.{roomOf, told-follows}
 use Rattle.groups.specs.declared.Reading.{Reading}
 use Rattle.groups.specs.declared.Reading.the-variants.{At, Refused}
@@ -26,10 +26,10 @@ use Rattle.required.specs.Checking.{tableDemands, lackOfRun}
 use Rattle.required.specs.declared.Lack.{Lack}
 use Rattle.required.specs.declared.Lack.the-variants.{Missing, Complete}
 use Rattle.body.specs.declared.Opening.{Opening}
-use Rattle.parts.specs.declared.Answer.the-variants.{RequiredFieldMissing}
+use Rattle.build_answers.specs.declared.Answer.the-variants.{RequiredFieldMissing}
 use Rattle.parts.specs.declared.PartRead.the-variants.{At as at-field, Refused as refuses-part}
 use Rattle.parts.specs.Parts.{partOf, partTold, Stays, Reading as Read, ended as ends, refused as refuses}
-use Rattle.body.specs.Kinds.{answerOf, checked, ranAs, runFrom}
+use Rattle.body.specs.Kinds.{checked, ranAs, runFrom}
 use Rattle.parts.specs.PartLaws.{parted, part-length, stays-refused, stays-at}
 use Rattle.body.specs.Body.{storedRun, withRun, Opened}
 use Rattle.body.specs.RunLaws.{between-split}

@@ -11,24 +11,15 @@ use Rattle.layout.specs.declared.Position.{Position}
 use Rattle.layout.specs.declared.Position.the-variants.{At, Nowhere}
 use Rattle.groups.specs.Groups.{Opened, none, opened, Rules, run, Outcome, walk}
 use Rattle.groups.specs.Groups.{ended as ran, refused as stops}
-use Rattle.groups.specs.Reading.{listStore}
+use Rattle.groups.specs.Reading.{listStore, answerOf}
 use Rattle.required.specs.Required.{Demands, runLack}
 use Rattle.required.specs.declared.Lack.{Lack}
 use Rattle.required.specs.declared.Lack.the-variants.{Missing, Complete}
-use Rattle.groups.specs.declared.Refusal.{Refusal}
-use Rattle.groups.specs.declared.Refusal.the-variants.{Malformed, TooManyFields, InvalidOrderInGroup}
-use Rattle.parts.specs.declared.Answer.{Answer}
-use Rattle.parts.specs.declared.Answer.the-variants.{Malformed as malformed, TooManyFields as too-many-fields, InvalidOrderInGroup as invalid-order, RequiredFieldMissing}
+use Rattle.build_answers.specs.declared.Answer.the-variants.{RequiredFieldMissing}
 use Rattle.body.specs.declared.BodyKind.{BodyKind}
 use Rattle.body.specs.declared.BodyKind.the-variants.{Plain, Counts, Other}
 use Rattle.body.specs.Body.{Kind, plain, counts, other, Body}
 use Rattle.parts.specs.Parts.{Reading, ended, refused}
-
--- a refusal of a run as the answer to the message
-unfoldable pub answerOf : Refusal → Answer
-answerOf (Malformed cause place) = malformed cause place
-answerOf TooManyFields = too-many-fields
-answerOf (InvalidOrderInGroup tag group) = invalid-order tag group
 
 -- what the code's kinds mean
 unfoldable pub meantBy : BodyKind → Kind Level

@@ -7,7 +7,7 @@ use build_config::Config;
 use layout::Level;
 use layout::Nested;
 use layout::Position;
-use parts::Answer;
+use build_answers::Answer;
 use parts::Next;
 use parts::PartRead;
 use parts::Progress;
@@ -21,10 +21,10 @@ ghost use Prim.Native.Nat.{suc, _+_, _≤_, _<_, _/_, _^_};
 ghost use lib.ListN.{length};
 ghost use Rattle.tagvalue.specs.Fields.{field, fieldsFrom, Inside};
 ghost use Rattle.records.specs.Records.{stored};
-ghost use Rattle.groups.specs.Reading.{tableRules};
+ghost use Rattle.groups.specs.Reading.{tableRules, answerOf};
 ghost use Rattle.required.specs.Checking.{tableDemands};
 ghost use Rattle.parts.specs.Parts.{recordOf, partOf, partTold, Stays};
-ghost use Rattle.body.specs.Kinds.{answerOf, meantBy, kindOf, runFrom, bodyOf};
+ghost use Rattle.body.specs.Kinds.{meantBy, kindOf, runFrom, bodyOf};
 ghost use Rattle.body.specs.Body.{nextFrom, withRun, bodyFrom, RunEnd, Dropped, Opened};
 
 // Where a run comes in: behind its count, among so many records.

@@ -2,7 +2,7 @@
 use crate::writing;
 use integrity::Config;
 use integrity::GarbledReason;
-use parts::Answer;
+use build_answers::Answer;
 use records::Record;
 use tagvalue::Found;
 ghost use Prim.Native.Nat.{_≤_};

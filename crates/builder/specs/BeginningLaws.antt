@@ -15,8 +15,8 @@ use Rattle.integrity.specs.declared.Integrity.the-variants.{Sound, Garbled}
 use Rattle.integrity.specs.declared.GarbledReason.{GarbledReason}
 use Rattle.integrity.specs.declared.Verified.{Verified}
 use Rattle.records.specs.declared.Record.{Record}
-use Rattle.parts.specs.declared.Answer.{Answer}
-use Rattle.parts.specs.declared.Answer.the-variants.{Garbled as garbled}
+use Rattle.build_answers.specs.declared.Answer.{Answer}
+use Rattle.build_answers.specs.declared.Answer.the-variants.{Garbled as garbled}
 use Rattle.parts.specs.declared.Progress.{Progress}
 use Rattle.parts.specs.declared.PartRead.{PartRead}
 use Rattle.parts.specs.declared.PartRead.the-variants.{At, Refused}

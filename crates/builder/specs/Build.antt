@@ -12,8 +12,8 @@ use Rattle.flat_steps.specs.declared.Checked.{Checked}
 use Rattle.flattening.specs.Meaning.{dictionaryOf}
 use Rattle.records.specs.Records.{laid}
 use Rattle.records.specs.declared.Record.{Record}
-use Rattle.parts.specs.declared.Answer.{Answer}
-use Rattle.parts.specs.declared.Answer.the-variants.{TooLong as MessageTooLong, InvalidSeparator, TooFewRecords, BadDictionary}
+use Rattle.build_answers.specs.declared.Answer.{Answer}
+use Rattle.build_answers.specs.declared.Answer.the-variants.{TooLong as MessageTooLong, InvalidSeparator, TooFewRecords, BadDictionary}
 use Rattle.reading.specs.declared.Stop.{Stop}
 use Rattle.reading.specs.declared.Stop.the-variants.{Nowhere}
 use Rattle.builder.specs.declared.Built.{Built}

@@ -18,9 +18,9 @@ use Rattle.flattening.specs.declared.tags.TagList.the-variants.{Listed, Unliste
 use Rattle.records.specs.Records.{recordsOf, leftover, laid, between}
 use Rattle.records.specs.WordLaws.{words-whole, laid-append, laid-length, records-length}
 use Rattle.records.specs.declared.Record.{Record}
-use Rattle.parts.specs.declared.Answer.{Answer}
-use Rattle.parts.specs.declared.Answer.the-variants.{BadDictionary}
-use Rattle.parts.specs.Answer.{numberOf}
+use Rattle.build_answers.specs.declared.Answer.{Answer}
+use Rattle.build_answers.specs.declared.Answer.the-variants.{BadDictionary}
+use Rattle.build_answers.specs.Answer.{numberOf}
 use Rattle.parts.specs.Parts.{partOf}
 use Rattle.parts.specs.PartLaws.{parted, part-length}
 use Rattle.reading.specs.Message.{refusal, messageRead}

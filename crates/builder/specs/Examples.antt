@@ -13,7 +13,7 @@ use Rattle.tagvalue.specs.Separator.{isRefusedSeparator}
 use Rattle.tagvalue.specs.CheckSum.{sumOf, checksumDigits}
 use Rattle.tagvalue.specs.Decimal.{decimalWithin}
 use Rattle.layout.specs.Tree.{Dictionary}
-use Rattle.parts.specs.Answer.{numberOf, valuesOf}
+use Rattle.build_answers.specs.Answer.{numberOf, valuesOf}
 use Rattle.flat.specs.Check.{checkOf}
 use Rattle.flat.specs.Examples.{examples, examples-pass}
 use Rattle.flat_records.specs.Record.{lowFirst, zeroFilled, bodyLength, withTag as tagBytes, withMark, knownTag, opensComponent, opensMessage, bodyOf as bodyBytes, withBody, withKind, recordFrom, recordAt}

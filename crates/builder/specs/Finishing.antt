@@ -10,8 +10,8 @@ use Rattle.tagvalue.specs.declared.Field.{Field}
 use Rattle.records.specs.Records.{recordsOf, stored}
 use Rattle.records.specs.RecordLaws.{between-end}
 use Rattle.records.specs.declared.Record.{Record}
-use Rattle.parts.specs.declared.Answer.{Answer}
-use Rattle.parts.specs.declared.Answer.the-variants.{TooManyFields}
+use Rattle.build_answers.specs.declared.Answer.{Answer}
+use Rattle.build_answers.specs.declared.Answer.the-variants.{TooManyFields}
 use Rattle.parts.specs.declared.Progress.{Progress}
 use Rattle.parts.specs.declared.PartRead.{PartRead}
 use Rattle.parts.specs.declared.PartRead.the-variants.{At, Refused}

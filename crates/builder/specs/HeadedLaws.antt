@@ -25,7 +25,7 @@ use Rattle.flattening.specs.declared.MessageTable.{MessageTable}
 use Rattle.flattening.specs.declared.MessageTable.the-variants.{Rows}
 use Rattle.groups.specs.Reading.{tableRules}
 use Rattle.required.specs.Checking.{tableDemands}
-use Rattle.parts.specs.declared.Answer.the-variants.{InvalidMsgType}
+use Rattle.build_answers.specs.declared.Answer.the-variants.{InvalidMsgType}
 use Rattle.parts.specs.Parts.{partOf}
 use Rattle.body.specs.Kinds.{bodyOf}
 use Rattle.body.specs.Body.{bodyFrom}

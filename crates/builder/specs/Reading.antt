@@ -12,9 +12,9 @@ use Rattle.integrity.specs.declared.Verified.{Verified}
 use Rattle.flat.specs.Check.{checkOf, storeOf, preparedOf}
 use Rattle.flat_steps.specs.declared.Checked.the-variants.{Passes}
 use Rattle.layout.specs.Tree.{Dictionary, headerTags, trailerTags}
-use Rattle.parts.specs.declared.Answer.{Answer}
-use Rattle.parts.specs.declared.Answer.the-variants.{Valid}
-use Rattle.parts.specs.Answer.{numberOf}
+use Rattle.build_answers.specs.declared.Answer.{Answer}
+use Rattle.build_answers.specs.declared.Answer.the-variants.{Valid}
+use Rattle.build_answers.specs.Answer.{numberOf}
 use Rattle.parts.specs.Parts.{partOf}
 use Rattle.builder.specs.declared.Headed.{Headed}
 use Rattle.builder.specs.declared.Begun.{Begun}

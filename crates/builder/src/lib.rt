@@ -7,7 +7,7 @@ use build_config::Config;
 use integrity::Integrity;
 use integrity::Verified;
 use layout::Level;
-use parts::Answer;
+use build_answers::Answer;
 use parts::PartRead;
 use parts::Progress;
 use parts::TrailerRead;
@@ -231,7 +231,7 @@ fn read_headed(
 fn shown_with(answer: Answer, header: usize) -> usize
     ensures { λ r. ⌜ r ≡ shownCount answer header ⌝ }
 {
-    let number = parts::number_of(answer);
+    let number = build_answers::number_of(answer);
     if number < 1 {
         return 0;
     }

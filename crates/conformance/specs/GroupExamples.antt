@@ -18,8 +18,9 @@ use Rattle.tagvalue.specs.Standard.{All, Told, told, Int, Distinct, entries, St
 use Rattle.layout.specs.Layout.{Layout, end, field, group, firstOf, positionFrom, positionIn, groupSince, groupOf, delimiterOf}
 use Rattle.records.specs.Records.{stored}
 use Rattle.records.specs.declared.Record.{Record}
+use Rattle.build_answers.specs.Answer.{numberOf}
 use Rattle.groups.specs.Groups.{isDelimiter, opens, counting, declared, kindOf, run, inEntry, decide, recordOf, Outcome, ended, refused, moved, walk}
-use Rattle.groups.specs.Reading.{numberOfRefusal, openedAs, layoutRules, joinedList, listStore}
+use Rattle.groups.specs.Reading.{answerOf, openedAs, layoutRules, joinedList, listStore}
 use Rattle.conformance.specs.Groups.{numbered, tagBehind, entriesOf, Leaves, Rises, Fits}
 
 -- no tag is taken that the layout lacks, or 5001 is
@@ -96,7 +97,7 @@ Reading = ℕ × ℕ × (List (ℕ × ℕ × ℕ))
 
 unfoldable shown : Outcome (List Record) (List Record) → Reading
 shown (ended f rest room rs) = (0, f .tag, map (λ (r : Record). (r .depth, r .number, r .tag)) rs)
-shown (refused refusal rs) = (numberOfRefusal refusal, 0, [])
+shown (refused refusal rs) = (numberOf (answerOf refusal), 0, [])
 
 unfoldable reading : (ℕ → Bool) → Layout → String → Reading
 reading accepts layout text = shown (walk (layoutRules accepts) listStore 100 (run layout 78 1 0 ∷ []) [] (fieldsFrom standardMode (bytes text) (startAt 0)))
@@ -143,7 +144,7 @@ unfit =
     ∷ []
 
 unfit-read : map (λ row. reading strict (row .0 .0) (row .0 .1)) unfit ≡ map (λ row. row .1) unfit
-unfolding reading shown numberOfRefusal layoutRules openedAs joinedList listStore walk moved decide inEntry kindOf declared counting opens isDelimiter recordOf positionIn positionFrom firstOf groupOf groupSince delimiterOf stored reading-fields
+unfolding reading shown answerOf numberOf layoutRules openedAs joinedList listStore walk moved decide inEntry kindOf declared counting opens isDelimiter recordOf positionIn positionFrom firstOf groupOf groupSince delimiterOf stored reading-fields
 unfit-read = refl
 
 -- validation off: an unknown user tag behind the group joins its entry, and behind a nested group that group's entry
@@ -154,5 +155,5 @@ user =
     ∷ []
 
 user-read : map (λ row. reading lenient (row .0 .0) (row .0 .1)) user ≡ map (λ row. row .1) user
-unfolding reading shown numberOfRefusal layoutRules openedAs joinedList listStore walk moved decide inEntry kindOf declared counting opens isDelimiter recordOf positionIn positionFrom firstOf groupOf groupSince delimiterOf stored reading-fields
+unfolding reading shown answerOf numberOf layoutRules openedAs joinedList listStore walk moved decide inEntry kindOf declared counting opens isDelimiter recordOf positionIn positionFrom firstOf groupOf groupSince delimiterOf stored reading-fields
 user-read = refl

@@ -13,6 +13,8 @@ use Rattle.tagvalue.specs.declared.Field.{Field}
 use Rattle.tagvalue.specs.declared.FieldRead.{FieldRead}
 use Rattle.tagvalue.specs.declared.FieldRead.the-variants.{Read, Unreadable}
 use Rattle.build_config.specs.declared.Config.{Config}
+use Rattle.build_answers.specs.declared.Answer.{Answer}
+use Rattle.build_answers.specs.declared.Answer.the-variants.{Malformed as malformed, TooManyFields as too-many-fields, InvalidOrderInGroup as invalid-order}
 use Rattle.layout.specs.Layout.{Layout, Group as LayoutGroup, none as no-group, entries, positionIn, groupOf, delimiterOf}
 use Rattle.layout.specs.Table.{positionOf, groupWithin, delimiterAt}
 use Rattle.layout.specs.declared.Level.{Level}
@@ -32,16 +34,11 @@ use Rattle.groups.specs.declared.Reading.the-variants.{At, Refused}
 use Rattle.groups.specs.declared.Kind.{Kind as CodeKind}
 use Rattle.groups.specs.declared.Kind.the-variants.{Plain, Count, Joins, Wrong, Ends}
 
--- 01's number for each refusal, and the values returned with it
-unfoldable pub numberOfRefusal : Refusal → ℕ
-numberOfRefusal (Malformed cause place) = 10
-numberOfRefusal TooManyFields = 21
-numberOfRefusal (InvalidOrderInGroup tag group) = 2
-
-unfoldable pub valuesOfRefusal : Refusal → List ℕ
-valuesOfRefusal (Malformed cause place) = []
-valuesOfRefusal TooManyFields = []
-valuesOfRefusal (InvalidOrderInGroup tag group) = tag ∷ group ∷ []
+-- a refusal of a run as the answer to the message
+unfoldable pub answerOf : Refusal → Answer
+answerOf (Malformed cause place) = malformed cause place
+answerOf TooManyFields = too-many-fields
+answerOf (InvalidOrderInGroup tag group) = invalid-order tag group
 
 -- "with validation off, tags of 5000 and above that the dictionary lacks"
 unfoldable pub accepted : Config → (ℕ → Bool) → ℕ → Bool

@@ -64,6 +64,6 @@ pub fn build(words: &mut [u32], values: &mut [u8], text: &[u8]) {
     let built = builder::build(message, config, &DICTIONARY, 1024, &mut records);
     let answer = built.answer;
     let count = built.records;
-    showing::answer(parts::number_of(answer));
+    showing::answer(build_answers::number_of(answer));
     take_over(&records, count, message, words, values);
 }

@@ -7,7 +7,7 @@ use Rattle.tagvalue.specs.Fields.{Fields, unreadable, field}
 use Rattle.layout.specs.Tree.{holdsTag}
 use Rattle.records.specs.Records.{stored}
 use Rattle.records.specs.declared.Record.{Record}
-use Rattle.parts.specs.declared.Answer.the-variants.{Malformed, TooManyFields}
+use Rattle.build_answers.specs.declared.Answer.the-variants.{Malformed, TooManyFields}
 use Rattle.parts.specs.Parts.{Reading, ended, refused, recordOf}
 
 -- "Header tags go to the header; the first other field ends it." "No field where header .. needs one: 10."

@@ -18,7 +18,7 @@ use Rattle.records.specs.declared.Record.{Record}
 use Rattle.parts.specs.Parts.{ended, refused, recordOf, nextOf}
 use Rattle.parts.specs.PartLaws.{taken}
 use Rattle.parts.specs.Header.{headerFrom}
-use Rattle.parts.specs.declared.Answer.{Answer}
+use Rattle.build_answers.specs.declared.Answer.{Answer}
 use Rattle.parts.specs.declared.Next.the-variants.{Got, Missing}
 
 module _ (tags : List ℕ) (mode : Mode) (message : List ℕ) (c : Cursor) (room : ℕ) (records : List Record) where

@@ -1,4 +1,3 @@
-pub mod Answer
 pub mod Parts
 pub mod PartLaws
 pub mod Header

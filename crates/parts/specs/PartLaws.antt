@@ -21,8 +21,8 @@ use Rattle.records.specs.RecordLaws.{between-end, between-parts, stored-held, s
 use Rattle.records.specs.declared.Record.{Record}
 use Rattle.records.specs.declared.Standing.the-variants.{At, Nowhere}
 use Rattle.parts.specs.Parts.{partOf, Kept, nextOf, Ends, Stays}
-use Rattle.parts.specs.declared.Answer.the-variants.{Malformed, TooManyFields}
-use Rattle.parts.specs.declared.Answer.{Answer}
+use Rattle.build_answers.specs.declared.Answer.the-variants.{Malformed, TooManyFields}
+use Rattle.build_answers.specs.declared.Answer.{Answer}
 use Rattle.parts.specs.declared.Progress.{Progress}
 use Rattle.parts.specs.declared.PartRead.the-variants.{At as at-field, Refused}
 use Rattle.parts.specs.declared.Next.the-variants.{Got, Missing}

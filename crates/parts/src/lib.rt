@@ -1,11 +1,9 @@
-// parts: header and trailer, read one field at a time, and what all parts share: the answer to a message, a field's record, storing it.
+// parts: header and trailer, read one field at a time, and what all parts share: a field's record, storing it.
 // It keeps records through `records` only and knows nothing of layouts and groups; only the body and the builder call it.
-use flat_steps::Checked;
+use build_answers::Answer;
 use build_config::Config;
-use integrity::GarbledReason;
 use records::Record;
 use records::Standing;
-use tagvalue::Cause;
 use tagvalue::Cursor;
 use tagvalue::Field;
 use tagvalue::FieldRead;
@@ -14,35 +12,11 @@ ghost use Prim.Native.Nat.{_+_, _≤_, _<_, _/_, _^_};
 ghost use lib.ListN.{length};
 ghost use Rattle.tagvalue.specs.Fields.{field, fieldsFrom, Inside};
 ghost use Rattle.tagvalue.specs.Field.{fieldAt};
-ghost use Rattle.integrity.specs.Integrity.{numberOfReason};
-ghost use Rattle.parts.specs.Answer.{numberOf, valuesOf};
 ghost use Rattle.parts.specs.Parts.{recordOf, partOf, Kept, nextOf, partTold, Stays};
 ghost use Rattle.parts.specs.Header.{headerFrom};
 ghost use Rattle.parts.specs.Trailer.{trailerFrom, trailerTold, trailerCounts};
 
 const CHECKSUM: u32 = 10;
-
-// The answer to a message. Numbers are a tag and the tag of its group, or the place and length of a value.
-pub enum Answer {
-    Valid,
-    InvalidField(u32),
-    InvalidOrderInGroup(u32, u32),
-    InvalidMsgType(usize, usize),
-    RequiredFieldMissing(u32, u32),
-    Malformed(Cause, usize),
-    Garbled(GarbledReason),
-    TooLong,
-    TooManyFields,
-    InvalidSeparator,
-    TooFewRecords,
-    BadDictionary(Checked),
-}
-
-// The values that are returned with an answer, 0 where there is none.
-pub struct Values {
-    pub first: usize,
-    pub second: usize,
-}
 
 // How many fields may still be read, and how many records there are.
 pub struct Progress {
@@ -67,65 +41,6 @@ pub enum TrailerRead {
 pub enum Next {
     Got(Field),
     Missing(Answer),
-}
-
-// 01's number for a reason why a message is garbled.
-fn reason_number(reason: GarbledReason) -> u32
-    ensures { λ r. ⌜ r ≡ numberOfReason reason ⌝ }
-{
-    match reason {
-        GarbledReason::Malformed => 10,
-        GarbledReason::InvalidBeginString => 11,
-        GarbledReason::InvalidBodyLength => 12,
-        GarbledReason::InvalidMsgType => 13,
-        GarbledReason::InvalidChecksum => 14,
-    }
-}
-
-// 01's number for an answer.
-pub fn number_of(answer: Answer) -> u32
-    ensures { λ r. ⌜ r ≡ numberOf answer ⌝ }
-{
-    match answer {
-        Answer::Valid => 0,
-        Answer::InvalidField(_) => 1,
-        Answer::InvalidOrderInGroup(_, _) => 2,
-        Answer::InvalidMsgType(_, _) => 3,
-        Answer::RequiredFieldMissing(_, _) => 4,
-        Answer::Malformed(_, _) => 10,
-        Answer::Garbled(reason) => reason_number(reason),
-        Answer::TooLong => 20,
-        Answer::TooManyFields => 21,
-        Answer::InvalidSeparator => 22,
-        Answer::TooFewRecords => 23,
-        Answer::BadDictionary(checked) => flat::number_of(checked),
-    }
-}
-
-fn returned(first: usize, second: usize) -> Values
-    ensures { λ r. ⌜ r ≡ record { first = first; second = second } ⌝ }
-{
-    Values { first, second }
-}
-
-// The values that are returned with an answer.
-pub fn values_of(answer: Answer) -> Values
-    ensures { λ r. ⌜ (r .first, r .second) ≡ valuesOf answer ⌝ }
-{
-    match answer {
-        Answer::Valid => returned(0, 0),
-        Answer::InvalidField(tag) => returned(tag as usize, 0),
-        Answer::InvalidOrderInGroup(tag, group) => returned(tag as usize, group as usize),
-        Answer::InvalidMsgType(place, length) => returned(place, length),
-        Answer::RequiredFieldMissing(tag, group) => returned(tag as usize, group as usize),
-        Answer::Malformed(_, _) => returned(0, 0),
-        Answer::Garbled(_) => returned(0, 0),
-        Answer::TooLong => returned(0, 0),
-        Answer::TooManyFields => returned(0, 0),
-        Answer::InvalidSeparator => returned(0, 0),
-        Answer::TooFewRecords => returned(0, 0),
-        Answer::BadDictionary(checked) => returned(flat::value_of(checked) as usize, 0),
-    }
 }
 
 // A field's record in one of the parts.

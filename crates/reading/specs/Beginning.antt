@@ -14,8 +14,8 @@ use Rattle.integrity.specs.declared.Integrity.the-variants.{Sound, Garbled}
 use Rattle.integrity.specs.declared.Verified.{Verified}
 use Rattle.records.specs.Records.{blank, stored}
 use Rattle.records.specs.declared.Record.{Record}
-use Rattle.parts.specs.declared.Answer.{Answer}
-use Rattle.parts.specs.declared.Answer.the-variants.{Garbled as garbled}
+use Rattle.build_answers.specs.declared.Answer.{Answer}
+use Rattle.build_answers.specs.declared.Answer.the-variants.{Garbled as garbled}
 use Rattle.parts.specs.Parts.{Reading, ended, refused, recordOf}
 use Rattle.parts.specs.Header.{headerFrom}
 

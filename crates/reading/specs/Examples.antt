@@ -18,16 +18,16 @@ use Rattle.layout.specs.Tree.{Nodes, nothing, fieldItem, groupItem, Dictionary,
 use Rattle.records.specs.Records.{stored}
 use Rattle.records.specs.declared.Record.{Record}
 use Rattle.groups.specs.Groups.{isDelimiter, counting, opens, declared, kindOf as entryKind, inEntry, decide, recordOf as entryRecord, moved, walk}
-use Rattle.groups.specs.Reading.{accepted, openedAs, layoutRules, joinedList, listStore}
+use Rattle.groups.specs.Reading.{accepted, openedAs, layoutRules, joinedList, listStore, answerOf}
 use Rattle.required.specs.Required.{orElse, has, fieldsLack, before, shallow, runLacks, nestedLack, entriesLack, opensEntry, entryLack, runLack}
 use Rattle.required.specs.Checking.{layoutDemands}
-use Rattle.parts.specs.Answer.{numberOf, valuesOf}
+use Rattle.build_answers.specs.Answer.{numberOf, valuesOf}
 use Rattle.parts.specs.Parts.{recordOf}
 use Rattle.parts.specs.Header.{headerFrom}
 use Rattle.parts.specs.Trailer.{trailerFrom}
 use Rattle.reading.specs.Beginning.{verifiedRecords, headerOf, withChecksum, startedBy, startOf, msgTypeRecord, valueAt}
 use Rattle.body.specs.Body.{behindRun, storedRun, andThen, nextFrom, withRun, takes, bodyWithin, bodyFrom}
-use Rattle.body.specs.Kinds.{answerOf, groupKind, placedKind, kindOf, checked, ranAs, runFrom, bodyOf}
+use Rattle.body.specs.Kinds.{groupKind, placedKind, kindOf, checked, ranAs, runFrom, bodyOf}
 use Rattle.reading.specs.Message.{Outcome, shownWith, refusal, afterTrailer, afterBody, afterType, afterHeader, messageRead}
 
 abbrev pub fields : List ℕ → Nodes

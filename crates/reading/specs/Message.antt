@@ -12,11 +12,11 @@ use Rattle.layout.specs.Tree.{Dictionary, knows, headerTags, trailerTags, Choic
 use Rattle.records.specs.declared.Record.{Record}
 use Rattle.groups.specs.Reading.{accepted, layoutRules}
 use Rattle.required.specs.Checking.{layoutDemands}
-use Rattle.parts.specs.declared.Answer.{Answer}
-use Rattle.parts.specs.declared.Answer.the-variants.{Valid, InvalidMsgType, TooManyFields}
+use Rattle.build_answers.specs.declared.Answer.{Answer}
+use Rattle.build_answers.specs.declared.Answer.the-variants.{Valid, InvalidMsgType, TooManyFields}
 use Rattle.reading.specs.declared.Stop.{Stop}
 use Rattle.reading.specs.declared.Stop.the-variants.{At, Nowhere}
-use Rattle.parts.specs.Answer.{numberOf}
+use Rattle.build_answers.specs.Answer.{numberOf}
 use Rattle.parts.specs.Parts.{Reading, ended, refused, recordOf}
 use Rattle.parts.specs.Trailer.{Trailer, stopped, unstopped, crowded, trailerFrom}
 use Rattle.reading.specs.Beginning.{Start, started, unsound, startOf, msgTypeRecord, valueAt}

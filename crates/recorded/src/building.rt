@@ -3,7 +3,7 @@ use crate::encoded;
 use crate::reading;
 use crate::saying;
 use integrity::Config;
-use parts::Answer;
+use build_answers::Answer;
 use records::Record;
 
 // Keeps a dictionary and checks it; its size.
@@ -57,8 +57,8 @@ fn records_of(message: &[u8], words: &[u32; 6150], count: usize) {
 
 // NUMBER FIRST SECOND COUNT and so many records
 fn told(message: &[u8], answer: Answer, words: &[u32; 6150], count: usize) {
-    let values = parts::values_of(answer);
-    saying::marked(b"", parts::number_of(answer));
+    let values = build_answers::values_of(answer);
+    saying::marked(b"", build_answers::number_of(answer));
     saying::say(b" ");
     saying::decimal(values.first as u64);
     saying::say(b" ");
@@ -100,7 +100,7 @@ pub fn again(text: &[u8], dictionary: &[u8]) {
     let built = builder::build(message, config_of(settings), dictionary, 1024, &mut words);
     let answer = built.answer;
     let count = built.records;
-    if parts::number_of(answer) == 0 {
+    if build_answers::number_of(answer) == 0 {
         encode_built(message, &words, count, reading::byte(further));
     } else {
         told(message, answer, &words, count);

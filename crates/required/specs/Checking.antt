@@ -4,6 +4,8 @@ use mathlib.Core.List.{List, [], _∷_}
 use mathlib.Core.Bool.{Bool}
 use lib.Dec.{eqb}
 use Rattle.tagvalue.specs.Choice.{pick}
+use Rattle.build_answers.specs.declared.Answer.{Answer}
+use Rattle.build_answers.specs.declared.Answer.the-variants.{Valid, RequiredFieldMissing}
 use Rattle.layout.specs.Layout.{Layout, groupOf, delimiterOf, requiredTags}
 use Rattle.layout.specs.Table.{siblings, requiredAmong, groupWithin}
 use Rattle.layout.specs.declared.Level.{Level}
@@ -17,14 +19,10 @@ use Rattle.required.specs.Required.{Demands, fieldsLack, opensEntry, ent
 use Rattle.required.specs.declared.Lack.{Lack}
 use Rattle.required.specs.declared.Lack.the-variants.{Missing, Complete}
 
--- 01's number for an answer, and the values returned with it
-unfoldable pub numberOfLack : Lack → ℕ
-numberOfLack Complete = 0
-numberOfLack (Missing tag group) = 4
-
-unfoldable pub valuesOfLack : Lack → List ℕ
-valuesOfLack Complete = []
-valuesOfLack (Missing tag group) = tag ∷ group ∷ []
+-- "the first lack gives 4"
+unfoldable pub answerOfLack : Lack → Answer
+answerOfLack Complete = Valid
+answerOfLack (Missing tag group) = RequiredFieldMissing tag group
 
 -- levels looked up in a table
 unfoldable pub tableDemands : List ℕ → Demands Level

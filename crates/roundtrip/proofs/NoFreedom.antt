@@ -49,10 +49,10 @@ use Rattle.layout.proofs.holds.Reads as of-layout-holds
 use Rattle.layout.proofs.holds.Kinds as in-layout-holds
 use Rattle.builder.proofs.build.Reads as of-builder-build
 use Rattle.builder.proofs.build.Kinds as in-builder-build
-use Rattle.parts.proofs.number_of.Reads as of-parts-number-of
-use Rattle.parts.proofs.number_of.Kinds as in-parts-number-of
-use Rattle.parts.proofs.values_of.Reads as of-parts-values-of
-use Rattle.parts.proofs.values_of.Kinds as in-parts-values-of
+use Rattle.build_answers.proofs.number_of.Reads as of-parts-number-of
+use Rattle.build_answers.proofs.number_of.Kinds as in-parts-number-of
+use Rattle.build_answers.proofs.values_of.Reads as of-parts-values-of
+use Rattle.build_answers.proofs.values_of.Kinds as in-parts-values-of
 use Rattle.message.proofs.empty.Reads as of-message-empty
 use Rattle.message.proofs.empty.Kinds as in-message-empty
 use Rattle.message.proofs.new.Reads as of-message-new

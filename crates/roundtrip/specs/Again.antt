@@ -12,7 +12,7 @@ use Rattle.tagvalue.specs.Fields.{Fields, field, fieldsFrom}
 use Rattle.layout.specs.Tree.{Dictionary}
 use Rattle.records.specs.declared.Record.{Record}
 use Rattle.nesting.specs.Entries.{all-more}
-use Rattle.parts.specs.declared.Answer.the-variants.{Valid}
+use Rattle.build_answers.specs.declared.Answer.the-variants.{Valid}
 use Rattle.parts.specs.Parts.{recordOf}
 use Rattle.reading.specs.Message.{Outcome, messageRead}
 use Rattle.taking.specs.Derived.{given}

@@ -11,7 +11,7 @@ use lib.ListN.{length, drop}
 use Rattle.build_config.specs.declared.Config.{Config}
 use Rattle.flattening.specs.Meaning.{dictionaryOf}
 use Rattle.lent.specs.Meaning.{Message, wordsOf, valuesOf}
-use Rattle.parts.specs.declared.Answer.the-variants.{Valid}
+use Rattle.build_answers.specs.declared.Answer.the-variants.{Valid}
 use Rattle.reading.specs.Message.{Outcome, messageRead}
 use Rattle.builder.specs.Build.{BuildOutcome, wordsWith, shown, buildOf}
 use Rattle.taking.specs.Taking.{after, takingOver}

@@ -16,7 +16,7 @@ use Rattle.flattening.specs.Meaning.{dictionaryOf}
 use Rattle.records.specs.declared.Record.{Record}
 use Rattle.nesting.specs.Entries.{All, all-append}
 use Rattle.parts.specs.Parts.{recordOf}
-use Rattle.parts.specs.declared.Answer.the-variants.{Valid}
+use Rattle.build_answers.specs.declared.Answer.the-variants.{Valid}
 use Rattle.builder.specs.Build.{buildOf}
 use Rattle.reading.specs.Message.{messageRead}
 use Rattle.written_form.specs.Encoding.{encoding}

@@ -22,7 +22,7 @@ use Rattle.encoding.specs.Encode.{left, encodingOf}
 use Rattle.encoding.specs.declared.Encoding.the-variants.{Written}
 use Rattle.build_config.specs.declared.Config.{Config}
 use Rattle.flattening.specs.Meaning.{dictionaryOf}
-use Rattle.parts.specs.declared.Answer.the-variants.{Valid}
+use Rattle.build_answers.specs.declared.Answer.the-variants.{Valid}
 use Rattle.builder.specs.Build.{BuildOutcome, buildOf}
 use Rattle.taking.specs.Taking.{after, takingOver}
 use Rattle.taking.specs.declared.Taken.the-variants.{Made}

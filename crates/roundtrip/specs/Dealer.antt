@@ -9,7 +9,7 @@ use lib.ListN.{length}
 use Rattle.build_config.specs.declared.Config.{Config}
 use Rattle.flattening.specs.Meaning.{dictionaryOf}
 use Rattle.layout.specs.Tree.{Dictionary}
-use Rattle.parts.specs.declared.Answer.the-variants.{Valid}
+use Rattle.build_answers.specs.declared.Answer.the-variants.{Valid}
 use Rattle.reading.specs.Message.{messageRead}
 use Rattle.builder.specs.Build.{BuildOutcome, buildOf}
 use Rattle.lent.specs.Meaning.{wordsOf, valuesOf, messageIn}

@@ -33,7 +33,7 @@ use Rattle.body.specs.Body.{andThen, nextFrom, takes, bodyWithin, bodyFrom}
 use Rattle.body.specs.Kinds.{groupKind, placedKind, kindOf, bodyOf}
 use Rattle.reading.specs.Message.{afterTrailer, afterBody, afterType, afterHeader, messageRead}
 use Rattle.records.specs.declared.Record.{Record}
-use Rattle.parts.specs.declared.Answer.the-variants.{Valid}
+use Rattle.build_answers.specs.declared.Answer.the-variants.{Valid}
 use Rattle.reading.specs.Message.{Outcome}
 use Rattle.reading.specs.Examples.{dictionary, order, header, shows}
 use Rattle.nesting.specs.Entries.{all-none, all-more}

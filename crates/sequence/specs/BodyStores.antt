@@ -19,7 +19,7 @@ use Rattle.groups.specs.Reading.{listStore, joinedList}
 use Rattle.required.specs.Required.{Demands, runLack}
 use Rattle.required.specs.declared.Lack.{Lack}
 use Rattle.required.specs.declared.Lack.the-variants.{Missing, Complete}
-use Rattle.parts.specs.declared.Answer.the-variants.{InvalidField}
+use Rattle.build_answers.specs.declared.Answer.the-variants.{InvalidField}
 use Rattle.parts.specs.Parts.{ended, refused, recordOf}
 use Rattle.body.specs.Body.{Kind, plain, counts, other, Body, behindRun, storedRun, andThen, nextFrom, withRun, takes, bodyWithin, bodyFrom}
 use Rattle.body.specs.Kinds.{checked, ranAs, runFrom, bodyOf}

@@ -18,7 +18,7 @@ use Rattle.groups.specs.Reading.{accepted, layoutRules}
 use Rattle.required.specs.Checking.{layoutDemands}
 use Rattle.nesting.specs.Entries.{All, all-none, all-more, all-stored}
 use Rattle.nesting.specs.Formed.{Own}
-use Rattle.parts.specs.declared.Answer.the-variants.{Valid}
+use Rattle.build_answers.specs.declared.Answer.the-variants.{Valid}
 use Rattle.parts.specs.Parts.{recordOf}
 use Rattle.parts.specs.Trailer.{trailerFrom}
 use Rattle.reading.specs.Beginning.{headerOf, verifiedRecords}

@@ -21,7 +21,7 @@ use Rattle.layout.specs.Tree.{Dictionary, knows, headerTags, trailerTags, Choic
 use Rattle.records.specs.declared.Record.{Record}
 use Rattle.groups.specs.Reading.{accepted, layoutRules}
 use Rattle.required.specs.Checking.{layoutDemands}
-use Rattle.parts.specs.declared.Answer.the-variants.{Valid}
+use Rattle.build_answers.specs.declared.Answer.the-variants.{Valid}
 use Rattle.parts.specs.Parts.{Reading, ended, refused, recordOf}
 use Rattle.parts.specs.Trailer.{Trailer, stopped, unstopped, crowded, trailerFrom}
 use Rattle.body.specs.Body.{bodyFrom}

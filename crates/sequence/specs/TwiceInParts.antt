@@ -19,7 +19,7 @@ use Rattle.groups.specs.Reading.{listStore, joinedList}
 use Rattle.required.specs.Required.{Demands, has, runLack}
 use Rattle.required.specs.declared.Lack.{Lack}
 use Rattle.required.specs.declared.Lack.the-variants.{Missing, Complete}
-use Rattle.parts.specs.declared.Answer.the-variants.{InvalidField}
+use Rattle.build_answers.specs.declared.Answer.the-variants.{InvalidField}
 use Rattle.parts.specs.Parts.{ended, refused, recordOf}
 use Rattle.parts.specs.Header.{headerFrom}
 use Rattle.parts.specs.Trailer.{stopped, trailerFrom}

@@ -14,7 +14,7 @@ use Rattle.layout.specs.Tree.{Dictionary, knows, headerTags, trailerTags}
 use Rattle.records.specs.Records.{stored}
 use Rattle.groups.specs.Reading.{accepted, layoutRules}
 use Rattle.required.specs.Checking.{layoutDemands}
-use Rattle.parts.specs.declared.Answer.the-variants.{Valid}
+use Rattle.build_answers.specs.declared.Answer.the-variants.{Valid}
 use Rattle.parts.specs.Parts.{recordOf}
 use Rattle.reading.specs.Beginning.{headerOf, verifiedRecords}
 use Rattle.reading.specs.Message.{Outcome, messageRead}

@@ -21,7 +21,7 @@ use Rattle.required.specs.declared.Lack.{Lack}
 use Rattle.required.specs.declared.Lack.the-variants.{Missing, Complete}
 use Rattle.nesting.specs.Entries.{All, all-none, all-more, all-append}
 use Rattle.nesting.specs.Nesting.{run-formed}
-use Rattle.parts.specs.declared.Answer.the-variants.{InvalidField}
+use Rattle.build_answers.specs.declared.Answer.the-variants.{InvalidField}
 use Rattle.parts.specs.Parts.{ended, refused, recordOf}
 use Rattle.body.specs.Body.{Kind, plain, counts, other, Body, behindRun, storedRun, andThen, nextFrom, withRun, takes, bodyWithin}
 use Rattle.body.specs.Kinds.{checked, ranAs, runFrom, bodyOf}

@@ -12,17 +12,17 @@ use Rattle.records.specs.Records.{stored}
 use Rattle.records.specs.declared.Record.{Record}
 use Rattle.groups.specs.Groups.{Rules, run, Outcome, walk}
 use Rattle.groups.specs.Groups.{ended as ran, refused as stops}
-use Rattle.groups.specs.Reading.{listStore}
+use Rattle.groups.specs.Reading.{listStore, answerOf}
 use Rattle.groups.specs.declared.Refusal.{Refusal}
 use Rattle.groups.specs.declared.Refusal.the-variants.{Malformed, TooManyFields, InvalidOrderInGroup}
 use Rattle.required.specs.Required.{Demands, runLack}
 use Rattle.required.specs.declared.Lack.{Lack}
 use Rattle.required.specs.declared.Lack.the-variants.{Missing, Complete}
-use Rattle.parts.specs.declared.Answer.the-variants.{Valid, InvalidField}
+use Rattle.build_answers.specs.declared.Answer.the-variants.{Valid, InvalidField}
 use Rattle.parts.specs.Parts.{Reading, ended, refused, recordOf}
 use Rattle.parts.specs.Header.{headerFrom}
 use Rattle.body.specs.Body.{Kind, plain, counts, other, Body, andThen, nextFrom, withRun, takes, bodyWithin}
-use Rattle.body.specs.Kinds.{answerOf, checked, ranAs, runFrom, bodyOf}
+use Rattle.body.specs.Kinds.{checked, ranAs, runFrom, bodyOf}
 
 pub header-never : (tags : List ℕ) (fields : Fields) (room : ℕ) (rs : List Record) → headerFrom tags fields room rs ≡ refused Valid → ⊥
 unfolding headerFrom

@@ -30,7 +30,7 @@ use Rattle.lent.specs.FormedLaws.{Lends, layout-lends}
 use Rattle.groups.specs.Reading.{accepted, layoutRules}
 use Rattle.required.specs.Checking.{layoutDemands}
 use Rattle.nesting.specs.Entries.{layout-first}
-use Rattle.parts.specs.declared.Answer.the-variants.{Valid, InvalidSeparator, TooFewRecords, TooLong as MessageTooLong, BadDictionary}
+use Rattle.build_answers.specs.declared.Answer.the-variants.{Valid, InvalidSeparator, TooFewRecords, TooLong as MessageTooLong, BadDictionary}
 use Rattle.parts.specs.Parts.{Reading, ended, refused, recordOf}
 use Rattle.parts.specs.Trailer.{Trailer, stopped, unstopped, crowded, trailerFrom}
 use Rattle.body.specs.Body.{bodyFrom}

@@ -9,7 +9,7 @@ use lib.Dec.{leb, ltb}
 use Rattle.tagvalue.specs.Choice.{pick}
 use Rattle.records.specs.declared.Record.{Record}
 use Rattle.records.specs.Records.{laid, recordsOf, recordAt, onRecords, replaced}
-use Rattle.parts.specs.Answer.{numberOf, valuesOf}
+use Rattle.build_answers.specs.Answer.{numberOf, valuesOf}
 use Rattle.builder.specs.Build.{BuildOutcome, buildOf}
 use Rattle.telling.specs.declared.FieldRecord.{FieldRecord}
 use Rattle.telling.specs.declared.Shown.{Shown}

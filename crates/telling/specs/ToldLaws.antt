@@ -6,7 +6,7 @@ use native.Mathlib.Omega.{arith}
 use lib.ListN.{length, set, getD}
 use Rattle.flat_steps.specs.declared.Checked.{Checked}
 use Rattle.flat.specs.Check.{numberOf as numberOfCheck, valuesOf as valuesOfCheck}
-use Rattle.parts.specs.Answer.{numberOf, valuesOf}
+use Rattle.build_answers.specs.Answer.{numberOf, valuesOf}
 use Rattle.builder.specs.declared.Built.{Built}
 use Rattle.builder.specs.Build.{BuildOutcome, builtTold}
 use Rattle.telling.specs.declared.Shown.{Shown}

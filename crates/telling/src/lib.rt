@@ -117,10 +117,10 @@ pub fn build(
     let config = build_config::config_of(settings, separator);
     let built = builder::build(message, config, dictionary, lent, words);
     let answer = built.answer;
-    let values = parts::values_of(answer);
+    let values = build_answers::values_of(answer);
     tell(out, built.records, values.first, values.second);
     Shown {
-        number: parts::number_of(answer),
+        number: build_answers::number_of(answer),
         records: built.records,
         written: built.written,
     }

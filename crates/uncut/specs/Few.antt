@@ -21,9 +21,9 @@ use Rattle.records.specs.Records.{stored}
 use Rattle.records.specs.declared.Record.{Record}
 use Rattle.groups.specs.Reading.{accepted, layoutRules}
 use Rattle.required.specs.Checking.{layoutDemands}
-use Rattle.parts.specs.Answer.{numberOf}
-use Rattle.parts.specs.declared.Answer.{Answer}
-use Rattle.parts.specs.declared.Answer.the-variants.{Valid}
+use Rattle.build_answers.specs.Answer.{numberOf}
+use Rattle.build_answers.specs.declared.Answer.{Answer}
+use Rattle.build_answers.specs.declared.Answer.the-variants.{Valid}
 use Rattle.parts.specs.Parts.{Reading, ended, refused, recordOf}
 use Rattle.parts.specs.Header.{headerFrom}
 use Rattle.parts.specs.Trailer.{Trailer, stopped, unstopped, crowded, trailerFrom}

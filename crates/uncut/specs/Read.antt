@@ -19,8 +19,8 @@ use Rattle.records.specs.declared.Record.{Record}
 use Rattle.groups.specs.Reading.{accepted, layoutRules}
 use Rattle.required.specs.Checking.{layoutDemands}
 use Rattle.nesting.specs.Entries.{All, all-none, all-more, all-append, all-stored}
-use Rattle.parts.specs.Answer.{numberOf}
-use Rattle.parts.specs.declared.Answer.{Answer}
+use Rattle.build_answers.specs.Answer.{numberOf}
+use Rattle.build_answers.specs.declared.Answer.{Answer}
 use Rattle.parts.specs.Parts.{Reading, ended, refused, recordOf}
 use Rattle.parts.specs.Trailer.{Trailer, stopped, unstopped, crowded, trailerFrom}
 use Rattle.body.specs.Body.{bodyFrom}

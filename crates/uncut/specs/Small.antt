@@ -23,7 +23,7 @@ use Rattle.required.specs.Required.{Demands, runLack}
 use Rattle.required.specs.declared.Lack.{Lack}
 use Rattle.required.specs.declared.Lack.the-variants.{Missing, Complete}
 use Rattle.nesting.specs.Entries.{All, all-none, all-more, all-append, all-stored}
-use Rattle.parts.specs.declared.Answer.the-variants.{InvalidField}
+use Rattle.build_answers.specs.declared.Answer.the-variants.{InvalidField}
 use Rattle.parts.specs.Parts.{ended, refused, recordOf}
 use Rattle.parts.specs.Header.{headerFrom}
 use Rattle.parts.specs.Trailer.{Trailer, stopped, unstopped, crowded, trailerFrom}

@@ -19,7 +19,7 @@ use Rattle.records.specs.declared.Record.{Record}
 use Rattle.records.specs.Records.{blank, laid, recordsOf, recordAt}
 use Rattle.records.specs.WordLaws.{records-laid}
 use Rattle.nesting.specs.Entries.{All, all-none, all-more}
-use Rattle.parts.specs.declared.Answer.the-variants.{InvalidSeparator, TooFewRecords, TooLong as MessageTooLong, BadDictionary}
+use Rattle.build_answers.specs.declared.Answer.the-variants.{InvalidSeparator, TooFewRecords, TooLong as MessageTooLong, BadDictionary}
 use Rattle.reading.specs.Message.{Outcome, refusal, messageRead}
 use Rattle.builder.specs.Build.{wordsWith, untouched, shown, checkedRead, buildOf}
 use Rattle.telling.specs.declared.FieldRecord.{FieldRecord}

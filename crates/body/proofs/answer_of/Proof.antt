@@ -1,7 +1,7 @@
 -- `answer_of` meets its contract: each refusal has its answer.
 use mathlib.Core.Path.{_≡_, refl, sym, ap, _∙_}
-use Rattle.body.specs.Kinds.{answerOf}
 use borrow.Author.Needs.{needs}
+use Rattle.groups.specs.Reading.{answerOf}
 use Rattle.body.proofs.answer_of.Statement.{statement}
 use Rattle.body.proofs.answer_of.Tie as tie
 

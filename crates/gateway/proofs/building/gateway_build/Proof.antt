@@ -43,7 +43,7 @@ use denote.Triple.Table.{entered, cited}
 use denote.Triple.Walked.{says, Stays, gave-ref, gave-slice, stay-none, stay-none-slice, walkOf, goes-gave-ref, goes-gave-slice, goes-none, goes-none-slice, Walks, ends-at, walked, walk-meets}
 use denote.Exit.{yes}
 use Rattle.builder.specs.Build.{BuildOutcome, buildOf}
-use Rattle.parts.specs.Answer.{numberOf, valuesOf}
+use Rattle.build_answers.specs.Answer.{numberOf, valuesOf}
 use Rattle.build_config.specs.Settings.{configOf}
 use Rattle.telling.specs.Told.{told}
 use Rattle.telling.specs.Lent.{shownOf, toldOf, filled, recordsLent, builtFrom}

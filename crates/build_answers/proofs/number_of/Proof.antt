@@ -1,8 +1,8 @@
 -- `number_of` meets its contract, case by case.
-use Rattle.parts.specs.Answer.{numberOf}
+use Rattle.build_answers.specs.Answer.{numberOf}
 use borrow.Author.Needs.{needs}
-use Rattle.parts.proofs.number_of.Statement.{statement}
-use Rattle.parts.proofs.number_of.Tie as tie
+use Rattle.build_answers.proofs.number_of.Statement.{statement}
+use Rattle.build_answers.proofs.number_of.Tie as tie
 
 enum-told : tie.Need-enum-told
 enum-told c = search needs

@@ -1,8 +1,8 @@
 -- `values_of` meets its contract, case by case.
-use Rattle.parts.specs.Answer.{valuesOf}
+use Rattle.build_answers.specs.Answer.{valuesOf}
 use borrow.Author.Needs.{needs}
-use Rattle.parts.proofs.values_of.Statement.{statement}
-use Rattle.parts.proofs.values_of.Tie as tie
+use Rattle.build_answers.proofs.values_of.Statement.{statement}
+use Rattle.build_answers.proofs.values_of.Tie as tie
 
 enum-told : tie.Need-enum-told
 enum-told c = search needs

@@ -1,8 +1,8 @@
 -- `reason_number` meets its contract, case by case.
 use Rattle.integrity.specs.Integrity.{numberOfReason}
 use borrow.Author.Needs.{needs}
-use Rattle.parts.proofs.reason_number.Statement.{statement}
-use Rattle.parts.proofs.reason_number.Tie as tie
+use Rattle.build_answers.proofs.reason_number.Statement.{statement}
+use Rattle.build_answers.proofs.reason_number.Tie as tie
 
 enum-told : tie.Need-enum-told
 enum-told c = search needs

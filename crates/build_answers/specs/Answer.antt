@@ -1,10 +1,13 @@
 -- "Numbers returned": 01's number and values for each answer to a message.
 use Prim.Native.Nat.{ℕ}
+use mathlib.Core.List.{List, [], _∷_}
+use lib.Dec.{eqb}
 use lib.ListN.{getD}
+use Rattle.tagvalue.specs.Choice.{pick}
 use Rattle.flat.specs.Check.{numberOf as numberOfCheck, valuesOf as valuesOfCheck}
 use Rattle.integrity.specs.Integrity.{numberOfReason}
-use Rattle.parts.specs.declared.Answer.{Answer}
-use Rattle.parts.specs.declared.Answer.the-variants.{Valid, InvalidField, InvalidOrderInGroup, InvalidMsgType, RequiredFieldMissing, Malformed, Garbled, TooLong, TooManyFields, InvalidSeparator, TooFewRecords, BadDictionary}
+use Rattle.build_answers.specs.declared.Answer.{Answer}
+use Rattle.build_answers.specs.declared.Answer.the-variants.{Valid, InvalidField, InvalidOrderInGroup, InvalidMsgType, RequiredFieldMissing, Malformed, Garbled, TooLong, TooManyFields, InvalidSeparator, TooFewRecords, BadDictionary}
 
 unfoldable pub numberOf : Answer → ℕ
 numberOf Valid = 0
@@ -34,3 +37,7 @@ valuesOf TooManyFields = (0, 0)
 valuesOf InvalidSeparator = (0, 0)
 valuesOf TooFewRecords = (0, 0)
 valuesOf (BadDictionary checked) = (getD (valuesOfCheck checked) 0 0, 0)
+
+-- for worked examples: the values where there are any
+unfoldable pub listed : Answer → List ℕ
+listed answer = pick (eqb (valuesOf answer .0) 0) [] (valuesOf answer .0 ∷ valuesOf answer .1 ∷ [])
