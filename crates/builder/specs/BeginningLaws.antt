@@ -37,9 +37,9 @@ verified-inside mode message v sound short =
     let counts = step-inside mode message _ _ (read .counts) in
     let types = step-inside mode message _ _ (read .types) in
     record {
-      begins = (omega (arith, begins .begins), omega (arith, begins .ends));
-      counts = (omega (arith, counts .begins), omega (arith, counts .ends));
-      types = (omega (arith, types .begins), omega (arith, types .ends));
+      begins = (omega (arith, begins .within), omega (arith, begins .within));
+      counts = (omega (arith, counts .within), omega (arith, counts .within));
+      types = (omega (arith, types .within), omega (arith, types .within));
     }
 
 -- stored one behind the other they are the header's first records

@@ -55,7 +55,7 @@ module _ (words : List ℕ) where
   built-row : (row : Row) → leb (length (row .1)) 8192 ≡ true → answers (buildOf (row .1) (validating (row .0)) examples 1024 words) ≡ expected (told (messageRead dictionary (validating (row .0)) (row .1)))
   unfolding shown
   built-row row short =
-      let reads : checkedRead (row .1) (validating (row .0)) examples (checkOf examples) ≡ messageRead dictionary (validating (row .0)) (row .1) = check-reads (row .1) (validating (row .0)) examples (checkOf examples) examples-pass ∙ ap (λ (d : Dictionary). messageRead d (row .0) 1 (row .1)) means in
+      let reads : checkedRead (row .1) (validating (row .0)) examples (checkOf examples) ≡ messageRead dictionary (validating (row .0)) (row .1) = check-reads (row .1) (validating (row .0)) examples (checkOf examples) examples-pass ∙ ap (λ (d : Dictionary). messageRead d (validating (row .0)) (row .1)) means in
       ap answers (build-reads (row .1) (validating (row .0)) examples 1024 words sound (omega arith) (leb-true (length (row .1)) 8192 short) ∙ ap (shown 1024) reads)
     where
       sound : isRefusedSeparator 1 ≡ false

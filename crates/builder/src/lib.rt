@@ -144,7 +144,7 @@ fn keep_verified(words: &mut [u32], verified: Verified) -> usize
 // Integrity, and the header behind the fields that it verified.
 fn begin(message: &[u8], config: Config, header_tags: &[u32], words: &mut [u32]) -> Begun
     requires { ⌜ (length (now message) < 2 ^ 32) × (length (now words) ≡ 6150) ⌝ }
-    ensures { λ r. ⌜ startTold (config .mode) (now (message .entry)) r (now (words .exit)) ≡ startOf (now («header_tags» .entry)) (config .mode) (now (message .entry)) ⌝ }
+    ensures { λ r. ⌜ startTold (config .mode) (now (message .entry)) r (now (words .exit)) ≡ startOf (now («header_tags» .entry)) config (now (message .entry)) ⌝ }
     ensures { λ r. ⌜ Begins (now (message .entry)) (now (words .exit)) r ⌝ }
 {
     match integrity::verify(message, config.mode) {
@@ -196,7 +196,7 @@ fn read_headed(
     words: &mut [u32],
 ) -> Finished
     requires { ⌜ (length (now message) < 2 ^ 32) × (length (now words) ≡ 6150) × HeaderEnds (now message) (now words) headed × Prepared (now dictionary) (now index) × (now «trailer_tags» ≡ trailerTags (dictionaryOf (now dictionary))) ⌝ }
-    ensures { λ r. ⌜ finishTold (headed .progress .records) r (now (words .exit)) ≡ afterType (dictionaryOf (now (dictionary .entry))) (config .validate) (headed .stop) (fieldsFrom (config .mode) (now (message .entry)) (headed .stop .next)) (headed .progress .room) (partOf 0 (headed .progress .records) (now (words .entry))) (headed .checksum) (layoutOf (dictionaryOf (now (dictionary .entry))) (valueAt (now (message .entry)) (msgTypeRecord (partOf 0 (headed .progress .records) (now (words .entry)))))) ⌝ }
+    ensures { λ r. ⌜ finishTold (headed .progress .records) r (now (words .exit)) ≡ afterType (dictionaryOf (now (dictionary .entry))) config (headed .stop) (fieldsFrom (config .mode) (now (message .entry)) (headed .stop .next)) (headed .progress .room) (partOf 0 (headed .progress .records) (now (words .entry))) (headed .checksum) (layoutOf (dictionaryOf (now (dictionary .entry))) (valueAt (now (message .entry)) (msgTypeRecord (partOf 0 (headed .progress .records) (now (words .entry)))))) ⌝ }
     ensures { λ r. ⌜ finishCounts r ≤ 1025 ⌝ }
 {
     let progress = headed.progress;

@@ -9,7 +9,6 @@ use lib.ListN.{length}
 use Rattle.build_config.specs.Settings.{validating}
 use Rattle.tagvalue.specs.Computing.{reading-fields}
 use Rattle.tagvalue.specs.Text.{bytes}
-use Rattle.tagvalue.specs.Number.{numberOf as worthOf}
 use Rattle.tagvalue.specs.CheckSum.{sumOf, checksumOf, checksumDigits}
 use Rattle.tagvalue.specs.Decimal.{decimalWithin}
 use Rattle.integrity.specs.Integrity.{numberOfReason, integrityOf, begun, counted, summed, typed, lengthIs, lengthAgrees, sumIs, sumAgrees}
@@ -102,5 +101,5 @@ marked = record {
 
 -- THE TABLE, and an order without 38 by that other dictionary
 pub all-read : (map (λ (row : Row). told (messageRead dictionary (validating (row .0)) (row .1))) table ≡ map {B = Told} (λ (row : Row). (row .2, row .3, row .4)) table) × (numberOf (messageRead marked (validating true) (order "58=x|") .answer) ≡ 0)
-unfolding messageRead startOf startedBy headerOf verifiedRecords withChecksum headerFrom afterHeader afterType afterBody afterTrailer refusal shownWith msgTypeRecord valueAt trailerFrom recordOf valuesOf bodyFrom bodyWithin takes withRun nextFrom andThen storedRun behindRun bodyOf runFrom ranAs checked kindOf placedKind groupKind answerOf numberOfReason integrityOf begun counted summed typed lengthIs lengthAgrees sumIs sumAgrees worthOf sumOf checksumOf checksumDigits decimalWithin layoutThen positionFrom firstOf positionIn groupSince groupOf delimiterOf requiredTags holdsTag knows plainFields headerTags trailerTags flattened sameBytes messageOf layoutOf stored isDelimiter counting opens declared entryKind inEntry decide entryRecord moved walk accepted openedAs layoutRules joinedList listStore orElse has fieldsLack before shallow runLacks nestedLack entriesLack opensEntry entryLack runLack layoutDemands reading-fields
+unfolding messageRead numberOf startOf startedBy headerOf verifiedRecords withChecksum headerFrom afterHeader afterType afterBody afterTrailer refusal shownWith msgTypeRecord valueAt trailerFrom recordOf valuesOf bodyFrom bodyWithin takes withRun nextFrom andThen storedRun behindRun bodyOf runFrom ranAs checked kindOf placedKind groupKind answerOf numberOfReason integrityOf begun counted summed typed lengthIs lengthAgrees sumIs sumAgrees sumOf checksumOf checksumDigits decimalWithin layoutThen positionFrom firstOf positionIn groupSince groupOf delimiterOf requiredTags holdsTag knows plainFields headerTags trailerTags flattened sameBytes messageOf layoutOf stored isDelimiter counting opens declared entryKind inEntry decide entryRecord moved walk accepted openedAs layoutRules joinedList listStore orElse has fieldsLack before shallow runLacks nestedLack entriesLack opensEntry entryLack runLack layoutDemands reading-fields
 all-read = (refl, refl)

@@ -7,7 +7,6 @@ use Prim.Native.Nat.{ℕ, _+_}
 use native.Mathlib.Omega.{arith}
 use lib.ListN.{length, length-append}
 use lib.Dec.{eqb}
-use Rattle.tagvalue.specs.declared.Mode.{Mode}
 use Rattle.tagvalue.specs.Decimal.{decimal}
 use Rattle.tagvalue.specs.Field.{fieldBytes}
 use Rattle.records.specs.declared.Record.{Record}
@@ -163,14 +162,14 @@ module _ (separator : ℕ) (m : Message) (a b c e : List ℕ) (rest tail : Map) 
       rw (l, h, t) (simp append-assoc)
 
 -- "write the header's 8, 9, 35, then the rest in map order, body, trailer": the records but the old 9 and 10
-pub encoding-rewritten : (mode : Mode) {bytes : List ℕ} {m : Message} {begin size type : Record} {others ofBody : List Record} {check : Record} {ofTrailer : List Record} → Built bytes m begin size type others ofBody check ofTrailer
-    → encoding (mode .separator) m ≡ rewritten (mode .separator) bytes begin (type ∷ (others ++ (ofBody ++ ofTrailer)))
+pub encoding-rewritten : (separator : ℕ) {bytes : List ℕ} {m : Message} {begin size type : Record} {others ofBody : List Record} {check : Record} {ofTrailer : List Record} → Built bytes m begin size type others ofBody check ofTrailer
+    → encoding separator m ≡ rewritten separator bytes begin (type ∷ (others ++ (ofBody ++ ofTrailer)))
 unfolding encoding rewritten
-encoding-rewritten mode {bytes} {m} {begin} {size} {type} {others} {ofBody} {check} {ofTrailer} built =
+encoding-rewritten separator {bytes} {m} {begin} {size} {type} {others} {ofBody} {check} {ofTrailer} built =
     let d = built-maps built in
-    let c = counted-written (mode .separator) bytes type (built .types) others ofBody ofTrailer (d .rest) (m .body) (d .tail) (text-written (mode .separator) (d .rest-stands)) (text-written (mode .separator) (built .body)) (text-written (mode .separator) (d .tail-stands)) in
-    let all = text-measured (mode .separator) m (valueAt bytes begin) (valueAt bytes size) (valueAt bytes type) (valueAt bytes check) (d .rest) (d .tail) (d .header-is) (d .trailer-is) (built .within .formed .header) (d .alone) in
-    ap (summed (mode .separator))
+    let c = counted-written separator bytes type (built .types) others ofBody ofTrailer (d .rest) (m .body) (d .tail) (text-written separator (d .rest-stands)) (text-written separator (built .body)) (text-written separator (d .tail-stands)) in
+    let all = text-measured separator m (valueAt bytes begin) (valueAt bytes size) (valueAt bytes type) (valueAt bytes check) (d .rest) (d .tail) (d .header-is) (d .trailer-is) (built .within .formed .header) (d .alone) in
+    ap (summed separator)
     (all
-    ∙ ap (λ (s : List ℕ). fieldBytes (mode .separator) (decimal 8) (valueAt bytes begin) ++ (fieldBytes (mode .separator) (decimal 9) (decimal (length s)) ++ s)) c
-    ∙ ap (λ (t : ℕ). fieldBytes (mode .separator) (decimal t) (valueAt bytes begin) ++ (fieldBytes (mode .separator) (decimal 9) (decimal (length (written (mode .separator) bytes (type ∷ (others ++ (ofBody ++ ofTrailer)))))) ++ written (mode .separator) bytes (type ∷ (others ++ (ofBody ++ ofTrailer))))) (sym (built .begins)))
+    ∙ ap (λ (s : List ℕ). fieldBytes separator (decimal 8) (valueAt bytes begin) ++ (fieldBytes separator (decimal 9) (decimal (length s)) ++ s)) c
+    ∙ ap (λ (t : ℕ). fieldBytes separator (decimal t) (valueAt bytes begin) ++ (fieldBytes separator (decimal 9) (decimal (length (written separator bytes (type ∷ (others ++ (ofBody ++ ofTrailer)))))) ++ written separator bytes (type ∷ (others ++ (ofBody ++ ofTrailer))))) (sym (built .begins)))

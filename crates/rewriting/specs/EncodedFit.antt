@@ -6,7 +6,6 @@ use mathlib.Core.List.{List, _∷_, _++_}
 use Prim.Native.Nat.{ℕ, _+_, _≤_, _<_}
 use native.Mathlib.Omega.{arith}
 use lib.ListN.{length, drop, length-append}
-use Rattle.tagvalue.specs.declared.Mode.{Mode}
 use Rattle.records.specs.declared.Record.{Record}
 use Rattle.maps.specs.Map.{Map, holds}
 use Rattle.lent.specs.Meaning.{Message, wordsOf, valuesOf}
@@ -62,18 +61,18 @@ module _ {bytes : List ℕ} {m : Message} {begin size type : Record} {others ofB
       (dropped-uncounted m (built .within .formed .trailer) ∙ rw (no-run 10 (built .trailer) (built .trailer-own), all-counted))
 
   -- the new 9 and 10 stand for the old
-  encoded-same : (mode : Mode) → fieldTotal (encodedMessage (mode .separator) m) ≡ fieldTotal m
+  encoded-same : (separator : ℕ) → fieldTotal (encodedMessage separator m) ≡ fieldTotal m
   encoded-same separator =
-      let e = rw (holds-body-length, holds-checksum) at (encoded-fields (mode .separator) m (gone-once 10 (m .trailer) (built .within .formed .trailer))) in
+      let e = rw (holds-body-length, holds-checksum) at (encoded-fields separator m (gone-once 10 (m .trailer) (built .within .formed .trailer))) in
       omega (arith, e)
 
   -- so the encoded message has a field to each record
-  pub encoded-total : (mode : Mode) → fieldTotal (encodedMessage (mode .separator) m) ≡ length ((begin ∷ size ∷ type ∷ others) ++ (ofBody ++ (check ∷ ofTrailer)))
+  pub encoded-total : (separator : ℕ) → fieldTotal (encodedMessage separator m) ≡ length ((begin ∷ size ∷ type ∷ others) ++ (ofBody ++ (check ∷ ofTrailer)))
   unfolding fieldTotal
   encoded-total separator =
       omega (
         arith,
-        encoded-same mode,
+        encoded-same separator,
         stands-count (built .header),
         stands-count (built .body),
         stands-count (built .trailer),
@@ -81,25 +80,25 @@ module _ {bytes : List ℕ} {m : Message} {begin size type : Record} {others ofB
         length-append ofBody (check ∷ ofTrailer),
       )
 
-  pub encoded-few : (mode : Mode) → fieldTotal (encodedMessage (mode .separator) m) ≤ 1024
+  pub encoded-few : (separator : ℕ) → fieldTotal (encodedMessage separator m) ≤ 1024
   unfolding fieldTotal
-  encoded-few separator = omega (arith, encoded-same mode, built .within .few)
+  encoded-few separator = omega (arith, encoded-same separator, built .within .few)
 
   -- "Encode: 22, 43, 20, 21, 23": of a built message nothing but its length and the output's is left to judge
-  module _ (mode : Mode) (separates : isRefusedSeparator (mode .separator) ≡ false) (output : List ℕ) where
+  module _ (separator : ℕ) (separates : isRefusedSeparator separator ≡ false) (output : List ℕ) where
     abbrev pub rewriting : List ℕ
-    rewriting = rewritten (mode .separator) bytes begin (type ∷ (others ++ (ofBody ++ ofTrailer)))
+    rewriting = rewritten separator bytes begin (type ∷ (others ++ (ofBody ++ ofTrailer)))
 
     pub encoding-written : length rewriting ≤ 8192 → length rewriting ≤ length output
-        → encodingOf (mode .separator) (wordsOf m) (valuesOf m) output ≡ left (Written (length rewriting)) (wordsOf (encodedMessage (mode .separator) m)) (valuesOf (encodedMessage (mode .separator) m)) (rewriting ++ drop (length rewriting) output)
+        → encodingOf separator (wordsOf m) (valuesOf m) output ≡ left (Written (length rewriting)) (wordsOf (encodedMessage separator m)) (valuesOf (encodedMessage separator m)) (rewriting ++ drop (length rewriting) output)
     encoding-written short fits =
         let l = layout-lends m (built .within) in
-        let same = encoding-rewritten mode built in
-        let verdict = found-fit (wordsOf m) (valuesOf m) (l .is-message) (mode .separator) (length output) separates (rw (l .meant) built-complete) (rw (l .meant, same) short) (rw (l .meant) (encoded-few mode)) (rw (l .meant, same) fits) in
-        encodes (mode .separator) (wordsOf m) (valuesOf m) output _ verdict ∙ ap (λ (n : Message). encoded (mode .separator) n output) (l .meant) ∙ (unfold encoded in rw same)
+        let same = encoding-rewritten separator built in
+        let verdict = found-fit (wordsOf m) (valuesOf m) (l .is-message) separator (length output) separates (rw (l .meant) built-complete) (rw (l .meant, same) short) (rw (l .meant) (encoded-few separator)) (rw (l .meant, same) fits) in
+        encodes separator (wordsOf m) (valuesOf m) output _ verdict ∙ ap (λ (n : Message). encoded separator n output) (l .meant) ∙ (unfold encoded in rw same)
 
-    pub encoding-too-long : 8192 < length rewriting → encodingOf (mode .separator) (wordsOf m) (valuesOf m) output ≡ left TooLong (wordsOf m) (valuesOf m) output
+    pub encoding-too-long : 8192 < length rewriting → encodingOf separator (wordsOf m) (valuesOf m) output ≡ left TooLong (wordsOf m) (valuesOf m) output
     encoding-too-long long =
         let l = layout-lends m (built .within) in
-        let same = encoding-rewritten mode built in
-        refuses (mode .separator) (wordsOf m) (valuesOf m) output TooLong (refused-long (wordsOf m) (valuesOf m) (l .is-message) (mode .separator) (length output) separates (rw (l .meant) built-complete) (rw (l .meant, same) long))
+        let same = encoding-rewritten separator built in
+        refuses separator (wordsOf m) (valuesOf m) output TooLong (refused-long (wordsOf m) (valuesOf m) (l .is-message) separator (length output) separates (rw (l .meant) built-complete) (rw (l .meant, same) long))

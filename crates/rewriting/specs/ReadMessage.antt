@@ -39,7 +39,7 @@ all-rest P (all-more p a) = (p, a)
 
 -- what the records of a message are rewritten to reads like them
 pub followed-sound : (mode : Mode) (message : List ℕ) (begin size type : Record) (others body trailer : List Record) (last : Fields) → Followed mode message (begin ∷ size ∷ type ∷ others) body trailer last
-    → isDigit mode ≡ false → begin .tag ≡ 8 → type .tag ≡ 35 → length (rewritten (mode .separator) message begin (type ∷ (others ++ (body ++ trailer)))) ≤ 8192
+    → isDigit (mode .separator) ≡ false → begin .tag ≡ 8 → type .tag ≡ 35 → length (rewritten (mode .separator) message begin (type ∷ (others ++ (body ++ trailer)))) ≤ 8192
     → ReadsLike mode message (rewritten (mode .separator) message begin (type ∷ (others ++ (body ++ trailer)))) begin type (others ++ (body ++ trailer))
 followed-sound mode message begin size type others body trailer last followed other eight thirty-five small =
     let (begins, behind-begin) = all-rest (Writable (mode .separator) message) (followed-writable followed) in

@@ -129,7 +129,7 @@ module _ (mode : Mode) (bytes copy n s : List ℕ) (begin type : Record) (others
       }
 
 -- the encoding of records is sound, and reads like them
-pub rewritten-sound : (mode : Mode) → isDigit mode ≡ false → (bytes : List ℕ) (begin type : Record) (others : List Record) → begin .tag ≡ 8 → type .tag ≡ 35
+pub rewritten-sound : (mode : Mode) → isDigit (mode .separator) ≡ false → (bytes : List ℕ) (begin type : Record) (others : List Record) → begin .tag ≡ 8 → type .tag ≡ 35
     → Writable (mode .separator) bytes begin → Writable (mode .separator) bytes type → All (Writable (mode .separator) bytes) others → length (rewritten (mode .separator) bytes begin (type ∷ others)) ≤ 8192
     → ReadsLike mode bytes (rewritten (mode .separator) bytes begin (type ∷ others)) begin type others
 rewritten-sound mode other bytes begin type others eight thirty-five begins types writable small =

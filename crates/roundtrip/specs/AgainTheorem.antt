@@ -75,7 +75,7 @@ module _ (dictionary : Dictionary) (config : Config) (message : List ℕ) (free 
         header-own (all-more (own-field 3 (order .parts .verified .checksum)) (order .trailer-own))
 
     copied : encoding (config .mode .separator) (takes .meant) ≡ copy
-    copied = encoding-rewritten (config .mode) built
+    copied = encoding-rewritten (config .mode .separator) built
 
     followed : Followed (config .mode) message (begin ∷ size ∷ type ∷ order .others) (order .parts .body) (order .trailer) (order .last)
     followed =
@@ -107,8 +107,8 @@ module _ (dictionary : Dictionary) (config : Config) (message : List ℕ) (free 
     pub comes-back : ComesBack dictionary config message (takes .meant)
     comes-back =
         record {
-          written = λ output short fits. rw copied (encoding-written built (config .mode) separates output (rw copied at short) (rw copied at fits));
-          too-long = λ output long. encoding-too-long built (config .mode) separates output (rw copied at long);
+          written = λ output short fits. rw copied (encoding-written built (config .mode .separator) separates output (rw copied at short) (rw copied at fits));
+          too-long = λ output long. encoding-too-long built (config .mode .separator) separates output (rw copied at long);
           before = before;
           again = λ short. rw copied (copy-again (rw copied at short));
           repeat-free = λ short. rw copied (copy-free (rw copied at short));

@@ -111,7 +111,7 @@ clean-comes-back dictionary config message words values output c separates short
       taken = t;
       left-words = wordsOf (encodedMessage (config .mode .separator) m);
       left-values = valuesOf (encodedMessage (config .mode .separator) m);
-      encoded = encoding-written built (config .mode) separates output (omega (arith, size)) (omega (arith, size)) ∙ sym (ap (λ (e : List ℕ). left (Written (length e)) (wordsOf (encodedMessage (config .mode .separator) m)) (valuesOf (encodedMessage (config .mode .separator) m)) (e ++ drop (length e) output)) same);
+      encoded = encoding-written built (config .mode .separator) separates output (omega (arith, size)) (omega (arith, size)) ∙ sym (ap (λ (e : List ℕ). left (Written (length e)) (wordsOf (encodedMessage (config .mode .separator) m)) (valuesOf (encodedMessage (config .mode .separator) m)) (e ++ drop (length e) output)) same);
     }
 
 -- the bytes that the calls of build, take-over and encode make of a message, one after the other

@@ -13,7 +13,7 @@ use Rattle.tagvalue.specs.Choice.{pick}
 use Rattle.tagvalue.specs.Text.{bytes}
 use Rattle.tagvalue.specs.Fields.{Fields, unreadable, field}
 use Rattle.tagvalue.specs.Decimal.{decimal}
-use Rattle.tagvalue.specs.Number.{isDigit, numberOf as worthOf}
+use Rattle.tagvalue.specs.Number.{isDigit}
 use Rattle.tagvalue.specs.CheckSum.{sumOf, checksumOf, checksumDigits}
 use Rattle.tagvalue.specs.Decimal.{decimalWithin}
 use Rattle.tagvalue.specs.Field.{startAt, valueOf, separatedBy}
@@ -99,7 +99,7 @@ pub record OrderRead : Type 0 where
   pub one-recorded : recordedUnder 38 sent (read .records) ≡ bytes "800" ∷ []
 
 order-read : OrderRead
-unfolding storedTwice twiceFromHeader twiceFromBody twiceInBody twiceWithin twiceTaking twiceBehind twiceInTrailer twiceInHeader fieldsCounted countedFields countedTo readUnder recordedUnder messageRead startOf startedBy headerOf verifiedRecords withChecksum headerFrom afterHeader afterType afterBody afterTrailer msgTypeRecord valueAt trailerFrom recordOf bodyFrom bodyWithin takes nextFrom andThen bodyOf kindOf placedKind groupKind integrityOf begun counted summed typed lengthIs lengthAgrees sumIs sumAgrees worthOf sumOf checksumOf checksumDigits decimalWithin layoutThen positionFrom firstOf positionIn groupSince groupOf holdsTag knows plainFields headerTags trailerTags flattened sameBytes messageOf layoutOf stored accepted layoutRules has layoutDemands openedAs reading-fields
+unfolding storedTwice twiceFromHeader twiceFromBody twiceInBody twiceWithin twiceTaking twiceBehind twiceInTrailer twiceInHeader fieldsCounted countedFields countedTo readUnder recordedUnder messageRead startOf startedBy headerOf verifiedRecords withChecksum headerFrom afterHeader afterType afterBody afterTrailer msgTypeRecord valueAt trailerFrom recordOf bodyFrom bodyWithin takes nextFrom andThen bodyOf kindOf placedKind groupKind integrityOf begun counted summed typed lengthIs lengthAgrees sumIs sumAgrees sumOf checksumOf checksumDigits decimalWithin layoutThen positionFrom firstOf positionIn groupSince groupOf holdsTag knows plainFields headerTags trailerTags flattened sameBytes messageOf layoutOf stored accepted layoutRules has layoutDemands openedAs reading-fields
 order-read = record { valid = refl; twice = refl; records = refl; fields-counted = refl; fields-recorded = refl; both-read = refl; one-recorded = refl }
 
 -- the records stand for a message of that shape, whichever take-over made of them

@@ -22,7 +22,7 @@ enum-known-verified : tie.Need-enum-known-verified
 enum-known-verified c = search needs
 
 -- the frame is sound
-sound : (c : tie.After-known-told2) → let a = c .before .before .before .before .before .before .before .args in integrityOf (a .config .mode .separator) (a .message .now) ≡ Sound (c .before .verified .given .0 .0)
+sound : (c : tie.After-known-told2) → let a = c .before .before .before .before .before .before .before .args in integrityOf (a .config .mode) (a .message .now) ≡ Sound (c .before .verified .given .0 .0)
 sound c = sym (c .before .before .before .verify .ensures) ∙ c .before .verified .given .1
 
 keep-verified-requires : tie.Need-keep-verified-requires
@@ -66,7 +66,7 @@ returns-3 c = let h = c .before .before .before .before .before in
         stops = ends .inside;
         sums = step-inside _ _ _ _ (verified-read _ _ _ (sound s) .sums);
         fits = omega (arith, ends .fits, h .read-header .kept .1 .1 .1 .1 .0);
-        types = msg-type-inside _ _ _ _ _ _ _ _ (sound s) (header-ended _ _ _ _ _ _ _ (k .keep-verified .ensures .0) _ (h .read-header .ensures .0) _ _ (c .before .stop .given .1));
+        types = msg-type-inside _ (s .before .before .before .before .before .before .before .args .config) _ _ _ _ _ _ (sound s) (header-ended _ _ _ _ _ _ _ (k .keep-verified .ensures .0) _ (h .read-header .ensures .0) _ _ (c .before .stop .given .1));
       }),
     )
 

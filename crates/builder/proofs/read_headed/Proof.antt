@@ -82,7 +82,7 @@ returns c = let f = c .before .before in
     let m = f .before .before .before .before .before .before in
     let s = called (typed m) in
     let h = s .args .headed in
-    (f .finish .ensures .0 ∙ laid-after (s .args .dictionary .now) (s .args .index .now) (s .pre .3) (s .args .config .validate) (h .stop) _ (h .progress .room) (h .checksum) _ (told m) _ (m .message-table .result) _ refl _ (f .before .before .before .before .rows .given .1) _ (s .pre .4), omega (arith, f .finish .ensures .1, s .pre .1))
+    (f .finish .ensures .0 ∙ laid-after (s .args .dictionary .now) (s .args .index .now) (s .pre .3) (s .args .config) (h .stop) _ (h .progress .room) (h .checksum) _ (told m) _ (m .message-table .result) _ refl _ (f .before .before .before .before .rows .given .1) _ (s .pre .4), omega (arith, f .finish .ensures .1, s .pre .1))
 
 same-length-2 : tie.Need-same-length-2
 same-length-2 c = search needs
@@ -99,7 +99,7 @@ returns-2 c = let m = c .before in
     let t = typed m in
     let s = called t in
     let h = s .args .headed in
-    (none-after (s .args .dictionary .now) (s .args .index .now) (s .pre .3) (s .args .config .validate) (h .stop) _ (h .progress .room) (h .checksum) _ (told m) _ (s .args .words .now) (t .msg-type-of .result) (t .msg-type-of .ensures) (m .message-table .result) _ refl (rowless _ (c .match .keys2)), omega arith)
+    (none-after (s .args .dictionary .now) (s .args .index .now) (s .pre .3) (s .args .config) (h .stop) _ (h .progress .room) (h .checksum) _ (told m) _ (s .args .words .now) (t .msg-type-of .result) (t .msg-type-of .ensures) (m .message-table .result) _ refl (rowless _ (c .match .keys2)), omega arith)
 
 pub read-headed-spec : {M : Type 1} → statement M
 read-headed-spec =

@@ -55,7 +55,7 @@ same-length c = search needs
 
 returns : tie.Need-returns
 unfolding standardTags
-returns c = (read-refused _ _ _ _ _ _ (c .before .before .before .before .before .before .before .before .before .before .tags-of .ensures .0) _ (c .before .before .before .before .before .begin .ensures .0) _ (c .before .answer .given .1) _, omega arith)
+returns c = (read-refused _ _ _ _ _ (c .before .before .before .before .before .before .before .before .before .before .tags-of .ensures .0) _ (c .before .before .before .before .before .begin .ensures .0) _ (c .before .answer .given .1) _, omega arith)
 
 same-length-2 : tie.Need-same-length-2
 same-length-2 c = search needs
@@ -63,7 +63,7 @@ same-length-2 c = search needs
 returns-2 : tie.Need-returns-2
 unfolding standardTags
 returns-2 c = let r = c .before .before .before .before .before .read-headed in
-    (read-whole _ _ _ _ _ _ (c .before .before .before .before .before .before .before .before .before .before .before .before .before .before .before .before .before .before .before .tags-of .ensures .0) _ (c .before .before .before .before .before .before .before .before .before .before .before .before .before .before .begin .ensures .0) _ (c .before .before .before .before .before .before .before .before .before .before .headed .given .1) _ _ (r .ensures .0) _ _ (c .before .stop .given .1), omega (arith, r .ensures .1, whole-counts _ _ _ (c .before .stop .given .1)))
+    (read-whole _ _ _ _ _ (c .before .before .before .before .before .before .before .before .before .before .before .before .before .before .before .before .before .before .before .tags-of .ensures .0) _ (c .before .before .before .before .before .before .before .before .before .before .before .before .before .before .begin .ensures .0) _ (c .before .before .before .before .before .before .before .before .before .before .headed .given .1) _ _ (r .ensures .0) _ _ (c .before .stop .given .1), omega (arith, r .ensures .1, whole-counts _ _ _ (c .before .stop .given .1)))
 
 same-length-3 : tie.Need-same-length-3
 same-length-3 c = search needs
@@ -73,7 +73,7 @@ unfolding standardTags
 returns-3 c = let r = c .before .before .before .before .before .before .read-headed in
     let b = c .before .before .before .before .before .before .before .before .before .before .before .before .before .before .before in
     let ends = b .begin .ensures .1 .ends _ (c .before .before .before .before .before .before .before .before .before .before .before .headed .given .1) in
-    (read-stopped _ _ _ _ _ _ (c .before .before .before .before .before .before .before .before .before .before .before .before .before .before .before .before .before .before .before .before .tags-of .ensures .0) _ (b .begin .ensures .0) _ (c .before .before .before .before .before .before .before .before .before .before .before .headed .given .1) _ _ (r .ensures .0) _ (c .before .before .answer2 .given .1) _ (c .shown-with .ensures), omega (arith, shown-few _ _ _ (c .shown-with .ensures), ends .fits, b .begin .kept .1 .1 .1 .0, b .before .before .before .before .before .before .before .before .before .before .pre .1))
+    (read-stopped _ _ _ _ _ (c .before .before .before .before .before .before .before .before .before .before .before .before .before .before .before .before .before .before .before .before .tags-of .ensures .0) _ (b .begin .ensures .0) _ (c .before .before .before .before .before .before .before .before .before .before .before .headed .given .1) _ _ (r .ensures .0) _ (c .before .before .answer2 .given .1) _ (c .shown-with .ensures), omega (arith, shown-few _ _ _ (c .shown-with .ensures), ends .fits, b .begin .kept .1 .1 .1 .0, b .before .before .before .before .before .before .before .before .before .before .pre .1))
 
 pub read-message-spec : {M : Type 1} → statement M
 read-message-spec =
