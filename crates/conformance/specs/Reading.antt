@@ -11,7 +11,7 @@ use Rattle.tagvalue.specs.Field.{startAt, fieldAt, valueOf, separatedBy}
 use Rattle.tagvalue.specs.Fields.{Fields, field, fieldsFrom}
 use Rattle.tagvalue.specs.FieldsLaws.{fields-field}
 use Rattle.tagvalue.specs.Standard as standard
-use Rattle.tagvalue.specs.Standard.{All, NotDelimiter, Told, told}
+use Rattle.tagvalue.specs.Standard.{SOH, All, NotDelimiter, Told, told}
 use Rattle.tagvalue.specs.StandardLaws.{standard-field}
 use Rattle.tagvalue.specs.declared.Cursor.{Cursor}
 use Rattle.tagvalue.specs.declared.Field.{Field}

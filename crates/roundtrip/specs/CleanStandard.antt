@@ -57,17 +57,20 @@ module _ (dictionary : Dictionary) (config : Config) (message : List ℕ) (o : I
       (all-append (Writable (config .mode .separator) message) check-writable (all-right (o .parts .body) (o .trailer) behind)))
 
 -- THE STANDARD, clean messages
-pub clean-standard : (dictionary : Dictionary) (config : Config) (message : List ℕ) → Clean dictionary config 1 message → length message ≤ 8192 → StandardRecords message (messageRead dictionary config 1 message .records) → standard.Message NoPair message
-clean-standard dictionary config message c short given =
-    let o = repeat-free-order dictionary config 1 message (c .repeat-free) in
-    let t = build-takes dictionary config 1 message short (c .repeat-free .valid) in
-    let built = order-built dictionary config 1 message o (t .meant) t refl in
-    let same : message ≡ encoding 1 (t .meant) = clean-text dictionary config 1 message o c ∙ sym (encoding-rewritten 1 built) in
+pub clean-standard : (dictionary : Dictionary) (config : Config) (message : List ℕ) → config .mode .separator ≡ 1 → Clean dictionary config message → length message ≤ 8192
+    → StandardRecords message (messageRead dictionary config message .records) → standard.Message NoPair message
+clean-standard dictionary config message one c short given =
+    let o = repeat-free-order dictionary config message (c .repeat-free) in
+    let t = build-takes dictionary config message short (c .repeat-free .valid) in
+    let built = order-built dictionary config message o (t .meant) t refl in
+    let same : message ≡ encoding (config .mode .separator) (t .meant) = clean-text dictionary config message o c ∙ sym (encoding-rewritten (config .mode .separator) built) in
     let starts = ap (λ (l : List Record). l ++ (o .parts .body ++ (recordOf 3 (o .parts .verified .checksum) ∷ o .trailer))) (o .header-starts) in
-    built-standard built (subst (All (Writable 1 message)) starts (order-writable dictionary config 1 message o)) (subst (StandardRecords message) (o .records ∙ starts) given) same
+    let writable : All (Writable 1 message) (o .parts .header ++ (o .parts .body ++ (recordOf 3 (o .parts .verified .checksum) ∷ o .trailer))) =
+    subst (λ (separator : ℕ). All (Writable separator message) (o .parts .header ++ (o .parts .body ++ (recordOf 3 (o .parts .verified .checksum) ∷ o .trailer)))) one (order-writable dictionary config message o) in
+    built-standard built (subst (All (Writable 1 message)) starts writable) (subst (StandardRecords message) (o .records ∙ starts) given) (same ∙ ap (λ (separator : ℕ). encoding separator (t .meant)) one)
 
 -- and of the call: what build answers with 0 is within 8,192 bytes
 pub clean-message-standard : (message : List ℕ) (config : Config) (dictionary : List ℕ) (lent : ℕ) (before : List ℕ) → config .mode .separator ≡ 1 → buildOf message config dictionary lent before .answer ≡ Valid
     → Clean (dictionaryOf dictionary) config message → StandardRecords message (messageRead (dictionaryOf dictionary) config message .records) → standard.Message NoPair message
-clean-message-standard message config dictionary lent before mode valid c given =
-    clean-standard (dictionaryOf dictionary) (config .validate) message (rw mode at c) (build-shown message config dictionary lent before valid .short) (rw mode at given)
+clean-message-standard message config dictionary lent before one valid c given =
+    clean-standard (dictionaryOf dictionary) config message one c (build-shown message config dictionary lent before valid .short) given

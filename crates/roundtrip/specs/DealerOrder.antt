@@ -91,9 +91,9 @@ read = messageRead dictionary (validating true) sent
 -- it is valid, 38 is stored twice, seven fields are counted and six have records: of `600` and `800`, both read under 38, only `800` is there
 pub record OrderRead : Type 0 where
   pub valid : read .answer ≡ Valid
-  pub twice : storedTwice dictionary true 1 sent ≡ true
+  pub twice : storedTwice dictionary (validating true) sent ≡ true
   pub records : read .records ≡ (begin ∷ size ∷ type ∷ []) ++ (ofBody ++ (check ∷ []))
-  pub fields-counted : fieldsCounted 1 sent (read .stop) ≡ 7
+  pub fields-counted : fieldsCounted (separatedBy 1) sent (read .stop) ≡ 7
   pub fields-recorded : length (read .records) ≡ 6
   pub both-read : readUnder 38 sent (fieldsFrom (separatedBy 1) sent (startAt 0)) ≡ bytes "600" ∷ bytes "800" ∷ []
   pub one-recorded : recordedUnder 38 sent (read .records) ≡ bytes "800" ∷ []
@@ -139,7 +139,7 @@ separates = refl
 -- what was built, taken over and encoded
 pub record DealersOrder (words values output : List ℕ) : Type 0 where
   pub reads : OrderRead
-  pub lost : Lost dictionary true 1 sent words values
+  pub lost : Lost dictionary (validating true) sent words values
   pub encoded : encoding 1 (lost .taken .takes .meant) ≡ resent
   pub fields-left : fieldTotal (encodedMessage 1 (lost .taken .takes .meant)) ≡ 6
   pub left-words : List ℕ
@@ -150,7 +150,7 @@ pub record DealersOrder (words values output : List ℕ) : Type 0 where
 pub dealers-order : (words values output : List ℕ) → length words ≡ 8205 → length values ≡ 8192 → 39 ≤ length output → DealersOrder words values output
 dealers-order words values output whole store room =
     let c = order-read in
-    let l = stored-twice-lost dictionary true 1 sent words values (c .valid) (c .twice) (omega (arith, sent-short)) whole store in
+    let l = stored-twice-lost dictionary (validating true) sent words values (c .valid) (c .twice) (omega (arith, sent-short)) whole store in
     let t = l .taken .takes in
     let m = t .meant in
     let w = ap length sent-rewritten in
@@ -158,7 +158,7 @@ dealers-order words values output whole store room =
       reads = c;
       lost = l;
       encoded = encoding-rewritten 1 (sent-built t) ∙ sent-rewritten;
-      fields-left = a-field-each dictionary true 1 sent (c .valid) t ∙ c .fields-recorded;
+      fields-left = a-field-each dictionary (validating true) sent (c .valid) t ∙ c .fields-recorded;
       left-words = wordsOf (encodedMessage 1 m);
       left-values = valuesOf (encodedMessage 1 m);
       writes = encoding-written (sent-built t) 1 separates output (omega (arith, w, resent-short)) (omega (arith, w, resent-short)) ∙ written-as (wordsOf (encodedMessage 1 m)) (valuesOf (encodedMessage 1 m));

@@ -71,7 +71,7 @@ unfolding storedTwice twiceFromHeader twiceFromBody twiceInBody twiceWithin twic
 tests-hold = refl
 
 -- P1 is clean
-pub heartbeat-clean : Clean dictionary true 1 heartbeat
+pub heartbeat-clean : Clean dictionary (validating true) heartbeat
 unfolding storedTwice twiceFromHeader twiceFromBody twiceInBody twiceWithin twiceTaking twiceBehind twiceInRun twiceMoved twiceInTrailer twiceInHeader isPlain plainTags plainLength threeDigits messageRead startOf startedBy headerOf verifiedRecords withChecksum headerFrom afterHeader afterType afterBody afterTrailer msgTypeRecord valueAt trailerFrom recordOf bodyFrom bodyWithin takes withRun nextFrom andThen storedRun behindRun bodyOf runFrom ranAs checked kindOf placedKind groupKind integrityOf begun counted summed typed lengthIs lengthAgrees sumIs sumAgrees sumOf checksumOf checksumDigits decimalWithin layoutThen positionFrom firstOf positionIn groupSince groupOf delimiterOf requiredTags holdsTag knows plainFields headerTags trailerTags flattened sameBytes messageOf layoutOf stored isDelimiter counting opens declared entryKind inEntry decide entryRecord moved walk accepted openedAs layoutRules joinedList listStore orElse has fieldsLack before shallow runLacks nestedLack entriesLack opensEntry entryLack runLack layoutDemands reading-fields
 heartbeat-clean =
     record {

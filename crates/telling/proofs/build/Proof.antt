@@ -22,7 +22,7 @@ number-of-requires c κs = search needs
 returns : tie.Need-returns
 returns c =
     let s = c .before .before .before .before in
-    let built = rw (s .before .config-of .ensures) at (s .build .ensures) in (
+    let built = rw (s .before .before .config-of .ensures) at (s .build .ensures) in (
       built-shown _ _ _ _ built (c .number-of .ensures),
       built-words _ _ _ built,
       built-out _ _ _ _ _ built (c .before .before .before .values-of .ensures) (c .before .tell .ensures),
