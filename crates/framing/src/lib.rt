@@ -3,7 +3,7 @@
 ghost use mathlib.Core.Path.{_≡_};
 ghost use Rattle.tagvalue.specs.Choice.{pick};
 ghost use Rattle.telling.specs.Told.{told};
-ghost use Rattle.parser.specs.Framer.{valueOf, pushed, pushedStore, finished, taken, takenStore, takenOutput};
+ghost use Rattle.frame_parser_rules.specs.Framer.{valueOf, pushed, pushedStore, finished, taken, takenStore, takenOutput};
 ghost use Rattle.hunter.specs.Bytes.{pushed as hunterPushed, finished as hunterFinished, tookFrom};
 ghost use Rattle.framing.specs.States.{isSet, portedIn, portedTold, portedFresh, hunterIn, hunterTold, hunterFresh};
 
@@ -51,17 +51,17 @@ fn mark_of(set: bool) -> u8
     0
 }
 
-fn ported_in(state: PortedState) -> parser::State
+fn ported_in(state: PortedState) -> frame_parser_rules::State
     ensures { λ r. ⌜ r ≡ portedIn state ⌝ }
 {
-    parser::State {
+    frame_parser_rules::State {
         used: state.used,
         ended: is_set(state.ended),
         over: is_set(state.over),
     }
 }
 
-fn ported_told(after: parser::State, answer: parser::Answer) -> PortedReply
+fn ported_told(after: frame_parser_rules::State, answer: frame_parser_rules::Answer) -> PortedReply
     ensures { λ r. ⌜ r ≡ portedTold after answer ⌝ }
 {
     let state = PortedState {
@@ -152,7 +152,7 @@ pub fn ported_reset(out: &mut [u32; 4]) -> PortedReply
     ensures { λ r. ⌜ (r ≡ portedFresh) × (now (out .exit) ≡ told 0 (0, 0)) ⌝ }
 {
     telling::tell(out, 0, 0, 0);
-    ported_told(parser::reset(), parser::Answer::Accepted)
+    ported_told(parser::reset(), frame_parser_rules::Answer::Accepted)
 }
 
 // A chunk of the stream for the hunting framer.

@@ -5,9 +5,9 @@ use mathlib.Core.List.{List, [], _∷_, _++_}
 use Prim.Native.Nat.{ℕ, suc, _≤_, _<_}
 use lib.ListN.{length, take}
 use Rattle.tagvalue.specs.Standard.{Message}
-use Rattle.parser.specs.Framer.{answersWith, fresh, held, pushAnswer, pushed, pushedStore, takeAnswer, taken, takenStore, takenOutput}
-use Rattle.parser.specs.declared.State.{State}
-use Rattle.parser.specs.declared.Answer.the-variants as answer
+use Rattle.frame_parser_rules.specs.Framer.{answersWith, fresh, held, pushAnswer, pushed, pushedStore, takeAnswer, taken, takenStore, takenOutput}
+use Rattle.frame_parser_rules.specs.declared.State.{State}
+use Rattle.frame_parser_rules.specs.declared.Answer.the-variants as answer
 
 -- ===== the stream =====
 

@@ -11,17 +11,17 @@ use lib.ListN.{length, take, drop, length-append, take-append-drop}
 use lib.Dec.{leb}
 use borrow.Author.Tests.{leb-true, leb-false}
 use Rattle.tagvalue.specs.Decimal.{writtenAt}
-use Rattle.parser.specs.Announced.{announcedIn}
-use Rattle.parser.specs.Framer.{fresh, held, pushAnswer, withChunk, pushed, readyOf, readyAnswer, takeAnswer, takeState, movedToFront}
-use Rattle.parser.specs.FramerLaws.{take-judges}
-use Rattle.parser.specs.MessageLaws.{message-some, front-message}
-use Rattle.parser.specs.FramingLaws.{Running, running-usable, held-length, chunk-accepted, chunk-runs, chunk-held, take-runs, take-held, take-does, take-did, nothing-ready, whole-ready, part-not-ready, stream-behind}
-use Rattle.parser.specs.Stream.{Each, joined, Fits, Pushes, Takes, Drained, dry, more, Run, begins, chunk, Framed}
-use Rattle.parser.specs.Stream as stream
-use Rattle.parser.specs.declared.State.{State}
-use Rattle.parser.specs.declared.Answer.the-variants.{Accepted, Message}
-use Rattle.parser.specs.declared.Outcome.{Outcome}
-use Rattle.parser.specs.declared.Ready.the-variants.{Length}
+use Rattle.frame_parser_rules.specs.Announced.{announcedIn}
+use Rattle.frame_parser_rules.specs.Framer.{fresh, held, pushAnswer, withChunk, pushed, readyOf, readyAnswer, takeAnswer, takeState, movedToFront}
+use Rattle.frame_parser_rules.specs.FramerLaws.{take-judges}
+use Rattle.frame_parser_rules.specs.MessageLaws.{message-some, front-message}
+use Rattle.frame_parser_rules.specs.FramingLaws.{Running, running-usable, held-length, chunk-accepted, chunk-runs, chunk-held, take-runs, take-held, take-does, take-did, nothing-ready, whole-ready, part-not-ready, stream-behind}
+use Rattle.frame_parser_rules.specs.Stream.{Each, joined, Fits, Pushes, Takes, Drained, dry, more, Run, begins, chunk, Framed}
+use Rattle.frame_parser_rules.specs.Stream as stream
+use Rattle.frame_parser_rules.specs.declared.State.{State}
+use Rattle.frame_parser_rules.specs.declared.Answer.the-variants.{Accepted, Message}
+use Rattle.frame_parser_rules.specs.declared.Outcome.{Outcome}
+use Rattle.frame_parser_rules.specs.declared.Ready.the-variants.{Length}
 
 joined-append : (a b : List (List ℕ)) → joined (a ++ b) ≡ joined a ++ joined b
 joined-append [] b = refl

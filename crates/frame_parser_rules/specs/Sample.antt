@@ -15,9 +15,9 @@ use Rattle.tagvalue.specs.Number.{isDigit, allDigits}
 use Rattle.tagvalue.specs.DecimalLaws.{all-digits-first}
 use Rattle.tagvalue.specs.Standard.{All, Digit, Int, Field, Fields, Distinct, Stands}
 use Rattle.tagvalue.specs.Standard as standard
-use Rattle.parser.specs.Stream.{Fits, begins}
-use Rattle.parser.specs.Stream as stream
-use Rattle.parser.specs.Framing.{Further, framing-goes-on, framing-whole}
+use Rattle.frame_parser_rules.specs.Stream.{Fits, begins}
+use Rattle.frame_parser_rules.specs.Stream as stream
+use Rattle.frame_parser_rules.specs.Framing.{Further, framing-goes-on, framing-whole}
 
 -- every byte is not b
 abbrev without : ℕ → List ℕ → Bool

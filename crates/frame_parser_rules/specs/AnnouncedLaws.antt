@@ -20,10 +20,10 @@ use Rattle.tagvalue.specs.NumberLaws.{worth-least}
 use Rattle.tagvalue.specs.DecimalLaws.{all-digits-first}
 use Rattle.tagvalue.specs.declared.Found.{Found}
 use Rattle.tagvalue.specs.declared.Found.the-variants.{At, Nothing}
-use Rattle.parser.specs.Announced.{digitOf, nominal, findFrom, withSeparator, withEquals, valueFrom, messageEnd, limited, withSecond, withFirst, announcedIn}
-use Rattle.parser.specs.declared.Value.{Value}
-use Rattle.parser.specs.declared.Value.the-variants.{Between, NoValue}
-use Rattle.parser.specs.declared.Announced.the-variants.{Ends, Over, Unknown}
+use Rattle.frame_parser_rules.specs.Announced.{digitOf, nominal, findFrom, withSeparator, withEquals, valueFrom, messageEnd, limited, withSecond, withFirst, announcedIn}
+use Rattle.frame_parser_rules.specs.declared.Value.{Value}
+use Rattle.frame_parser_rules.specs.declared.Value.the-variants.{Between, NoValue}
+use Rattle.frame_parser_rules.specs.declared.Announced.the-variants.{Ends, Over, Unknown}
 
 -- ===== the number =====
 

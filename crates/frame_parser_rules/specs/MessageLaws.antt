@@ -12,10 +12,10 @@ use Rattle.tagvalue.specs.DecimalLaws.{decimal-unique}
 use Rattle.tagvalue.specs.Standard as standard
 use Rattle.tagvalue.specs.Standard.{Message, SOH, equals}
 use Rattle.tagvalue.specs.StandardLaws.{digits-all, worth-same, absent-all}
-use Rattle.parser.specs.Announced.{nominal, findFrom, valueFrom, messageEnd, limited, announcedIn}
-use Rattle.parser.specs.AnnouncedLaws.{nominal-worth, from-joins, value-between, announced-second, announced-stays, limit-ends}
-use Rattle.parser.specs.declared.Value.the-variants.{Between}
-use Rattle.parser.specs.declared.Announced.the-variants.{Ends, Unknown}
+use Rattle.frame_parser_rules.specs.Announced.{nominal, findFrom, valueFrom, messageEnd, limited, announcedIn}
+use Rattle.frame_parser_rules.specs.AnnouncedLaws.{nominal-worth, from-joins, value-between, announced-second, announced-stays, limit-ends}
+use Rattle.frame_parser_rules.specs.declared.Value.the-variants.{Between}
+use Rattle.frame_parser_rules.specs.declared.Announced.the-variants.{Ends, Unknown}
 
 -- the value of a field of the standard, as it is found behind bytes that were passed
 pub record FoundValue (value bytes passed rest : List ℕ) : Type 0 where

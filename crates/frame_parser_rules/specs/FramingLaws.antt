@@ -12,16 +12,16 @@ use lib.Dec.{ltb}
 use borrow.Author.Tests.{ltb-true, ltb-false}
 use Rattle.tagvalue.specs.Decimal.{writtenAt}
 use Rattle.tagvalue.specs.DecimalLaws.{written-fits, written-length}
-use Rattle.parser.specs.Announced.{announcedIn, withFirst, valueFrom, withEquals, findFrom}
+use Rattle.frame_parser_rules.specs.Announced.{announcedIn, withFirst, valueFrom, withEquals, findFrom}
 use Rattle.tagvalue.specs.Find.{findIn}
-use Rattle.parser.specs.Framer.{answersWith, held, unusable, withChunk, pushed, pushedStore, readyOf, takeState, taken, movedToFront, takenOutput}
-use Rattle.parser.specs.FramerLaws.{usable, push-accepted, take-short, take-message, ready-whole, ready-short}
-use Rattle.parser.specs.MessageLaws.{head-announced, whole-announced}
-use Rattle.parser.specs.Stream.{Fits, Takes}
-use Rattle.parser.specs.declared.State.{State}
-use Rattle.parser.specs.declared.Answer.the-variants.{Accepted, Message, ShortOutput}
-use Rattle.parser.specs.declared.Outcome.{Outcome}
-use Rattle.parser.specs.declared.Ready.the-variants.{Length}
+use Rattle.frame_parser_rules.specs.Framer.{answersWith, held, unusable, withChunk, pushed, pushedStore, readyOf, takeState, taken, movedToFront, takenOutput}
+use Rattle.frame_parser_rules.specs.FramerLaws.{usable, push-accepted, take-short, take-message, ready-whole, ready-short}
+use Rattle.frame_parser_rules.specs.MessageLaws.{head-announced, whole-announced}
+use Rattle.frame_parser_rules.specs.Stream.{Fits, Takes}
+use Rattle.frame_parser_rules.specs.declared.State.{State}
+use Rattle.frame_parser_rules.specs.declared.Answer.the-variants.{Accepted, Message, ShortOutput}
+use Rattle.frame_parser_rules.specs.declared.Outcome.{Outcome}
+use Rattle.frame_parser_rules.specs.declared.Ready.the-variants.{Length}
 
 -- what a state and a store are while a run goes on: no end, no mark, and a used length that fits
 pub record Running (state : State) (store : List ℕ) : Type 0 where

@@ -9,11 +9,11 @@ use lib.ListN.{length, take, replicate}
 use Rattle.tagvalue.specs.Text.{bytes}
 use Rattle.tagvalue.specs.Find.{findIn}
 use Rattle.tagvalue.specs.Decimal.{writtenAt}
-use Rattle.parser.specs.Announced.{digitOf, nominal, findFrom, withSeparator, withEquals, valueFrom, messageEnd, limited, withSecond, withFirst, announcedIn}
-use Rattle.parser.specs.Framer.{numberOf, valueOf, whereAccepted, fresh, onlyMark, held, unusable, pushAnswer, withChunk, pushed, pushedStore, endAnswer, readyOf, readyAnswer, takeAnswer, takeState, taken, movedToFront, takenStore, takenOutput}
-use Rattle.parser.specs.declared.Announced.the-variants.{Ends, Over, Unknown}
-use Rattle.parser.specs.declared.State.{State}
-use Rattle.parser.specs.declared.Answer.{Answer}
+use Rattle.frame_parser_rules.specs.Announced.{digitOf, nominal, findFrom, withSeparator, withEquals, valueFrom, messageEnd, limited, withSecond, withFirst, announcedIn}
+use Rattle.frame_parser_rules.specs.Framer.{numberOf, valueOf, whereAccepted, fresh, onlyMark, held, unusable, pushAnswer, withChunk, pushed, pushedStore, endAnswer, readyOf, readyAnswer, takeAnswer, takeState, taken, movedToFront, takenStore, takenOutput}
+use Rattle.frame_parser_rules.specs.declared.Announced.the-variants.{Ends, Over, Unknown}
+use Rattle.frame_parser_rules.specs.declared.State.{State}
+use Rattle.frame_parser_rules.specs.declared.Answer.{Answer}
 
 abbrev Table : Type 0 → Type 0
 Table A = List (String × A)

@@ -8,10 +8,10 @@ use Rattle.tagvalue.specs.Choice.{pick}
 use Rattle.tagvalue.specs.Find.{findIn}
 use Rattle.tagvalue.specs.declared.Found.{Found}
 use Rattle.tagvalue.specs.declared.Found.the-variants.{At, Nothing}
-use Rattle.parser.specs.declared.Value.{Value}
-use Rattle.parser.specs.declared.Value.the-variants.{Between, NoValue}
-use Rattle.parser.specs.declared.Announced.{Announced}
-use Rattle.parser.specs.declared.Announced.the-variants.{Ends, Over, Unknown}
+use Rattle.frame_parser_rules.specs.declared.Value.{Value}
+use Rattle.frame_parser_rules.specs.declared.Value.the-variants.{Between, NoValue}
+use Rattle.frame_parser_rules.specs.declared.Announced.{Announced}
+use Rattle.frame_parser_rules.specs.declared.Announced.the-variants.{Ends, Over, Unknown}
 
 -- "byte minus 48, wrapped to a byte"
 unfoldable pub digitOf : ℕ → ℕ
