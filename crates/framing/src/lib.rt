@@ -4,7 +4,7 @@ ghost use mathlib.Core.Path.{_≡_};
 ghost use Rattle.tagvalue.specs.Choice.{pick};
 ghost use Rattle.telling.specs.Told.{told};
 ghost use Rattle.frame_parser_rules.specs.Framer.{valueOf, pushed, pushedStore, finished, taken, takenStore, takenOutput};
-ghost use Rattle.hunter.specs.Bytes.{pushed as hunterPushed, finished as hunterFinished, tookFrom};
+ghost use Rattle.frame_hunter_rules.specs.Bytes.{pushed as hunterPushed, finished as hunterFinished, tookFrom};
 ghost use Rattle.framing.specs.States.{isSet, portedIn, portedTold, portedFresh, hunterIn, hunterTold, hunterFresh};
 
 // The ported framer's state: how many bytes of the store are used, and whether the end, or a length over 8,192 bytes, was met.
@@ -75,17 +75,17 @@ fn ported_told(after: frame_parser_rules::State, answer: frame_parser_rules::Ans
     }
 }
 
-fn hunter_in(state: HunterState) -> hunter::State
+fn hunter_in(state: HunterState) -> frame_hunter_rules::State
     ensures { λ r. ⌜ r ≡ hunterIn state ⌝ }
 {
-    hunter::State {
+    frame_hunter_rules::State {
         used: state.used,
         dropped: state.dropped,
         ended: is_set(state.ended),
     }
 }
 
-fn hunter_told(after: hunter::State, answer: hunter::Answer) -> HunterReply
+fn hunter_told(after: frame_hunter_rules::State, answer: frame_hunter_rules::Answer) -> HunterReply
     ensures { λ r. ⌜ r ≡ hunterTold after answer ⌝ }
 {
     let state = HunterState {
@@ -208,5 +208,5 @@ pub fn hunter_reset(out: &mut [u32; 4]) -> HunterReply
     ensures { λ r. ⌜ (r ≡ hunterFresh) × (now (out .exit) ≡ told 0 (0, 0)) ⌝ }
 {
     telling::tell(out, 0, 0, 0);
-    hunter_told(hunter::reset(), hunter::Answer::Fine)
+    hunter_told(hunter::reset(), frame_hunter_rules::Answer::Fine)
 }
