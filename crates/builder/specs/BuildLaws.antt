@@ -7,9 +7,9 @@ use lib.ListN.{length, take, drop, set, getD, replicate, length-append, length-r
 use lib.Seq.{set-at, drop-cons, length-take-le, take-at}
 use borrow.Author.Tests.{eq-eqb, ne-eqb, le-leb, lt-leb}
 use Rattle.integrity.specs.declared.Config.{Config}
-use Rattle.flat.specs.Check.{checkOf, numberOf as numberOfCheck, storeOf, preparedOf}
-use Rattle.flat_steps.specs.declared.Checked.{Checked}
-use Rattle.flat_steps.specs.declared.Checked.the-variants.{Passes, TooLong, BadRecord, NoComponent, UnknownTag, EmptyGroup, TooDeep, Twice, TooManyItems}
+use Rattle.dictionary_rules.specs.Check.{checkOf, numberOf as numberOfCheck, storeOf, preparedOf}
+use Rattle.dictionary_rules.specs.declared.Checked.{Checked}
+use Rattle.dictionary_rules.specs.declared.Checked.the-variants.{Passes, TooLong, BadRecord, NoComponent, UnknownTag, EmptyGroup, TooDeep, Twice, TooManyItems}
 use Rattle.flattening.specs.Meaning.{dictionaryOf}
 use Rattle.flattening.specs.PlainTags.{Listing, listing, plainTags}
 use Rattle.flattening.specs.TagsMeant.{header-listed, trailer-listed}

@@ -12,9 +12,9 @@ use Rattle.tagvalue.specs.declared.Field.{Field}
 use Rattle.records.specs.Records.{recordAt, between, blank}
 use Rattle.records.specs.RecordLaws.{between-on, between-end}
 use Rattle.records.specs.declared.Record.{Record}
-use Rattle.layout.specs.Layout.{items}
-use Rattle.layout.specs.Tree.{Choice, knows, trailerTags, layoutOf}
-use Rattle.flat_names.specs.Index.{tagAt}
+use Rattle.dictionary_layout_rules.specs.Layout.{items}
+use Rattle.dictionary_layout_rules.specs.Tree.{Choice, knows, trailerTags, layoutOf}
+use Rattle.dictionary_rules.specs.Index.{tagAt}
 use Rattle.flattening.specs.Meaning.{dictionaryOf}
 use Rattle.flattening.specs.MsgTypeText.{Bytes, no-bytes, a-byte}
 use Rattle.flattening.specs.MessageTable.{Tabling, tabling, messageTable}

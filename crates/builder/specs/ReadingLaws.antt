@@ -12,10 +12,10 @@ use Rattle.tagvalue.specs.Choice.{pick}
 use Rattle.tagvalue.specs.Separator.{isRefusedSeparator}
 use Rattle.tagvalue.specs.Fields.{fieldsFrom}
 use Rattle.integrity.specs.declared.Config.{Config}
-use Rattle.flat.specs.Check.{Outcome as Checking, outcome, checkOf, preparedOf, storeOf, numberOf as numberOfCheck}
-use Rattle.flat_steps.specs.declared.Checked.{Checked}
+use Rattle.dictionary_rules.specs.Check.{Outcome as Checking, outcome, checkOf, preparedOf, storeOf, numberOf as numberOfCheck}
+use Rattle.dictionary_rules.specs.declared.Checked.{Checked}
 use Rattle.flattening.specs.Meaning.{dictionaryOf}
-use Rattle.layout.specs.Tree.{Dictionary, headerTags, layoutOf}
+use Rattle.dictionary_layout_rules.specs.Tree.{Dictionary, headerTags, layoutOf}
 use Rattle.records.specs.declared.Record.{Record}
 use Rattle.parts.specs.declared.Answer.{Answer}
 use Rattle.parts.specs.declared.Answer.the-variants.{Valid, TooLong, InvalidSeparator, TooFewRecords, BadDictionary}

@@ -14,7 +14,7 @@ use Rattle.tagvalue.specs.Number.{isDigit, allDigits, worth, numberOf, nonZero,
 use Rattle.tagvalue.specs.Field.{fieldFrom, fieldAt, withEquals, withSeparator, withTag}
 use Rattle.tagvalue.specs.Fields.{followedBy, fieldsWithin, fieldsFrom}
 use Rattle.tagvalue.specs.Standard.{All, Told, told, Int, Distinct, entries, Stands}
-use Rattle.layout.specs.Layout.{Layout, end, field, group, firstOf, positionFrom, positionIn, groupSince, groupOf, delimiterOf}
+use Rattle.dictionary_layout_rules.specs.Layout.{Layout, end, field, group, firstOf, positionFrom, positionIn, groupSince, groupOf, delimiterOf}
 use Rattle.records.specs.Records.{stored}
 use Rattle.records.specs.declared.Record.{Record}
 use Rattle.groups.specs.Groups.{isDelimiter, opens, counting, declared, kindOf, run, inEntry, decide, recordOf, Outcome, ended, refused, moved, walk}

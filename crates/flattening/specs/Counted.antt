@@ -9,14 +9,14 @@ use native.Mathlib.Omega.{arith}
 use lib.Dec.{eqb}
 use borrow.Author.Tests.{eqb-true, eqb-false}
 use Rattle.tagvalue.specs.Choice.{pick}
-use Rattle.layout.specs.Layout.{Layout, end, field, group, followedBy, items}
-use Rattle.layout.specs.Tree.{flattened}
-use Rattle.flat_steps.specs.Step.{heldAlso, heldWith}
-use Rattle.flat_names.specs.declared.Component.{Component}
-use Rattle.flat_names.specs.declared.Looked.{Looked}
-use Rattle.flat_names.specs.declared.Looked.the-variants.{Closed, Missing}
-use Rattle.flat_steps.specs.declared.Held.{Held}
-use Rattle.flat_steps.specs.declared.Held.the-variants.{Empty, Only, Several}
+use Rattle.dictionary_layout_rules.specs.Layout.{Layout, end, field, group, followedBy, items}
+use Rattle.dictionary_layout_rules.specs.Tree.{flattened}
+use Rattle.dictionary_rules.specs.Step.{heldAlso, heldWith}
+use Rattle.dictionary_rules.specs.declared.Component.{Component}
+use Rattle.dictionary_rules.specs.declared.Looked.{Looked}
+use Rattle.dictionary_rules.specs.declared.Looked.the-variants.{Closed, Missing}
+use Rattle.dictionary_rules.specs.declared.Held.{Held}
+use Rattle.dictionary_rules.specs.declared.Held.the-variants.{Empty, Only, Several}
 use Rattle.flattening.specs.Meaning.{Items, closed, fieldThen, componentThen, groupThen, Defined, nodesOf, expanded}
 use Rattle.flattening.specs.Written.{followed-end}
 use Rattle.flattening.specs.Layable.{layoutOf, flat, Room, room-close, room-field, room-component, room-group, count-field, count-component, count-group}

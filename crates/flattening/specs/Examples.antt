@@ -8,13 +8,13 @@ use lib.Dec.{eqb}
 use lib.ListN.{replicate}
 use Rattle.tagvalue.specs.Choice.{pick}
 use Rattle.tagvalue.specs.Text.{bytes}
-use Rattle.layout.specs.Tree.{Nodes, nothing, fieldItem, componentItem, groupItem, Message, Dictionary}
-use Rattle.layout.specs.Table.{mark}
-use Rattle.flat_records.specs.Record.{lowFirst, zeroFilled, bodyLength, withTag, withMark, knownTag, opensComponent, opensMessage, bodyOf, withBody, withKind, recordFrom, recordAt}
-use Rattle.flat_records.specs.Record.{fieldItem as fieldBody, componentItem as componentBody, opensGroup as groupBody}
-use Rattle.flat_records.specs.Records.{Records, recordsFrom, recordsWithin, followedBy}
-use Rattle.flat_names.specs.Names.{componentIn}
-use Rattle.flat_names.specs.declared.Component.{Component}
+use Rattle.dictionary_layout_rules.specs.Tree.{Nodes, nothing, fieldItem, componentItem, groupItem, Message, Dictionary}
+use Rattle.dictionary_layout_rules.specs.Table.{mark}
+use Rattle.dictionary_rules.specs.Record.{lowFirst, zeroFilled, bodyLength, withTag, withMark, knownTag, opensComponent, opensMessage, bodyOf, withBody, withKind, recordFrom, recordAt}
+use Rattle.dictionary_rules.specs.Record.{fieldItem as fieldBody, componentItem as componentBody, opensGroup as groupBody}
+use Rattle.dictionary_rules.specs.Records.{Records, recordsFrom, recordsWithin, followedBy}
+use Rattle.dictionary_rules.specs.Names.{componentIn}
+use Rattle.dictionary_rules.specs.declared.Component.{Component}
 use Rattle.flattening.specs.Meaning.{onTop, groupOnTop, below, innermost, levelsOf, declarationsOf, nodesOf, expanded, definedBy, definedAfter, bytesWithin, msgTypeBytes, messageIn, messagesFrom, tagIn, tagsFrom, meaningOf, dictionaryOf}
 use Rattle.flattening.specs.Laying.{Laying, laying, behindOpening, expanding, standsAt, putRow, afterGroup, afterComponent, onComponent, onRecord, onRead, itemsWithin, itemsFrom, layItems}
 use Rattle.flattening.specs.MsgType.{noZero, nameOf}

@@ -7,25 +7,25 @@ use mathlib.Core.List.{List, [], _∷_, _++_}
 use Prim.Native.Nat.{ℕ, zero, suc, _+_, _-_, _*_, _≤_, _<_}
 use native.Mathlib.Omega.{arith}
 use lib.ListN.{length}
-use Rattle.flat_records.specs.Record.{recordAt}
-use Rattle.flat_records.specs.Records.{Records, ends, bad, whole, recordsFrom}
-use Rattle.flat_records.specs.RecordsLaws.{records-end, records-bad, records-whole}
-use Rattle.flat_records.specs.declared.Record.{Record}
-use Rattle.flat_records.specs.declared.Record.the-variants.{KnownTag, OpensComponent, OpensMessage, FieldItem, ComponentItem, OpensGroup, Closes}
-use Rattle.flat_records.specs.declared.RecordRead.{RecordRead}
-use Rattle.flat_records.specs.declared.RecordRead.the-variants.{Whole, Bad, End}
-use Rattle.flat_steps.specs.Step.{depthOf, opened, deeper, grown, heldWith}
-use Rattle.flat_names.specs.Names.{Names, componentIn, named}
-use Rattle.flat_names.specs.declared.Component.{Component}
-use Rattle.flat_names.specs.declared.Looked.{Looked}
-use Rattle.flat_names.specs.declared.Looked.the-variants.{Closed, Missing}
-use Rattle.flat_steps.specs.declared.Group.{Group}
-use Rattle.flat_steps.specs.declared.Groups.{Groups}
-use Rattle.flat_steps.specs.declared.Groups.the-variants.{NoGroup, OneGroup, TwoGroups, ThreeGroups, FourGroups}
-use Rattle.flat_steps.specs.declared.Held.{Held}
-use Rattle.flat_steps.specs.declared.Held.the-variants.{Empty, Only, Several}
-use Rattle.flat_steps.specs.declared.Open.{Open}
-use Rattle.flat_steps.specs.declared.State.the-variants.{TopLevel, Inside}
+use Rattle.dictionary_rules.specs.Record.{recordAt}
+use Rattle.dictionary_rules.specs.Records.{Records, ends, bad, whole, recordsFrom}
+use Rattle.dictionary_rules.specs.RecordsLaws.{records-end, records-bad, records-whole}
+use Rattle.dictionary_rules.specs.declared.Record.{Record}
+use Rattle.dictionary_rules.specs.declared.Record.the-variants.{KnownTag, OpensComponent, OpensMessage, FieldItem, ComponentItem, OpensGroup, Closes}
+use Rattle.dictionary_rules.specs.declared.RecordRead.{RecordRead}
+use Rattle.dictionary_rules.specs.declared.RecordRead.the-variants.{Whole, Bad, End}
+use Rattle.dictionary_rules.specs.Step.{depthOf, opened, deeper, grown, heldWith}
+use Rattle.dictionary_rules.specs.Names.{Names, componentIn, named}
+use Rattle.dictionary_rules.specs.declared.Component.{Component}
+use Rattle.dictionary_rules.specs.declared.Looked.{Looked}
+use Rattle.dictionary_rules.specs.declared.Looked.the-variants.{Closed, Missing}
+use Rattle.dictionary_rules.specs.declared.Group.{Group}
+use Rattle.dictionary_rules.specs.declared.Groups.{Groups}
+use Rattle.dictionary_rules.specs.declared.Groups.the-variants.{NoGroup, OneGroup, TwoGroups, ThreeGroups, FourGroups}
+use Rattle.dictionary_rules.specs.declared.Held.{Held}
+use Rattle.dictionary_rules.specs.declared.Held.the-variants.{Empty, Only, Several}
+use Rattle.dictionary_rules.specs.declared.Open.{Open}
+use Rattle.dictionary_rules.specs.declared.State.the-variants.{TopLevel, Inside}
 use Rattle.flattening.specs.Meaning.{Items, closed, fieldThen, componentThen, groupThen, onTop, groupOnTop, levelsOf, declarationsOf}
 use Rattle.flattening.specs.Layable.{Reads, reads-close, reads-field, reads-component, reads-group}
 use Rattle.flattening.specs.Counted.{itemsIn, heldBy, countOf, heldFrom}

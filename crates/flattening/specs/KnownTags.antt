@@ -8,20 +8,20 @@ use lib.Dec.{eqb}
 use lib.ListN.{length}
 use borrow.Author.Tests.{eq-eqb, ne-eqb, eqb-true, eqb-false}
 use Rattle.tagvalue.specs.Choice.{pick}
-use Rattle.layout.specs.Tree.{holdsTag, knows}
-use Rattle.flat_records.specs.Records.{Records, ends, bad, whole, recordsFrom}
-use Rattle.flat_records.specs.declared.Record.the-variants.{KnownTag, OpensComponent, OpensMessage, FieldItem, ComponentItem, OpensGroup, Closes}
-use Rattle.flat_steps.specs.Step.{opens}
-use Rattle.flat_names.specs.Names.{Names, isKnown, named, noNames}
-use Rattle.flat.specs.Check.{storeOf, readOf, checkOf}
-use Rattle.flat_names.specs.Index.{tagAt}
-use Rattle.flat.specs.Check.{preparedOf}
-use Rattle.flat_steps.specs.declared.Checked.the-variants.{Passes}
-use Rattle.flat_steps.specs.declared.Owner.{Owner}
-use Rattle.flat_steps.specs.declared.Owner.the-variants.{OfComponent, OfMessage}
-use Rattle.flat_steps.specs.declared.Open.{Open}
-use Rattle.flat_steps.specs.declared.State.the-variants.{TopLevel, Inside}
-use Rattle.flat_names.specs.declared.Note.the-variants.{NamesMessage}
+use Rattle.dictionary_layout_rules.specs.Tree.{holdsTag, knows}
+use Rattle.dictionary_rules.specs.Records.{Records, ends, bad, whole, recordsFrom}
+use Rattle.dictionary_rules.specs.declared.Record.the-variants.{KnownTag, OpensComponent, OpensMessage, FieldItem, ComponentItem, OpensGroup, Closes}
+use Rattle.dictionary_rules.specs.Step.{opens}
+use Rattle.dictionary_rules.specs.Names.{Names, isKnown, named, noNames}
+use Rattle.dictionary_rules.specs.Check.{storeOf, readOf, checkOf}
+use Rattle.dictionary_rules.specs.Index.{tagAt}
+use Rattle.dictionary_rules.specs.Check.{preparedOf}
+use Rattle.dictionary_rules.specs.declared.Checked.the-variants.{Passes}
+use Rattle.dictionary_rules.specs.declared.Owner.{Owner}
+use Rattle.dictionary_rules.specs.declared.Owner.the-variants.{OfComponent, OfMessage}
+use Rattle.dictionary_rules.specs.declared.Open.{Open}
+use Rattle.dictionary_rules.specs.declared.State.the-variants.{TopLevel, Inside}
+use Rattle.dictionary_rules.specs.declared.Note.the-variants.{NamesMessage}
 use Rattle.flattening.specs.Meaning.{Declaration, knownTag, declarationsOf, tagIn, tagsFrom, meaningOf, dictionaryOf}
 use Rattle.flattening.specs.Steps.{Passing, noteOf, TagGoes, tag-goes, component-opens, message-opens, field-stops, item-stops, group-stops, close-stops, bad-stops, end-passes}
 use Rattle.flattening.specs.Inside.{Next, next-of, sizeOf, Closing, closes-inside}

@@ -6,12 +6,12 @@ use mathlib.Core.List.{List, [], _∷_}
 use Prim.Native.Nat.{ℕ, zero, suc, _+_, _-_, _*_, _≤_, _<_}
 use native.Mathlib.Omega.{arith}
 use lib.ListN.{length}
-use Rattle.layout.specs.Layout.{Layout, end, field, group, followedBy, items}
-use Rattle.layout.specs.Tree.{Nodes, flattened}
-use Rattle.flat_records.specs.Record.{recordAt}
-use Rattle.flat_records.specs.declared.Record.the-variants.{FieldItem, ComponentItem, OpensGroup, Closes}
-use Rattle.flat_records.specs.declared.RecordRead.the-variants.{Whole}
-use Rattle.flat_names.specs.declared.Looked.{Looked}
+use Rattle.dictionary_layout_rules.specs.Layout.{Layout, end, field, group, followedBy, items}
+use Rattle.dictionary_layout_rules.specs.Tree.{Nodes, flattened}
+use Rattle.dictionary_rules.specs.Record.{recordAt}
+use Rattle.dictionary_rules.specs.declared.Record.the-variants.{FieldItem, ComponentItem, OpensGroup, Closes}
+use Rattle.dictionary_rules.specs.declared.RecordRead.the-variants.{Whole}
+use Rattle.dictionary_rules.specs.declared.Looked.{Looked}
 use Rattle.flattening.specs.Laying.{Laying, laying, standsAt, putRow, itemsFrom, layItems}
 use Rattle.flattening.specs.LayingLaws.{lay-advances, lay-field, lay-group, lay-empty, lay-component, lay-close, lay-down}
 use Rattle.flattening.specs.Meaning.{Items, closed, fieldThen, componentThen, groupThen, Defined, nodesOf, expanded}

@@ -5,10 +5,10 @@ use mathlib.Core.List.{List, [], _∷_}
 use mathlib.Core.Bool.{Bool, true, false}
 use lib.Dec.{eqb}
 use Rattle.tagvalue.specs.Choice.{pick}
-use Rattle.layout.specs.Tree.{Nodes, nothing, fieldItem, componentItem, groupItem, Message, Dictionary}
-use Rattle.flat_records.specs.Records.{Records, ends, bad, whole, recordsFrom}
-use Rattle.flat_records.specs.declared.Record.{Record}
-use Rattle.flat_records.specs.declared.Record.the-variants.{KnownTag, OpensComponent, OpensMessage, FieldItem, ComponentItem, OpensGroup, Closes}
+use Rattle.dictionary_layout_rules.specs.Tree.{Nodes, nothing, fieldItem, componentItem, groupItem, Message, Dictionary}
+use Rattle.dictionary_rules.specs.Records.{Records, ends, bad, whole, recordsFrom}
+use Rattle.dictionary_rules.specs.declared.Record.{Record}
+use Rattle.dictionary_rules.specs.declared.Record.the-variants.{KnownTag, OpensComponent, OpensMessage, FieldItem, ComponentItem, OpensGroup, Closes}
 
 -- the items of something up to its close, as they are written: a component item only names its component
 pub data Items : Type 0 where

@@ -2,9 +2,9 @@
 -- depth at the most, and 1,024 items pass the check.
 use Prim.Native.Nat.{ℕ, _+_}
 use mathlib.Core.List.{List}
-use Rattle.flat_names.specs.Index.{componentAt, messageAt}
-use Rattle.flat_names.specs.declared.Placed.{Placed}
-use Rattle.flat_names.specs.declared.Placed.the-variants.{At, Nowhere}
+use Rattle.dictionary_rules.specs.Index.{componentAt, messageAt}
+use Rattle.dictionary_rules.specs.declared.Placed.{Placed}
+use Rattle.dictionary_rules.specs.declared.Placed.the-variants.{At, Nowhere}
 use Rattle.flattening.specs.Laying.{Laying, laying, layItems}
 use Rattle.flattening.specs.MsgType.{nameOf}
 use Rattle.flattening.specs.declared.Laid.{Laid}

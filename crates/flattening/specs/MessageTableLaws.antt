@@ -2,8 +2,8 @@
 use mathlib.Core.Path.{_≡_, refl, sym, ap, _∙_}
 use mathlib.Core.List.{List}
 use Prim.Native.Nat.{ℕ, _+_}
-use Rattle.flat_names.specs.Index.{componentAt, messageAt}
-use Rattle.flat_names.specs.declared.Placed.the-variants.{At, Nowhere}
+use Rattle.dictionary_rules.specs.Index.{componentAt, messageAt}
+use Rattle.dictionary_rules.specs.declared.Placed.the-variants.{At, Nowhere}
 use Rattle.flattening.specs.Laying.{Laying, laying, layItems}
 use Rattle.flattening.specs.MsgType.{nameOf}
 use Rattle.flattening.specs.MessageTable.{Tabling, tabling, asTable, placedTable, namedTable, messageTable}

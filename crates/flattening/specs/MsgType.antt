@@ -6,7 +6,7 @@ use mathlib.Core.Bool.{Bool, true, false}
 use lib.ListN.{length}
 use lib.Dec.{eqb, ltb}
 use Rattle.tagvalue.specs.Choice.{pick}
-use Rattle.flat_records.specs.Record.{lowFirst}
+use Rattle.dictionary_rules.specs.Record.{lowFirst}
 use Rattle.flattening.specs.declared.MsgTypeName.{MsgTypeName}
 use Rattle.flattening.specs.declared.MsgTypeName.the-variants.{Named, Unnamed}
 

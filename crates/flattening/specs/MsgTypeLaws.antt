@@ -9,7 +9,7 @@ use lib.Seq.{drop-cons}
 use lib.Dec.{eqb, ltb}
 use borrow.Author.Tests.{eq-eqb, ne-eqb, lt-ltb, le-ltb}
 use Rattle.tagvalue.specs.Choice.{pick, pick-same}
-use Rattle.flat_records.specs.Record.{lowFirst}
+use Rattle.dictionary_rules.specs.Record.{lowFirst}
 use Rattle.flattening.specs.MsgType.{noZero, nameOf}
 use Rattle.flattening.specs.declared.MsgTypeName.the-variants.{Named, Unnamed}
 

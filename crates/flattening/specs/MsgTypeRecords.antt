@@ -9,15 +9,15 @@ use lib.Seq.{take-all}
 use lib.Dec.{eqb, ltb}
 use borrow.Author.Tests.{eqb-true, eqb-false, ltb-true, ltb-false}
 use Rattle.tagvalue.specs.Choice.{pick}
-use Rattle.layout.specs.Tree.{Choice, noMessage, laidOut, sameBytes, messageOf, flattened}
-use Rattle.flat_records.specs.Record.{lowFirst, zeroFilled, bodyLength, withTag, withMark, knownTag, opensComponent, opensMessage, fieldItem, componentItem, opensGroup, bodyOf, recordAt}
-use Rattle.flat_records.specs.Records.{Records, ends, bad, whole, recordsFrom}
-use Rattle.flat_records.specs.RecordLaws.{at-end, at-cut, at-wrong, at-whole, length-message}
-use Rattle.flat_records.specs.declared.Record.{Record}
-use Rattle.flat_records.specs.declared.Record.the-variants.{KnownTag, OpensComponent, OpensMessage, FieldItem, ComponentItem, OpensGroup, Closes}
-use Rattle.flat_records.specs.declared.Body.{Body}
-use Rattle.flat_records.specs.declared.Body.the-variants.{Good, Wrong}
-use Rattle.flat_records.specs.declared.RecordRead.the-variants.{Whole, Bad, End}
+use Rattle.dictionary_layout_rules.specs.Tree.{Choice, noMessage, laidOut, sameBytes, messageOf, flattened}
+use Rattle.dictionary_rules.specs.Record.{lowFirst, zeroFilled, bodyLength, withTag, withMark, knownTag, opensComponent, opensMessage, fieldItem, componentItem, opensGroup, bodyOf, recordAt}
+use Rattle.dictionary_rules.specs.Records.{Records, ends, bad, whole, recordsFrom}
+use Rattle.dictionary_rules.specs.RecordLaws.{at-end, at-cut, at-wrong, at-whole, length-message}
+use Rattle.dictionary_rules.specs.declared.Record.{Record}
+use Rattle.dictionary_rules.specs.declared.Record.the-variants.{KnownTag, OpensComponent, OpensMessage, FieldItem, ComponentItem, OpensGroup, Closes}
+use Rattle.dictionary_rules.specs.declared.Body.{Body}
+use Rattle.dictionary_rules.specs.declared.Body.the-variants.{Good, Wrong}
+use Rattle.dictionary_rules.specs.declared.RecordRead.the-variants.{Whole, Bad, End}
 use Rattle.flattening.specs.Meaning.{Items, innermost, levelsOf, Declaration, knownTag as tagDeclared, component, message, declarationsOf, Defined, expanded, definedBy, msgTypeBytes, messageIn, messagesFrom}
 use Rattle.flattening.specs.MsgType.{nameOf}
 use Rattle.flattening.specs.MsgTypeText.{Bytes, no-bytes, a-byte, NameNumber, hasNumber, same-number, filled-number}

@@ -9,8 +9,8 @@ use lib.ListN.{length, getD}
 use lib.Dec.{eqb, ltb}
 use borrow.Author.Tests.{eq-eqb, ne-eqb, eqb-true, eqb-false, le-ltb, ltb-false}
 use Rattle.tagvalue.specs.Choice.{pick, pick-same}
-use Rattle.layout.specs.Tree.{sameBytes}
-use Rattle.flat_records.specs.Record.{lowFirst, zeroFilled}
+use Rattle.dictionary_layout_rules.specs.Tree.{sameBytes}
+use Rattle.dictionary_rules.specs.Record.{lowFirst, zeroFilled}
 use Rattle.flattening.specs.Meaning.{bytesWithin, msgTypeBytes}
 use Rattle.flattening.specs.MsgType.{noZero, nameOf}
 use Rattle.flattening.specs.MsgTypeLaws.{room}

@@ -8,20 +8,20 @@ use lib.Dec.{eqb}
 use lib.ListN.{length}
 use borrow.Author.Tests.{eq-eqb, ne-eqb, eqb-true, eqb-false}
 use Rattle.tagvalue.specs.Choice.{pick}
-use Rattle.flat_records.specs.Records.{Records, ends, bad, whole, recordsFrom}
-use Rattle.flat_records.specs.declared.Record.the-variants.{KnownTag, OpensComponent, OpensMessage, FieldItem, ComponentItem, OpensGroup, Closes}
-use Rattle.flat_steps.specs.Step.{opens, standsFor}
-use Rattle.flat_names.specs.Names.{Message, Names, componentIn, messageIn, named}
-use Rattle.flat_names.specs.declared.Component.{Component}
-use Rattle.flat_names.specs.declared.Looked.{Looked}
-use Rattle.flat_names.specs.declared.Looked.the-variants.{Closed, Missing}
-use Rattle.flat_names.specs.declared.Placed.{Placed}
-use Rattle.flat_names.specs.declared.Placed.the-variants.{At, Nowhere}
-use Rattle.flat_steps.specs.declared.Owner.{Owner}
-use Rattle.flat_steps.specs.declared.Owner.the-variants.{OfComponent, OfMessage}
-use Rattle.flat_steps.specs.declared.Open.{Open}
-use Rattle.flat_steps.specs.declared.State.the-variants.{TopLevel, Inside}
-use Rattle.flat_names.specs.declared.Note.the-variants.{Unchanged, ClosesComponent, KnowsTag, NamesMessage}
+use Rattle.dictionary_rules.specs.Records.{Records, ends, bad, whole, recordsFrom}
+use Rattle.dictionary_rules.specs.declared.Record.the-variants.{KnownTag, OpensComponent, OpensMessage, FieldItem, ComponentItem, OpensGroup, Closes}
+use Rattle.dictionary_rules.specs.Step.{opens, standsFor}
+use Rattle.dictionary_rules.specs.Names.{Message, Names, componentIn, messageIn, named}
+use Rattle.dictionary_rules.specs.declared.Component.{Component}
+use Rattle.dictionary_rules.specs.declared.Looked.{Looked}
+use Rattle.dictionary_rules.specs.declared.Looked.the-variants.{Closed, Missing}
+use Rattle.dictionary_rules.specs.declared.Placed.{Placed}
+use Rattle.dictionary_rules.specs.declared.Placed.the-variants.{At, Nowhere}
+use Rattle.dictionary_rules.specs.declared.Owner.{Owner}
+use Rattle.dictionary_rules.specs.declared.Owner.the-variants.{OfComponent, OfMessage}
+use Rattle.dictionary_rules.specs.declared.Open.{Open}
+use Rattle.dictionary_rules.specs.declared.State.the-variants.{TopLevel, Inside}
+use Rattle.dictionary_rules.specs.declared.Note.the-variants.{Unchanged, ClosesComponent, KnowsTag, NamesMessage}
 use Rattle.flattening.specs.Steps.{Passing, noteOf, tag-goes, component-opens, message-opens, field-stops, item-stops, group-stops, close-stops, bad-stops, end-passes}
 use Rattle.flattening.specs.Inside.{Next, next-of, sizeOf, lookIn, Closing, closes-inside}
 

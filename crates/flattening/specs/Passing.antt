@@ -10,20 +10,20 @@ use lib.Dec.{eqb}
 use lib.ListN.{length}
 use borrow.Author.Tests.{eq-eqb, ne-eqb, eqb-true, eqb-false}
 use Rattle.tagvalue.specs.Choice.{pick}
-use Rattle.layout.specs.Layout.{Layout, end, items}
-use Rattle.layout.specs.Tree.{Nodes, flattened}
-use Rattle.flat_records.specs.Records.{Records, ends, bad, whole, recordsFrom}
-use Rattle.flat_steps.specs.Step.{opens, standsFor, depthOf}
-use Rattle.flat_names.specs.Names.{Names, named}
-use Rattle.flat_names.specs.declared.Component.{Component}
-use Rattle.flat_names.specs.declared.Looked.{Looked}
-use Rattle.flat_names.specs.declared.Looked.the-variants.{Closed, Missing}
-use Rattle.flat_steps.specs.declared.Held.{Held}
-use Rattle.flat_steps.specs.declared.Held.the-variants.{Empty, Only, Several}
-use Rattle.flat_steps.specs.declared.Owner.{Owner}
-use Rattle.flat_steps.specs.declared.Owner.the-variants.{OfComponent, OfMessage}
-use Rattle.flat_steps.specs.declared.Open.{Open}
-use Rattle.flat_names.specs.declared.Note.the-variants.{Unchanged, ClosesComponent}
+use Rattle.dictionary_layout_rules.specs.Layout.{Layout, end, items}
+use Rattle.dictionary_layout_rules.specs.Tree.{Nodes, flattened}
+use Rattle.dictionary_rules.specs.Records.{Records, ends, bad, whole, recordsFrom}
+use Rattle.dictionary_rules.specs.Step.{opens, standsFor, depthOf}
+use Rattle.dictionary_rules.specs.Names.{Names, named}
+use Rattle.dictionary_rules.specs.declared.Component.{Component}
+use Rattle.dictionary_rules.specs.declared.Looked.{Looked}
+use Rattle.dictionary_rules.specs.declared.Looked.the-variants.{Closed, Missing}
+use Rattle.dictionary_rules.specs.declared.Held.{Held}
+use Rattle.dictionary_rules.specs.declared.Held.the-variants.{Empty, Only, Several}
+use Rattle.dictionary_rules.specs.declared.Owner.{Owner}
+use Rattle.dictionary_rules.specs.declared.Owner.the-variants.{OfComponent, OfMessage}
+use Rattle.dictionary_rules.specs.declared.Open.{Open}
+use Rattle.dictionary_rules.specs.declared.Note.the-variants.{Unchanged, ClosesComponent}
 use Rattle.flattening.specs.Laying.{behindOpening, standsAt}
 use Rattle.flattening.specs.LayingLaws.{stands-empty, stands-behind, stands-somewhere}
 use Rattle.flattening.specs.Meaning.{Items, closed, fieldThen, componentThen, groupThen, innermost, levelsOf, Defined, nodesOf, expanded}

@@ -9,16 +9,16 @@ use lib.ListN.{length, set}
 use lib.Dec.{eqb, leb}
 use borrow.Author.Tests.{eq-eqb, ne-eqb, le-leb, lt-leb}
 use Rattle.tagvalue.specs.Choice.{pick}
-use Rattle.layout.specs.Tree.{Nodes, plainFields}
-use Rattle.flat_records.specs.Record.{recordAt}
-use Rattle.flat_records.specs.RecordsLaws.{record-falls}
-use Rattle.flat_records.specs.declared.Record.{Record}
-use Rattle.flat_records.specs.declared.Record.the-variants.{KnownTag, OpensComponent, OpensMessage, FieldItem, ComponentItem, OpensGroup, Closes}
-use Rattle.flat_records.specs.declared.RecordRead.{RecordRead}
-use Rattle.flat_records.specs.declared.RecordRead.the-variants.{Whole, Bad, End}
-use Rattle.flat_names.specs.Index.{componentAt}
-use Rattle.flat_names.specs.declared.Component.{Component}
-use Rattle.flat_names.specs.declared.Looked.the-variants.{Closed, Missing}
+use Rattle.dictionary_layout_rules.specs.Tree.{Nodes, plainFields}
+use Rattle.dictionary_rules.specs.Record.{recordAt}
+use Rattle.dictionary_rules.specs.RecordsLaws.{record-falls}
+use Rattle.dictionary_rules.specs.declared.Record.{Record}
+use Rattle.dictionary_rules.specs.declared.Record.the-variants.{KnownTag, OpensComponent, OpensMessage, FieldItem, ComponentItem, OpensGroup, Closes}
+use Rattle.dictionary_rules.specs.declared.RecordRead.{RecordRead}
+use Rattle.dictionary_rules.specs.declared.RecordRead.the-variants.{Whole, Bad, End}
+use Rattle.dictionary_rules.specs.Index.{componentAt}
+use Rattle.dictionary_rules.specs.declared.Component.{Component}
+use Rattle.dictionary_rules.specs.declared.Looked.the-variants.{Closed, Missing}
 use Rattle.flattening.specs.PlainTags.{Listing, listing, TagStep, tagOn, tagRead, tagsWithin, tagsFrom, componentTags, plainTags}
 use Rattle.flattening.specs.declared.tags.TagList.the-variants.{Listed, Unlisted}
 

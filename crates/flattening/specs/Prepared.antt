@@ -7,21 +7,21 @@ use Prim.Native.Nat.{ℕ, _+_, _≤_, _<_}
 use native.Mathlib.Omega.{arith}
 use lib.ListN.{length}
 use Rattle.tagvalue.specs.Choice.{pick}
-use Rattle.layout.specs.Layout.{Layout}
-use Rattle.layout.specs.Tree.{Choice, noMessage, laidOut}
-use Rattle.flat_records.specs.Records.{recordsFrom}
-use Rattle.flat.specs.Check.{Outcome, outcome, walked, tooLong, readOf, answerOf, storeOf, checkOf}
-use Rattle.flat_names.specs.Names.{Names, looksIn, named, noNames, messageIn}
-use Rattle.flat_names.specs.Index.{componentAt, messageAt}
-use Rattle.flat.specs.Check.{preparedOf}
-use Rattle.flat_names.specs.Agreement.{Agrees}
-use Rattle.flat.specs.Prepared.{prepared-names}
-use Rattle.flat_steps.specs.declared.Checked.{Checked}
-use Rattle.flat_steps.specs.declared.Checked.the-variants.{Passes, TooLong}
-use Rattle.flat_names.specs.declared.Component.{Component}
-use Rattle.flat_names.specs.declared.Looked.the-variants.{Closed}
-use Rattle.flat_names.specs.declared.Placed.the-variants.{At, Nowhere}
-use Rattle.flat_steps.specs.declared.State.the-variants.{TopLevel}
+use Rattle.dictionary_layout_rules.specs.Layout.{Layout}
+use Rattle.dictionary_layout_rules.specs.Tree.{Choice, noMessage, laidOut}
+use Rattle.dictionary_rules.specs.Records.{recordsFrom}
+use Rattle.dictionary_rules.specs.Check.{Outcome, outcome, walked, tooLong, readOf, answerOf, storeOf, checkOf}
+use Rattle.dictionary_rules.specs.Names.{Names, looksIn, named, noNames, messageIn}
+use Rattle.dictionary_rules.specs.Index.{componentAt, messageAt}
+use Rattle.dictionary_rules.specs.Check.{preparedOf}
+use Rattle.dictionary_rules.specs.Agreement.{Agrees}
+use Rattle.dictionary_rules.specs.Prepared.{prepared-names}
+use Rattle.dictionary_rules.specs.declared.Checked.{Checked}
+use Rattle.dictionary_rules.specs.declared.Checked.the-variants.{Passes, TooLong}
+use Rattle.dictionary_rules.specs.declared.Component.{Component}
+use Rattle.dictionary_rules.specs.declared.Looked.the-variants.{Closed}
+use Rattle.dictionary_rules.specs.declared.Placed.the-variants.{At, Nowhere}
+use Rattle.dictionary_rules.specs.declared.State.the-variants.{TopLevel}
 use Rattle.flattening.specs.Meaning.{declarationsOf, definedAfter, nodesOf}
 use Rattle.flattening.specs.Named.{Standard, standard}
 use Rattle.flattening.specs.Passing.{KnownAs}

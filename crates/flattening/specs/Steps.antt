@@ -8,34 +8,34 @@ use native.Mathlib.Omega.{arith}
 use lib.Dec.{eqb, ltb}
 use borrow.Author.Tests.{ltb-false, eqb-true}
 use Rattle.tagvalue.specs.Choice.{pick}
-use Rattle.flat_records.specs.Records.{Records, ends, bad, whole}
-use Rattle.flat_records.specs.declared.Record.{Record}
-use Rattle.flat_records.specs.declared.Record.the-variants.{KnownTag, OpensComponent, OpensMessage, FieldItem, ComponentItem, OpensGroup, Closes}
-use Rattle.flat_names.specs.Names.{Looks}
-use Rattle.flat_steps.specs.Step.{depthOf, opened, deeper, opens, grown, heldAlso, heldWith, standsFor, atTop, inside, closedBefore, knownBefore, notEmpty, notTooDeep, onceComponent, onceMessage, notTooMany, onTag, onComponent, onMessage, onField, onItem, onGroup, closesOwner, closesGroup, closesInnermost, onClose, stepOf, present, atEnd}
-use Rattle.flat.specs.Check.{Outcome, outcome, onStep, walked}
-use Rattle.flat_names.specs.Names.{Names, isKnown, componentIn, messageIn, looksIn, named}
-use Rattle.flat_steps.specs.declared.Checked.{Checked}
-use Rattle.flat_steps.specs.declared.Checked.the-variants.{Passes, BadRecord, NoComponent, UnknownTag, EmptyGroup, TooDeep, Twice, TooManyItems}
-use Rattle.flat_names.specs.declared.Component.{Component}
-use Rattle.flat_names.specs.declared.Looked.{Looked}
-use Rattle.flat_names.specs.declared.Looked.the-variants.{Closed, Missing}
-use Rattle.flat_names.specs.declared.Placed.{Placed}
-use Rattle.flat_names.specs.declared.Placed.the-variants.{At, Nowhere}
-use Rattle.flat_steps.specs.declared.Group.{Group}
-use Rattle.flat_steps.specs.declared.Groups.{Groups}
-use Rattle.flat_steps.specs.declared.Groups.the-variants.{NoGroup, OneGroup, TwoGroups, ThreeGroups, FourGroups}
-use Rattle.flat_steps.specs.declared.Held.{Held}
-use Rattle.flat_steps.specs.declared.Held.the-variants.{Empty, Only, Several}
-use Rattle.flat_steps.specs.declared.Owner.{Owner}
-use Rattle.flat_steps.specs.declared.Owner.the-variants.{OfComponent, OfMessage}
-use Rattle.flat_steps.specs.declared.Open.{Open}
-use Rattle.flat_steps.specs.declared.State.{State}
-use Rattle.flat_steps.specs.declared.State.the-variants.{TopLevel, Inside}
-use Rattle.flat_names.specs.declared.Note.{Note}
-use Rattle.flat_names.specs.declared.Note.the-variants.{Unchanged, ClosesComponent, KnowsTag, NamesMessage}
-use Rattle.flat_steps.specs.declared.Step.{Step}
-use Rattle.flat_steps.specs.declared.Step.the-variants.{Refuses, Goes}
+use Rattle.dictionary_rules.specs.Records.{Records, ends, bad, whole}
+use Rattle.dictionary_rules.specs.declared.Record.{Record}
+use Rattle.dictionary_rules.specs.declared.Record.the-variants.{KnownTag, OpensComponent, OpensMessage, FieldItem, ComponentItem, OpensGroup, Closes}
+use Rattle.dictionary_rules.specs.Names.{Looks}
+use Rattle.dictionary_rules.specs.Step.{depthOf, opened, deeper, opens, grown, heldAlso, heldWith, standsFor, atTop, inside, closedBefore, knownBefore, notEmpty, notTooDeep, onceComponent, onceMessage, notTooMany, onTag, onComponent, onMessage, onField, onItem, onGroup, closesOwner, closesGroup, closesInnermost, onClose, stepOf, present, atEnd}
+use Rattle.dictionary_rules.specs.Check.{Outcome, outcome, onStep, walked}
+use Rattle.dictionary_rules.specs.Names.{Names, isKnown, componentIn, messageIn, looksIn, named}
+use Rattle.dictionary_rules.specs.declared.Checked.{Checked}
+use Rattle.dictionary_rules.specs.declared.Checked.the-variants.{Passes, BadRecord, NoComponent, UnknownTag, EmptyGroup, TooDeep, Twice, TooManyItems}
+use Rattle.dictionary_rules.specs.declared.Component.{Component}
+use Rattle.dictionary_rules.specs.declared.Looked.{Looked}
+use Rattle.dictionary_rules.specs.declared.Looked.the-variants.{Closed, Missing}
+use Rattle.dictionary_rules.specs.declared.Placed.{Placed}
+use Rattle.dictionary_rules.specs.declared.Placed.the-variants.{At, Nowhere}
+use Rattle.dictionary_rules.specs.declared.Group.{Group}
+use Rattle.dictionary_rules.specs.declared.Groups.{Groups}
+use Rattle.dictionary_rules.specs.declared.Groups.the-variants.{NoGroup, OneGroup, TwoGroups, ThreeGroups, FourGroups}
+use Rattle.dictionary_rules.specs.declared.Held.{Held}
+use Rattle.dictionary_rules.specs.declared.Held.the-variants.{Empty, Only, Several}
+use Rattle.dictionary_rules.specs.declared.Owner.{Owner}
+use Rattle.dictionary_rules.specs.declared.Owner.the-variants.{OfComponent, OfMessage}
+use Rattle.dictionary_rules.specs.declared.Open.{Open}
+use Rattle.dictionary_rules.specs.declared.State.{State}
+use Rattle.dictionary_rules.specs.declared.State.the-variants.{TopLevel, Inside}
+use Rattle.dictionary_rules.specs.declared.Note.{Note}
+use Rattle.dictionary_rules.specs.declared.Note.the-variants.{Unchanged, ClosesComponent, KnowsTag, NamesMessage}
+use Rattle.dictionary_rules.specs.declared.Step.{Step}
+use Rattle.dictionary_rules.specs.declared.Step.the-variants.{Refuses, Goes}
 
 -- the records from here on pass, and in the end these are the names
 abbrev pub Passing : Names → Records → State → Names → Type 0

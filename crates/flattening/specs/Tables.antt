@@ -8,26 +8,26 @@ use lib.Dec.{eqb}
 use lib.ListN.{length}
 use borrow.Author.Tests.{eq-eqb, ne-eqb, eqb-true, eqb-false}
 use Rattle.tagvalue.specs.Choice.{pick}
-use Rattle.layout.specs.Layout.{Layout, end, items}
-use Rattle.layout.specs.Tree.{flattened, Choice, noMessage, laidOut}
-use Rattle.flat_records.specs.Record.{recordAt}
-use Rattle.flat_records.specs.Records.{Records, ends, bad, whole, recordsFrom}
-use Rattle.flat_records.specs.RecordsLaws.{record-lies}
-use Rattle.flat_records.specs.RecordsLaws.{sizeOf as bytesOf}
-use Rattle.flat_records.specs.declared.Record.the-variants.{KnownTag, OpensComponent, OpensMessage, FieldItem, ComponentItem, OpensGroup, Closes}
-use Rattle.flat_records.specs.declared.RecordRead.the-variants.{Whole}
-use Rattle.flat_steps.specs.Step.{opens, standsFor}
-use Rattle.flat_names.specs.Names.{Names, componentIn, named, noNames}
-use Rattle.flat_names.specs.declared.Component.{Component}
-use Rattle.flat_names.specs.declared.Looked.{Looked}
-use Rattle.flat_names.specs.declared.Looked.the-variants.{Closed, Missing}
-use Rattle.flat_names.specs.declared.Placed.{Placed}
-use Rattle.flat_names.specs.declared.Placed.the-variants.{At, Nowhere}
-use Rattle.flat_steps.specs.declared.Owner.{Owner}
-use Rattle.flat_steps.specs.declared.Owner.the-variants.{OfComponent, OfMessage}
-use Rattle.flat_steps.specs.declared.Open.{Open}
-use Rattle.flat_steps.specs.declared.State.the-variants.{TopLevel, Inside}
-use Rattle.flat_names.specs.declared.Note.the-variants.{Unchanged, ClosesComponent, NamesMessage}
+use Rattle.dictionary_layout_rules.specs.Layout.{Layout, end, items}
+use Rattle.dictionary_layout_rules.specs.Tree.{flattened, Choice, noMessage, laidOut}
+use Rattle.dictionary_rules.specs.Record.{recordAt}
+use Rattle.dictionary_rules.specs.Records.{Records, ends, bad, whole, recordsFrom}
+use Rattle.dictionary_rules.specs.RecordsLaws.{record-lies}
+use Rattle.dictionary_rules.specs.RecordsLaws.{sizeOf as bytesOf}
+use Rattle.dictionary_rules.specs.declared.Record.the-variants.{KnownTag, OpensComponent, OpensMessage, FieldItem, ComponentItem, OpensGroup, Closes}
+use Rattle.dictionary_rules.specs.declared.RecordRead.the-variants.{Whole}
+use Rattle.dictionary_rules.specs.Step.{opens, standsFor}
+use Rattle.dictionary_rules.specs.Names.{Names, componentIn, named, noNames}
+use Rattle.dictionary_rules.specs.declared.Component.{Component}
+use Rattle.dictionary_rules.specs.declared.Looked.{Looked}
+use Rattle.dictionary_rules.specs.declared.Looked.the-variants.{Closed, Missing}
+use Rattle.dictionary_rules.specs.declared.Placed.{Placed}
+use Rattle.dictionary_rules.specs.declared.Placed.the-variants.{At, Nowhere}
+use Rattle.dictionary_rules.specs.declared.Owner.{Owner}
+use Rattle.dictionary_rules.specs.declared.Owner.the-variants.{OfComponent, OfMessage}
+use Rattle.dictionary_rules.specs.declared.Open.{Open}
+use Rattle.dictionary_rules.specs.declared.State.the-variants.{TopLevel, Inside}
+use Rattle.dictionary_rules.specs.declared.Note.the-variants.{Unchanged, ClosesComponent, NamesMessage}
 use Rattle.flattening.specs.Laying.{laying, layItems}
 use Rattle.flattening.specs.LayingLaws.{lay-down}
 use Rattle.flattening.specs.Meaning.{Items, innermost, levelsOf, Declaration, knownTag, component, message, declarationsOf, Defined, nodesOf, expanded, definedBy, definedAfter}

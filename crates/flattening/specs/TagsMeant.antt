@@ -6,15 +6,15 @@ use Prim.Native.Nat.{ℕ, zero, suc, _+_, _-_, _*_, _≤_, _<_}
 use native.Mathlib.Omega.{arith}
 use lib.ListN.{length, set, take, drop, length-append, take-append-drop}
 use lib.Seq.{set-at, length-take-le}
-use Rattle.layout.specs.Layout.{Layout, items, followedBy}
-use Rattle.layout.specs.Tree.{Nodes, nothing, fieldItem, componentItem, groupItem, plainFields, headerTags, trailerTags, flattened}
-use Rattle.flat_records.specs.Records.{recordsFrom}
-use Rattle.flat.specs.Check.{storeOf, readOf, checkOf}
-use Rattle.flat_names.specs.Index.{componentAt}
-use Rattle.flat.specs.Check.{preparedOf}
-use Rattle.flat_steps.specs.declared.Checked.the-variants.{Passes}
-use Rattle.flat_names.specs.declared.Component.{Component}
-use Rattle.flat_names.specs.declared.Looked.the-variants.{Closed}
+use Rattle.dictionary_layout_rules.specs.Layout.{Layout, items, followedBy}
+use Rattle.dictionary_layout_rules.specs.Tree.{Nodes, nothing, fieldItem, componentItem, groupItem, plainFields, headerTags, trailerTags, flattened}
+use Rattle.dictionary_rules.specs.Records.{recordsFrom}
+use Rattle.dictionary_rules.specs.Check.{storeOf, readOf, checkOf}
+use Rattle.dictionary_rules.specs.Index.{componentAt}
+use Rattle.dictionary_rules.specs.Check.{preparedOf}
+use Rattle.dictionary_rules.specs.declared.Checked.the-variants.{Passes}
+use Rattle.dictionary_rules.specs.declared.Component.{Component}
+use Rattle.dictionary_rules.specs.declared.Looked.the-variants.{Closed}
 use Rattle.flattening.specs.Meaning.{Items, closed, fieldThen, componentThen, groupThen, declarationsOf, Defined, nodesOf, expanded, definedAfter, meaningOf, dictionaryOf}
 use Rattle.flattening.specs.Written.{items-followed}
 use Rattle.flattening.specs.Layable.{Reads, reads-close, reads-field, reads-component, reads-group}

@@ -5,17 +5,17 @@ use mathlib.Core.List.{List, []}
 use Prim.Native.Nat.{ℕ, _+_, _*_, _≤_}
 use native.Mathlib.Omega.{arith}
 use lib.ListN.{length}
-use Rattle.layout.specs.Layout.{Layout, items}
-use Rattle.layout.specs.Tree.{Choice, noMessage, laidOut, messageOf}
-use Rattle.layout.specs.Tree.{layoutOf as layoutInTree}
-use Rattle.layout.specs.Tabled.{Tabled}
-use Rattle.flat_records.specs.Records.{recordsFrom}
-use Rattle.flat.specs.Check.{storeOf, checkOf}
-use Rattle.flat_names.specs.Index.{componentAt, messageAt}
-use Rattle.flat.specs.Check.{preparedOf}
-use Rattle.flat_steps.specs.declared.Checked.the-variants.{Passes}
-use Rattle.flat_names.specs.declared.Placed.{Placed}
-use Rattle.flat_names.specs.declared.Placed.the-variants.{At, Nowhere}
+use Rattle.dictionary_layout_rules.specs.Layout.{Layout, items}
+use Rattle.dictionary_layout_rules.specs.Tree.{Choice, noMessage, laidOut, messageOf}
+use Rattle.dictionary_layout_rules.specs.Tree.{layoutOf as layoutInTree}
+use Rattle.dictionary_layout_rules.specs.Tabled.{Tabled}
+use Rattle.dictionary_rules.specs.Records.{recordsFrom}
+use Rattle.dictionary_rules.specs.Check.{storeOf, checkOf}
+use Rattle.dictionary_rules.specs.Index.{componentAt, messageAt}
+use Rattle.dictionary_rules.specs.Check.{preparedOf}
+use Rattle.dictionary_rules.specs.declared.Checked.the-variants.{Passes}
+use Rattle.dictionary_rules.specs.declared.Placed.{Placed}
+use Rattle.dictionary_rules.specs.declared.Placed.the-variants.{At, Nowhere}
 use Rattle.flattening.specs.Meaning.{declarationsOf, messagesFrom, meaningOf, dictionaryOf}
 use Rattle.flattening.specs.Written.{written, written-length, written-stands}
 use Rattle.flattening.specs.MsgType.{nameOf}

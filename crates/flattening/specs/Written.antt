@@ -7,9 +7,9 @@ use Prim.Native.Nat.{ℕ, zero, suc, _+_, _-_, _*_, _≤_, _<_}
 use native.Mathlib.Omega.{arith}
 use lib.ListN.{length, set, take, drop, length-append, length-drop, take-append-drop}
 use lib.Seq.{set-at, length-take-le}
-use Rattle.layout.specs.Layout.{Layout, end, field, group, followedBy, items}
-use Rattle.layout.specs.Table.{mark, rowsFrom}
-use Rattle.layout.specs.Tabled.{rows-length, Stands}
+use Rattle.dictionary_layout_rules.specs.Layout.{Layout, end, field, group, followedBy, items}
+use Rattle.dictionary_layout_rules.specs.Table.{mark, rowsFrom}
+use Rattle.dictionary_layout_rules.specs.Tabled.{rows-length, Stands}
 use Rattle.flattening.specs.Laying.{putRow}
 use Rattle.flattening.specs.LayingLaws.{put-length}
 

@@ -2,14 +2,14 @@
 // It trusts the index that the dictionary's check left, but no content of bytes, index or table makes it fail: it then says so.
 pub mod tags;
 
-use flat_names::Looked;
-use flat_names::Placed;
-use flat_records::Record;
-use flat_records::RecordRead;
+use dictionary_rules::Looked;
+use dictionary_rules::Placed;
+use dictionary_rules::Record;
+use dictionary_rules::RecordRead;
 ghost use mathlib.Core.Path.{_≡_};
 ghost use Prim.Native.Nat.{_≤_, _<_};
 ghost use lib.ListN.{length};
-ghost use Rattle.flat_names.specs.Index.{componentAt};
+ghost use Rattle.dictionary_rules.specs.Index.{componentAt};
 ghost use Rattle.flattening.specs.Laying.{laying, putRow, layItems, standsAt};
 ghost use Rattle.flattening.specs.MsgType.{nameOf};
 ghost use Rattle.flattening.specs.MessageTable.{tabling, messageTable};

@@ -1,7 +1,7 @@
 // Header and trailer tags: the plain field items directly in a component, as a list.
-use flat_names::Looked;
-use flat_records::Record;
-use flat_records::RecordRead;
+use dictionary_rules::Looked;
+use dictionary_rules::Record;
+use dictionary_rules::RecordRead;
 ghost use mathlib.Core.Path.{_≡_};
 ghost use Prim.Native.Nat.{_≤_};
 ghost use lib.ListN.{length};

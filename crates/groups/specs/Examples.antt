@@ -10,7 +10,7 @@ use Rattle.tagvalue.specs.Find.{findIn}
 use Rattle.tagvalue.specs.Number.{isDigit, allDigits, worth, numberOf, nonZero, tagOf}
 use Rattle.tagvalue.specs.Field.{fieldFrom, fieldAt, withEquals, withSeparator, withTag}
 use Rattle.tagvalue.specs.Fields.{followedBy, fieldsWithin, fieldsFrom}
-use Rattle.layout.specs.Layout.{Layout, end, field, group, firstOf, positionFrom, positionIn, groupSince, groupOf, delimiterOf}
+use Rattle.dictionary_layout_rules.specs.Layout.{Layout, end, field, group, firstOf, positionFrom, positionIn, groupSince, groupOf, delimiterOf}
 use lib.Dec.{eqb}
 use Rattle.records.specs.Records.{stored}
 use Rattle.records.specs.declared.Record.{Record}

@@ -1,7 +1,7 @@
 -- "Numbers returned": 01's number and values for each answer to a message.
 use Prim.Native.Nat.{ℕ}
 use lib.ListN.{getD}
-use Rattle.flat.specs.Check.{numberOf as numberOfCheck, valuesOf as valuesOfCheck}
+use Rattle.dictionary_rules.specs.Check.{numberOf as numberOfCheck, valuesOf as valuesOfCheck}
 use Rattle.integrity.specs.Integrity.{numberOfReason}
 use Rattle.parts.specs.declared.Answer.{Answer}
 use Rattle.parts.specs.declared.Answer.the-variants.{Valid, InvalidField, InvalidOrderInGroup, InvalidMsgType, RequiredFieldMissing, Malformed, Garbled, TooLong, TooManyFields, InvalidSeparator, TooFewRecords, BadDictionary}

@@ -1,6 +1,6 @@
 // parts: header and trailer, read one field at a time, and what all parts share: the answer to a message, a field's record, storing it.
 // It keeps records through `records` only and knows nothing of layouts and groups; only the body and the builder call it.
-use flat_steps::Checked;
+use dictionary_rules::Checked;
 use integrity::Config;
 use integrity::GarbledReason;
 use records::Record;

@@ -6,8 +6,8 @@ use lib.Dec.{leb}
 use Rattle.tagvalue.specs.Choice.{pick}
 use Rattle.tagvalue.specs.Fields.{Fields, field}
 use Rattle.tagvalue.specs.declared.Field.{Field}
-use Rattle.layout.specs.Layout.{Layout}
-use Rattle.layout.specs.Tree.{Dictionary, knows, headerTags, trailerTags, Choice, noMessage, laidOut, layoutOf}
+use Rattle.dictionary_layout_rules.specs.Layout.{Layout}
+use Rattle.dictionary_layout_rules.specs.Tree.{Dictionary, knows, headerTags, trailerTags, Choice, noMessage, laidOut, layoutOf}
 use Rattle.records.specs.declared.Record.{Record}
 use Rattle.groups.specs.Reading.{accepted, layoutRules}
 use Rattle.required.specs.Checking.{layoutDemands}

@@ -9,8 +9,8 @@ use Rattle.tagvalue.specs.Find.{findIn}
 use Rattle.tagvalue.specs.Number.{isDigit, allDigits, worth, numberOf, nonZero, tagOf}
 use Rattle.tagvalue.specs.Field.{fieldFrom, fieldAt, withEquals, withSeparator, withTag}
 use Rattle.tagvalue.specs.Fields.{followedBy, fieldsWithin, fieldsFrom}
-use Rattle.layout.specs.Layout.{Layout, end, field, group, firstOf, positionFrom, positionIn, groupSince, groupOf, delimiterOf, requiredTags}
-use Rattle.layout.specs.Tree.{holdsTag}
+use Rattle.dictionary_layout_rules.specs.Layout.{Layout, end, field, group, firstOf, positionFrom, positionIn, groupSince, groupOf, delimiterOf, requiredTags}
+use Rattle.dictionary_layout_rules.specs.Tree.{holdsTag}
 use Rattle.records.specs.Records.{stored}
 use Rattle.records.specs.declared.Record.{Record}
 use Rattle.groups.specs.Groups.{isDelimiter, opens, counting, declared, kindOf, run, inEntry, decide, recordOf, Outcome, ended, refused, moved, walk}

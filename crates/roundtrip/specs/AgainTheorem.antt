@@ -5,7 +5,7 @@ use mathlib.Core.Bool.{Bool, false}
 use mathlib.Core.List.{List, _∷_, _++_}
 use Prim.Native.Nat.{ℕ, _≤_, _<_}
 use lib.ListN.{length, drop}
-use Rattle.layout.specs.Tree.{Dictionary}
+use Rattle.dictionary_layout_rules.specs.Tree.{Dictionary}
 use Rattle.records.specs.declared.Record.{Record}
 use Rattle.lent.specs.Meaning.{Message, wordsOf, valuesOf}
 use Rattle.nesting.specs.Formed.{Own}

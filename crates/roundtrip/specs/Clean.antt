@@ -6,7 +6,7 @@ use mathlib.Core.Bool.{Bool, true, false}
 use lib.ListN.{length}
 use Rattle.tagvalue.specs.Fields.{fieldsFrom}
 use Rattle.tagvalue.specs.declared.Field.{Field}
-use Rattle.layout.specs.Tree.{Dictionary, headerTags, holdsTag}
+use Rattle.dictionary_layout_rules.specs.Tree.{Dictionary, headerTags, holdsTag}
 use Rattle.parts.specs.declared.Answer.the-variants.{Valid}
 use Rattle.reading.specs.Message.{Outcome, messageRead}
 use Rattle.reading.specs.declared.Stop.the-variants.{At}

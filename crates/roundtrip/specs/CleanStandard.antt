@@ -10,7 +10,7 @@ use Rattle.tagvalue.specs.FieldsLaws.{fields-field}
 use Rattle.tagvalue.specs.Standard as standard
 use Rattle.integrity.specs.VerifiedLaws.{verified-read}
 use Rattle.integrity.specs.declared.Config.{Config}
-use Rattle.layout.specs.Tree.{Dictionary}
+use Rattle.dictionary_layout_rules.specs.Tree.{Dictionary}
 use Rattle.flattening.specs.Meaning.{dictionaryOf}
 use Rattle.records.specs.declared.Record.{Record}
 use Rattle.nesting.specs.Entries.{All, all-append}

@@ -8,7 +8,7 @@ use native.Mathlib.Omega.{arith}
 use lib.ListN.{length, drop}
 use Rattle.tagvalue.specs.Fields.{Fields, field, fieldsFrom}
 use Rattle.tagvalue.specs.declared.Field.{Field}
-use Rattle.layout.specs.Tree.{Dictionary}
+use Rattle.dictionary_layout_rules.specs.Tree.{Dictionary}
 use Rattle.records.specs.declared.Record.{Record}
 use Rattle.nesting.specs.Entries.{All, all-more}
 use Rattle.nesting.specs.Formed.{Own}

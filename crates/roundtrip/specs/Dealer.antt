@@ -8,7 +8,7 @@ use native.Mathlib.Omega.{arith}
 use lib.ListN.{length}
 use Rattle.integrity.specs.declared.Config.{Config}
 use Rattle.flattening.specs.Meaning.{dictionaryOf}
-use Rattle.layout.specs.Tree.{Dictionary}
+use Rattle.dictionary_layout_rules.specs.Tree.{Dictionary}
 use Rattle.parts.specs.declared.Answer.the-variants.{Valid}
 use Rattle.reading.specs.Message.{messageRead}
 use Rattle.builder.specs.Build.{BuildOutcome, buildOf}

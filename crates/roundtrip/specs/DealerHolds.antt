@@ -13,7 +13,7 @@ use Rattle.tagvalue.specs.Choice.{pick, pick-same}
 use Rattle.tagvalue.specs.Fields.{Fields, unreadable, field, fieldsFrom}
 use Rattle.tagvalue.specs.declared.Field.{Field}
 use Rattle.integrity.specs.declared.Verified.{Verified}
-use Rattle.layout.specs.Tree.{Dictionary, headerTags, holdsTag}
+use Rattle.dictionary_layout_rules.specs.Tree.{Dictionary, headerTags, holdsTag}
 use Rattle.records.specs.Records.{stored}
 use Rattle.records.specs.declared.Record.{Record}
 use Rattle.parts.specs.Parts.{ended, recordOf}

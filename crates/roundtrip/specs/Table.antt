@@ -4,7 +4,7 @@ use mathlib.Core.Path.{_≡_}
 use mathlib.Core.Bool.{false}
 use mathlib.Core.List.{List, [], _++_, map}
 use Prim.Native.Nat.{ℕ}
-use Rattle.flat.specs.Examples.{examples}
+use Rattle.dictionary_rules.specs.Examples.{examples}
 use Rattle.builder.specs.Build.{buildOf}
 use Rattle.reading.specs.Examples.{Row, table}
 use Rattle.builder.specs.Examples.{settings, answers, expected, all-hold}

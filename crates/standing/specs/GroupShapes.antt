@@ -8,9 +8,9 @@ use native.Mathlib.Omega.{arith}
 use lib.Dec.{eqb}
 use borrow.Author.Tests.{eqb-true, eq-eqb}
 use Rattle.tagvalue.specs.Choice.{pick}
-use Rattle.layout.specs.declared.Position.the-variants.{At}
-use Rattle.layout.specs.declared.FirstTag.{FirstTag}
-use Rattle.layout.specs.declared.FirstTag.the-variants.{First, NoTag}
+use Rattle.dictionary_layout_rules.specs.declared.Position.the-variants.{At}
+use Rattle.dictionary_layout_rules.specs.declared.FirstTag.{FirstTag}
+use Rattle.dictionary_layout_rules.specs.declared.FirstTag.the-variants.{First, NoTag}
 use Rattle.records.specs.Records.{stored}
 use Rattle.records.specs.declared.Record.{Record}
 use Rattle.maps.specs.Map.{Map, end, field, entry, joined}

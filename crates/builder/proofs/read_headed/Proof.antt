@@ -9,7 +9,7 @@ use borrow.Author.Needs.{needs}
 use lib.ListN.{replicate, length-replicate}
 use types.Run.{OneOf}
 use denote.Enum.Declared.{tagOf}
-use Rattle.layout.specs.Tree.{layoutOf}
+use Rattle.dictionary_layout_rules.specs.Tree.{layoutOf}
 use Rattle.flattening.proofs.MessageTable as table-type
 use Rattle.flattening.specs.declared.MessageTable.{MessageTable}
 use Rattle.flattening.specs.declared.MessageTable.the-variants.{Rows, NoMessage, Unprepared}

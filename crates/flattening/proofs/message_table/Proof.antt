@@ -2,8 +2,8 @@
 use mathlib.Core.Path.{_≡_, refl, sym, ap, _∙_}
 use Prim.Native.Nat.{ℕ, _+_}
 use borrow.Author.Needs.{needs}
-use Rattle.flat_names.specs.Index.{componentAt, messageAt}
-use Rattle.flat_names.specs.declared.Placed.the-variants.{At}
+use Rattle.dictionary_rules.specs.Index.{componentAt, messageAt}
+use Rattle.dictionary_rules.specs.declared.Placed.the-variants.{At}
 use Rattle.flattening.specs.Laying.{laying, layItems}
 use Rattle.flattening.specs.MsgType.{nameOf}
 use Rattle.flattening.specs.MessageTableLaws.{table-unnamed, table-nowhere, table-rows, table-unprepared}
