@@ -9,7 +9,7 @@ use Rattle.tagvalue.specs.Separator.{isRefusedSeparator}
 use Rattle.integrity.specs.declared.Config.{Config}
 use Rattle.dictionary_rules.specs.Check.{checkOf, numberOf as numberOfCheck}
 use Rattle.dictionary_rules.specs.declared.Checked.{Checked}
-use Rattle.flattening.specs.Meaning.{dictionaryOf}
+use Rattle.dictionary_meaning_rules.specs.Meaning.{dictionaryOf}
 use Rattle.records.specs.Records.{laid}
 use Rattle.records.specs.declared.Record.{Record}
 use Rattle.parts.specs.declared.Answer.{Answer}

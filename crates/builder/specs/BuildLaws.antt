@@ -10,11 +10,11 @@ use Rattle.integrity.specs.declared.Config.{Config}
 use Rattle.dictionary_rules.specs.Check.{checkOf, numberOf as numberOfCheck, storeOf, preparedOf}
 use Rattle.dictionary_rules.specs.declared.Checked.{Checked}
 use Rattle.dictionary_rules.specs.declared.Checked.the-variants.{Passes, TooLong, BadRecord, NoComponent, UnknownTag, EmptyGroup, TooDeep, Twice, TooManyItems}
-use Rattle.flattening.specs.Meaning.{dictionaryOf}
-use Rattle.flattening.specs.PlainTags.{Listing, listing, plainTags}
-use Rattle.flattening.specs.TagsMeant.{header-listed, trailer-listed}
-use Rattle.flattening.specs.declared.tags.TagList.{TagList}
-use Rattle.flattening.specs.declared.tags.TagList.the-variants.{Listed, Unlisted}
+use Rattle.dictionary_meaning_rules.specs.Meaning.{dictionaryOf}
+use Rattle.dictionary_meaning_rules.specs.PlainTags.{Listing, listing, plainTags}
+use Rattle.dictionary_meaning_rules.specs.TagsMeant.{header-listed, trailer-listed}
+use Rattle.dictionary_meaning_rules.specs.declared.TagList.{TagList}
+use Rattle.dictionary_meaning_rules.specs.declared.TagList.the-variants.{Listed, Unlisted}
 use Rattle.records.specs.Records.{recordsOf, leftover, laid, between}
 use Rattle.records.specs.WordLaws.{words-whole, laid-append, laid-length, records-length}
 use Rattle.records.specs.declared.Record.{Record}

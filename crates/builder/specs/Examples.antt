@@ -19,7 +19,7 @@ use Rattle.dictionary_rules.specs.Examples.{examples, examples-pass}
 use Rattle.dictionary_rules.specs.Record.{lowFirst, zeroFilled, bodyLength, withTag as tagBytes, withMark, knownTag, opensComponent, opensMessage, bodyOf as bodyBytes, withBody, withKind, recordFrom, recordAt}
 use Rattle.dictionary_rules.specs.Record.{fieldItem as fieldBody, componentItem as componentBody, opensGroup as groupBody}
 use Rattle.dictionary_rules.specs.Records.{recordsFrom, recordsWithin, followedBy as recordsThen}
-use Rattle.flattening.specs.Meaning.{onTop, groupOnTop, below, innermost, levelsOf, declarationsOf, nodesOf, expanded, definedBy, definedAfter, bytesWithin, msgTypeBytes, messageIn, messagesFrom, tagIn, tagsFrom, meaningOf, dictionaryOf}
+use Rattle.dictionary_meaning_rules.specs.Meaning.{onTop, groupOnTop, below, innermost, levelsOf, declarationsOf, nodesOf, expanded, definedBy, definedAfter, bytesWithin, msgTypeBytes, messageIn, messagesFrom, tagIn, tagsFrom, meaningOf, dictionaryOf}
 use Rattle.builder.specs.Build.{BuildOutcome, wordsWith, shown, checkedRead, buildOf}
 use Rattle.builder.specs.BuildLaws.{check-reads}
 use Rattle.builder.specs.ReadingLaws.{build-reads}

@@ -14,7 +14,7 @@ use Rattle.tagvalue.specs.Fields.{fieldsFrom}
 use Rattle.integrity.specs.declared.Config.{Config}
 use Rattle.dictionary_rules.specs.Check.{Outcome as Checking, outcome, checkOf, preparedOf, storeOf, numberOf as numberOfCheck}
 use Rattle.dictionary_rules.specs.declared.Checked.{Checked}
-use Rattle.flattening.specs.Meaning.{dictionaryOf}
+use Rattle.dictionary_meaning_rules.specs.Meaning.{dictionaryOf}
 use Rattle.dictionary_layout_rules.specs.Tree.{Dictionary, headerTags, layoutOf}
 use Rattle.records.specs.declared.Record.{Record}
 use Rattle.parts.specs.declared.Answer.{Answer}

@@ -1,8 +1,8 @@
 // builder: from a message's bytes to its answer and its records: integrity, header, MsgType's layout, body and trailer in turn.
 // It reads a dictionary through the index and the tables that are made of it, and keeps records through `records` only.
-use flattening::MessageTable;
+use dictionary_meaning_rules::MessageTable;
 use flattening::tags;
-use flattening::tags::TagList;
+use dictionary_meaning_rules::TagList;
 use integrity::Config;
 use integrity::Integrity;
 use integrity::Verified;
@@ -23,7 +23,7 @@ ghost use Rattle.tagvalue.specs.Fields.{field, fieldsFrom};
 ghost use Rattle.groups.specs.ReadingLaws.{Inside};
 ghost use Rattle.groups.specs.Reading.{tableRules};
 ghost use Rattle.required.specs.Checking.{tableDemands};
-ghost use Rattle.flattening.specs.Meaning.{dictionaryOf};
+ghost use Rattle.dictionary_meaning_rules.specs.Meaning.{dictionaryOf};
 ghost use Rattle.dictionary_layout_rules.specs.Tree.{layoutOf, trailerTags};
 ghost use Rattle.parts.specs.Parts.{partOf};
 ghost use Rattle.body.specs.Kinds.{bodyOf};

@@ -9,7 +9,7 @@ use native.Mathlib.Decide.{decLe}
 use native.Mathlib.Omega.{arith}
 use lib.ListN.{length, drop}
 use Rattle.integrity.specs.declared.Config.{Config}
-use Rattle.flattening.specs.Meaning.{dictionaryOf}
+use Rattle.dictionary_meaning_rules.specs.Meaning.{dictionaryOf}
 use Rattle.lent.specs.Meaning.{Message, wordsOf, valuesOf}
 use Rattle.parts.specs.declared.Answer.the-variants.{Valid}
 use Rattle.reading.specs.Message.{Outcome, messageRead}

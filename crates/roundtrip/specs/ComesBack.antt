@@ -22,7 +22,7 @@ use Rattle.tagvalue.specs.Separator.{isRefusedSeparator}
 use Rattle.encoding.specs.Encode.{left, encodingOf}
 use Rattle.encoding.specs.declared.Encoding.the-variants.{Written}
 use Rattle.integrity.specs.declared.Config.{Config}
-use Rattle.flattening.specs.Meaning.{dictionaryOf}
+use Rattle.dictionary_meaning_rules.specs.Meaning.{dictionaryOf}
 use Rattle.parts.specs.declared.Answer.the-variants.{Valid}
 use Rattle.builder.specs.Build.{BuildOutcome, buildOf}
 use Rattle.taking.specs.Taking.{after, takingOver}

@@ -7,7 +7,7 @@ use Prim.Native.Nat.{ℕ, _≤_, _<_}
 use native.Mathlib.Omega.{arith}
 use lib.ListN.{length}
 use Rattle.integrity.specs.declared.Config.{Config}
-use Rattle.flattening.specs.Meaning.{dictionaryOf}
+use Rattle.dictionary_meaning_rules.specs.Meaning.{dictionaryOf}
 use Rattle.dictionary_layout_rules.specs.Tree.{Dictionary}
 use Rattle.parts.specs.declared.Answer.the-variants.{Valid}
 use Rattle.reading.specs.Message.{messageRead}

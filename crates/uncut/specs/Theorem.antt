@@ -14,7 +14,7 @@ use Rattle.tagvalue.specs.Choice.{pick}
 use Rattle.integrity.specs.declared.Config.{Config}
 use Rattle.dictionary_rules.specs.Check.{checkOf, numberOf as numberOfCheck}
 use Rattle.dictionary_rules.specs.declared.Checked.{Checked}
-use Rattle.flattening.specs.Meaning.{dictionaryOf}
+use Rattle.dictionary_meaning_rules.specs.Meaning.{dictionaryOf}
 use Rattle.records.specs.declared.Record.{Record}
 use Rattle.records.specs.Records.{blank, laid, recordsOf, recordAt}
 use Rattle.records.specs.WordLaws.{records-laid}

@@ -4,8 +4,8 @@ use Prim.Native.Nat.{ℕ, _+_}
 use borrow.Author.Needs.{needs}
 use Rattle.dictionary_rules.specs.Index.{componentAt}
 use Rattle.dictionary_rules.specs.declared.Looked.the-variants.{Closed, Missing}
-use Rattle.flattening.specs.LayingLaws.{stands-missing, stands-empty, stands-lost, stands-somewhere}
-use Rattle.flattening.specs.declared.Expansion.the-variants.{ItemsAt}
+use Rattle.dictionary_meaning_rules.specs.LayingLaws.{stands-missing, stands-empty, stands-lost, stands-somewhere}
+use Rattle.dictionary_meaning_rules.specs.declared.Expansion.the-variants.{ItemsAt}
 use Rattle.flattening.proofs.stands_at.Statement.{statement}
 use Rattle.flattening.proofs.stands_at.Tie as tie
 

@@ -10,8 +10,8 @@ use lib.Seq.{set-at, length-take-le}
 use Rattle.dictionary_layout_rules.specs.Layout.{Layout, end, field, group, followedBy, items}
 use Rattle.dictionary_layout_rules.specs.Table.{mark, rowsFrom}
 use Rattle.dictionary_layout_rules.specs.Tabled.{rows-length, Stands}
-use Rattle.flattening.specs.Laying.{putRow}
-use Rattle.flattening.specs.LayingLaws.{put-length}
+use Rattle.dictionary_meaning_rules.specs.Laying.{putRow}
+use Rattle.dictionary_meaning_rules.specs.LayingLaws.{put-length}
 
 unfoldable pub written : ℕ → Layout → List ℕ → List ℕ
 written row end table = table

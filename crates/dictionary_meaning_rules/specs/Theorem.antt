@@ -16,18 +16,18 @@ use Rattle.dictionary_rules.specs.Check.{preparedOf}
 use Rattle.dictionary_rules.specs.declared.Checked.the-variants.{Passes}
 use Rattle.dictionary_rules.specs.declared.Placed.{Placed}
 use Rattle.dictionary_rules.specs.declared.Placed.the-variants.{At, Nowhere}
-use Rattle.flattening.specs.Meaning.{declarationsOf, messagesFrom, meaningOf, dictionaryOf}
-use Rattle.flattening.specs.Written.{written, written-length, written-stands}
-use Rattle.flattening.specs.MsgType.{nameOf}
-use Rattle.flattening.specs.MsgTypeText.{Bytes}
-use Rattle.flattening.specs.MsgTypeRecords.{numbered, layoutNamed, tree-named}
-use Rattle.flattening.specs.MessageTable.{Tabling, tabling, messageTable}
-use Rattle.flattening.specs.MessageTableLaws.{table-unnamed, table-nowhere, table-rows}
-use Rattle.flattening.specs.Tables.{layoutNumbered, MessageAs}
-use Rattle.flattening.specs.Prepared.{message-laid, message-none}
-use Rattle.flattening.specs.declared.MsgTypeName.{MsgTypeName}
-use Rattle.flattening.specs.declared.MsgTypeName.the-variants.{Named, Unnamed}
-use Rattle.flattening.specs.declared.MessageTable.the-variants.{Rows, NoMessage, Unprepared}
+use Rattle.dictionary_meaning_rules.specs.Meaning.{declarationsOf, messagesFrom, meaningOf, dictionaryOf}
+use Rattle.dictionary_meaning_rules.specs.Written.{written, written-length, written-stands}
+use Rattle.dictionary_meaning_rules.specs.MsgType.{nameOf}
+use Rattle.dictionary_meaning_rules.specs.MsgTypeText.{Bytes}
+use Rattle.dictionary_meaning_rules.specs.MsgTypeRecords.{numbered, layoutNamed, tree-named}
+use Rattle.dictionary_meaning_rules.specs.MessageTable.{Tabling, tabling, messageTable}
+use Rattle.dictionary_meaning_rules.specs.MessageTableLaws.{table-unnamed, table-nowhere, table-rows}
+use Rattle.dictionary_meaning_rules.specs.Tables.{layoutNumbered, MessageAs}
+use Rattle.dictionary_meaning_rules.specs.Prepared.{message-laid, message-none}
+use Rattle.dictionary_meaning_rules.specs.declared.MsgTypeName.{MsgTypeName}
+use Rattle.dictionary_meaning_rules.specs.declared.MsgTypeName.the-variants.{Named, Unnamed}
+use Rattle.dictionary_meaning_rules.specs.declared.MessageTable.the-variants.{Rows, NoMessage, Unprepared}
 
 -- what the tree says of a MsgType, and what was answered and written
 pub data TableOf (table : List ℕ) : Choice → Tabling → Type 0 where

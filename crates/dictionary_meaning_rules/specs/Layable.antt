@@ -12,12 +12,12 @@ use Rattle.dictionary_rules.specs.Record.{recordAt}
 use Rattle.dictionary_rules.specs.declared.Record.the-variants.{FieldItem, ComponentItem, OpensGroup, Closes}
 use Rattle.dictionary_rules.specs.declared.RecordRead.the-variants.{Whole}
 use Rattle.dictionary_rules.specs.declared.Looked.{Looked}
-use Rattle.flattening.specs.Laying.{Laying, laying, standsAt, putRow, itemsFrom, layItems}
-use Rattle.flattening.specs.LayingLaws.{lay-advances, lay-field, lay-group, lay-empty, lay-component, lay-close, lay-down}
-use Rattle.flattening.specs.Meaning.{Items, closed, fieldThen, componentThen, groupThen, Defined, nodesOf, expanded}
-use Rattle.flattening.specs.Written.{written, items-followed, written-followed}
-use Rattle.flattening.specs.declared.Laid.the-variants.{Upto, Broken}
-use Rattle.flattening.specs.declared.Expansion.the-variants.{ItemsAt, NoItems}
+use Rattle.dictionary_meaning_rules.specs.Laying.{Laying, laying, standsAt, putRow, itemsFrom, layItems}
+use Rattle.dictionary_meaning_rules.specs.LayingLaws.{lay-advances, lay-field, lay-group, lay-empty, lay-component, lay-close, lay-down}
+use Rattle.dictionary_meaning_rules.specs.Meaning.{Items, closed, fieldThen, componentThen, groupThen, Defined, nodesOf, expanded}
+use Rattle.dictionary_meaning_rules.specs.Written.{written, items-followed, written-followed}
+use Rattle.dictionary_meaning_rules.specs.declared.Laid.the-variants.{Upto, Broken}
+use Rattle.dictionary_meaning_rules.specs.declared.Expansion.the-variants.{ItemsAt, NoItems}
 
 -- the records from a place on are these items, and the next place is right after their close
 pub data Reads (bytes : List ℕ) : ℕ → Items → ℕ → Type 0 where

@@ -26,10 +26,10 @@ use Rattle.dictionary_rules.specs.declared.Held.{Held}
 use Rattle.dictionary_rules.specs.declared.Held.the-variants.{Empty, Only, Several}
 use Rattle.dictionary_rules.specs.declared.Open.{Open}
 use Rattle.dictionary_rules.specs.declared.State.the-variants.{TopLevel, Inside}
-use Rattle.flattening.specs.Meaning.{Items, closed, fieldThen, componentThen, groupThen, onTop, groupOnTop, levelsOf, declarationsOf}
-use Rattle.flattening.specs.Layable.{Reads, reads-close, reads-field, reads-component, reads-group}
-use Rattle.flattening.specs.Counted.{itemsIn, heldBy, countOf, heldFrom}
-use Rattle.flattening.specs.Steps.{Passing, noteOf, field-goes, group-goes, item-goes, known-stops, component-stops, message-stops, close-goes, bad-stops, end-stops}
+use Rattle.dictionary_meaning_rules.specs.Meaning.{Items, closed, fieldThen, componentThen, groupThen, onTop, groupOnTop, levelsOf, declarationsOf}
+use Rattle.dictionary_meaning_rules.specs.Layable.{Reads, reads-close, reads-field, reads-component, reads-group}
+use Rattle.dictionary_meaning_rules.specs.Counted.{itemsIn, heldBy, countOf, heldFrom}
+use Rattle.dictionary_meaning_rules.specs.Steps.{Passing, noteOf, field-goes, group-goes, item-goes, known-stops, component-stops, message-stops, close-goes, bad-stops, end-stops}
 
 -- the record that stands at a place, and the records after it
 pub record Next (bytes : List ℕ) (at : ℕ) (r : Record) (rest : Records) (place : ℕ) : Type 0 where

@@ -14,8 +14,8 @@ use Rattle.dictionary_rules.specs.Index.{componentAt}
 use Rattle.dictionary_rules.specs.declared.Component.{Component}
 use Rattle.dictionary_rules.specs.declared.Looked.{Looked}
 use Rattle.dictionary_rules.specs.declared.Looked.the-variants.{Closed, Missing}
-use Rattle.flattening.specs.declared.tags.TagList.{TagList}
-use Rattle.flattening.specs.declared.tags.TagList.the-variants.{Listed, Unlisted}
+use Rattle.dictionary_meaning_rules.specs.declared.TagList.{TagList}
+use Rattle.dictionary_meaning_rules.specs.declared.TagList.the-variants.{Listed, Unlisted}
 
 -- the answer, and what the list holds then
 pub data Listing : Type 0 where

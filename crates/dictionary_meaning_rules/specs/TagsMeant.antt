@@ -15,14 +15,14 @@ use Rattle.dictionary_rules.specs.Check.{preparedOf}
 use Rattle.dictionary_rules.specs.declared.Checked.the-variants.{Passes}
 use Rattle.dictionary_rules.specs.declared.Component.{Component}
 use Rattle.dictionary_rules.specs.declared.Looked.the-variants.{Closed}
-use Rattle.flattening.specs.Meaning.{Items, closed, fieldThen, componentThen, groupThen, declarationsOf, Defined, nodesOf, expanded, definedAfter, meaningOf, dictionaryOf}
-use Rattle.flattening.specs.Written.{items-followed}
-use Rattle.flattening.specs.Layable.{Reads, reads-close, reads-field, reads-component, reads-group}
-use Rattle.flattening.specs.Passing.{OwnItems, KnownAs}
-use Rattle.flattening.specs.Prepared.{component-laid, standard-there}
-use Rattle.flattening.specs.PlainTags.{Listing, listing, tagsFrom, plainTags}
-use Rattle.flattening.specs.PlainTagsLaws.{tags-field, tags-within, tags-component, tags-group, tags-closed, tags-closes, plain-closed}
-use Rattle.flattening.specs.declared.tags.TagList.the-variants.{Listed, Unlisted}
+use Rattle.dictionary_meaning_rules.specs.Meaning.{Items, closed, fieldThen, componentThen, groupThen, declarationsOf, Defined, nodesOf, expanded, definedAfter, meaningOf, dictionaryOf}
+use Rattle.dictionary_meaning_rules.specs.Written.{items-followed}
+use Rattle.dictionary_meaning_rules.specs.Layable.{Reads, reads-close, reads-field, reads-component, reads-group}
+use Rattle.dictionary_meaning_rules.specs.Passing.{OwnItems, KnownAs}
+use Rattle.dictionary_meaning_rules.specs.Prepared.{component-laid, standard-there}
+use Rattle.dictionary_meaning_rules.specs.PlainTags.{Listing, listing, tagsFrom, plainTags}
+use Rattle.dictionary_meaning_rules.specs.PlainTagsLaws.{tags-field, tags-within, tags-component, tags-group, tags-closed, tags-closes, plain-closed}
+use Rattle.dictionary_meaning_rules.specs.declared.TagList.the-variants.{Listed, Unlisted}
 
 -- tags written one after the other
 unfoldable pub listed : List ℕ → ℕ → List ℕ → List ℕ

@@ -22,10 +22,10 @@ use Rattle.dictionary_rules.specs.declared.Owner.the-variants.{OfComponent, OfM
 use Rattle.dictionary_rules.specs.declared.Open.{Open}
 use Rattle.dictionary_rules.specs.declared.State.the-variants.{TopLevel, Inside}
 use Rattle.dictionary_rules.specs.declared.Note.the-variants.{NamesMessage}
-use Rattle.flattening.specs.Meaning.{Declaration, knownTag, declarationsOf, tagIn, tagsFrom, meaningOf, dictionaryOf}
-use Rattle.flattening.specs.Steps.{Passing, noteOf, TagGoes, tag-goes, component-opens, message-opens, field-stops, item-stops, group-stops, close-stops, bad-stops, end-passes}
-use Rattle.flattening.specs.Inside.{Next, next-of, sizeOf, Closing, closes-inside}
-use Rattle.flattening.specs.Prepared.{reads-passing, agreeing}
+use Rattle.dictionary_meaning_rules.specs.Meaning.{Declaration, knownTag, declarationsOf, tagIn, tagsFrom, meaningOf, dictionaryOf}
+use Rattle.dictionary_meaning_rules.specs.Steps.{Passing, noteOf, TagGoes, tag-goes, component-opens, message-opens, field-stops, item-stops, group-stops, close-stops, bad-stops, end-passes}
+use Rattle.dictionary_meaning_rules.specs.Inside.{Next, next-of, sizeOf, Closing, closes-inside}
+use Rattle.dictionary_meaning_rules.specs.Prepared.{reads-passing, agreeing}
 
 -- known so far, or among declarations
 abbrev knownWith : Names → List Declaration → ℕ → Bool

@@ -28,17 +28,17 @@ use Rattle.dictionary_rules.specs.declared.Owner.the-variants.{OfComponent, OfM
 use Rattle.dictionary_rules.specs.declared.Open.{Open}
 use Rattle.dictionary_rules.specs.declared.State.the-variants.{TopLevel, Inside}
 use Rattle.dictionary_rules.specs.declared.Note.the-variants.{Unchanged, ClosesComponent, NamesMessage}
-use Rattle.flattening.specs.Laying.{laying, layItems}
-use Rattle.flattening.specs.LayingLaws.{lay-down}
-use Rattle.flattening.specs.Meaning.{Items, innermost, levelsOf, Declaration, knownTag, component, message, declarationsOf, Defined, nodesOf, expanded, definedBy, definedAfter}
-use Rattle.flattening.specs.Written.{written}
-use Rattle.flattening.specs.Layable.{Reads, layoutOf, flat, Lays, lay-level, room-any}
-use Rattle.flattening.specs.Counted.{countOf, heldFrom, count-agrees}
-use Rattle.flattening.specs.Steps.{Passing, noteOf, tag-goes, component-opens, message-opens, field-stops, item-stops, group-stops, close-stops, bad-stops, end-passes}
-use Rattle.flattening.specs.Inside.{Next, next-of, sizeOf, lookIn, Closing, closes-inside}
-use Rattle.flattening.specs.Named.{placeIn, Kept, kept, component-new, component-old, message-new, message-old}
-use Rattle.flattening.specs.Passing.{KnownAs, Known, agrees-known, lay-known, OneLevel, one-level-of, closed-lays}
-use Rattle.flattening.specs.declared.Laid.the-variants.{Upto, Broken}
+use Rattle.dictionary_meaning_rules.specs.Laying.{laying, layItems}
+use Rattle.dictionary_meaning_rules.specs.LayingLaws.{lay-down}
+use Rattle.dictionary_meaning_rules.specs.Meaning.{Items, innermost, levelsOf, Declaration, knownTag, component, message, declarationsOf, Defined, nodesOf, expanded, definedBy, definedAfter}
+use Rattle.dictionary_meaning_rules.specs.Written.{written}
+use Rattle.dictionary_meaning_rules.specs.Layable.{Reads, layoutOf, flat, Lays, lay-level, room-any}
+use Rattle.dictionary_meaning_rules.specs.Counted.{countOf, heldFrom, count-agrees}
+use Rattle.dictionary_meaning_rules.specs.Steps.{Passing, noteOf, tag-goes, component-opens, message-opens, field-stops, item-stops, group-stops, close-stops, bad-stops, end-passes}
+use Rattle.dictionary_meaning_rules.specs.Inside.{Next, next-of, sizeOf, lookIn, Closing, closes-inside}
+use Rattle.dictionary_meaning_rules.specs.Named.{placeIn, Kept, kept, component-new, component-old, message-new, message-old}
+use Rattle.dictionary_meaning_rules.specs.Passing.{KnownAs, Known, agrees-known, lay-known, OneLevel, one-level-of, closed-lays}
+use Rattle.dictionary_meaning_rules.specs.declared.Laid.the-variants.{Upto, Broken}
 
 -- the layout of the message that has a number among declarations
 unfoldable pub layoutIn : List Defined → Declaration → ℕ → Choice → Choice

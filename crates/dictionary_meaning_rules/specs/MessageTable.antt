@@ -5,14 +5,14 @@ use mathlib.Core.List.{List}
 use Rattle.dictionary_rules.specs.Index.{componentAt, messageAt}
 use Rattle.dictionary_rules.specs.declared.Placed.{Placed}
 use Rattle.dictionary_rules.specs.declared.Placed.the-variants.{At, Nowhere}
-use Rattle.flattening.specs.Laying.{Laying, laying, layItems}
-use Rattle.flattening.specs.MsgType.{nameOf}
-use Rattle.flattening.specs.declared.Laid.{Laid}
-use Rattle.flattening.specs.declared.Laid.the-variants.{Upto, Broken}
-use Rattle.flattening.specs.declared.MsgTypeName.{MsgTypeName}
-use Rattle.flattening.specs.declared.MsgTypeName.the-variants.{Named, Unnamed}
-use Rattle.flattening.specs.declared.MessageTable.{MessageTable}
-use Rattle.flattening.specs.declared.MessageTable.the-variants.{Rows, NoMessage, Unprepared}
+use Rattle.dictionary_meaning_rules.specs.Laying.{Laying, laying, layItems}
+use Rattle.dictionary_meaning_rules.specs.MsgType.{nameOf}
+use Rattle.dictionary_meaning_rules.specs.declared.Laid.{Laid}
+use Rattle.dictionary_meaning_rules.specs.declared.Laid.the-variants.{Upto, Broken}
+use Rattle.dictionary_meaning_rules.specs.declared.MsgTypeName.{MsgTypeName}
+use Rattle.dictionary_meaning_rules.specs.declared.MsgTypeName.the-variants.{Named, Unnamed}
+use Rattle.dictionary_meaning_rules.specs.declared.MessageTable.{MessageTable}
+use Rattle.dictionary_meaning_rules.specs.declared.MessageTable.the-variants.{Rows, NoMessage, Unprepared}
 
 -- the answer, and what the table holds then
 pub data Tabling : Type 0 where

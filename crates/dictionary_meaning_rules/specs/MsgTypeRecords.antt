@@ -18,13 +18,13 @@ use Rattle.dictionary_rules.specs.declared.Record.the-variants.{KnownTag, Opens
 use Rattle.dictionary_rules.specs.declared.Body.{Body}
 use Rattle.dictionary_rules.specs.declared.Body.the-variants.{Good, Wrong}
 use Rattle.dictionary_rules.specs.declared.RecordRead.the-variants.{Whole, Bad, End}
-use Rattle.flattening.specs.Meaning.{Items, innermost, levelsOf, Declaration, knownTag as tagDeclared, component, message, declarationsOf, Defined, expanded, definedBy, msgTypeBytes, messageIn, messagesFrom}
-use Rattle.flattening.specs.MsgType.{nameOf}
-use Rattle.flattening.specs.MsgTypeText.{Bytes, no-bytes, a-byte, NameNumber, hasNumber, same-number, filled-number}
-use Rattle.flattening.specs.Inside.{Next, next-of}
-use Rattle.flattening.specs.Tables.{layoutIn, layoutNumbered}
-use Rattle.flattening.specs.declared.MsgTypeName.{MsgTypeName}
-use Rattle.flattening.specs.declared.MsgTypeName.the-variants.{Named, Unnamed}
+use Rattle.dictionary_meaning_rules.specs.Meaning.{Items, innermost, levelsOf, Declaration, knownTag as tagDeclared, component, message, declarationsOf, Defined, expanded, definedBy, msgTypeBytes, messageIn, messagesFrom}
+use Rattle.dictionary_meaning_rules.specs.MsgType.{nameOf}
+use Rattle.dictionary_meaning_rules.specs.MsgTypeText.{Bytes, no-bytes, a-byte, NameNumber, hasNumber, same-number, filled-number}
+use Rattle.dictionary_meaning_rules.specs.Inside.{Next, next-of}
+use Rattle.dictionary_meaning_rules.specs.Tables.{layoutIn, layoutNumbered}
+use Rattle.dictionary_meaning_rules.specs.declared.MsgTypeName.{MsgTypeName}
+use Rattle.dictionary_meaning_rules.specs.declared.MsgTypeName.the-variants.{Named, Unnamed}
 
 bytes-take : {s : List ℕ} (n : ℕ) → Bytes s → Bytes (take n s)
 bytes-take zero b = no-bytes

@@ -24,15 +24,15 @@ use Rattle.dictionary_rules.specs.declared.Owner.{Owner}
 use Rattle.dictionary_rules.specs.declared.Owner.the-variants.{OfComponent, OfMessage}
 use Rattle.dictionary_rules.specs.declared.Open.{Open}
 use Rattle.dictionary_rules.specs.declared.Note.the-variants.{Unchanged, ClosesComponent}
-use Rattle.flattening.specs.Laying.{behindOpening, standsAt}
-use Rattle.flattening.specs.LayingLaws.{stands-empty, stands-behind, stands-somewhere}
-use Rattle.flattening.specs.Meaning.{Items, closed, fieldThen, componentThen, groupThen, innermost, levelsOf, Defined, nodesOf, expanded}
-use Rattle.flattening.specs.Layable.{Reads, Layable, layoutOf, flat, Lays, lays-nothing, lays-items, AllLay, all-close, all-field, all-component, all-group, Room, level-layable, room-any}
-use Rattle.flattening.specs.Counted.{Agrees, agrees-close, agrees-field, agrees-component, agrees-group, countOf, heldFrom, count-agrees, items-none, Single, empty-none, only-one, room-proper}
-use Rattle.flattening.specs.Steps.{noteOf}
-use Rattle.flattening.specs.declared.Expansion.the-variants.{ItemsAt, NoItems}
-use Rattle.flattening.specs.Inside.{lookIn, Resolved, resolved-close, resolved-field, resolved-component, resolved-group, AllResolved, none-resolved, one-resolved, ReadsAll, no-level, one-level, countAll, heldAll, Closing}
-use Rattle.flattening.specs.Named.{component-new, component-old}
+use Rattle.dictionary_meaning_rules.specs.Laying.{behindOpening, standsAt}
+use Rattle.dictionary_meaning_rules.specs.LayingLaws.{stands-empty, stands-behind, stands-somewhere}
+use Rattle.dictionary_meaning_rules.specs.Meaning.{Items, closed, fieldThen, componentThen, groupThen, innermost, levelsOf, Defined, nodesOf, expanded}
+use Rattle.dictionary_meaning_rules.specs.Layable.{Reads, Layable, layoutOf, flat, Lays, lays-nothing, lays-items, AllLay, all-close, all-field, all-component, all-group, Room, level-layable, room-any}
+use Rattle.dictionary_meaning_rules.specs.Counted.{Agrees, agrees-close, agrees-field, agrees-component, agrees-group, countOf, heldFrom, count-agrees, items-none, Single, empty-none, only-one, room-proper}
+use Rattle.dictionary_meaning_rules.specs.Steps.{noteOf}
+use Rattle.dictionary_meaning_rules.specs.declared.Expansion.the-variants.{ItemsAt, NoItems}
+use Rattle.dictionary_meaning_rules.specs.Inside.{lookIn, Resolved, resolved-close, resolved-field, resolved-component, resolved-group, AllResolved, none-resolved, one-resolved, ReadsAll, no-level, one-level, countAll, heldAll, Closing}
+use Rattle.dictionary_meaning_rules.specs.Named.{component-new, component-old}
 
 -- what nodes mean stands at a place
 pub record OwnItems (bytes : List ℕ) (at : ℕ) (nodes : Nodes) : Type 0 where

@@ -17,9 +17,9 @@ use Rattle.dictionary_rules.specs.declared.Looked.{Looked}
 use Rattle.dictionary_rules.specs.declared.Looked.the-variants.{Closed, Missing}
 use Rattle.dictionary_rules.specs.declared.Held.{Held}
 use Rattle.dictionary_rules.specs.declared.Held.the-variants.{Empty, Only, Several}
-use Rattle.flattening.specs.Meaning.{Items, closed, fieldThen, componentThen, groupThen, Defined, nodesOf, expanded}
-use Rattle.flattening.specs.Written.{followed-end}
-use Rattle.flattening.specs.Layable.{layoutOf, flat, Room, room-close, room-field, room-component, room-group, count-field, count-component, count-group}
+use Rattle.dictionary_meaning_rules.specs.Meaning.{Items, closed, fieldThen, componentThen, groupThen, Defined, nodesOf, expanded}
+use Rattle.dictionary_meaning_rules.specs.Written.{followed-end}
+use Rattle.dictionary_meaning_rules.specs.Layable.{layoutOf, flat, Room, room-close, room-field, room-component, room-group, count-field, count-component, count-group}
 
 unfoldable pub itemsIn : Looked → ℕ
 itemsIn Missing = 0

@@ -22,10 +22,10 @@ use Rattle.dictionary_rules.specs.declared.Component.{Component}
 use Rattle.dictionary_rules.specs.declared.Looked.the-variants.{Closed}
 use Rattle.dictionary_rules.specs.declared.Placed.the-variants.{At, Nowhere}
 use Rattle.dictionary_rules.specs.declared.State.the-variants.{TopLevel}
-use Rattle.flattening.specs.Meaning.{declarationsOf, definedAfter, nodesOf}
-use Rattle.flattening.specs.Named.{Standard, standard}
-use Rattle.flattening.specs.Passing.{KnownAs}
-use Rattle.flattening.specs.Tables.{layoutNumbered, MessageAs, Meant, meant}
+use Rattle.dictionary_meaning_rules.specs.Meaning.{declarationsOf, definedAfter, nodesOf}
+use Rattle.dictionary_meaning_rules.specs.Named.{Standard, standard}
+use Rattle.dictionary_meaning_rules.specs.Passing.{KnownAs}
+use Rattle.dictionary_meaning_rules.specs.Tables.{layoutNumbered, MessageAs, Meant, meant}
 
 whole-outcome : {S : Type 0} (x : Outcome S) (checked : Checked) → answerOf x ≡ checked → x ≡ outcome checked (storeOf x)
 unfolding answerOf storeOf

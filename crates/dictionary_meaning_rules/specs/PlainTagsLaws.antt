@@ -19,8 +19,8 @@ use Rattle.dictionary_rules.specs.declared.RecordRead.the-variants.{Whole, Bad,
 use Rattle.dictionary_rules.specs.Index.{componentAt}
 use Rattle.dictionary_rules.specs.declared.Component.{Component}
 use Rattle.dictionary_rules.specs.declared.Looked.the-variants.{Closed, Missing}
-use Rattle.flattening.specs.PlainTags.{Listing, listing, TagStep, tagOn, tagRead, tagsWithin, tagsFrom, componentTags, plainTags}
-use Rattle.flattening.specs.declared.tags.TagList.the-variants.{Listed, Unlisted}
+use Rattle.dictionary_meaning_rules.specs.PlainTags.{Listing, listing, TagStep, tagOn, tagRead, tagsWithin, tagsFrom, componentTags, plainTags}
+use Rattle.dictionary_meaning_rules.specs.declared.TagList.the-variants.{Listed, Unlisted}
 
 -- two ways to go on that agree from a place on make the same of a record before it
 tag-agrees : (rest other : TagStep) (next : ℕ) → ((at groups count : ℕ) (tags : List ℕ) → next ≤ at → rest at groups count tags ≡ other at groups count tags) → (groups count : ℕ) (tags : List ℕ) (r : Record) → tagOn rest groups count tags r next ≡ tagOn other groups count tags r next

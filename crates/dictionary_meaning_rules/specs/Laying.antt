@@ -15,10 +15,10 @@ use Rattle.dictionary_rules.specs.declared.Record.{Record}
 use Rattle.dictionary_rules.specs.declared.Record.the-variants.{KnownTag, OpensComponent, OpensMessage, FieldItem, ComponentItem, OpensGroup, Closes}
 use Rattle.dictionary_rules.specs.declared.RecordRead.{RecordRead}
 use Rattle.dictionary_rules.specs.declared.RecordRead.the-variants.{Whole, Bad, End}
-use Rattle.flattening.specs.declared.Laid.{Laid}
-use Rattle.flattening.specs.declared.Laid.the-variants.{Upto, Broken}
-use Rattle.flattening.specs.declared.Expansion.{Expansion}
-use Rattle.flattening.specs.declared.Expansion.the-variants.{ItemsAt, NoItems}
+use Rattle.dictionary_meaning_rules.specs.declared.Laid.{Laid}
+use Rattle.dictionary_meaning_rules.specs.declared.Laid.the-variants.{Upto, Broken}
+use Rattle.dictionary_meaning_rules.specs.declared.Expansion.{Expansion}
+use Rattle.dictionary_meaning_rules.specs.declared.Expansion.the-variants.{ItemsAt, NoItems}
 
 -- How far flattening came, and what the table holds then. What the dictionary's components are is looked up by number.
 pub data Laying : Type 0 where

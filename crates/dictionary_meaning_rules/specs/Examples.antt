@@ -15,12 +15,12 @@ use Rattle.dictionary_rules.specs.Record.{fieldItem as fieldBody, componentItem
 use Rattle.dictionary_rules.specs.Records.{Records, recordsFrom, recordsWithin, followedBy}
 use Rattle.dictionary_rules.specs.Names.{componentIn}
 use Rattle.dictionary_rules.specs.declared.Component.{Component}
-use Rattle.flattening.specs.Meaning.{onTop, groupOnTop, below, innermost, levelsOf, declarationsOf, nodesOf, expanded, definedBy, definedAfter, bytesWithin, msgTypeBytes, messageIn, messagesFrom, tagIn, tagsFrom, meaningOf, dictionaryOf}
-use Rattle.flattening.specs.Laying.{Laying, laying, behindOpening, expanding, standsAt, putRow, afterGroup, afterComponent, onComponent, onRecord, onRead, itemsWithin, itemsFrom, layItems}
-use Rattle.flattening.specs.MsgType.{noZero, nameOf}
-use Rattle.flattening.specs.declared.Laid.the-variants.{Upto, Broken}
-use Rattle.flattening.specs.declared.MsgTypeName.{MsgTypeName}
-use Rattle.flattening.specs.declared.MsgTypeName.the-variants.{Named, Unnamed}
+use Rattle.dictionary_meaning_rules.specs.Meaning.{onTop, groupOnTop, below, innermost, levelsOf, declarationsOf, nodesOf, expanded, definedBy, definedAfter, bytesWithin, msgTypeBytes, messageIn, messagesFrom, tagIn, tagsFrom, meaningOf, dictionaryOf}
+use Rattle.dictionary_meaning_rules.specs.Laying.{Laying, laying, behindOpening, expanding, standsAt, putRow, afterGroup, afterComponent, onComponent, onRecord, onRead, itemsWithin, itemsFrom, layItems}
+use Rattle.dictionary_meaning_rules.specs.MsgType.{noZero, nameOf}
+use Rattle.dictionary_meaning_rules.specs.declared.Laid.the-variants.{Upto, Broken}
+use Rattle.dictionary_meaning_rules.specs.declared.MsgTypeName.{MsgTypeName}
+use Rattle.dictionary_meaning_rules.specs.declared.MsgTypeName.the-variants.{Named, Unnamed}
 
 abbrev tag : ℕ → List ℕ
 tag t = t % 256 ∷ t / 256 ∷ 0 ∷ 0 ∷ []

@@ -18,11 +18,11 @@ use Rattle.dictionary_rules.specs.declared.Record.{Record}
 use Rattle.dictionary_rules.specs.declared.Record.the-variants.{KnownTag, OpensComponent, OpensMessage, FieldItem, ComponentItem, OpensGroup, Closes}
 use Rattle.dictionary_rules.specs.declared.RecordRead.{RecordRead}
 use Rattle.dictionary_rules.specs.declared.RecordRead.the-variants.{Whole, Bad, End}
-use Rattle.flattening.specs.Laying.{Laying, laying, Step, behindOpening, expanding, standsAt, putRow, afterGroup, afterComponent, onComponent, onRecord, onRead, itemsWithin, itemsFrom, layItems}
-use Rattle.flattening.specs.declared.Laid.{Laid}
-use Rattle.flattening.specs.declared.Laid.the-variants.{Upto, Broken}
-use Rattle.flattening.specs.declared.Expansion.{Expansion}
-use Rattle.flattening.specs.declared.Expansion.the-variants.{ItemsAt, NoItems}
+use Rattle.dictionary_meaning_rules.specs.Laying.{Laying, laying, Step, behindOpening, expanding, standsAt, putRow, afterGroup, afterComponent, onComponent, onRecord, onRead, itemsWithin, itemsFrom, layItems}
+use Rattle.dictionary_meaning_rules.specs.declared.Laid.{Laid}
+use Rattle.dictionary_meaning_rules.specs.declared.Laid.the-variants.{Upto, Broken}
+use Rattle.dictionary_meaning_rules.specs.declared.Expansion.{Expansion}
+use Rattle.dictionary_meaning_rules.specs.declared.Expansion.the-variants.{ItemsAt, NoItems}
 
 -- how far a step comes: past the place where it starts, no further than the bytes go, and no row is taken back or past the last
 pub data Advances (limit at row : ℕ) : Laying → Type 0 where

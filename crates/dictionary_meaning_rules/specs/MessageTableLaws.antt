@@ -4,12 +4,12 @@ use mathlib.Core.List.{List}
 use Prim.Native.Nat.{ℕ, _+_}
 use Rattle.dictionary_rules.specs.Index.{componentAt, messageAt}
 use Rattle.dictionary_rules.specs.declared.Placed.the-variants.{At, Nowhere}
-use Rattle.flattening.specs.Laying.{Laying, laying, layItems}
-use Rattle.flattening.specs.MsgType.{nameOf}
-use Rattle.flattening.specs.MessageTable.{Tabling, tabling, asTable, placedTable, namedTable, messageTable}
-use Rattle.flattening.specs.declared.Laid.the-variants.{Upto, Broken}
-use Rattle.flattening.specs.declared.MsgTypeName.the-variants.{Named, Unnamed}
-use Rattle.flattening.specs.declared.MessageTable.the-variants.{Rows, NoMessage, Unprepared}
+use Rattle.dictionary_meaning_rules.specs.Laying.{Laying, laying, layItems}
+use Rattle.dictionary_meaning_rules.specs.MsgType.{nameOf}
+use Rattle.dictionary_meaning_rules.specs.MessageTable.{Tabling, tabling, asTable, placedTable, namedTable, messageTable}
+use Rattle.dictionary_meaning_rules.specs.declared.Laid.the-variants.{Upto, Broken}
+use Rattle.dictionary_meaning_rules.specs.declared.MsgTypeName.the-variants.{Named, Unnamed}
+use Rattle.dictionary_meaning_rules.specs.declared.MessageTable.the-variants.{Rows, NoMessage, Unprepared}
 
 module _ (dictionary index value table : List ℕ) where
   pub table-unnamed : nameOf value ≡ Unnamed → messageTable dictionary index value table ≡ tabling NoMessage table

@@ -10,8 +10,8 @@ use lib.Dec.{eqb, ltb}
 use borrow.Author.Tests.{eq-eqb, ne-eqb, lt-ltb, le-ltb}
 use Rattle.tagvalue.specs.Choice.{pick, pick-same}
 use Rattle.dictionary_rules.specs.Record.{lowFirst}
-use Rattle.flattening.specs.MsgType.{noZero, nameOf}
-use Rattle.flattening.specs.declared.MsgTypeName.the-variants.{Named, Unnamed}
+use Rattle.dictionary_meaning_rules.specs.MsgType.{noZero, nameOf}
+use Rattle.dictionary_meaning_rules.specs.declared.MsgTypeName.the-variants.{Named, Unnamed}
 
 -- one more than the largest number of so many bytes
 unfoldable pub room : ℕ → ℕ

@@ -7,8 +7,8 @@ use lib.ListN.{length}
 use lib.Dec.{eqb, ltb}
 use Rattle.tagvalue.specs.Choice.{pick}
 use Rattle.dictionary_rules.specs.Record.{lowFirst}
-use Rattle.flattening.specs.declared.MsgTypeName.{MsgTypeName}
-use Rattle.flattening.specs.declared.MsgTypeName.the-variants.{Named, Unnamed}
+use Rattle.dictionary_meaning_rules.specs.declared.MsgTypeName.{MsgTypeName}
+use Rattle.dictionary_meaning_rules.specs.declared.MsgTypeName.the-variants.{Named, Unnamed}
 
 -- no byte is zero
 unfoldable pub noZero : List ℕ → Bool

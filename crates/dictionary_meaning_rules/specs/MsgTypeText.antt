@@ -11,11 +11,11 @@ use borrow.Author.Tests.{eq-eqb, ne-eqb, eqb-true, eqb-false, le-ltb, ltb-false}
 use Rattle.tagvalue.specs.Choice.{pick, pick-same}
 use Rattle.dictionary_layout_rules.specs.Tree.{sameBytes}
 use Rattle.dictionary_rules.specs.Record.{lowFirst, zeroFilled}
-use Rattle.flattening.specs.Meaning.{bytesWithin, msgTypeBytes}
-use Rattle.flattening.specs.MsgType.{noZero, nameOf}
-use Rattle.flattening.specs.MsgTypeLaws.{room}
-use Rattle.flattening.specs.declared.MsgTypeName.{MsgTypeName}
-use Rattle.flattening.specs.declared.MsgTypeName.the-variants.{Named, Unnamed}
+use Rattle.dictionary_meaning_rules.specs.Meaning.{bytesWithin, msgTypeBytes}
+use Rattle.dictionary_meaning_rules.specs.MsgType.{noZero, nameOf}
+use Rattle.dictionary_meaning_rules.specs.MsgTypeLaws.{room}
+use Rattle.dictionary_meaning_rules.specs.declared.MsgTypeName.{MsgTypeName}
+use Rattle.dictionary_meaning_rules.specs.declared.MsgTypeName.the-variants.{Named, Unnamed}
 
 -- numbers that are bytes
 pub data Bytes : List ℕ → Type 0 where
