@@ -9,7 +9,7 @@ use Rattle.tagvalue.specs.Separator.{isRefusedSeparator}
 use Rattle.maps.specs.Map.{Map, end, field, entry, holds}
 use Rattle.lent.specs.Lent.{isMessage}
 use Rattle.lent.specs.Meaning.{Message, wordsOf, valuesOf, messageIn}
-use Rattle.message.specs.Changes.{fieldTotal}
+use Rattle.message_rules.specs.Changes.{fieldTotal}
 use Rattle.written_form.specs.Encoding.{dropped, bodyLength, encoding, encodedMessage}
 use Rattle.encoding.specs.declared.Encoding.{Encoding}
 use Rattle.encoding.specs.declared.Encoding.the-variants.{Written, NoMessage, InvalidSeparator, Incomplete, TooLong, TooManyFields, NoRoom}

@@ -13,7 +13,7 @@ use Rattle.lent.specs.Meaning.{Message, wordsOf, valuesOf, messageIn}
 use Rattle.lent.specs.Formed.{Formed}
 use Rattle.lent.specs.FormedLaws.{lent-formed, Lends, layout-lends}
 use Rattle.lent.specs.StoredLaws.{formed-stored, formed-without}
-use Rattle.message.specs.Changes.{fieldTotal, valueTotal}
+use Rattle.message_rules.specs.Changes.{fieldTotal, valueTotal}
 use Rattle.written_form.specs.Encoding.{dropped, bodyLength, measured, encoding, encodedMessage}
 use Rattle.encoding.specs.Encode.{isIncomplete, judging, verdictOf, left, encoded, encodingOf}
 use Rattle.encoding.specs.Leaving.{Encodable}

@@ -13,7 +13,7 @@ use Rattle.maps.specs.Map.{Map, end, field, entry, joined, holds, holdsAny, rep
 use Rattle.maps.specs.Rows.{laid, flat, padded, rowAt, rowsFrom, levelOf, sizeOf, matches, sizes}
 use Rattle.lent.specs.Lent.{heldBefore, delimiterIs, continues, followsOn, deepest, fieldAllowed, headAllowed, rowAllowed, rowsAllowed, isPart, nextPart, partsFrom, isOwn, ownBelow, weight, fieldsIn, rowCount, rowsOf, isLaid, isMessage}
 use Rattle.lent.specs.Meaning.{Message, parts, wordsOf, valuesOf, opened, withField, withEntry, withRow, openIn, outermost, thirdOf, secondOf, partsIn, messageIn}
-use Rattle.message.specs.Changes.{fieldTotal}
+use Rattle.message_rules.specs.Changes.{fieldTotal}
 use Rattle.written_form.specs.Encoding.{text, textUnder, isFirst, isRest, headerText, messageText, bytesOf, dropped, bodyLength, measured, sumDigits, summed, encoding, encodedMessage}
 use Rattle.encoding.specs.Encode.{numberOfEncoding, lacksCount, hasUncounted, isIncomplete, judging, verdictOf, Left, left, encoded, afterVerdict, encodingOf}
 use Rattle.encoding.specs.declared.Encoding.the-variants.{Written, NoMessage, InvalidSeparator, Incomplete, TooLong, TooManyFields, NoRoom}

@@ -14,10 +14,10 @@ use Rattle.maps.specs.Rows.{rowsFrom}
 use Rattle.lent.specs.Lent.{rowsOf, isMessage}
 use Rattle.lent.specs.Meaning.{messageIn}
 use Rattle.lent.specs.FormedLaws.{lent-formed}
-use Rattle.message.specs.Changes.{partOf, spanOf, fieldTotal}
-use Rattle.message.specs.StoreLaws.{lent-in, count-is, fields-now}
-use Rattle.message.specs.declared.Part.the-variants.{Header, Trailer}
-use Rattle.message.specs.declared.Span.{Span}
+use Rattle.message_rules.specs.Changes.{partOf, spanOf, fieldTotal}
+use Rattle.message_rules.specs.StoreLaws.{lent-in, count-is, fields-now}
+use Rattle.message_rules.specs.declared.Part.the-variants.{Header, Trailer}
+use Rattle.message_rules.specs.declared.Span.{Span}
 use Rattle.written_form.specs.Encoding.{bytesOf, dropped, bodyLength, encoding, encodedMessage}
 use Rattle.encoder.specs.Writing.{uncounted}
 use Rattle.encoder.specs.MessageLaws.{message-length, size-is}

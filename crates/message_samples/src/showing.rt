@@ -2,7 +2,7 @@
 use crate::laying;
 use crate::reading;
 use encoding::Encoding;
-use message::Change;
+use message_rules::Change;
 use taking::Taken;
 
 pub fn say(text: &[u8]) {

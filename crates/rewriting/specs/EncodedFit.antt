@@ -10,7 +10,7 @@ use Rattle.records.specs.declared.Record.{Record}
 use Rattle.maps.specs.Map.{Map, holds}
 use Rattle.lent.specs.Meaning.{Message, wordsOf, valuesOf}
 use Rattle.lent.specs.FormedLaws.{layout-lends}
-use Rattle.message.specs.Changes.{fieldTotal}
+use Rattle.message_rules.specs.Changes.{fieldTotal}
 use Rattle.nesting.specs.Formed.{Own}
 use Rattle.nesting.specs.Entries.{All}
 use Rattle.standing.specs.ShapeLaws.{all-first, all-rest}

@@ -13,7 +13,7 @@ use Rattle.parts.specs.declared.Answer.the-variants.{Valid}
 use Rattle.reading.specs.Message.{messageRead}
 use Rattle.builder.specs.Build.{BuildOutcome, buildOf}
 use Rattle.lent.specs.Meaning.{wordsOf, valuesOf, messageIn}
-use Rattle.message.specs.Changes.{fieldTotal}
+use Rattle.message_rules.specs.Changes.{fieldTotal}
 use Rattle.written_form.specs.Encoding.{encodedMessage}
 use Rattle.encoding.specs.Encode.{left, encodingOf}
 use Rattle.encoding.specs.EncodedLaws.{encode-lends}

@@ -24,7 +24,7 @@ use Rattle.reading.specs.Message.{Outcome}
 use Rattle.reading.specs.declared.Stop.{Stop}
 use Rattle.maps.specs.Map.{Map, holds}
 use Rattle.lent.specs.Meaning.{Message}
-use Rattle.message.specs.Changes.{fieldTotal}
+use Rattle.message_rules.specs.Changes.{fieldTotal}
 use Rattle.taking.specs.Derived.{Stands, StandFor, own as stands-own, in-entry as stands-entry}
 use Rattle.standing.specs.Parted.{Takes}
 use Rattle.written_form.specs.Encoding.{encodedMessage}

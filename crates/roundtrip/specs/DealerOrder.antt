@@ -45,7 +45,7 @@ use Rattle.encoding.specs.Encode.{left, encodingOf}
 use Rattle.encoding.specs.declared.Encoding.the-variants.{Written}
 use Rattle.sequence.specs.Counted.{countedTo, countedFields, fieldsCounted}
 use Rattle.sequence.specs.Twice.{twiceInHeader, twiceInTrailer, twiceBehind, twiceTaking, twiceWithin, twiceInBody, twiceFromBody, twiceFromHeader, storedTwice}
-use Rattle.message.specs.Changes.{fieldTotal}
+use Rattle.message_rules.specs.Changes.{fieldTotal}
 use Rattle.rewriting.specs.Written.{written, rewritten}
 use Rattle.rewriting.specs.EncodedBuilt.{Built, encoding-rewritten}
 use Rattle.rewriting.specs.EncodedFit.{encoding-written}

@@ -16,7 +16,7 @@ use Rattle.records.specs.declared.Record.{Record}
 use Rattle.maps.specs.Map.{Map, end, field, entry, joined}
 use Rattle.lent.specs.Formed.{stands, isFormed, isRun}
 use Rattle.lent.specs.MeantLaws.{joined-end}
-use Rattle.message.specs.LayoutLaws.{joined-assoc}
+use Rattle.message_rules.specs.LayoutLaws.{joined-assoc}
 use Rattle.groups.specs.Groups.{Rules, isDelimiter, opens}
 use Rattle.nesting.specs.Formed.{Part, entriesOf, fieldsOf, Own, Formed, no-entry, next-entry, starts, rises, hangs, user}
 use Rattle.nesting.specs.Entries.{All, all-none, all-more, entry-starts, Other, entry-other}

@@ -5,7 +5,7 @@ mod showing;
 
 use encoding::Encoding;
 use integrity::Config;
-use message::Part;
+use message_rules::Part;
 use tagvalue::Cursor;
 use tagvalue::FieldRead;
 

@@ -13,13 +13,13 @@ use Rattle.tagvalue.specs.Choice.{pick}
 use Rattle.maps.specs.Map.{Map, end, field, entry, joined, holds, holdsAny, replaced, withoutField, leading, pastLeading, runOn, withoutRun, stored, hungOnCount, hungAlone, hung, fieldCount, valuesIn}
 use Rattle.maps.specs.Rows.{Row, row, laid, flat, rowsFrom, sizes, sizeOf, matches, findFrom, runEndFrom}
 use Rattle.lent.specs.Lent.{rowCount, rowsOf}
-use Rattle.message.specs.Changes.{After, after, Cuttable, changedAt, judgedMap, fieldRow, fieldPlace, runPlace, runStop, oneRow, runLast, putAt, Ready}
-use Rattle.message.specs.LayoutLaws.{joined-assoc, laid-joined, values-joined, count-joined, sizes-append, sizes-laid}
-use Rattle.message.specs.SplitLaws.{FieldSplit, field-split, field-absent, RunSplit, run-split, leading-joined, leading-ends}
-use Rattle.message.specs.PlaceLaws.{rows-length, rows-part}
-use Rattle.message.specs.CutLaws.{Sized, Cutting, cut-judged, cut-able}
-use Rattle.message.specs.declared.Cut.{Cut}
-use Rattle.message.specs.declared.Span.{Span}
+use Rattle.message_rules.specs.Changes.{After, after, Cuttable, changedAt, judgedMap, fieldRow, fieldPlace, runPlace, runStop, oneRow, runLast, putAt, Ready}
+use Rattle.message_rules.specs.LayoutLaws.{joined-assoc, laid-joined, values-joined, count-joined, sizes-append, sizes-laid}
+use Rattle.message_rules.specs.SplitLaws.{FieldSplit, field-split, field-absent, RunSplit, run-split, leading-joined, leading-ends}
+use Rattle.message_rules.specs.PlaceLaws.{rows-length, rows-part}
+use Rattle.message_rules.specs.CutLaws.{Sized, Cutting, cut-judged, cut-able}
+use Rattle.message_rules.specs.declared.Cut.{Cut}
+use Rattle.message_rules.specs.declared.Span.{Span}
 
 -- the map, with any other in its place, and the number of fields that there are then
 pub record Frame (words values : List ℕ) (span : Span) (own : Map) (whole : Map → Map) (total : Map → ℕ) : Type 0 where

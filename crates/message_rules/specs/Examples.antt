@@ -11,11 +11,11 @@ use Rattle.maps.specs.Map.{Map, end, field, entry, joined, holds, holdsAny, rep
 use Rattle.lent.specs.Meaning.{Message, parts, wordsOf, valuesOf}
 use Rattle.lent.specs.Formed.{stands, goesOn, isFormed, Within}
 use Rattle.lent.specs.FormedLaws.{Lends, layout-lends}
-use Rattle.message.specs.Changes.{After, after, numberOfChange, partOf, withPart, fieldTotal, valueTotal, judged, ofMessage, ofStore, noFields, emptying, newMessage, storing, removing}
-use Rattle.message.specs.declared.Part.{Part}
-use Rattle.message.specs.declared.Part.the-variants.{Header, Body, Trailer}
-use Rattle.message.specs.declared.Change.{Change}
-use Rattle.message.specs.declared.Change.the-variants.{Made, NoMessage, NotStorable, NoRun, TooManyFields}
+use Rattle.message_rules.specs.Changes.{After, after, numberOfChange, partOf, withPart, fieldTotal, valueTotal, judged, ofMessage, ofStore, noFields, emptying, newMessage, storing, removing}
+use Rattle.message_rules.specs.declared.Part.{Part}
+use Rattle.message_rules.specs.declared.Part.the-variants.{Header, Body, Trailer}
+use Rattle.message_rules.specs.declared.Change.{Change}
+use Rattle.message_rules.specs.declared.Change.the-variants.{Made, NoMessage, NotStorable, NoRun, TooManyFields}
 
 -- a new message has 8 and then 35 in its header, and nothing else
 new-messages : newMessage (bytes "FIX.4.4") (bytes "0") ∷ newMessage [] (bytes "D") ∷ []

@@ -14,11 +14,11 @@ use Rattle.maps.specs.Rows.{Row, row, laid, flat, padded, rowAt, rowsFrom, size
 use Rattle.maps.specs.RowsLaws.{padded-length}
 use Rattle.lent.specs.Lent.{heldBefore, deepest, fieldAllowed, headAllowed, rowAllowed, rowsAllowed, delimiterIs, isPart, nextPart, partsFrom, isOwn, ownBelow, weight, fieldsIn, rowCount, rowsOf, isLaid, isMessage}
 use Rattle.lent.specs.Meaning.{Message, parts, wordsOf, valuesOf, opened, withField, withEntry, withRow, openIn, outermost, thirdOf, secondOf, partsIn, messageIn}
-use Rattle.message.specs.Changes.{After, after, ofMessage, ofStore, partOf, withPart, fieldTotal, valueTotal, judged, noFields, newMessage, emptying, making, storing}
-use Rattle.message.specs.ChangeLaws.{store-on, empty-made}
-use Rattle.message.specs.declared.Change.{Change}
-use Rattle.message.specs.declared.Change.the-variants.{Made, NoMessage, NotStorable}
-use Rattle.message.specs.declared.Part.the-variants.{Header}
+use Rattle.message_rules.specs.Changes.{After, after, ofMessage, ofStore, partOf, withPart, fieldTotal, valueTotal, judged, noFields, newMessage, emptying, making, storing}
+use Rattle.message_rules.specs.ChangeLaws.{store-on, empty-made}
+use Rattle.message_rules.specs.declared.Change.{Change}
+use Rattle.message_rules.specs.declared.Change.the-variants.{Made, NoMessage, NotStorable}
+use Rattle.message_rules.specs.declared.Part.the-variants.{Header}
 
 -- what is lent after each step
 unfoldable begun : List ℕ → Message

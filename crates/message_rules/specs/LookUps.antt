@@ -9,12 +9,12 @@ use Rattle.tagvalue.specs.Choice.{pick}
 use Rattle.maps.specs.Map.{Map, end, field, entry, Looked, none, some, valuesIn}
 use Rattle.lent.specs.Lent.{isMessage}
 use Rattle.lent.specs.Meaning.{Message, parts, messageIn}
-use Rattle.message.specs.declared.Part.{Part}
-use Rattle.message.specs.declared.Part.the-variants.{Header, Body, Trailer}
-use Rattle.look_ups.specs.declared.FoundValue.{FoundValue}
-use Rattle.look_ups.specs.declared.FoundValue.the-variants as value
-use Rattle.look_ups.specs.declared.FoundMap.{FoundMap}
-use Rattle.look_ups.specs.declared.FoundMap.the-variants as map
+use Rattle.message_rules.specs.declared.Part.{Part}
+use Rattle.message_rules.specs.declared.Part.the-variants.{Header, Body, Trailer}
+use Rattle.message_rules.specs.declared.FoundValue.{FoundValue}
+use Rattle.message_rules.specs.declared.FoundValue.the-variants as value
+use Rattle.message_rules.specs.declared.FoundMap.{FoundMap}
+use Rattle.message_rules.specs.declared.FoundMap.the-variants as map
 
 -- 01's number for each answer: what is absent is no refusal
 unfoldable pub numberOfValue : FoundValue → ℕ

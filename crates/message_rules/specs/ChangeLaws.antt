@@ -12,14 +12,14 @@ use Rattle.maps.specs.Map.{Map, end, entry, valuesIn, holds, withoutField, stor
 use Rattle.maps.specs.Rows.{laid, flat, part, padded, spliced, rowsFrom, findFrom, runEndFrom}
 use Rattle.lent.specs.Lent.{isMessage}
 use Rattle.lent.specs.Meaning.{Message, parts, wordsOf, valuesOf, messageIn}
-use Rattle.message.specs.Changes.{After, after, placeOf, Cuttable, cutSize, cutWords, cutValues, changedAt, ofMessage, partOf, withPart, judged, noFields, ofStore, emptying, storing, removing, spanOf, locatedIn, fieldRow, fieldPlace, runPlace, runStop, oneRow, runLast, putAt, Ready}
-use Rattle.message.specs.PlaceLaws.{place-grows}
-use Rattle.message.specs.declared.Change.the-variants.{Made, NoMessage, NotStorable, NoRun, TooManyFields}
-use Rattle.message.specs.declared.Cut.{Cut}
-use Rattle.message.specs.declared.Span.{Span}
-use Rattle.message.specs.declared.Part.{Part}
-use Rattle.message.specs.declared.Located.{Located}
-use Rattle.message.specs.declared.Located.the-variants.{At, Nowhere}
+use Rattle.message_rules.specs.Changes.{After, after, placeOf, Cuttable, cutSize, cutWords, cutValues, changedAt, ofMessage, partOf, withPart, judged, noFields, ofStore, emptying, storing, removing, spanOf, locatedIn, fieldRow, fieldPlace, runPlace, runStop, oneRow, runLast, putAt, Ready}
+use Rattle.message_rules.specs.PlaceLaws.{place-grows}
+use Rattle.message_rules.specs.declared.Change.the-variants.{Made, NoMessage, NotStorable, NoRun, TooManyFields}
+use Rattle.message_rules.specs.declared.Cut.{Cut}
+use Rattle.message_rules.specs.declared.Span.{Span}
+use Rattle.message_rules.specs.declared.Part.{Part}
+use Rattle.message_rules.specs.declared.Located.{Located}
+use Rattle.message_rules.specs.declared.Located.the-variants.{At, Nowhere}
 
 module _ (words values : List ℕ) (cut : Cut) (rows : List ℕ) (added : ℕ) (bytes : List ℕ) (whole : Bool) (fields : ℕ) where
   pub change-large : leb (cutSize words cut + length bytes) 8192 ≡ false → changedAt cut rows added bytes whole fields words values ≡ after NotStorable words values

@@ -16,16 +16,16 @@ use Rattle.lent.specs.LaidLaws.{rows-parts}
 use Rattle.lent.specs.LentLaws.{message-held}
 use Rattle.lent.specs.Meaning.{Message, parts, wordsOf, valuesOf, messageIn}
 use Rattle.lent.specs.MeaningLaws.{means}
-use Rattle.message.specs.Changes.{after, Cuttable, changedAt, partOf, withPart, fieldTotal, valueTotal, mapWords, mapValues, judgedMap, judged, spanOf, putAt, Ready}
-use Rattle.message.specs.LayoutLaws.{values-joined, count-joined}
-use Rattle.message.specs.SplitLaws.{field-split, run-split}
-use Rattle.message.specs.CutLaws.{Sized, laid-sized}
-use Rattle.message.specs.FrameLaws.{Frame, Leaves}
-use Rattle.message.specs.FrameLaws as frame
-use Rattle.message.specs.PartLaws.{PartSplit, part-split, total-laid}
-use Rattle.message.specs.declared.Part.{Part}
-use Rattle.message.specs.declared.Change.the-variants.{NotStorable}
-use Rattle.message.specs.declared.Cut.{Cut}
+use Rattle.message_rules.specs.Changes.{after, Cuttable, changedAt, partOf, withPart, fieldTotal, valueTotal, mapWords, mapValues, judgedMap, judged, spanOf, putAt, Ready}
+use Rattle.message_rules.specs.LayoutLaws.{values-joined, count-joined}
+use Rattle.message_rules.specs.SplitLaws.{field-split, run-split}
+use Rattle.message_rules.specs.CutLaws.{Sized, laid-sized}
+use Rattle.message_rules.specs.FrameLaws.{Frame, Leaves}
+use Rattle.message_rules.specs.FrameLaws as frame
+use Rattle.message_rules.specs.PartLaws.{PartSplit, part-split, total-laid}
+use Rattle.message_rules.specs.declared.Part.{Part}
+use Rattle.message_rules.specs.declared.Change.the-variants.{NotStorable}
+use Rattle.message_rules.specs.declared.Cut.{Cut}
 
 -- what is known of a message that words and values hold, and of a part of it
 pub record In (words values : List ℕ) (part : Part) (m : Message) : Type 0 where

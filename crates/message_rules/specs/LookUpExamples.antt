@@ -8,10 +8,10 @@ use lib.ListN.{length}
 use Rattle.tagvalue.specs.Text.{bytes}
 use Rattle.maps.specs.Map.{Map, end, field, entry, Looked, none, some, valuesIn}
 use Rattle.lent.specs.Meaning.{Message, parts}
-use Rattle.message.specs.declared.Part.the-variants.{Header, Body, Trailer}
-use Rattle.look_ups.specs.LookUps.{rowsIn, standing, mapAt, valueIn, entryIn, partRow, valueOf, entryOf}
-use Rattle.look_ups.specs.declared.FoundValue.the-variants as value
-use Rattle.look_ups.specs.declared.FoundMap.the-variants as map
+use Rattle.message_rules.specs.declared.Part.the-variants.{Header, Body, Trailer}
+use Rattle.message_rules.specs.LookUps.{rowsIn, standing, mapAt, valueIn, entryIn, partRow, valueOf, entryOf}
+use Rattle.message_rules.specs.declared.FoundValue.the-variants as value
+use Rattle.message_rules.specs.declared.FoundMap.the-variants as map
 
 -- two entries in the body, one with a nested run, and a trailer
 second : Map

@@ -11,9 +11,9 @@ use Rattle.maps.specs.Map.{Map, end, field, entry, joined, stored, hung, fieldC
 use Rattle.lent.specs.Lent.{rowsOf, fieldsIn, isLaid}
 use Rattle.lent.specs.Meaning.{Message, openIn, outermost}
 use Rattle.lent.specs.Formed.{isRun}
-use Rattle.message.specs.Changes.{After, after, ofStore, ofMessage, partOf, withPart, mapWords, mapValues, judgedMap, judged}
-use Rattle.message.specs.declared.Part.{Part}
-use Rattle.message.specs.declared.Change.the-variants.{Made, NoMessage, NotStorable, NoRun, TooManyFields}
+use Rattle.message_rules.specs.Changes.{After, after, ofStore, ofMessage, partOf, withPart, mapWords, mapValues, judgedMap, judged}
+use Rattle.message_rules.specs.declared.Part.{Part}
+use Rattle.message_rules.specs.declared.Change.the-variants.{Made, NoMessage, NotStorable, NoRun, TooManyFields}
 
 -- "27 first": a draft is laid out as a message is, and within its limits; an entry without any field counts as one
 unfoldable pub isDraft : List ℕ → List ℕ → Bool

@@ -10,3 +10,7 @@ pub mod StoreLaws
 pub mod NewLaws
 pub mod FormedLaws
 pub mod Examples
+pub mod LookUps
+pub mod LookUpExamples
+pub mod Runs
+pub mod RunExamples

@@ -9,10 +9,10 @@ use Rattle.maps.specs.Rows.{Row, row, laid, sizes, sizeOf}
 use Rattle.lent.specs.Lent.{fieldsIn}
 use Rattle.lent.specs.Meaning.{Message, parts}
 use Rattle.lent.specs.LaidLaws.{fields-parts}
-use Rattle.message.specs.Changes.{partOf, withPart, fieldTotal, spanOf}
-use Rattle.message.specs.LayoutLaws.{sizes-append, sizes-laid}
-use Rattle.message.specs.declared.Part.{Part}
-use Rattle.message.specs.declared.Part.the-variants.{Header, Body, Trailer}
+use Rattle.message_rules.specs.Changes.{partOf, withPart, fieldTotal, spanOf}
+use Rattle.message_rules.specs.LayoutLaws.{sizes-append, sizes-laid}
+use Rattle.message_rules.specs.declared.Part.{Part}
+use Rattle.message_rules.specs.declared.Part.the-variants.{Header, Body, Trailer}
 
 pub record PartSplit (part : Part) (m : Message) : Type 0 where
   pub before : List Row

@@ -17,9 +17,9 @@ use Rattle.lent.specs.Lent.{rowCount, rowsOf, isMessage}
 use Rattle.lent.specs.LentLaws.{Laid, Held, message-held}
 use Rattle.lent.specs.Meaning.{Message, parts, wordsOf, valuesOf, messageIn}
 use Rattle.lent.specs.MeaningLaws.{Means, means, flat-length, flat-append, rows-flat}
-use Rattle.message.specs.Changes.{After, after, placeOf, Cuttable, cutRows, cutSize, cutWords, cutValues, changedAt, locatedIn, spanOf}
-use Rattle.message.specs.LayoutLaws.{sizes-append, sizes-laid, end-below}
-use Rattle.message.specs.declared.Cut.{Cut}
+use Rattle.message_rules.specs.Changes.{After, after, placeOf, Cuttable, cutRows, cutSize, cutWords, cutValues, changedAt, locatedIn, spanOf}
+use Rattle.message_rules.specs.LayoutLaws.{sizes-append, sizes-laid, end-below}
+use Rattle.message_rules.specs.declared.Cut.{Cut}
 
 pub rows-length : (n i : ℕ) (words : List ℕ) → length (rowsFrom n i words) ≡ n
 unfolding rowsFrom

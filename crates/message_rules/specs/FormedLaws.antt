@@ -14,14 +14,14 @@ use Rattle.lent.specs.Meaning.{Message, parts, wordsOf, valuesOf, messageIn}
 use Rattle.lent.specs.Formed.{isFormed, Formed, Within}
 use Rattle.lent.specs.FormedLaws.{lent-formed, Lends, layout-lends}
 use Rattle.lent.specs.StoredLaws.{formed-stored, formed-without}
-use Rattle.message.specs.Changes.{after, partOf, withPart, fieldTotal, valueTotal, judged, noFields, ofStore, emptying, storing, removing}
-use Rattle.message.specs.ChangeLaws.{no-message, store-zero, store-on, remove-none, remove-on}
-use Rattle.message.specs.SplitLaws.{field-gone}
-use Rattle.message.specs.PartLaws.{part-split}
-use Rattle.message.specs.declared.Part.{Part}
-use Rattle.message.specs.declared.Part.the-variants.{Header, Body, Trailer}
-use Rattle.message.specs.declared.Change.{Change}
-use Rattle.message.specs.declared.Change.the-variants.{Made, NoMessage, NotStorable, NoRun, TooManyFields}
+use Rattle.message_rules.specs.Changes.{after, partOf, withPart, fieldTotal, valueTotal, judged, noFields, ofStore, emptying, storing, removing}
+use Rattle.message_rules.specs.ChangeLaws.{no-message, store-zero, store-on, remove-none, remove-on}
+use Rattle.message_rules.specs.SplitLaws.{field-gone}
+use Rattle.message_rules.specs.PartLaws.{part-split}
+use Rattle.message_rules.specs.declared.Part.{Part}
+use Rattle.message_rules.specs.declared.Part.the-variants.{Header, Body, Trailer}
+use Rattle.message_rules.specs.declared.Change.{Change}
+use Rattle.message_rules.specs.declared.Change.the-variants.{Made, NoMessage, NotStorable, NoRun, TooManyFields}
 
 -- a formed message's parts are formed, and with a formed map in a part it is formed
 pub part-formed : (part : Part) (m : Message) → Formed m → isFormed (partOf part m) ≡ true

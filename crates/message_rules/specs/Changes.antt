@@ -10,14 +10,14 @@ use Rattle.maps.specs.Map.{Map, end, field, entry, holds, withoutField, stored,
 use Rattle.maps.specs.Rows.{laid, flat, rowsFrom, findFrom, runEndFrom, sizes, padded, spliced}
 use Rattle.lent.specs.Lent.{isMessage}
 use Rattle.lent.specs.Meaning.{Message, parts, wordsOf, valuesOf, messageIn}
-use Rattle.message.specs.declared.Part.{Part}
-use Rattle.message.specs.declared.Part.the-variants.{Header, Body, Trailer}
-use Rattle.message.specs.declared.Change.{Change}
-use Rattle.message.specs.declared.Change.the-variants.{Made, NoMessage, NotStorable, NoRun, TooManyFields}
-use Rattle.message.specs.declared.Span.{Span}
-use Rattle.message.specs.declared.Cut.{Cut}
-use Rattle.message.specs.declared.Located.{Located}
-use Rattle.message.specs.declared.Located.the-variants.{At, Nowhere}
+use Rattle.message_rules.specs.declared.Part.{Part}
+use Rattle.message_rules.specs.declared.Part.the-variants.{Header, Body, Trailer}
+use Rattle.message_rules.specs.declared.Change.{Change}
+use Rattle.message_rules.specs.declared.Change.the-variants.{Made, NoMessage, NotStorable, NoRun, TooManyFields}
+use Rattle.message_rules.specs.declared.Span.{Span}
+use Rattle.message_rules.specs.declared.Cut.{Cut}
+use Rattle.message_rules.specs.declared.Located.{Located}
+use Rattle.message_rules.specs.declared.Located.the-variants.{At, Nowhere}
 
 -- 01's number for each answer
 unfoldable pub numberOfChange : Change → ℕ

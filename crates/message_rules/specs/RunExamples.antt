@@ -7,7 +7,7 @@ use Prim.Native.Nat.{ℕ}
 use Rattle.tagvalue.specs.Text.{bytes}
 use Rattle.maps.specs.Map.{Map, end, field, entry, joined, holds, holdsAny, replaced, leading, pastLeading, runOn, withoutRun, stored, hungOnCount, hungAlone, hung, fieldCount}
 use Rattle.lent.specs.Formed.{isRun}
-use Rattle.runs.specs.Runs.{isEmpty, inLast, hasUntagged, isWhole, hungRun}
+use Rattle.message_rules.specs.Runs.{isEmpty, inLast, hasUntagged, isWhole, hungRun}
 
 -- two entries, made one after the other: 78 79=A 80=5, 79=B with a nested run 539 524=p
 one : Map

@@ -10,7 +10,7 @@ use borrow.Author.Tests.{eqb-true, eq-eqb, ne-eqb, lt-leb, le-leb, lt-ltb, le-lt
 use Rattle.tagvalue.specs.Choice.{pick, pick-same}
 use Rattle.maps.specs.Map.{Map, end, field, entry, joined, holds, holdsAny, replaced, withoutField, leading, pastLeading, runOn, withoutRun, stored, hungOnCount, hungAlone, Looked, none, some, valueUnder, fieldCount, valuesIn}
 use Rattle.maps.specs.Rows.{Row, row, laid, levelOf, matches, findFrom, inRun, runEndFrom}
-use Rattle.message.specs.LayoutLaws.{joined-end, laid-joined, find-below, run-end-below}
+use Rattle.message_rules.specs.LayoutLaws.{joined-end, laid-joined, find-below, run-end-below}
 
 -- a tag is the one looked for, or not
 pub same-tag : (t tag : ℕ) (P : Bool → Type 0) → (t ≡ tag → P true) → (eqb t tag ≡ false → P false) → P (eqb t tag)

@@ -16,12 +16,12 @@ use Rattle.lent.specs.Lent.{rowCount, rowsOf, isMessage}
 use Rattle.lent.specs.LentLaws.{Laid, Held, message-held}
 use Rattle.lent.specs.Meaning.{Message, parts, wordsOf, valuesOf, messageIn}
 use Rattle.lent.specs.MeaningLaws.{Means, means, flat-length, flat-append, rows-flat}
-use Rattle.message.specs.Changes.{After, after, placeOf, Cuttable, cutRows, cutSize, cutWords, cutValues, changedAt, mapWords, mapValues, judgedMap}
-use Rattle.message.specs.LayoutLaws.{sizes-append, sizes-laid}
-use Rattle.message.specs.PlaceLaws.{rows-length, rows-part, part-rows, part-values, spliced-parts}
-use Rattle.message.specs.declared.Part.{Part}
-use Rattle.message.specs.declared.Part.the-variants.{Header, Body, Trailer}
-use Rattle.message.specs.declared.Cut.{Cut}
+use Rattle.message_rules.specs.Changes.{After, after, placeOf, Cuttable, cutRows, cutSize, cutWords, cutValues, changedAt, mapWords, mapValues, judgedMap}
+use Rattle.message_rules.specs.LayoutLaws.{sizes-append, sizes-laid}
+use Rattle.message_rules.specs.PlaceLaws.{rows-length, rows-part, part-rows, part-values, spliced-parts}
+use Rattle.message_rules.specs.declared.Part.{Part}
+use Rattle.message_rules.specs.declared.Part.the-variants.{Header, Body, Trailer}
+use Rattle.message_rules.specs.declared.Cut.{Cut}
 
 -- words and values of their lengths, within their limits
 pub record Sized (words values : List ℕ) : Type 0 where
