@@ -25,10 +25,10 @@ use Rattle.encoder.specs.Writing.{outcome, writing}
 use Rattle.encoder.specs.MessageLaws.{summed-length}
 use Rattle.encoder.specs.declared.Encoded.{Encoded}
 use Rattle.encoder.specs.declared.Encoded.the-variants.{Written}
-use Rattle.encoding.specs.Encode.{left, encoded}
+use Rattle.written_form.specs.Encode.{left, encoded}
 use Rattle.encoding.specs.Leaving.{Encodable}
 use Rattle.encoding.specs.SizeLaws.{dropped-values, dropped-fields, sum-size, measured-values, measured-fields, encoded-values}
-use Rattle.encoding.specs.declared.Encoding.the-variants.{Written as Encoded-Written}
+use Rattle.written_form.specs.declared.Encoding.the-variants.{Written as Encoded-Written}
 
 -- digits that are written at the start, and read back
 pub digits-back : (digits scratch written : List ℕ) (stop : ℕ) → length digits ≤ length scratch → stop ≡ 0 + length digits → written ≡ writtenAt 0 digits scratch → take stop written ≡ digits

@@ -3,7 +3,7 @@
 ghost use mathlib.Core.Path.{_≡_};
 ghost use Rattle.message_rules.specs.Changes.{emptying, making, storing, removing};
 ghost use Rattle.message_rules.specs.Runs.{starting, entering, storingLast, hangingLast, hanging};
-ghost use Rattle.encoding.specs.Encode.{encodingOf};
+ghost use Rattle.written_form.specs.Encode.{encodingOf};
 ghost use Rattle.telling.specs.Told.{told, partNumbered, changeNumber, changedWords, changedValues, encodingNumber, encodingLength, leftWords, leftValues, leftOutput};
 
 // Makes what is lent an empty message.

@@ -1,7 +1,7 @@
 // Writes answers, messages and encodings.
 use crate::laying;
 use crate::reading;
-use encoding::Encoding;
+use written_form::Encoding;
 use message_rules::Change;
 use taking::Taken;
 

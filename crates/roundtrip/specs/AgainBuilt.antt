@@ -20,8 +20,8 @@ use Rattle.taking.specs.Derived.{derived, given}
 use Rattle.taken.specs.Theorem.{Shown, build-shown, shown-build, build-of-taken}
 use Rattle.written_form.specs.Encoding.{encoding, encodedMessage}
 use Rattle.tagvalue.specs.Separator.{isRefusedSeparator}
-use Rattle.encoding.specs.Encode.{left, encodingOf}
-use Rattle.encoding.specs.declared.Encoding.the-variants.{Written, TooLong}
+use Rattle.written_form.specs.Encode.{left, encodingOf}
+use Rattle.written_form.specs.declared.Encoding.the-variants.{Written, TooLong}
 use Rattle.tags_alone.specs.SimilarLaws.{similar-length}
 use Rattle.roundtrip.specs.Clean.{RepeatFree}
 use Rattle.roundtrip.specs.AgainValues.{Split}

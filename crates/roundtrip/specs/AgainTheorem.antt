@@ -17,8 +17,8 @@ use Rattle.standing.specs.Parted.{Takes}
 use Rattle.sequence.specs.InOrder.{InOrder}
 use Rattle.written_form.specs.Encoding.{encoding, encodedMessage}
 use Rattle.tagvalue.specs.Separator.{isRefusedSeparator}
-use Rattle.encoding.specs.Encode.{left, encodingOf}
-use Rattle.encoding.specs.declared.Encoding.the-variants.{Written, TooLong}
+use Rattle.written_form.specs.Encode.{left, encodingOf}
+use Rattle.written_form.specs.declared.Encoding.the-variants.{Written, TooLong}
 use Rattle.rewriting.specs.Written.{rewritten}
 use Rattle.rewriting.specs.EncodedBuilt.{Built, encoding-rewritten}
 use Rattle.rewriting.specs.EncodedFit.{encoding-written, encoding-too-long}

@@ -19,8 +19,8 @@ use Rattle.reading.specs.declared.Stop.the-variants.{At, Nowhere}
 use Rattle.lent.specs.Meaning.{Message, wordsOf, valuesOf}
 use Rattle.written_form.specs.Encoding.{encodedMessage}
 use Rattle.tagvalue.specs.Separator.{isRefusedSeparator}
-use Rattle.encoding.specs.Encode.{left, encodingOf}
-use Rattle.encoding.specs.declared.Encoding.the-variants.{Written}
+use Rattle.written_form.specs.Encode.{left, encodingOf}
+use Rattle.written_form.specs.declared.Encoding.the-variants.{Written}
 use Rattle.integrity.specs.declared.Config.{Config}
 use Rattle.dictionary_meaning_rules.specs.Meaning.{dictionaryOf}
 use Rattle.parts.specs.declared.Answer.the-variants.{Valid}

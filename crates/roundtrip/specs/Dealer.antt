@@ -15,9 +15,9 @@ use Rattle.builder.specs.Build.{BuildOutcome, buildOf}
 use Rattle.lent.specs.Meaning.{wordsOf, valuesOf, messageIn}
 use Rattle.message_rules.specs.Changes.{fieldTotal}
 use Rattle.written_form.specs.Encoding.{encodedMessage}
-use Rattle.encoding.specs.Encode.{left, encodingOf}
+use Rattle.written_form.specs.Encode.{left, encodingOf}
 use Rattle.encoding.specs.EncodedLaws.{encode-lends}
-use Rattle.encoding.specs.declared.Encoding.the-variants.{Written}
+use Rattle.written_form.specs.declared.Encoding.the-variants.{Written}
 use Rattle.taking.specs.Taking.{after, takingOver}
 use Rattle.taking.specs.declared.Taken.the-variants.{Made}
 use Rattle.standing.specs.Parted.{Takes}

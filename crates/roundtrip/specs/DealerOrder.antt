@@ -41,8 +41,8 @@ use Rattle.taking.specs.Taking.{valueAt as valueIn}
 use Rattle.standing.specs.Parted.{Takes}
 use Rattle.written_form.specs.Encoding.{sumDigits, summed as withSum, encoding, encodedMessage}
 use Rattle.tagvalue.specs.Separator.{isRefusedSeparator}
-use Rattle.encoding.specs.Encode.{left, encodingOf}
-use Rattle.encoding.specs.declared.Encoding.the-variants.{Written}
+use Rattle.written_form.specs.Encode.{left, encodingOf}
+use Rattle.written_form.specs.declared.Encoding.the-variants.{Written}
 use Rattle.sequence.specs.Counted.{countedTo, countedFields, fieldsCounted}
 use Rattle.sequence.specs.Twice.{twiceInHeader, twiceInTrailer, twiceBehind, twiceTaking, twiceWithin, twiceInBody, twiceFromBody, twiceFromHeader, storedTwice}
 use Rattle.message_rules.specs.Changes.{fieldTotal}

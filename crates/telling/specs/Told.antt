@@ -8,9 +8,9 @@ use Rattle.integrity.specs.declared.Config.{Config}
 use Rattle.message_rules.specs.declared.Part.{Part}
 use Rattle.message_rules.specs.declared.Part.the-variants.{Header, Body, Trailer}
 use Rattle.message_rules.specs.Changes.{After, after, numberOfChange}
-use Rattle.encoding.specs.declared.Encoding.{Encoding}
-use Rattle.encoding.specs.declared.Encoding.the-variants.{Written, NoMessage, InvalidSeparator, Incomplete, TooLong, TooManyFields, NoRoom}
-use Rattle.encoding.specs.Encode.{Left, left, numberOfEncoding}
+use Rattle.written_form.specs.declared.Encoding.{Encoding}
+use Rattle.written_form.specs.declared.Encoding.the-variants.{Written, NoMessage, InvalidSeparator, Incomplete, TooLong, TooManyFields, NoRoom}
+use Rattle.written_form.specs.Encode.{Left, left, numberOfEncoding}
 use Rattle.message_rules.specs.declared.FoundValue.{FoundValue}
 use Rattle.message_rules.specs.declared.FoundValue.the-variants as value
 use Rattle.message_rules.specs.declared.FoundMap.{FoundMap}

@@ -1,6 +1,6 @@
 // telling: what a caller in another language is told of a core's answer: 01's number, four lent words, and records of twelve bytes.
 // It takes answers and values apart and decides nothing; `gateway` lends what the caller lent.
-use encoding::Encoding;
+use written_form::Encoding;
 use integrity::Config;
 use message_rules::FoundMap;
 use message_rules::FoundValue;
@@ -12,7 +12,7 @@ ghost use mathlib.Core.Path.{_≡_};
 ghost use Prim.Native.Nat.{_*_, _%_, _^_, _≤_};
 ghost use lib.ListN.{take, replicate};
 ghost use Rattle.message_rules.specs.Changes.{numberOfChange};
-ghost use Rattle.encoding.specs.Encode.{numberOfEncoding};
+ghost use Rattle.written_form.specs.Encode.{numberOfEncoding};
 ghost use Rattle.taking.specs.Taking.{numberOfTaken, takingOver};
 ghost use Rattle.records.specs.Records.{onRecords, replaced};
 ghost use Rattle.message_rules.specs.LookUps.{numberOfValue, numberOfMap};

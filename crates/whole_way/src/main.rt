@@ -3,7 +3,7 @@
 mod sample;
 mod showing;
 
-use encoding::Encoding;
+use written_form::Encoding;
 use integrity::Config;
 use message_rules::Part;
 use tagvalue::Cursor;

@@ -10,11 +10,11 @@ use Rattle.maps.specs.Map.{Map, end, field, entry, holds}
 use Rattle.lent.specs.Lent.{isMessage}
 use Rattle.lent.specs.Meaning.{Message, wordsOf, valuesOf, messageIn}
 use Rattle.message_rules.specs.Changes.{fieldTotal}
 use Rattle.written_form.specs.Encoding.{dropped, bodyLength, encoding, encodedMessage}
-use Rattle.encoding.specs.declared.Encoding.{Encoding}
-use Rattle.encoding.specs.declared.Encoding.the-variants.{Written, NoMessage, InvalidSeparator, Incomplete, TooLong, TooManyFields, NoRoom}
-use Rattle.encoding.specs.declared.Verdict.{Verdict}
-use Rattle.encoding.specs.declared.Verdict.the-variants.{Measured, Refused}
+use Rattle.written_form.specs.declared.Encoding.{Encoding}
+use Rattle.written_form.specs.declared.Encoding.the-variants.{Written, NoMessage, InvalidSeparator, Incomplete, TooLong, TooManyFields, NoRoom}
+use Rattle.written_form.specs.declared.Verdict.{Verdict}
+use Rattle.written_form.specs.declared.Verdict.the-variants.{Measured, Refused}
 
 -- 01's number for each answer
 unfoldable pub numberOfEncoding : Encoding → ℕ

@@ -14,11 +14,11 @@ use Rattle.maps.specs.Rows.{laid, flat, padded, rowAt, rowsFrom, levelOf, sizeO
 use Rattle.lent.specs.Lent.{heldBefore, delimiterIs, continues, followsOn, deepest, fieldAllowed, headAllowed, rowAllowed, rowsAllowed, isPart, nextPart, partsFrom, isOwn, ownBelow, weight, fieldsIn, rowCount, rowsOf, isLaid, isMessage}
 use Rattle.lent.specs.Meaning.{Message, parts, wordsOf, valuesOf, opened, withField, withEntry, withRow, openIn, outermost, thirdOf, secondOf, partsIn, messageIn}
 use Rattle.message_rules.specs.Changes.{fieldTotal}
 use Rattle.written_form.specs.Encoding.{text, textUnder, isFirst, isRest, headerText, messageText, bytesOf, dropped, bodyLength, measured, sumDigits, summed, encoding, encodedMessage}
-use Rattle.encoding.specs.Encode.{numberOfEncoding, lacksCount, hasUncounted, isIncomplete, judging, verdictOf, Left, left, encoded, afterVerdict, encodingOf}
-use Rattle.encoding.specs.declared.Encoding.the-variants.{Written, NoMessage, InvalidSeparator, Incomplete, TooLong, TooManyFields, NoRoom}
-use Rattle.encoding.specs.declared.Verdict.{Verdict}
-use Rattle.encoding.specs.declared.Verdict.the-variants.{Measured, Refused}
+use Rattle.written_form.specs.Encode.{numberOfEncoding, lacksCount, hasUncounted, isIncomplete, judging, verdictOf, Left, left, encoded, afterVerdict, encodingOf}
+use Rattle.written_form.specs.declared.Encoding.the-variants.{Written, NoMessage, InvalidSeparator, Incomplete, TooLong, TooManyFields, NoRoom}
+use Rattle.written_form.specs.declared.Verdict.{Verdict}
+use Rattle.written_form.specs.declared.Verdict.the-variants.{Measured, Refused}
 
 -- a header with 8 and 35, and what a body or trailer has
 with-body : Map → Message
