@@ -1,12 +1,12 @@
 // body: the body of a message, its fields and its repeating groups, between header and trailer.
 // It reads through look-ups only and keeps records through `records` only; only the builder calls it.
+use dictionary_layout_rules::Level;
+use dictionary_layout_rules::Nested;
+use dictionary_layout_rules::Position;
 use groups::Group;
 use groups::Reading;
 use groups::Refusal;
 use integrity::Config;
-use dictionary_layout_rules::Level;
-use dictionary_layout_rules::Nested;
-use dictionary_layout_rules::Position;
 use parts::Answer;
 use parts::Next;
 use parts::PartRead;

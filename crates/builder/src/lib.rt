@@ -1,12 +1,12 @@
 // builder: from a message's bytes to its answer and its records: integrity, header, MsgType's layout, body and trailer in turn.
 // It reads a dictionary through the index and the tables that are made of it, and keeps records through `records` only.
+use dictionary_layout_rules::Level;
 use dictionary_meaning_rules::MessageTable;
-use flattening::tags;
 use dictionary_meaning_rules::TagList;
+use flattening::tags;
 use integrity::Config;
 use integrity::Integrity;
 use integrity::Verified;
-use dictionary_layout_rules::Level;
 use parts::Answer;
 use parts::PartRead;
 use parts::Progress;

@@ -1,7 +1,7 @@
 // flat: the check of a flat dictionary's bytes, 30 to 37, and the index that it leaves for look-ups.
 // It knows nothing of messages, and of a dictionary's meaning only what the check needs: what is named, how often and how deep.
-use dictionary_rules::RecordRead;
 use dictionary_rules::Checked;
+use dictionary_rules::RecordRead;
 use dictionary_rules::State;
 use dictionary_rules::Step;
 ghost use mathlib.Core.Path.{_≡_};

@@ -1,11 +1,11 @@
 // flat_names: what a dictionary names, kept in the lent index: known tags, closed components and MsgTypes, each looked up by one search.
 // It reads no dictionary bytes, and decides nothing: whether a record may name what it names is decided above it.
+use chains::Entry;
+use chains::Table;
 use dictionary_rules::Component;
 use dictionary_rules::Looked;
 use dictionary_rules::Note;
 use dictionary_rules::Placed;
-use chains::Entry;
-use chains::Table;
 ghost use mathlib.Core.Path.{_≡_};
 ghost use lib.ListN.{length};
 ghost use Rattle.dictionary_rules.specs.Index.{tagAt, componentAt, messageAt, tagEntry, componentEntry, messageEntry, noted};

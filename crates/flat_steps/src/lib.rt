@@ -1,18 +1,18 @@
 // flat_steps: what one record of a dictionary does to what the records before it left, 31 to 37 in number order.
 // It looks names up in the lent index and changes nothing there: what a record makes known is handed back as a note.
 use dictionary_rules::Checked;
+use dictionary_rules::Component;
 use dictionary_rules::Group;
 use dictionary_rules::Groups;
 use dictionary_rules::Held;
-use dictionary_rules::Open;
-use dictionary_rules::Owner;
-use dictionary_rules::State;
-use dictionary_rules::Step;
-use dictionary_rules::Component;
 use dictionary_rules::Looked;
 use dictionary_rules::Note;
+use dictionary_rules::Open;
+use dictionary_rules::Owner;
 use dictionary_rules::Placed;
 use dictionary_rules::Record;
+use dictionary_rules::State;
+use dictionary_rules::Step;
 ghost use mathlib.Core.Path.{_≡_};
 ghost use lib.ListN.{length};
 ghost use Rattle.dictionary_rules.specs.Index.{looksAt};

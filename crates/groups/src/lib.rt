@@ -1,10 +1,10 @@
 // groups: reading repeating groups. The run reader and the entry reader call each other, and the depth that is left falls.
 // It reads through look-up tables only, counts fields by the room that is left for them, and never compares a count's value.
-use integrity::Config;
 use dictionary_layout_rules::FirstTag;
 use dictionary_layout_rules::Level;
 use dictionary_layout_rules::Nested;
 use dictionary_layout_rules::Position;
+use integrity::Config;
 use records::Record;
 use records::Standing;
 use tagvalue::Cause;

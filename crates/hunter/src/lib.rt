@@ -2,13 +2,13 @@
 // drops the places at which none can start.
 // It may not keep anything: the caller lends store and output to each call, and hands the state on as it was returned. And it may not
 // judge a place: `verdict` does.
-use frame_verdict_rules::Verdict;
 use frame_hunter_rules::Act;
 use frame_hunter_rules::Answer;
 use frame_hunter_rules::Hunted;
 use frame_hunter_rules::Reply;
 use frame_hunter_rules::State;
 use frame_hunter_rules::Taken;
+use frame_verdict_rules::Verdict;
 ghost use mathlib.Core.Path.{_≡_};
 ghost use mathlib.Core.List.{_++_};
 ghost use Prim.Native.Nat.{_-_, _≤_};

@@ -12,7 +12,12 @@ fn field(name: &[u8], value: usize) {
     io::print_decimal(1, value as u64);
 }
 
-fn push(call: &[u8], state: frame_hunter_rules::State, store: &mut [u8; 16384], chunk: &[u8]) -> frame_hunter_rules::State {
+fn push(
+    call: &[u8],
+    state: frame_hunter_rules::State,
+    store: &mut [u8; 16384],
+    chunk: &[u8],
+) -> frame_hunter_rules::State {
     let reply = hunter::push(state, store, chunk);
     let answer = reply.answer;
     let next = reply.state;
@@ -22,7 +27,11 @@ fn push(call: &[u8], state: frame_hunter_rules::State, store: &mut [u8; 16384], 
     next
 }
 
-fn end(call: &[u8], state: frame_hunter_rules::State, store: &[u8; 16384]) -> frame_hunter_rules::State {
+fn end(
+    call: &[u8],
+    state: frame_hunter_rules::State,
+    store: &[u8; 16384],
+) -> frame_hunter_rules::State {
     let reply = hunter::end(state, store);
     let answer = reply.answer;
     let next = reply.state;

@@ -1,12 +1,12 @@
 // parser: the ported framer. Chunks of a stream go in at the end of a lent store, whole messages come out at its front, cut by
 // their announced lengths alone. It never looks for a message's start, checks no CheckSum and knows no field but by its position.
-use tagvalue::Found;
 use frame_parser_rules::Announced;
 use frame_parser_rules::Answer;
 use frame_parser_rules::Outcome;
 use frame_parser_rules::Ready;
 use frame_parser_rules::State;
 use frame_parser_rules::Value;
+use tagvalue::Found;
 ghost use mathlib.Core.Path.{_≡_};
 ghost use Prim.Native.Nat.{_*_, _%_, _^_, _≤_};
 ghost use lib.ListN.{length, take, drop};

@@ -87,7 +87,12 @@ pub fn add_entry(
 }
 
 // Stores a field in the last entry.
-pub fn store_last(words: &mut [u32], values: &mut [u8], tag: u32, value: &[u8]) -> message_rules::Change
+pub fn store_last(
+    words: &mut [u32],
+    values: &mut [u8],
+    tag: u32,
+    value: &[u8],
+) -> message_rules::Change
     ensures { λ r. ⌜ after r (now (words .exit)) (now (values .exit)) ≡ storingLast tag (now (value .entry)) (now (words .entry)) (now (values .entry)) ⌝ }
 {
     if !is_draft(words, values) {

@@ -1,13 +1,13 @@
 // telling: what a caller in another language is told of a core's answer: 01's number, four lent words, and records of twelve bytes.
 // It takes answers and values apart and decides nothing; `gateway` lends what the caller lent.
-use written_form::Encoding;
 use integrity::Config;
+use message_rules::Change;
 use message_rules::FoundMap;
 use message_rules::FoundValue;
-use message_rules::Change;
 use message_rules::Part;
 use records::Record;
 use taking::Taken;
+use written_form::Encoding;
 ghost use mathlib.Core.Path.{_≡_};
 ghost use Prim.Native.Nat.{_*_, _%_, _^_, _≤_};
 ghost use lib.ListN.{take, replicate};
