@@ -8,7 +8,7 @@ use lib.ListN.{length}
 use Rattle.tagvalue.specs.declared.Mode.{Mode}
 use Rattle.tagvalue.specs.Fields.{Fields, unreadable, field, fieldsFrom, Each, each-end, each-field}
 use Rattle.tagvalue.specs.declared.Field.{Field}
-use Rattle.layout.specs.Tree.{holdsTag}
+use Rattle.dictionary_layout_rules.specs.Tree.{holdsTag}
 use Rattle.records.specs.Records.{stored}
 use Rattle.records.specs.declared.Record.{Record}
 use Rattle.groups.specs.Groups.{Rules, run, Outcome, walk}

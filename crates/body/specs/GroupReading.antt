@@ -10,7 +10,7 @@ use Rattle.tagvalue.specs.Fields.{Fields, fieldsFrom, Inside}
 use Rattle.tagvalue.specs.declared.Cursor.{Cursor}
 use Rattle.tagvalue.specs.declared.Field.{Field}
 use Rattle.build_config.specs.declared.Config.{Config}
-use Rattle.layout.specs.declared.Level.{Level}
+use Rattle.dictionary_layout_rules.specs.declared.Level.{Level}
 use Rattle.records.specs.Records.{recordsOf, between}
 use Rattle.records.specs.WordLaws.{records-length}
 use Rattle.records.specs.RecordLaws.{between-parts}

@@ -4,10 +4,10 @@ use mathlib.Core.Bool.{Bool, true, false}
 use mathlib.Core.List.{List}
 use Prim.Native.Nat.{ℕ}
 use Rattle.build_config.specs.declared.Config.{Config}
-use Rattle.layout.specs.Table.{positionOf, groupWithin}
-use Rattle.layout.specs.declared.Level.{Level}
-use Rattle.layout.specs.declared.Position.the-variants.{At, Nowhere}
-use Rattle.layout.specs.declared.Nested.the-variants.{Within, NoGroup}
+use Rattle.dictionary_layout_rules.specs.Table.{positionOf, groupWithin}
+use Rattle.dictionary_layout_rules.specs.declared.Level.{Level}
+use Rattle.dictionary_layout_rules.specs.declared.Position.the-variants.{At, Nowhere}
+use Rattle.dictionary_layout_rules.specs.declared.Nested.the-variants.{Within, NoGroup}
 use Rattle.groups.specs.Reading.{accepted, openedBy, tableRules}
 use Rattle.body.specs.Body.{plain, counts, other}
 use Rattle.body.specs.Kinds.{groupKind, placedKind, kindOf}

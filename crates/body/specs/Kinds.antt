@@ -6,9 +6,9 @@ use Rattle.tagvalue.specs.Choice.{pick}
 use Rattle.tagvalue.specs.Fields.{Fields}
 use Rattle.tagvalue.specs.declared.Field.{Field}
 use Rattle.records.specs.declared.Record.{Record}
-use Rattle.layout.specs.declared.Level.{Level}
-use Rattle.layout.specs.declared.Position.{Position}
-use Rattle.layout.specs.declared.Position.the-variants.{At, Nowhere}
+use Rattle.dictionary_layout_rules.specs.declared.Level.{Level}
+use Rattle.dictionary_layout_rules.specs.declared.Position.{Position}
+use Rattle.dictionary_layout_rules.specs.declared.Position.the-variants.{At, Nowhere}
 use Rattle.groups.specs.Groups.{Opened, none, opened, Rules, run, Outcome, walk}
 use Rattle.groups.specs.Groups.{ended as ran, refused as stops}
 use Rattle.groups.specs.Reading.{listStore, answerOf}

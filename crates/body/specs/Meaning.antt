@@ -8,11 +8,11 @@ use Rattle.build_config.specs.declared.Config.{Config}
 use Rattle.tagvalue.specs.Choice.{pick}
 use Rattle.tagvalue.specs.Fields.{Fields, unreadable, field}
 use Rattle.tagvalue.specs.declared.Field.{Field}
-use Rattle.layout.specs.Layout.{Layout}
-use Rattle.layout.specs.Tabled.{Tabled}
-use Rattle.layout.specs.declared.Level.{Level}
-use Rattle.layout.specs.declared.Position.{Position}
-use Rattle.layout.specs.declared.Position.the-variants.{At, Nowhere}
+use Rattle.dictionary_layout_rules.specs.Layout.{Layout}
+use Rattle.dictionary_layout_rules.specs.Tabled.{Tabled}
+use Rattle.dictionary_layout_rules.specs.declared.Level.{Level}
+use Rattle.dictionary_layout_rules.specs.declared.Position.{Position}
+use Rattle.dictionary_layout_rules.specs.declared.Position.the-variants.{At, Nowhere}
 use Rattle.records.specs.Records.{stored}
 use Rattle.records.specs.declared.Record.{Record}
 use Rattle.groups.specs.Alike.{OpenedAlike, none-alike, opened-alike, RulesAlike}

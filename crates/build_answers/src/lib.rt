@@ -1,6 +1,6 @@
 // build_answers: the answer to a message, with its number and the values returned with it. A new answer is one more case here.
 // It reads nothing and decides nothing: whoever refuses says which answer it is.
-use flat_steps::Checked;
+use dictionary_rules::Checked;
 use integrity::GarbledReason;
 use tagvalue::Cause;
 ghost use mathlib.Core.Path.{_≡_};

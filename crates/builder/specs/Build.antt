@@ -7,9 +7,9 @@ use lib.Dec.{eqb, ltb}
 use Rattle.tagvalue.specs.Choice.{pick}
 use Rattle.tagvalue.specs.Separator.{isRefusedSeparator}
 use Rattle.build_config.specs.declared.Config.{Config}
-use Rattle.flat.specs.Check.{checkOf, numberOf as numberOfCheck}
-use Rattle.flat_steps.specs.declared.Checked.{Checked}
-use Rattle.flattening.specs.Meaning.{dictionaryOf}
+use Rattle.dictionary_rules.specs.Check.{checkOf, numberOf as numberOfCheck}
+use Rattle.dictionary_rules.specs.declared.Checked.{Checked}
+use Rattle.dictionary_meaning_rules.specs.Meaning.{dictionaryOf}
 use Rattle.records.specs.Records.{laid}
 use Rattle.records.specs.declared.Record.{Record}
 use Rattle.build_answers.specs.declared.Answer.{Answer}

@@ -7,14 +7,14 @@ use lib.ListN.{length, take, drop, set, getD, replicate, length-append, length-r
 use lib.Seq.{set-at, drop-cons, length-take-le, take-at}
 use borrow.Author.Tests.{eq-eqb, ne-eqb, le-leb, lt-leb}
 use Rattle.build_config.specs.declared.Config.{Config}
-use Rattle.flat.specs.Check.{numberOf as numberOfCheck}
-use Rattle.flat_steps.specs.declared.Checked.{Checked}
-use Rattle.flat_steps.specs.declared.Checked.the-variants.{Passes, TooLong, BadRecord, NoComponent, UnknownTag, EmptyGroup, TooDeep, Twice, TooManyItems}
-use Rattle.flattening.specs.Meaning.{dictionaryOf}
-use Rattle.flattening.specs.PlainTags.{listing, plainTags}
-use Rattle.flattening.specs.TagsMeant.{header-listed, trailer-listed}
-use Rattle.flattening.specs.declared.tags.TagList.{TagList}
-use Rattle.flattening.specs.declared.tags.TagList.the-variants.{Listed, Unlisted}
+use Rattle.dictionary_rules.specs.Check.{numberOf as numberOfCheck}
+use Rattle.dictionary_rules.specs.declared.Checked.{Checked}
+use Rattle.dictionary_rules.specs.declared.Checked.the-variants.{Passes, TooLong, BadRecord, NoComponent, UnknownTag, EmptyGroup, TooDeep, Twice, TooManyItems}
+use Rattle.dictionary_meaning_rules.specs.Meaning.{dictionaryOf}
+use Rattle.dictionary_meaning_rules.specs.PlainTags.{listing, plainTags}
+use Rattle.dictionary_meaning_rules.specs.TagsMeant.{header-listed, trailer-listed}
+use Rattle.dictionary_meaning_rules.specs.declared.TagList.{TagList}
+use Rattle.dictionary_meaning_rules.specs.declared.TagList.the-variants.{Listed, Unlisted}
 use Rattle.records.specs.Records.{recordsOf, leftover, laid, between}
 use Rattle.records.specs.WordLaws.{words-whole, laid-append, laid-length, records-length}
 use Rattle.records.specs.declared.Record.{Record}

@@ -12,14 +12,14 @@ use Rattle.tagvalue.specs.Number.{isDigit}
 use Rattle.tagvalue.specs.Separator.{isRefusedSeparator}
 use Rattle.tagvalue.specs.CheckSum.{sumOf, checksumDigits}
 use Rattle.tagvalue.specs.Decimal.{decimalWithin}
-use Rattle.layout.specs.Tree.{Dictionary}
+use Rattle.dictionary_layout_rules.specs.Tree.{Dictionary}
 use Rattle.build_answers.specs.Answer.{numberOf, valuesOf}
-use Rattle.flat.specs.Check.{checkOf}
-use Rattle.flat.specs.Examples.{examples, examples-pass}
-use Rattle.flat_records.specs.Record.{lowFirst, zeroFilled, bodyLength, withTag as tagBytes, withMark, knownTag, opensComponent, opensMessage, bodyOf as bodyBytes, withBody, withKind, recordFrom, recordAt}
-use Rattle.flat_records.specs.Record.{fieldItem as fieldBody, componentItem as componentBody, opensGroup as groupBody}
-use Rattle.flat_records.specs.Records.{recordsFrom, recordsWithin, followedBy as recordsThen}
-use Rattle.flattening.specs.Meaning.{onTop, groupOnTop, below, innermost, levelsOf, declarationsOf, nodesOf, expanded, definedBy, definedAfter, bytesWithin, msgTypeBytes, messageIn, messagesFrom, tagIn, tagsFrom, meaningOf, dictionaryOf}
+use Rattle.dictionary_rules.specs.Check.{checkOf}
+use Rattle.dictionary_rules.specs.Examples.{examples, examples-pass}
+use Rattle.dictionary_rules.specs.Record.{lowFirst, zeroFilled, bodyLength, withTag as tagBytes, withMark, knownTag, opensComponent, opensMessage, bodyOf as bodyBytes, withBody, withKind, recordFrom, recordAt}
+use Rattle.dictionary_rules.specs.Record.{fieldItem as fieldBody, componentItem as componentBody, opensGroup as groupBody}
+use Rattle.dictionary_rules.specs.Records.{recordsFrom, recordsWithin, followedBy as recordsThen}
+use Rattle.dictionary_meaning_rules.specs.Meaning.{onTop, groupOnTop, below, innermost, levelsOf, declarationsOf, nodesOf, expanded, definedBy, definedAfter, bytesWithin, msgTypeBytes, messageIn, messagesFrom, tagIn, tagsFrom, meaningOf, dictionaryOf}
 use Rattle.builder.specs.Build.{BuildOutcome, wordsWith, shown, checkedRead, buildOf}
 use Rattle.builder.specs.BuildLaws.{check-reads}
 use Rattle.builder.specs.ReadingLaws.{build-reads}

@@ -13,16 +13,16 @@ use Rattle.tagvalue.specs.declared.Field.{Field}
 use Rattle.records.specs.Records.{recordAt, between, blank}
 use Rattle.records.specs.RecordLaws.{between-on, between-end}
 use Rattle.records.specs.declared.Record.{Record}
-use Rattle.layout.specs.Layout.{items}
-use Rattle.layout.specs.Tree.{Choice, knows, trailerTags, layoutOf}
-use Rattle.flat_names.specs.Index.{tagAt}
-use Rattle.flattening.specs.Meaning.{dictionaryOf}
-use Rattle.flattening.specs.MsgTypeText.{Bytes, no-bytes, a-byte}
-use Rattle.flattening.specs.MessageTable.{Tabling, tabling, messageTable}
-use Rattle.flattening.specs.Theorem.{TableOf, no-table, a-table, tables-mean-tree}
-use Rattle.flattening.specs.KnownTags.{tags-known}
-use Rattle.flattening.specs.declared.MessageTable.{MessageTable}
-use Rattle.flattening.specs.declared.MessageTable.the-variants.{Rows}
+use Rattle.dictionary_layout_rules.specs.Layout.{items}
+use Rattle.dictionary_layout_rules.specs.Tree.{Choice, knows, trailerTags, layoutOf}
+use Rattle.dictionary_rules.specs.Index.{tagAt}
+use Rattle.dictionary_meaning_rules.specs.Meaning.{dictionaryOf}
+use Rattle.dictionary_meaning_rules.specs.MsgTypeText.{Bytes, no-bytes, a-byte}
+use Rattle.dictionary_meaning_rules.specs.MessageTable.{Tabling, tabling, messageTable}
+use Rattle.dictionary_meaning_rules.specs.Theorem.{TableOf, no-table, a-table, tables-mean-tree}
+use Rattle.dictionary_meaning_rules.specs.KnownTags.{tags-known}
+use Rattle.dictionary_meaning_rules.specs.declared.MessageTable.{MessageTable}
+use Rattle.dictionary_meaning_rules.specs.declared.MessageTable.the-variants.{Rows}
 use Rattle.groups.specs.Reading.{tableRules}
 use Rattle.required.specs.Checking.{tableDemands}
 use Rattle.build_answers.specs.declared.Answer.the-variants.{InvalidMsgType}

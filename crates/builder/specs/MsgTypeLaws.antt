@@ -16,7 +16,7 @@ use Rattle.tagvalue.specs.declared.Field.{Field}
 use Rattle.integrity.specs.Integrity.{integrityOf}
 use Rattle.integrity.specs.declared.Integrity.the-variants.{Sound}
 use Rattle.integrity.specs.declared.Verified.{Verified}
-use Rattle.layout.specs.Tree.{holdsTag}
+use Rattle.dictionary_layout_rules.specs.Tree.{holdsTag}
 use Rattle.records.specs.Records.{stored}
 use Rattle.records.specs.declared.Record.{Record}
 use Rattle.parts.specs.Parts.{ended, recordOf}

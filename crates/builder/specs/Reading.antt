@@ -9,9 +9,9 @@ use Rattle.tagvalue.specs.Choice.{pick}
 use Rattle.tagvalue.specs.Fields.{fieldsFrom, Inside}
 use Rattle.tagvalue.specs.declared.Mode.{Mode}
 use Rattle.integrity.specs.declared.Verified.{Verified}
-use Rattle.flat.specs.Check.{checkOf, storeOf, preparedOf}
-use Rattle.flat_steps.specs.declared.Checked.the-variants.{Passes}
-use Rattle.layout.specs.Tree.{Dictionary, headerTags, trailerTags}
+use Rattle.dictionary_rules.specs.Check.{checkOf, storeOf, preparedOf}
+use Rattle.dictionary_rules.specs.declared.Checked.the-variants.{Passes}
+use Rattle.dictionary_layout_rules.specs.Tree.{Dictionary, headerTags, trailerTags}
 use Rattle.build_answers.specs.declared.Answer.{Answer}
 use Rattle.build_answers.specs.declared.Answer.the-variants.{Valid}
 use Rattle.build_answers.specs.Answer.{numberOf}

@@ -12,10 +12,10 @@ use Rattle.tagvalue.specs.Choice.{pick}
 use Rattle.tagvalue.specs.Separator.{isRefusedSeparator}
 use Rattle.tagvalue.specs.Fields.{fieldsFrom}
 use Rattle.build_config.specs.declared.Config.{Config}
-use Rattle.flat.specs.Check.{outcome, checkOf, preparedOf, storeOf, numberOf as numberOfCheck}
-use Rattle.flat_steps.specs.declared.Checked.{Checked}
-use Rattle.flattening.specs.Meaning.{dictionaryOf}
-use Rattle.layout.specs.Tree.{Dictionary, headerTags, layoutOf}
+use Rattle.dictionary_rules.specs.Check.{outcome, checkOf, preparedOf, storeOf, numberOf as numberOfCheck}
+use Rattle.dictionary_rules.specs.declared.Checked.{Checked}
+use Rattle.dictionary_meaning_rules.specs.Meaning.{dictionaryOf}
+use Rattle.dictionary_layout_rules.specs.Tree.{Dictionary, headerTags, layoutOf}
 use Rattle.build_answers.specs.declared.Answer.{Answer}
 use Rattle.build_answers.specs.declared.Answer.the-variants.{Valid, TooLong, InvalidSeparator, TooFewRecords, BadDictionary}
 use Rattle.build_answers.specs.Answer.{numberOf}

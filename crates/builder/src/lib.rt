@@ -1,12 +1,12 @@
 // builder: from a message's bytes to its answer and its records: integrity, header, MsgType's layout, body and trailer in turn.
 // It reads a dictionary through the index and the tables that are made of it, and keeps records through `records` only.
-use flattening::MessageTable;
+use dictionary_meaning_rules::MessageTable;
 use flattening::tags;
 use flattening::tags::TagList;
 use build_config::Config;
 use integrity::Integrity;
 use integrity::Verified;
-use layout::Level;
+use dictionary_layout_rules::Level;
 use build_answers::Answer;
 use parts::PartRead;
 use parts::Progress;
@@ -18,12 +18,12 @@ ghost use mathlib.Core.Path.{_≡_};
 ghost use mathlib.Core.List.{[], _++_};
 ghost use Prim.Native.Nat.{suc, _+_, _-_, _*_, _≤_, _<_, _/_, _^_};
 ghost use lib.ListN.{length, take, replicate};
-ghost use Rattle.flat_names.specs.Index.{tagAt};
+ghost use Rattle.dictionary_rules.specs.Index.{tagAt};
 ghost use Rattle.tagvalue.specs.Fields.{field, fieldsFrom, Inside};
 ghost use Rattle.groups.specs.Reading.{tableRules};
 ghost use Rattle.required.specs.Checking.{tableDemands};
-ghost use Rattle.flattening.specs.Meaning.{dictionaryOf};
-ghost use Rattle.layout.specs.Tree.{layoutOf, trailerTags};
+ghost use Rattle.dictionary_meaning_rules.specs.Meaning.{dictionaryOf};
+ghost use Rattle.dictionary_layout_rules.specs.Tree.{layoutOf, trailerTags};
 ghost use Rattle.parts.specs.Parts.{partOf};
 ghost use Rattle.body.specs.Kinds.{bodyOf};
 ghost use Rattle.body.specs.Body.{bodyFrom};
@@ -32,7 +32,7 @@ ghost use Rattle.reading.specs.Message.{afterBody, afterType, messageRead};
 ghost use Rattle.builder.specs.Reading.{finishTold, finishCounts};
 ghost use Rattle.builder.specs.Reading.{VerifiedInside, startTold, HeaderEnds, Begins, Prepared, standardTags, readTold, shownCount};
 ghost use Rattle.builder.specs.Build.{checkedRead, buildOf, builtTold};
-ghost use Rattle.flat.specs.Check.{checkOf};
+ghost use Rattle.dictionary_rules.specs.Check.{checkOf};
 ghost use mathlib.Core.Bool.{true, false};
 
 const MSG_TYPE: u32 = 35;

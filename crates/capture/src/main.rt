@@ -23,7 +23,7 @@ fn with_frame(counts: Counts, length: usize) -> Counts {
 }
 
 struct Hunting {
-    state: hunter::State,
+    state: frame_hunter_rules::State,
     counts: Counts,
 }
 

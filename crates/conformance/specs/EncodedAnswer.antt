@@ -16,12 +16,12 @@ use Rattle.lent.specs.FormedLaws.{lent-formed}
 use Rattle.lent.specs.StandLaws.{never, not-so}
 use Rattle.written_form.specs.Encoding.{dropped, encoding}
 use Rattle.tagvalue.specs.Separator.{isRefusedSeparator}
-use Rattle.encoding.specs.Encode.{hasUncounted, isIncomplete, verdictOf, left, encoded, encodingOf}
+use Rattle.written_form.specs.Encode.{hasUncounted, isIncomplete, verdictOf, left, encoded, encodingOf}
 use Rattle.encoding.specs.EncodedLaws.{never-written, encode-lends}
 use Rattle.encoding.specs.VerdictLaws.{refused-incomplete, encodes, refuses}
-use Rattle.encoding.specs.declared.Encoding.the-variants.{Written, Incomplete}
-use Rattle.encoding.specs.declared.Verdict.{Verdict}
-use Rattle.encoding.specs.declared.Verdict.the-variants.{Measured, Refused}
+use Rattle.written_form.specs.declared.Encoding.the-variants.{Written, Incomplete}
+use Rattle.written_form.specs.declared.Verdict.{Verdict}
+use Rattle.written_form.specs.declared.Verdict.the-variants.{Measured, Refused}
 use Rattle.conformance.specs.EncodedMaps.{NoPair}
 use Rattle.conformance.specs.EncodedStandard.{Complete, Conformant, encoding-standard}
 

@@ -15,7 +15,7 @@ use Rattle.maps.specs.Map.{Map, end, field, entry, joined, holds, replaced, wit
 use Rattle.lent.specs.Formed.{stands, isFormed}
 use Rattle.lent.specs.StandLaws.{never, nor, field-formed, entry-formed}
 use Rattle.lent.specs.StoredLaws.{formed-stored, formed-without}
-use Rattle.message.specs.SplitLaws.{field-gone}
+use Rattle.message_rules.specs.SplitLaws.{field-gone}
 use Rattle.written_form.specs.Encoding.{text, textUnder, isFirst, isRest, headerText}
 use Rattle.encoding.specs.CountLaws.{gone-once}
 use Rattle.encoding.specs.FoundLaws.{hangs}

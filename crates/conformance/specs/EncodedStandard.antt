@@ -23,7 +23,7 @@ use Rattle.lent.specs.Meaning.{Message}
 use Rattle.lent.specs.Formed.{Formed}
 use Rattle.lent.specs.StandLaws.{either, never}
 use Rattle.lent.specs.StoredLaws.{formed-without}
-use Rattle.message.specs.SplitLaws.{field-split}
+use Rattle.message_rules.specs.SplitLaws.{field-split}
 use Rattle.written_form.specs.Encoding.{text, messageText, dropped, bodyLength, measured, sumDigits, summed, encoding}
 use Rattle.encoding.specs.CountLaws.{gone-once}
 use Rattle.encoding.specs.FoundLaws.{hangs}

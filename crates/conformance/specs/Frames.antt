@@ -12,8 +12,8 @@ use Rattle.tagvalue.specs.Decimal.{decimal, decimalWithin}
 use Rattle.tagvalue.specs.Standard as standard
 use Rattle.tagvalue.specs.Standard.{Message, Told, told, Int, TagNum, SOH, total}
 use Rattle.tagvalue.specs.StandardLaws.{digits-all, worth-same}
-use Rattle.verdict.specs.Frame.{IsFrame, IsBeginString, NoSeparator, separator, beginTag, lengthTag, typeTag, sumTag, lead}
-use Rattle.verdict.specs.Frame as frame
+use Rattle.frame_verdict_rules.specs.Frame.{IsFrame, IsBeginString, NoSeparator, separator, beginTag, lengthTag, typeTag, sumTag, lead}
+use Rattle.frame_verdict_rules.specs.Frame as frame
 use Rattle.conformance.specs.Texts.{sum-same, tag-text, digits-int, digits-plain}
 
 without : (text : List ℕ) → standard.All standard.NotDelimiter text → frame.All NoSeparator text

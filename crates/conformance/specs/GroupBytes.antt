@@ -15,8 +15,8 @@ use Rattle.tagvalue.specs.declared.Cursor.{Cursor}
 use Rattle.tagvalue.specs.declared.Field.{Field}
 use Rattle.tagvalue.specs.declared.FieldRead.the-variants.{Read}
 use Rattle.build_config.specs.declared.Config.{Config}
-use Rattle.layout.specs.Layout.{Layout}
-use Rattle.layout.specs.Tabled.{Tabled}
+use Rattle.dictionary_layout_rules.specs.Layout.{Layout}
+use Rattle.dictionary_layout_rules.specs.Tabled.{Tabled}
 use Rattle.records.specs.declared.Record.{Record}
 use Rattle.groups.specs.Groups.{run, ended, walk}
 use Rattle.groups.specs.Alike.{OutcomeAlike}

@@ -11,8 +11,8 @@ use lib.Seq.{drop-append-seam}
 use Rattle.tagvalue.specs.Fields.{Fields, field}
 use Rattle.tagvalue.specs.Standard.{Told, told, Int, Distinct, Stretch, members, entries, Stands}
 use Rattle.tagvalue.specs.declared.Field.{Field}
-use Rattle.layout.specs.Layout.{Layout}
-use Rattle.layout.specs.declared.Position.the-variants.{Nowhere}
+use Rattle.dictionary_layout_rules.specs.Layout.{Layout}
+use Rattle.dictionary_layout_rules.specs.declared.Position.the-variants.{Nowhere}
 use Rattle.records.specs.declared.Record.{Record}
 use Rattle.groups.specs.Groups.{Rules, opens, Kind, plain, count, ends, kindOf, Frame, run, entry, leaves, decide, ended, walk}
 use Rattle.groups.specs.Reading.{layoutRules, listStore}

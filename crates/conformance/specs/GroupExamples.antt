@@ -15,7 +15,7 @@ use Rattle.tagvalue.specs.Number.{worth}
 use Rattle.tagvalue.specs.Field.{startAt}
 use Rattle.tagvalue.specs.Fields.{fieldsFrom}
 use Rattle.tagvalue.specs.Standard.{All, Told, told, Int, Distinct, entries, Stands}
-use Rattle.layout.specs.Layout.{Layout, end, field, group, firstOf, positionFrom, positionIn, groupSince, groupOf, delimiterOf}
+use Rattle.dictionary_layout_rules.specs.Layout.{Layout, end, field, group, firstOf, positionFrom, positionIn, groupSince, groupOf, delimiterOf}
 use Rattle.records.specs.Records.{stored}
 use Rattle.records.specs.declared.Record.{Record}
 use Rattle.build_answers.specs.Answer.{numberOf}

@@ -11,7 +11,7 @@ use Rattle.tagvalue.specs.Fields.{Fields, field}
 use Rattle.tagvalue.specs.Standard.{Told, told, Int, Distinct, Stretch, members, entries, Stands}
 use Rattle.tagvalue.specs.declared.Field.{Field}
 use Rattle.records.specs.declared.Record.{Record}
-use Rattle.layout.specs.Layout.{Layout}
+use Rattle.dictionary_layout_rules.specs.Layout.{Layout}
 use Rattle.groups.specs.Groups.{none, opened, Rules, opens, plain, count, ends, kindOf, Frame, run, entry, recordOf, ended, walk, taking}
 use Rattle.groups.specs.Reading.{listStore, layoutRules}
 use Rattle.conformance.specs.Reading.{ReadsAs, no-field, one-field}

@@ -13,8 +13,8 @@ use Rattle.tagvalue.specs.Choice.{pick}
 use Rattle.tagvalue.specs.Fields.{Fields, unreadable, field}
 use Rattle.tagvalue.specs.Standard.{Told}
 use Rattle.tagvalue.specs.declared.Field.{Field}
-use Rattle.layout.specs.declared.Position.{Position}
-use Rattle.layout.specs.declared.Position.the-variants.{At, Nowhere}
+use Rattle.dictionary_layout_rules.specs.declared.Position.{Position}
+use Rattle.dictionary_layout_rules.specs.declared.Position.the-variants.{At, Nowhere}
 use Rattle.records.specs.declared.Record.{Record}
 use Rattle.groups.specs.Groups.{Opened, none, opened, Rules, opens, Kind, plain, count, joins, wrong, ends, counting, declared, kindOf, Frame, Move, adds, joinsAt, disorders, leaves, decide, recordOf, ended, moved, walk}
 use Rattle.groups.specs.Reading.{joinedList, listStore}

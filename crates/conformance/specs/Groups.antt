@@ -8,7 +8,7 @@ use Prim.Native.Nat.{ℕ, suc, _+_, _≤_, _<_}
 use lib.ListN.{take, drop}
 use Rattle.tagvalue.specs.Fields.{Fields, unreadable, field}
 use Rattle.tagvalue.specs.Standard.{Told, Int, Distinct, Stretch, members, entries, Stands}
-use Rattle.layout.specs.declared.Position.the-variants.{At, Nowhere}
+use Rattle.dictionary_layout_rules.specs.declared.Position.the-variants.{At, Nowhere}
 use Rattle.records.specs.declared.Record.{Record}
 use Rattle.groups.specs.Groups.{none, opened, Rules, opens, recordOf}
 

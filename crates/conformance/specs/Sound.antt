@@ -28,7 +28,7 @@ use Rattle.tagvalue.specs.declared.Cause.the-variants.{NoEquals}
 use Rattle.integrity.specs.Integrity.{integrityOf, begun, counted, summed, typed, lengthIs, lengthAgrees, sumIs, sumAgrees}
 use Rattle.integrity.specs.declared.Integrity.the-variants.{Sound}
 use Rattle.integrity.specs.declared.Verified.{Verified}
-use Rattle.parser.specs.MessageLaws.{seven-bytes}
+use Rattle.frame_parser_rules.specs.MessageLaws.{seven-bytes}
 use Rattle.conformance.specs.Texts.{sum-same}
 use Rattle.conformance.specs.Reading.{ReadsAs, no-field, Readable, reads-one, reads-then, reads-append, fields-read, first-read}
 

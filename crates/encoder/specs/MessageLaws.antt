@@ -18,12 +18,12 @@ use Rattle.maps.specs.Map.{Map, end, field, entry, valuesIn}
 use Rattle.maps.specs.Rows.{Row, row, laid, rowsFrom, sizes}
 use Rattle.lent.specs.Lent.{rowCount, rowsOf, isMessage}
 use Rattle.lent.specs.Meaning.{Message, parts, messageIn}
-use Rattle.message.specs.Changes.{placeOf, partOf, spanOf}
-use Rattle.message.specs.LayoutLaws.{sizes-append, sizes-laid}
-use Rattle.message.specs.PlaceLaws.{rows-part, part-rows, place-grows}
-use Rattle.message.specs.StoreLaws.{In, lent-in, rows-all, own-rows, count-is, span-grows}
-use Rattle.message.specs.declared.Part.{Part}
-use Rattle.message.specs.declared.Part.the-variants.{Header, Body, Trailer}
+use Rattle.message_rules.specs.Changes.{placeOf, partOf, spanOf}
+use Rattle.message_rules.specs.LayoutLaws.{sizes-append, sizes-laid}
+use Rattle.message_rules.specs.PlaceLaws.{rows-part, part-rows, place-grows}
+use Rattle.message_rules.specs.StoreLaws.{In, lent-in, rows-all, own-rows, count-is, span-grows}
+use Rattle.message_rules.specs.declared.Part.{Part}
+use Rattle.message_rules.specs.declared.Part.the-variants.{Header, Body, Trailer}
 use Rattle.written_form.specs.Encoding.{text, textUnder, isFirst, isRest, headerText, messageText, bytesOf, sumDigits, summed}
 use Rattle.encoder.specs.Writing.{chosen, rowsText, bytesIn, rowBytes, itemsAt, textAt, Spans, tailOf, Outcome, outcome, writing}
 use Rattle.encoder.specs.WritingLaws.{text-laid, bytes-append, bytes-laid, text-length, written-twice}

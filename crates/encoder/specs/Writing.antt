@@ -12,8 +12,8 @@ use Rattle.maps.specs.Rows.{Row, row, rowsFrom, sizeOf, sizes}
 use Rattle.tagvalue.specs.Decimal.{writtenAt}
 use Rattle.lent.specs.Lent.{heldBefore, isMessage}
 use Rattle.lent.specs.Meaning.{Message, messageIn}
-use Rattle.message.specs.Changes.{placeOf}
-use Rattle.message.specs.declared.Span.{Span}
+use Rattle.message_rules.specs.Changes.{placeOf}
+use Rattle.message_rules.specs.declared.Span.{Span}
 use Rattle.encoder.specs.declared.Encoded.{Encoded}
 use Rattle.encoder.specs.declared.Encoded.the-variants.{Written, NoMessage, NoRoom}
 use Rattle.written_form.specs.Encoding.{isRest, sumDigits, summed, messageText}

@@ -17,9 +17,9 @@ use Rattle.maps.specs.Map.{Map, end, field, entry, valuesIn}
 use Rattle.maps.specs.Rows.{Row, row, laid, rowAt, rowsFrom, rowsBefore, sizeOf, sizes, levelOf}
 use Rattle.maps.specs.RowsLaws.{rows-step, rows-none, before-step}
 use Rattle.lent.specs.Lent.{heldBefore}
-use Rattle.message.specs.Changes.{placeOf}
-use Rattle.message.specs.LayoutLaws.{sizes-append}
-use Rattle.message.specs.PlaceLaws.{rows-split, place-grows}
+use Rattle.message_rules.specs.Changes.{placeOf}
+use Rattle.message_rules.specs.LayoutLaws.{sizes-append}
+use Rattle.message_rules.specs.PlaceLaws.{rows-split, place-grows}
 use Rattle.written_form.specs.Encoding.{text, textUnder, bytesOf}
 use Rattle.encoder.specs.Writing.{chosen, rowOn, rowText, rowsText, rowBytes, bytesIn, isUncounted, uncounted}
 

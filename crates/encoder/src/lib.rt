@@ -1,8 +1,8 @@
 // encoder: a message as bytes. It writes what a lent message holds in one pass over its rows, with the CheckSum behind it (27, 23); `encoding`
 // judges a message first and sets its BodyLength. It keeps nothing and demands nothing of what is lent.
-use message::Located;
-use message::Part;
-use message::Span;
+use message_rules::Located;
+use message_rules::Part;
+use message_rules::Span;
 use tagvalue::Written;
 use tagvalue::wide;
 ghost use mathlib.Core.Path.{_≡_};
@@ -14,7 +14,7 @@ ghost use Rattle.tagvalue.specs.Decimal.{decimal, writtenAt};
 ghost use Rattle.tagvalue.specs.CheckSum.{sumOf};
 ghost use Rattle.tagvalue.specs.Field.{fieldBytes};
 ghost use Rattle.maps.specs.Rows.{rowAt, rowsFrom, rowsBefore, sizeOf, sizes};
-ghost use Rattle.message.specs.Changes.{placeOf};
+ghost use Rattle.message_rules.specs.Changes.{placeOf};
 ghost use Rattle.encoder.specs.Writing.{chosen, rowOn, rowText, rowsText, rowBytes, bytesIn, isUncounted, uncounted, itemsAt, textAt, Spans, tailOf, Outcome, outcome, writing};
 
 fn write_bytes(output: &mut [u8], at: usize, text: &[u8]) -> usize

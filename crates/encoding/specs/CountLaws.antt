@@ -16,10 +16,10 @@ use Rattle.lent.specs.Meaning.{Message, parts}
 use Rattle.lent.specs.Formed.{stands, isFormed, Formed}
 use Rattle.lent.specs.StandLaws.{nor, field-formed, entry-formed}
 use Rattle.lent.specs.AllowedLaws.{passed, passed-append, held-past}
-use Rattle.message.specs.PlaceLaws.{part-rows}
+use Rattle.message_rules.specs.PlaceLaws.{part-rows}
 use Rattle.written_form.specs.Encoding.{dropped}
 use Rattle.encoder.specs.Writing.{isUncounted, uncounted}
-use Rattle.encoding.specs.Encode.{lacksCount, hasUncounted}
+use Rattle.written_form.specs.Encode.{lacksCount, hasUncounted}
 use Rattle.encoding.specs.FoundLaws.{hangs}
 
 -- what stands no more behind the entries of its tag is not held

@@ -13,15 +13,15 @@ use Rattle.lent.specs.Meaning.{Message, wordsOf, valuesOf, messageIn}
 use Rattle.lent.specs.Formed.{Formed}
 use Rattle.lent.specs.FormedLaws.{lent-formed, Lends, layout-lends}
 use Rattle.lent.specs.StoredLaws.{formed-stored, formed-without}
-use Rattle.message.specs.Changes.{fieldTotal, valueTotal}
+use Rattle.message_rules.specs.Changes.{fieldTotal, valueTotal}
 use Rattle.written_form.specs.Encoding.{dropped, bodyLength, measured, encoding, encodedMessage}
-use Rattle.encoding.specs.Encode.{isIncomplete, judging, verdictOf, left, encoded, encodingOf}
+use Rattle.written_form.specs.Encode.{isIncomplete, judging, verdictOf, left, encoded, encodingOf}
 use Rattle.encoding.specs.Leaving.{Encodable}
 use Rattle.encoding.specs.SizeLaws.{encoded-values}
 use Rattle.encoding.specs.VerdictLaws.{fit-to-encode, encodes, refuses}
-use Rattle.encoding.specs.declared.Encoding.the-variants.{Written, NoMessage, InvalidSeparator, Incomplete, TooLong, TooManyFields, NoRoom}
-use Rattle.encoding.specs.declared.Verdict.{Verdict}
-use Rattle.encoding.specs.declared.Verdict.the-variants.{Measured, Refused}
+use Rattle.written_form.specs.declared.Encoding.the-variants.{Written, NoMessage, InvalidSeparator, Incomplete, TooLong, TooManyFields, NoRoom}
+use Rattle.written_form.specs.declared.Verdict.{Verdict}
+use Rattle.written_form.specs.declared.Verdict.the-variants.{Measured, Refused}
 
 encoded-formed : (separator : ℕ) (m : Message) → Formed m → Formed (encodedMessage separator m)
 unfolding encodedMessage measured dropped

@@ -13,12 +13,12 @@ use Rattle.maps.specs.Map.{Map, end, field, entry, holds}
 use Rattle.maps.specs.Rows.{Row, row, laid, rowAt, rowsFrom, matches, findFrom}
 use Rattle.lent.specs.Lent.{rowCount}
 use Rattle.lent.specs.Meaning.{Message}
-use Rattle.message.specs.Changes.{partOf, spanOf, fieldPlace, runPlace}
-use Rattle.message.specs.LayoutLaws.{laid-joined, find-below}
-use Rattle.message.specs.PlaceLaws.{rows-part}
-use Rattle.message.specs.SplitLaws.{field-split, field-absent}
-use Rattle.message.specs.StoreLaws.{In, rows-all, own-rows, span-grows}
-use Rattle.message.specs.declared.Part.{Part}
+use Rattle.message_rules.specs.Changes.{partOf, spanOf, fieldPlace, runPlace}
+use Rattle.message_rules.specs.LayoutLaws.{laid-joined, find-below}
+use Rattle.message_rules.specs.PlaceLaws.{rows-part}
+use Rattle.message_rules.specs.SplitLaws.{field-split, field-absent}
+use Rattle.message_rules.specs.StoreLaws.{In, rows-all, own-rows, span-grows}
+use Rattle.message_rules.specs.declared.Part.{Part}
 use Rattle.encoder.specs.Writing.{rowBytes}
 use Rattle.encoding.specs.Judging.{Within, heldAt, hungAt, sizeAt}
 use Rattle.encoding.specs.SizeLaws.{sizeUnder}

@@ -8,8 +8,8 @@ use lib.Dec.{ltb}
 use Rattle.tagvalue.specs.Choice.{pick}
 use Rattle.maps.specs.Rows.{rowAt, rowsFrom}
 use Rattle.lent.specs.Lent.{fieldsIn}
-use Rattle.message.specs.Changes.{fieldPlace, runPlace}
-use Rattle.message.specs.declared.Span.{Span}
+use Rattle.message_rules.specs.Changes.{fieldPlace, runPlace}
+use Rattle.message_rules.specs.declared.Span.{Span}
 use Rattle.encoder.specs.Writing.{rowBytes, bytesIn, uncounted}
 
 -- a span of rows that are lent

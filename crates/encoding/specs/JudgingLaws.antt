@@ -10,8 +10,8 @@ use borrow.Author.Tests.{lt-ltb, le-ltb}
 use Rattle.tagvalue.specs.Choice.{pick}
 use Rattle.maps.specs.Rows.{Row, row, rowAt, rowsFrom, findFrom}
 use Rattle.lent.specs.Lent.{ownBelow, weight, fieldsIn}
-use Rattle.message.specs.Changes.{fieldPlace}
-use Rattle.message.specs.declared.Span.{Span}
+use Rattle.message_rules.specs.Changes.{fieldPlace}
+use Rattle.message_rules.specs.declared.Span.{Span}
 use Rattle.encoder.specs.Writing.{rowBytes}
 use Rattle.encoding.specs.Judging.{heldAt, sizeAt}
 

@@ -6,7 +6,7 @@ use mathlib.Core.List.{List}
 use lib.ListN.{length}
 use Rattle.lent.specs.Lent.{isMessage}
 use Rattle.lent.specs.Meaning.{messageIn}
-use Rattle.message.specs.Changes.{fieldTotal}
+use Rattle.message_rules.specs.Changes.{fieldTotal}
 use Rattle.written_form.specs.Encoding.{dropped, bodyLength, encoding, encodedMessage}
 
 pub record Encodable (separator : ℕ) (words values output : List ℕ) (body : ℕ) : Type 0 where

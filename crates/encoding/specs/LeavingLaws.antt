@@ -13,22 +13,22 @@ use Rattle.tagvalue.specs.DecimalLaws.{written-fits}
 use Rattle.maps.specs.Map.{holds, withoutField, stored}
 use Rattle.lent.specs.Meaning.{Message, wordsOf, valuesOf, messageIn}
 use Rattle.lent.specs.FormedLaws.{lent-formed, Lends}
-use Rattle.message.specs.Changes.{after, partOf, withPart, fieldTotal, valueTotal, judged, storing, removing}
-use Rattle.message.specs.ChangeLaws.{store-on, remove-none, remove-on}
-use Rattle.message.specs.FormedLaws.{store-lends, remove-lends}
-use Rattle.message.specs.declared.Part.{Part}
-use Rattle.message.specs.declared.Part.the-variants.{Header, Trailer}
-use Rattle.message.specs.declared.Change.{Change}
-use Rattle.message.specs.declared.Change.the-variants.{Made}
+use Rattle.message_rules.specs.Changes.{after, partOf, withPart, fieldTotal, valueTotal, judged, storing, removing}
+use Rattle.message_rules.specs.ChangeLaws.{store-on, remove-none, remove-on}
+use Rattle.message_rules.specs.FormedLaws.{store-lends, remove-lends}
+use Rattle.message_rules.specs.declared.Part.{Part}
+use Rattle.message_rules.specs.declared.Part.the-variants.{Header, Trailer}
+use Rattle.message_rules.specs.declared.Change.{Change}
+use Rattle.message_rules.specs.declared.Change.the-variants.{Made}
 use Rattle.written_form.specs.Encoding.{messageText, dropped, measured, sumDigits, summed, encoding, encodedMessage}
 use Rattle.encoder.specs.Writing.{outcome, writing}
 use Rattle.encoder.specs.MessageLaws.{summed-length}
 use Rattle.encoder.specs.declared.Encoded.{Encoded}
 use Rattle.encoder.specs.declared.Encoded.the-variants.{Written}
-use Rattle.encoding.specs.Encode.{left, encoded}
+use Rattle.written_form.specs.Encode.{left, encoded}
 use Rattle.encoding.specs.Leaving.{Encodable}
 use Rattle.encoding.specs.SizeLaws.{dropped-values, dropped-fields, sum-size, measured-values, measured-fields, encoded-values}
-use Rattle.encoding.specs.declared.Encoding.the-variants.{Written as Encoded-Written}
+use Rattle.written_form.specs.declared.Encoding.the-variants.{Written as Encoded-Written}
 
 -- digits that are written at the start, and read back
 pub digits-back : (digits scratch written : List ℕ) (stop : ℕ) → length digits ≤ length scratch → stop ≡ 0 + length digits → written ≡ writtenAt 0 digits scratch → take stop written ≡ digits

@@ -1,5 +1,3 @@
-pub mod Encode
-pub mod Examples
 pub mod Judging
 pub mod Leaving
 pub mod SizeLaws

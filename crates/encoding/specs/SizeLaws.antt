@@ -13,10 +13,10 @@ use Rattle.tagvalue.specs.Decimal.{decimal, decimalWithin}
 use Rattle.tagvalue.specs.CheckSum.{checksumDigits}
 use Rattle.maps.specs.Map.{Map, end, field, entry, joined, holds, replaced, withoutField, runOn, withoutRun, stored, fieldCount, valuesIn}
 use Rattle.lent.specs.Meaning.{Message}
-use Rattle.message.specs.Changes.{fieldTotal, valueTotal}
-use Rattle.message.specs.LayoutLaws.{count-joined}
-use Rattle.message.specs.PlaceLaws.{part-values}
-use Rattle.message.specs.SplitLaws.{field-split, field-gone, run-split}
+use Rattle.message_rules.specs.Changes.{fieldTotal, valueTotal}
+use Rattle.message_rules.specs.LayoutLaws.{count-joined}
+use Rattle.message_rules.specs.PlaceLaws.{part-values}
+use Rattle.message_rules.specs.SplitLaws.{field-split, field-gone, run-split}
 use Rattle.written_form.specs.Encoding.{messageText, bytesOf, dropped, bodyLength, measured, sumDigits, encoding, encodedMessage}
 use Rattle.encoder.specs.MessageLaws.{message-length, summed-length}
 

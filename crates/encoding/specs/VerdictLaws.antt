@@ -14,22 +14,22 @@ use Rattle.maps.specs.Rows.{rowsFrom}
 use Rattle.lent.specs.Lent.{rowsOf, isMessage}
 use Rattle.lent.specs.Meaning.{messageIn}
 use Rattle.lent.specs.FormedLaws.{lent-formed}
-use Rattle.message.specs.Changes.{partOf, spanOf, fieldTotal}
-use Rattle.message.specs.StoreLaws.{lent-in, count-is, fields-now}
-use Rattle.message.specs.declared.Part.the-variants.{Header, Trailer}
-use Rattle.message.specs.declared.Span.{Span}
+use Rattle.message_rules.specs.Changes.{partOf, spanOf, fieldTotal}
+use Rattle.message_rules.specs.StoreLaws.{lent-in, count-is, fields-now}
+use Rattle.message_rules.specs.declared.Part.the-variants.{Header, Trailer}
+use Rattle.message_rules.specs.declared.Span.{Span}
 use Rattle.written_form.specs.Encoding.{bytesOf, dropped, bodyLength, encoding, encodedMessage}
 use Rattle.encoder.specs.Writing.{uncounted}
 use Rattle.encoder.specs.MessageLaws.{message-length, size-is}
-use Rattle.encoding.specs.Encode.{hasUncounted, isIncomplete, judging, verdictOf, left, encoded, afterVerdict, encodingOf}
+use Rattle.written_form.specs.Encode.{hasUncounted, isIncomplete, judging, verdictOf, left, encoded, afterVerdict, encodingOf}
 use Rattle.encoding.specs.Judging.{Within, sizeAt, incompleteAt, allBytes, bodyAt, addedAt, fieldsAt}
 use Rattle.encoding.specs.Leaving.{Encodable}
 use Rattle.encoding.specs.SizeLaws.{sizeUnder, body-bytes, encoding-length, encoded-fields}
 use Rattle.encoding.specs.FoundLaws.{span-within, held-is, hung-is, size-found}
 use Rattle.encoding.specs.CountLaws.{uncounted-is, gone-once, dropped-uncounted}
-use Rattle.encoding.specs.declared.Encoding.{Encoding}
-use Rattle.encoding.specs.declared.Encoding.the-variants.{NoMessage, InvalidSeparator, Incomplete, TooLong, TooManyFields, NoRoom}
-use Rattle.encoding.specs.declared.Verdict.the-variants.{Measured, Refused}
+use Rattle.written_form.specs.declared.Encoding.{Encoding}
+use Rattle.written_form.specs.declared.Encoding.the-variants.{NoMessage, InvalidSeparator, Incomplete, TooLong, TooManyFields, NoRoom}
+use Rattle.written_form.specs.declared.Verdict.the-variants.{Measured, Refused}
 
 module _ (words values : List ℕ) (lent : isMessage words values ≡ true) where
   head-within : Within words (spanOf Header (messageIn words values))

@@ -1,37 +1,22 @@
 // encoding: the encode operation (27, 22, 43, 20, 21, 23). All is judged by sizes of rows before anything changes; then the message gets its
 // new BodyLength, is written, and gets its new CheckSum. It keeps nothing and demands nothing of what is lent.
 use encoder::Encoded;
-use message::Change;
-use message::Located;
-use message::Part;
-use message::Span;
+use message_rules::Change;
+use message_rules::Located;
+use message_rules::Part;
+use message_rules::Span;
 use tagvalue::Written;
+use written_form::Encoding;
+use written_form::Verdict;
 ghost use mathlib.Core.Path.{_≡_};
 ghost use Prim.Native.Nat.{_+_, _≤_, _<_};
 ghost use Rattle.tagvalue.specs.Decimal.{decimal};
 ghost use Rattle.lent.specs.Meaning.{messageIn};
-ghost use Rattle.message.specs.declared.Part.the-variants.{Header};
-ghost use Rattle.message.specs.Changes.{after, storing};
-ghost use Rattle.encoding.specs.Encode.{verdictOf, left, encoded, encodingOf};
+ghost use Rattle.message_rules.specs.declared.Part.the-variants.{Header};
+ghost use Rattle.message_rules.specs.Changes.{after, storing};
+ghost use Rattle.written_form.specs.Encode.{verdictOf, left, encoded, encodingOf};
 ghost use Rattle.encoding.specs.Judging.{Within, heldAt, hungAt, sizeAt, incompleteAt, allBytes, bodyAt, addedAt, fieldsAt};
 ghost use Rattle.encoding.specs.Leaving.{Encodable};
-
-// How encoding ended: 0 with the length of the encoding, 27, 22, 43, 20, 21, 23.
-pub enum Encoding {
-    Written(usize),
-    NoMessage,
-    InvalidSeparator,
-    Incomplete,
-    TooLong,
-    TooManyFields,
-    NoRoom,
-}
-
-// What is found before anything changes: the BodyLength, or why the call is refused.
-pub enum Verdict {
-    Measured(u32),
-    Refused(Encoding),
-}
 
 fn holds(words: &[u32], span: Span, tag: u32) -> bool
     requires { ⌜ Within (now words) span ⌝ }

@@ -1,15 +1,15 @@
 // flat: the check of a flat dictionary's bytes, 30 to 37, and the index that it leaves for look-ups.
 // It knows nothing of messages, and of a dictionary's meaning only what the check needs: what is named, how often and how deep.
-use flat_records::RecordRead;
-use flat_steps::Checked;
-use flat_steps::State;
-use flat_steps::Step;
+use dictionary_rules::Checked;
+use dictionary_rules::RecordRead;
+use dictionary_rules::State;
+use dictionary_rules::Step;
 ghost use mathlib.Core.Path.{_≡_};
 ghost use Prim.Native.Nat.{_≤_};
 ghost use lib.ListN.{length, getD};
-ghost use Rattle.flat_records.specs.Records.{recordsFrom};
-ghost use Rattle.flat_names.specs.Index.{looksAt, noted};
-ghost use Rattle.flat.specs.Check.{outcome, walked, checkOf, preparedOf, numberOf, valuesOf};
+ghost use Rattle.dictionary_rules.specs.Records.{recordsFrom};
+ghost use Rattle.dictionary_rules.specs.Index.{looksAt, noted};
+ghost use Rattle.dictionary_rules.specs.Check.{outcome, walked, checkOf, preparedOf, numberOf, valuesOf};
 
 // The number that an answer returns.
 pub fn number_of(checked: Checked) -> u32

@@ -2,36 +2,13 @@
 // It reads no dictionary bytes, and decides nothing: whether a record may name what it names is decided above it.
 use chains::Entry;
 use chains::Table;
+use dictionary_rules::Component;
+use dictionary_rules::Looked;
+use dictionary_rules::Note;
+use dictionary_rules::Placed;
 ghost use mathlib.Core.Path.{_≡_};
 ghost use lib.ListN.{length};
-ghost use Rattle.flat_names.specs.Index.{tagAt, componentAt, messageAt, tagEntry, componentEntry, messageEntry, noted};
-
-// A closed component: where it opened, what it holds after flattening, and the component that it stands for.
-pub struct Component {
-    pub number: u16,
-    pub place: u16,
-    pub items: u16,
-    pub depth: u16,
-    pub stands: u16,
-}
-
-pub enum Looked {
-    Closed(Component),
-    Missing,
-}
-
-pub enum Placed {
-    At(u16),
-    Nowhere,
-}
-
-// What a record makes known.
-pub enum Note {
-    Unchanged,
-    KnowsTag(u16, u32),
-    ClosesComponent(Component),
-    NamesMessage(u16, u64),
-}
+ghost use Rattle.dictionary_rules.specs.Index.{tagAt, componentAt, messageAt, tagEntry, componentEntry, messageEntry, noted};
 
 // Whether a tag is known. It needs no byte of the dictionary.
 pub fn tag_known(index: &[u16], tag: u32) -> bool

@@ -1,33 +1,13 @@
 // flat_records: stage one of a flat dictionary's check. It reads one record from the dictionary's bytes.
 // It keeps nothing from record to record: whether a record may stand where it stands is decided above it.
+use dictionary_rules::Body;
+use dictionary_rules::Record;
+use dictionary_rules::RecordRead;
 ghost use mathlib.Core.Path.{_≡_};
 ghost use mathlib.Core.Bool.{true, false};
 ghost use Prim.Native.Nat.{_+_, _≤_};
 ghost use lib.ListN.{length, take, drop};
-ghost use Rattle.flat_records.specs.Record.{lowFirst, bodyLength, zeroFilled, withTag, withMark, opensMessage, bodyOf, recordAt};
-
-pub enum Record {
-    KnownTag(u32),
-    OpensComponent(u16),
-    OpensMessage(u64),
-    FieldItem(u32, bool),
-    ComponentItem(u16, bool),
-    OpensGroup(u32, bool),
-    Closes,
-}
-
-// A record's body, as its kind reads it.
-pub enum Body {
-    Good(Record),
-    Wrong,
-}
-
-// A whole record and the place of the next one; none that can be read; or the end of the dictionary.
-pub enum RecordRead {
-    Whole(Record, usize),
-    Bad,
-    End,
-}
+ghost use Rattle.dictionary_rules.specs.Record.{lowFirst, bodyLength, zeroFilled, withTag, withMark, opensMessage, bodyOf, recordAt};
 
 fn wide(byte: u8) -> u16
     ensures { λ r. ⌜ r ≡ byte ⌝ }

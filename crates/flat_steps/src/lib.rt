@@ -1,74 +1,22 @@
 // flat_steps: what one record of a dictionary does to what the records before it left, 31 to 37 in number order.
 // It looks names up in the lent index and changes nothing there: what a record makes known is handed back as a note.
-use flat_names::Component;
-use flat_names::Looked;
-use flat_names::Note;
-use flat_names::Placed;
-use flat_records::Record;
+use dictionary_rules::Checked;
+use dictionary_rules::Component;
+use dictionary_rules::Group;
+use dictionary_rules::Groups;
+use dictionary_rules::Held;
+use dictionary_rules::Looked;
+use dictionary_rules::Note;
+use dictionary_rules::Open;
+use dictionary_rules::Owner;
+use dictionary_rules::Placed;
+use dictionary_rules::Record;
+use dictionary_rules::State;
+use dictionary_rules::Step;
 ghost use mathlib.Core.Path.{_≡_};
 ghost use lib.ListN.{length};
-ghost use Rattle.flat_names.specs.Index.{looksAt};
-ghost use Rattle.flat_steps.specs.Step.{stepOf, atEnd, depthOf, opened, opens, deeper, grown, heldWith, standsFor, onTag, onComponent, onMessage, onField, onItem, onGroup, onClose, closesOwner, closesGroup};
-
-// The answer to a dictionary. A place is that of a record's first byte, or the dictionary's length.
-pub enum Checked {
-    Passes,
-    TooLong,
-    BadRecord(u16),
-    NoComponent(u16),
-    UnknownTag(u32),
-    EmptyGroup(u32),
-    TooDeep(u16),
-    Twice(u16),
-    TooManyItems(u16),
-}
-
-// An open group, and how many items had been counted when it opened, itself included.
-pub struct Group {
-    pub tag: u32,
-    pub since: u16,
-}
-
-// The open groups, the innermost first.
-pub enum Groups {
-    NoGroup,
-    OneGroup(Group),
-    TwoGroups(Group, Group),
-    ThreeGroups(Group, Group, Group),
-    FourGroups(Group, Group, Group, Group),
-}
-
-// What a component holds that is not empty: nothing, one component only, or something else.
-pub enum Held {
-    Empty,
-    Only(u16),
-    Several,
-}
-
-pub enum Owner {
-    OfComponent(u16),
-    OfMessage,
-}
-
-// What is open, counted so far.
-pub struct Open {
-    pub owner: Owner,
-    pub place: u16,
-    pub items: u16,
-    pub depth: u16,
-    pub held: Held,
-    pub groups: Groups,
-}
-
-pub enum State {
-    TopLevel,
-    Inside(Open),
-}
-
-pub enum Step {
-    Refuses(Checked),
-    Goes(State, Note),
-}
+ghost use Rattle.dictionary_rules.specs.Index.{looksAt};
+ghost use Rattle.dictionary_rules.specs.Step.{stepOf, atEnd, depthOf, opened, opens, deeper, grown, heldWith, standsFor, onTag, onComponent, onMessage, onField, onItem, onGroup, onClose, closesOwner, closesGroup};
 
 fn depth_of(groups: Groups) -> u64
     ensures { λ r. ⌜ r ≡ depthOf groups ⌝ }

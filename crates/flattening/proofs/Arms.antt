@@ -7,18 +7,18 @@ use native.Mathlib.Omega.{arith}
 use lib.ListN.{length}
 use types.Run.{OneOf}
 use denote.Enum.Declared.{tagOf}
-use Rattle.flat_records.specs.Record.{recordAt}
-use Rattle.flat_records.specs.declared.Record.{Record}
-use Rattle.flat_records.proofs.Record as record-type
-use Rattle.flat_records.specs.declared.Record.the-variants.{KnownTag, OpensComponent, OpensMessage, FieldItem, ComponentItem, OpensGroup, Closes}
-use Rattle.flat_records.specs.declared.RecordRead.{RecordRead}
-use Rattle.flat_records.proofs.RecordRead as read-type
-use Rattle.flat_records.specs.declared.RecordRead.the-variants.{Whole, Bad, End}
-use Rattle.flat_names.specs.declared.Looked.{Looked}
-use Rattle.flattening.specs.Laying.{Laying, laying, Step, itemsFrom}
-use Rattle.flattening.specs.LayingLaws.{Advances, breaks, reaches, Advancing, lay-bad, lay-end, lay-known-tag, lay-opens-component, lay-opens-message}
-use Rattle.flattening.specs.declared.Laid.{Laid}
-use Rattle.flattening.specs.declared.Laid.the-variants.{Upto, Broken}
+use Rattle.dictionary_rules.specs.Record.{recordAt}
+use Rattle.dictionary_rules.specs.declared.Record.{Record}
+use Rattle.dictionary_rules.proofs.Record as record-type
+use Rattle.dictionary_rules.specs.declared.Record.the-variants.{KnownTag, OpensComponent, OpensMessage, FieldItem, ComponentItem, OpensGroup, Closes}
+use Rattle.dictionary_rules.specs.declared.RecordRead.{RecordRead}
+use Rattle.dictionary_rules.proofs.RecordRead as read-type
+use Rattle.dictionary_rules.specs.declared.RecordRead.the-variants.{Whole, Bad, End}
+use Rattle.dictionary_rules.specs.declared.Looked.{Looked}
+use Rattle.dictionary_meaning_rules.specs.Laying.{Laying, laying, Step, itemsFrom}
+use Rattle.dictionary_meaning_rules.specs.LayingLaws.{Advances, breaks, reaches, Advancing, lay-bad, lay-end, lay-known-tag, lay-opens-component, lay-opens-message}
+use Rattle.dictionary_meaning_rules.specs.declared.Laid.{Laid}
+use Rattle.dictionary_meaning_rules.specs.declared.Laid.the-variants.{Upto, Broken}
 
 -- a record that was read is the one that its arm names, and so is what was laid
 pub read-as : {read : RecordRead} {r named : Record} {next : ℕ} → read ≡ Whole r next → r ≡ named → read ≡ Whole named next

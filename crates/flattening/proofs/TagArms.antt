@@ -6,16 +6,16 @@ use Prim.Native.Nat.{ℕ}
 use native.Mathlib.Omega.{arith}
 use types.Run.{OneOf}
 use denote.Enum.Declared.{tagOf}
-use Rattle.flat_records.specs.Record.{recordAt}
-use Rattle.flat_records.specs.declared.Record.{Record}
-use Rattle.flat_records.proofs.Record as record-type
-use Rattle.flat_records.specs.declared.Record.the-variants.{KnownTag, OpensComponent, OpensMessage, FieldItem, ComponentItem, OpensGroup, Closes}
-use Rattle.flat_records.specs.declared.RecordRead.{RecordRead}
-use Rattle.flat_records.proofs.RecordRead as read-type
-use Rattle.flat_records.specs.declared.RecordRead.the-variants.{Whole, Bad, End}
-use Rattle.flattening.specs.PlainTags.{listing, tagsFrom}
-use Rattle.flattening.specs.PlainTagsLaws.{tags-bad, tags-end, tags-known, tags-opens, tags-message}
-use Rattle.flattening.specs.declared.tags.TagList.the-variants.{Unlisted}
+use Rattle.dictionary_rules.specs.Record.{recordAt}
+use Rattle.dictionary_rules.specs.declared.Record.{Record}
+use Rattle.dictionary_rules.proofs.Record as record-type
+use Rattle.dictionary_rules.specs.declared.Record.the-variants.{KnownTag, OpensComponent, OpensMessage, FieldItem, ComponentItem, OpensGroup, Closes}
+use Rattle.dictionary_rules.specs.declared.RecordRead.{RecordRead}
+use Rattle.dictionary_rules.proofs.RecordRead as read-type
+use Rattle.dictionary_rules.specs.declared.RecordRead.the-variants.{Whole, Bad, End}
+use Rattle.dictionary_meaning_rules.specs.PlainTags.{listing, tagsFrom}
+use Rattle.dictionary_meaning_rules.specs.PlainTagsLaws.{tags-bad, tags-end, tags-known, tags-opens, tags-message}
+use Rattle.dictionary_meaning_rules.specs.declared.TagList.the-variants.{Unlisted}
 use Rattle.flattening.proofs.Arms.{never}
 
 module _ (d : List ℕ) (at groups count : ℕ) (tags : List ℕ) where

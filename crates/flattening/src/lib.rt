@@ -2,29 +2,21 @@
 // It trusts the index that the dictionary's check left, but no content of bytes, index or table makes it fail: it then says so.
 pub mod tags;
 
-use flat_names::Looked;
-use flat_names::Placed;
-use flat_records::Record;
-use flat_records::RecordRead;
+use dictionary_meaning_rules::Expansion;
+use dictionary_meaning_rules::Laid;
+use dictionary_meaning_rules::MessageTable;
+use dictionary_meaning_rules::MsgTypeName;
+use dictionary_rules::Looked;
+use dictionary_rules::Placed;
+use dictionary_rules::Record;
+use dictionary_rules::RecordRead;
 ghost use mathlib.Core.Path.{_≡_};
 ghost use Prim.Native.Nat.{_≤_, _<_};
 ghost use lib.ListN.{length};
-ghost use Rattle.flat_names.specs.Index.{componentAt};
-ghost use Rattle.flattening.specs.Laying.{laying, putRow, layItems, standsAt};
-ghost use Rattle.flattening.specs.MsgType.{nameOf};
-ghost use Rattle.flattening.specs.MessageTable.{tabling, messageTable};
-
-// How far flattening came: the place after the items, and the next free row. Broken: these are no items, or too many.
-pub enum Laid {
-    Upto(usize, usize),
-    Broken,
-}
-
-// Where the items of a component stand, or those of the component that it stands for. NoItems: it is empty, or there is none.
-pub enum Expansion {
-    ItemsAt(usize),
-    NoItems,
-}
+ghost use Rattle.dictionary_rules.specs.Index.{componentAt};
+ghost use Rattle.dictionary_meaning_rules.specs.Laying.{laying, putRow, layItems, standsAt};
+ghost use Rattle.dictionary_meaning_rules.specs.MsgType.{nameOf};
+ghost use Rattle.dictionary_meaning_rules.specs.MessageTable.{tabling, messageTable};
 
 // An empty component is skipped, and one that only stands for another is passed through, so that each step down adds an item.
 fn stands_at(index: &[u16], number: u16) -> Expansion
@@ -133,12 +125,6 @@ fn lay_items(
     }
 }
 
-// The number under which a dictionary has a MsgType. Unnamed: no dictionary has it, being empty, too long or with a zero byte.
-pub enum MsgTypeName {
-    Named(u64),
-    Unnamed,
-}
-
 fn wide(byte: u8) -> u64
     ensures { λ r. ⌜ r ≡ byte ⌝ }
 {
@@ -165,13 +151,6 @@ pub fn name_of(msgtype: &[u8]) -> MsgTypeName
         number = number * 256 + wide(byte);
     }
     MsgTypeName::Named(number)
-}
-
-// How many rows the table of a message has. Unprepared: the index is not the one that the check of this dictionary left.
-pub enum MessageTable {
-    Rows(usize),
-    NoMessage,
-    Unprepared,
 }
 
 // The layout of a message as a table, from a dictionary that passed its check and the index that the check left.

@@ -1,17 +1,12 @@
 // Header and trailer tags: the plain field items directly in a component, as a list.
-use flat_names::Looked;
-use flat_records::Record;
-use flat_records::RecordRead;
+use dictionary_meaning_rules::TagList;
+use dictionary_rules::Looked;
+use dictionary_rules::Record;
+use dictionary_rules::RecordRead;
 ghost use mathlib.Core.Path.{_≡_};
 ghost use Prim.Native.Nat.{_≤_};
 ghost use lib.ListN.{length};
-ghost use Rattle.flattening.specs.PlainTags.{listing, tagsFrom, plainTags};
-
-// How many tags were listed. Unlisted: there is no such component, or its items can't be read.
-pub enum TagList {
-    Listed(usize),
-    Unlisted,
-}
+ghost use Rattle.dictionary_meaning_rules.specs.PlainTags.{listing, tagsFrom, plainTags};
 
 // Lists from a place on, up to the close. What lies in a group is passed over, up to its own close.
 fn list_tags(dictionary: &[u8], from: usize, tags: &mut [u32]) -> TagList

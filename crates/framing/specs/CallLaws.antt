@@ -2,13 +2,13 @@
 use Prim.Native.Nat.{ℕ}
 use mathlib.Core.Path.{_≡_, ap, _∙_}
 use mathlib.Core.List.{List}
-use Rattle.parser.specs.declared.State.{State}
-use Rattle.parser.specs.declared.Outcome.{Outcome}
-use Rattle.parser.specs.Framer.{valueOf, pushed, pushedStore, finished, taken, takenStore, takenOutput}
-use Rattle.hunter.specs.declared.State.{State as Hunter}
-use Rattle.hunter.specs.declared.Reply.{Reply}
-use Rattle.hunter.specs.declared.Taken.{Taken}
-use Rattle.hunter.specs.Bytes.{pushed as hunterPushed, finished as hunterFinished, tookFrom, Pushes, Finishes, Takes}
+use Rattle.frame_parser_rules.specs.declared.State.{State}
+use Rattle.frame_parser_rules.specs.declared.Outcome.{Outcome}
+use Rattle.frame_parser_rules.specs.Framer.{valueOf, pushed, pushedStore, finished, taken, takenStore, takenOutput}
+use Rattle.frame_hunter_rules.specs.declared.State.{State as Hunter}
+use Rattle.frame_hunter_rules.specs.declared.Reply.{Reply}
+use Rattle.frame_hunter_rules.specs.declared.Taken.{Taken}
+use Rattle.frame_hunter_rules.specs.Bytes.{pushed as hunterPushed, finished as hunterFinished, tookFrom, Pushes, Finishes, Takes}
 use Rattle.telling.specs.Told.{told}
 use Rattle.framing.specs.declared.PortedReply.{PortedReply}
 use Rattle.framing.specs.declared.HunterReply.{HunterReply}

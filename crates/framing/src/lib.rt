@@ -3,8 +3,8 @@
 ghost use mathlib.Core.Path.{_≡_};
 ghost use Rattle.tagvalue.specs.Choice.{pick};
 ghost use Rattle.telling.specs.Told.{told};
-ghost use Rattle.parser.specs.Framer.{valueOf, pushed, pushedStore, finished, taken, takenStore, takenOutput};
-ghost use Rattle.hunter.specs.Bytes.{pushed as hunterPushed, finished as hunterFinished, tookFrom};
+ghost use Rattle.frame_parser_rules.specs.Framer.{valueOf, pushed, pushedStore, finished, taken, takenStore, takenOutput};
+ghost use Rattle.frame_hunter_rules.specs.Bytes.{pushed as hunterPushed, finished as hunterFinished, tookFrom};
 ghost use Rattle.framing.specs.States.{isSet, portedIn, portedTold, portedFresh, hunterIn, hunterTold, hunterFresh};
 
 // The ported framer's state: how many bytes of the store are used, and whether the end, or a length over 8,192 bytes, was met.
@@ -51,17 +51,17 @@ fn mark_of(set: bool) -> u8
     0
 }
 
-fn ported_in(state: PortedState) -> parser::State
+fn ported_in(state: PortedState) -> frame_parser_rules::State
     ensures { λ r. ⌜ r ≡ portedIn state ⌝ }
 {
-    parser::State {
+    frame_parser_rules::State {
         used: state.used,
         ended: is_set(state.ended),
         over: is_set(state.over),
     }
 }
 
-fn ported_told(after: parser::State, answer: parser::Answer) -> PortedReply
+fn ported_told(after: frame_parser_rules::State, answer: frame_parser_rules::Answer) -> PortedReply
     ensures { λ r. ⌜ r ≡ portedTold after answer ⌝ }
 {
     let state = PortedState {
@@ -75,17 +75,17 @@ fn ported_told(after: parser::State, answer: parser::Answer) -> PortedReply
     }
 }
 
-fn hunter_in(state: HunterState) -> hunter::State
+fn hunter_in(state: HunterState) -> frame_hunter_rules::State
     ensures { λ r. ⌜ r ≡ hunterIn state ⌝ }
 {
-    hunter::State {
+    frame_hunter_rules::State {
         used: state.used,
         dropped: state.dropped,
         ended: is_set(state.ended),
     }
 }
 
-fn hunter_told(after: hunter::State, answer: hunter::Answer) -> HunterReply
+fn hunter_told(after: frame_hunter_rules::State, answer: frame_hunter_rules::Answer) -> HunterReply
     ensures { λ r. ⌜ r ≡ hunterTold after answer ⌝ }
 {
     let state = HunterState {
@@ -152,7 +152,7 @@ pub fn ported_reset(out: &mut [u32; 4]) -> PortedReply
     ensures { λ r. ⌜ (r ≡ portedFresh) × (now (out .exit) ≡ told 0 (0, 0)) ⌝ }
 {
     telling::tell(out, 0, 0, 0);
-    ported_told(parser::reset(), parser::Answer::Accepted)
+    ported_told(parser::reset(), frame_parser_rules::Answer::Accepted)
 }
 
 // A chunk of the stream for the hunting framer.
@@ -208,5 +208,5 @@ pub fn hunter_reset(out: &mut [u32; 4]) -> HunterReply
     ensures { λ r. ⌜ (r ≡ hunterFresh) × (now (out .exit) ≡ told 0 (0, 0)) ⌝ }
 {
     telling::tell(out, 0, 0, 0);
-    hunter_told(hunter::reset(), hunter::Answer::Fine)
+    hunter_told(hunter::reset(), frame_hunter_rules::Answer::Fine)
 }

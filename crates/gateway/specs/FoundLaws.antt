@@ -2,10 +2,10 @@
 use Prim.Native.Nat.{ℕ}
 use mathlib.Core.Path.{_≡_, ap, _∙_}
 use mathlib.Core.List.{List}
-use Rattle.message.specs.declared.Part.{Part}
-use Rattle.look_ups.specs.declared.FoundValue.{FoundValue}
-use Rattle.look_ups.specs.declared.FoundMap.{FoundMap}
-use Rattle.look_ups.specs.LookUps.{numberOfValue, numberOfMap, partFound}
+use Rattle.message_rules.specs.declared.Part.{Part}
+use Rattle.message_rules.specs.declared.FoundValue.{FoundValue}
+use Rattle.message_rules.specs.declared.FoundMap.{FoundMap}
+use Rattle.message_rules.specs.LookUps.{numberOfValue, numberOfMap, partFound}
 use Rattle.telling.specs.Told.{toldMap, toldValue}
 
 pub part-in : (p q : Part) (words values : List ℕ) (found : FoundMap) → p ≡ q → found ≡ partFound p words values → found ≡ partFound q words values

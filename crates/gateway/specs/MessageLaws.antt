@@ -2,12 +2,12 @@
 use Prim.Native.Nat.{ℕ}
 use mathlib.Core.Path.{_≡_, ap, _∙_}
 use mathlib.Core.List.{List}
-use Rattle.message.specs.declared.Part.{Part}
-use Rattle.message.specs.declared.Change.{Change}
-use Rattle.message.specs.Changes.{After, after, numberOfChange, storing, removing}
-use Rattle.runs.specs.Runs.{hanging}
-use Rattle.encoding.specs.declared.Encoding.{Encoding}
-use Rattle.encoding.specs.Encode.{Left, left, numberOfEncoding}
+use Rattle.message_rules.specs.declared.Part.{Part}
+use Rattle.message_rules.specs.declared.Change.{Change}
+use Rattle.message_rules.specs.Changes.{After, after, numberOfChange, storing, removing}
+use Rattle.message_rules.specs.Runs.{hanging}
+use Rattle.written_form.specs.declared.Encoding.{Encoding}
+use Rattle.written_form.specs.Encode.{Left, left, numberOfEncoding}
 use Rattle.telling.specs.Told.{told, changeNumber, changedWords, changedValues, lengthOfEncoding, encodingNumber, encodingLength, leftWords, leftValues, leftOutput}
 
 -- the part by its number

@@ -1,6 +1,6 @@
 // What a lent message holds. A map of it, a part's or an entry's, is named by the row of its head; nothing is changed.
 ghost use mathlib.Core.Path.{_≡_};
-ghost use Rattle.look_ups.specs.LookUps.{numberOfValue, numberOfMap, partFound, fieldFound, entryFound};
+ghost use Rattle.message_rules.specs.LookUps.{numberOfValue, numberOfMap, partFound, fieldFound, entryFound};
 ghost use Rattle.telling.specs.Told.{partNumbered, toldMap, toldValue};
 
 // The map of a part: how many were found, 1, and its row as the first value.

@@ -2,8 +2,8 @@
 use framing::HunterState;
 use framing::PortedState;
 ghost use mathlib.Core.Path.{_≡_};
-ghost use Rattle.parser.specs.Framer.{numberOf, valueOf, fresh, pushed, pushedStore, finished, taken, takenStore, takenOutput};
-ghost use Rattle.hunter.specs.Bytes.{numberOf as numberOfHunter, freshState, pushed as hunterPushed, finished as hunterFinished, tookFrom};
+ghost use Rattle.frame_parser_rules.specs.Framer.{numberOf, valueOf, fresh, pushed, pushedStore, finished, taken, takenStore, takenOutput};
+ghost use Rattle.frame_hunter_rules.specs.Bytes.{numberOf as numberOfHunter, freshState, pushed as hunterPushed, finished as hunterFinished, tookFrom};
 ghost use Rattle.telling.specs.Told.{told};
 ghost use Rattle.framing.specs.States.{portedIn, portedOut, hunterIn, hunterOut};
 

@@ -1,9 +1,9 @@
 // A message that is made and changed by calls, in 8,205 words and 8,192 bytes that the caller lends, drafts of runs in as much, and the
 // encoding. A part is 1, the header, or 2, the body; every other number is the trailer.
 ghost use mathlib.Core.Path.{_≡_};
-ghost use Rattle.message.specs.Changes.{emptying, making, storing, removing};
-ghost use Rattle.runs.specs.Runs.{starting, entering, storingLast, hangingLast, hanging};
-ghost use Rattle.encoding.specs.Encode.{encodingOf};
+ghost use Rattle.message_rules.specs.Changes.{emptying, making, storing, removing};
+ghost use Rattle.message_rules.specs.Runs.{starting, entering, storingLast, hangingLast, hanging};
+ghost use Rattle.written_form.specs.Encode.{encodingOf};
 ghost use Rattle.telling.specs.Told.{told, partNumbered, changeNumber, changedWords, changedValues, encodingNumber, encodingLength, leftWords, leftValues, leftOutput};
 
 // Makes what is lent an empty message.

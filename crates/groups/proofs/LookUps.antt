@@ -7,11 +7,11 @@ use lib.Dec.{eqb}
 use borrow.Author.Tests.{le-leb, lt-leb, lt-ltb, le-ltb}
 use Rattle.tagvalue.specs.Choice.{pick, pick-same}
 use Rattle.build_config.specs.declared.Config.{Config}
-use Rattle.layout.specs.Table.{positionOf, groupWithin, delimiterAt}
-use Rattle.layout.specs.declared.Level.{Level}
-use Rattle.layout.specs.declared.Position.the-variants.{At, Nowhere}
-use Rattle.layout.specs.declared.Nested.the-variants.{Within, NoGroup}
-use Rattle.layout.specs.declared.FirstTag.the-variants.{First, NoTag}
+use Rattle.dictionary_layout_rules.specs.Table.{positionOf, groupWithin, delimiterAt}
+use Rattle.dictionary_layout_rules.specs.declared.Level.{Level}
+use Rattle.dictionary_layout_rules.specs.declared.Position.the-variants.{At, Nowhere}
+use Rattle.dictionary_layout_rules.specs.declared.Nested.the-variants.{Within, NoGroup}
+use Rattle.dictionary_layout_rules.specs.declared.FirstTag.the-variants.{First, NoTag}
 use Rattle.groups.specs.Groups.{isDelimiter, opens, plain, count, joins, wrong, ends, counting, declared, kindOf}
 use Rattle.groups.specs.Reading.{accepted, openedBy, tableRules, opensAt, kindAt}
 use Rattle.groups.specs.declared.Group.{Group}

@@ -14,9 +14,9 @@ use Rattle.tagvalue.specs.Fields.{fieldsFrom}
 use Rattle.tagvalue.specs.declared.Cursor.{Cursor}
 use Rattle.tagvalue.specs.declared.Field.{Field}
 use Rattle.build_config.specs.declared.Config.{Config}
-use Rattle.layout.specs.declared.Level.{Level}
-use Rattle.layout.specs.declared.Position.{Position}
-use Rattle.layout.specs.declared.Position.the-variants.{At as position-at, Nowhere}
+use Rattle.dictionary_layout_rules.specs.declared.Level.{Level}
+use Rattle.dictionary_layout_rules.specs.declared.Position.{Position}
+use Rattle.dictionary_layout_rules.specs.declared.Position.the-variants.{At as position-at, Nowhere}
 use Rattle.records.specs.Records.{onRecords, inserted, storedBetween}
 use Rattle.records.specs.declared.Record.{Record}
 use Rattle.groups.specs.Groups.{Opened, none, opened, Rules, opens, plain, count, joins, wrong, ends, counting, declared, kindOf, Frame, run, entry, recordOf, Outcome, walk, taking}

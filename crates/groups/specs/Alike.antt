@@ -7,9 +7,9 @@ use lib.Dec.{eqb, leb, ltb}
 use Rattle.tagvalue.specs.Choice.{pick}
 use Rattle.tagvalue.specs.Fields.{Fields, unreadable, field}
 use Rattle.tagvalue.specs.declared.Field.{Field}
-use Rattle.layout.specs.declared.Position.{Position}
-use Rattle.layout.specs.declared.Position.the-variants.{At, Nowhere}
-use Rattle.layout.specs.declared.FirstTag.{FirstTag}
+use Rattle.dictionary_layout_rules.specs.declared.Position.{Position}
+use Rattle.dictionary_layout_rules.specs.declared.Position.the-variants.{At, Nowhere}
+use Rattle.dictionary_layout_rules.specs.declared.FirstTag.{FirstTag}
 use Rattle.records.specs.declared.Record.{Record}
 use Rattle.groups.specs.Groups.{Opened, none, opened, Rules, isDelimiter, opens, Kind, plain, count, joins, wrong, ends, counting, declared, kindOf, Frame, run, entry, Move, adds, joinsAt, disorders, leaves, inEntry, decide, Store, Outcome, ended, refused, moved, walk}
 use Rattle.groups.specs.declared.Refusal.{Refusal}

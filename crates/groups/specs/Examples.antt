@@ -10,7 +10,7 @@ use Rattle.tagvalue.specs.Text.{bytes}
 use Rattle.tagvalue.specs.Field.{separatedBy, startAt}
 use Rattle.build_config.specs.Settings.{validating}
 use Rattle.tagvalue.specs.Fields.{fieldsFrom}
-use Rattle.layout.specs.Layout.{Layout, end, field, group, firstOf, positionFrom, positionIn, groupSince, groupOf, delimiterOf}
+use Rattle.dictionary_layout_rules.specs.Layout.{Layout, end, field, group, firstOf, positionFrom, positionIn, groupSince, groupOf, delimiterOf}
 use lib.Dec.{eqb}
 use Rattle.records.specs.Records.{stored}
 use Rattle.records.specs.declared.Record.{Record}

@@ -7,10 +7,10 @@ use lib.Dec.{eqb, leb, ltb}
 use Rattle.tagvalue.specs.Choice.{pick}
 use Rattle.tagvalue.specs.Fields.{Fields, unreadable, field}
 use Rattle.tagvalue.specs.declared.Field.{Field}
-use Rattle.layout.specs.declared.Position.{Position}
-use Rattle.layout.specs.declared.Position.the-variants.{At, Nowhere}
-use Rattle.layout.specs.declared.FirstTag.{FirstTag}
-use Rattle.layout.specs.declared.FirstTag.the-variants.{First, NoTag}
+use Rattle.dictionary_layout_rules.specs.declared.Position.{Position}
+use Rattle.dictionary_layout_rules.specs.declared.Position.the-variants.{At, Nowhere}
+use Rattle.dictionary_layout_rules.specs.declared.FirstTag.{FirstTag}
+use Rattle.dictionary_layout_rules.specs.declared.FirstTag.the-variants.{First, NoTag}
 use Rattle.records.specs.declared.Record.{Record}
 use Rattle.groups.specs.declared.Refusal.{Refusal}
 use Rattle.groups.specs.declared.Refusal.the-variants.{Malformed, TooManyFields, InvalidOrderInGroup}

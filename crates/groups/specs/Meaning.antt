@@ -12,10 +12,10 @@ use borrow.Author.Tests.{ltb-true, ltb-false}
 use Rattle.tagvalue.specs.Fields.{Fields, fieldsFrom}
 use Rattle.tagvalue.specs.declared.Cursor.{Cursor}
 use Rattle.build_config.specs.declared.Config.{Config}
-use Rattle.layout.specs.Layout.{Layout, Group as LayoutGroup}
-use Rattle.layout.specs.Tabled.{Tabled, Opens, neither, both, position-means, delimiter-means, group-means}
-use Rattle.layout.specs.declared.Level.{Level}
-use Rattle.layout.specs.declared.Nested.{Nested}
+use Rattle.dictionary_layout_rules.specs.Layout.{Layout, Group as LayoutGroup}
+use Rattle.dictionary_layout_rules.specs.Tabled.{Tabled, Opens, neither, both, position-means, delimiter-means, group-means}
+use Rattle.dictionary_layout_rules.specs.declared.Level.{Level}
+use Rattle.dictionary_layout_rules.specs.declared.Nested.{Nested}
 use Rattle.records.specs.Records.{recordsOf, leftover, inserted, between, heldFrom, storedBetween, stored}
 use Rattle.records.specs.WordLaws.{records-on, leftover-on, on-same}
 use Rattle.records.specs.RecordLaws.{HeldAs, inserted-parts, between-new, stored-new, stored-held, stored-parts-held}

@@ -15,11 +15,11 @@ use Rattle.tagvalue.specs.declared.FieldRead.the-variants.{Read, Unreadable}
 use Rattle.build_config.specs.declared.Config.{Config}
 use Rattle.build_answers.specs.declared.Answer.{Answer}
 use Rattle.build_answers.specs.declared.Answer.the-variants.{Malformed as malformed, TooManyFields as too-many-fields, InvalidOrderInGroup as invalid-order}
-use Rattle.layout.specs.Layout.{Layout, Group as LayoutGroup, none as no-group, entries, positionIn, groupOf, delimiterOf}
-use Rattle.layout.specs.Table.{positionOf, groupWithin, delimiterAt}
-use Rattle.layout.specs.declared.Level.{Level}
-use Rattle.layout.specs.declared.Nested.{Nested}
-use Rattle.layout.specs.declared.Nested.the-variants.{Within, NoGroup}
+use Rattle.dictionary_layout_rules.specs.Layout.{Layout, Group as LayoutGroup, none as no-group, entries, positionIn, groupOf, delimiterOf}
+use Rattle.dictionary_layout_rules.specs.Table.{positionOf, groupWithin, delimiterAt}
+use Rattle.dictionary_layout_rules.specs.declared.Level.{Level}
+use Rattle.dictionary_layout_rules.specs.declared.Nested.{Nested}
+use Rattle.dictionary_layout_rules.specs.declared.Nested.the-variants.{Within, NoGroup}
 use Rattle.records.specs.Records.{recordsOf, onRecords, inserted, between, heldFrom, storedBetween, stored}
 use Rattle.records.specs.declared.Record.{Record}
 use Rattle.records.specs.declared.Standing.{Standing}

@@ -15,7 +15,7 @@ use Rattle.tagvalue.specs.declared.Cause.{Cause}
 use Rattle.tagvalue.specs.declared.Field.{Field}
 use Rattle.tagvalue.specs.declared.FieldRead.{FieldRead}
 use Rattle.tagvalue.specs.declared.FieldRead.the-variants.{Read, Unreadable}
-use Rattle.layout.specs.declared.Level.{Level}
+use Rattle.dictionary_layout_rules.specs.declared.Level.{Level}
 use Rattle.records.specs.declared.Record.{Record}
 use Rattle.records.specs.declared.Standing.{Standing}
 use Rattle.records.specs.declared.Standing.the-variants.{At as held-at, Nowhere as not-held}

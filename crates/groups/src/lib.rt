@@ -1,10 +1,10 @@
 // groups: reading repeating groups. The run reader and the entry reader call each other, and the depth that is left falls.
 // It reads through look-up tables only, counts fields by the room that is left for them, and never compares a count's value.
 use build_config::Config;
-use layout::FirstTag;
-use layout::Level;
-use layout::Nested;
-use layout::Position;
+use dictionary_layout_rules::FirstTag;
+use dictionary_layout_rules::Level;
+use dictionary_layout_rules::Nested;
+use dictionary_layout_rules::Position;
 use records::Record;
 use records::Standing;
 use tagvalue::Cause;
@@ -12,7 +12,7 @@ use tagvalue::Cursor;
 use tagvalue::Field;
 use tagvalue::FieldRead;
 ghost use mathlib.Core.Path.{_≡_};
-ghost use Rattle.flat_names.specs.Index.{tagAt};
+ghost use Rattle.dictionary_rules.specs.Index.{tagAt};
 ghost use Prim.Native.Nat.{_<_, _^_};
 ghost use Rattle.tagvalue.specs.Field.{fieldAt};
 ghost use Rattle.groups.specs.Groups.{recordOf};

@@ -8,10 +8,10 @@ use lib.Dec.{eqb, ltb, leb}
 use Rattle.tagvalue.specs.Choice.{pick}
 use Rattle.maps.specs.Rows.{Row, row, flat, rowAt, rowsFrom, levelOf, sizes, runEndFrom}
 use Rattle.lent.specs.Lent.{rowCount, rowsOf, fieldsIn}
-use Rattle.message.specs.Changes.{After, after, Cuttable, changedAt, fieldPlace, runPlace}
-use Rattle.message.specs.declared.Change.the-variants.{NoRun}
-use Rattle.message.specs.declared.Cut.{Cut}
-use Rattle.message.specs.declared.Span.{Span}
+use Rattle.message_rules.specs.Changes.{After, after, Cuttable, changedAt, fieldPlace, runPlace}
+use Rattle.message_rules.specs.declared.Change.the-variants.{NoRun}
+use Rattle.message_rules.specs.declared.Cut.{Cut}
+use Rattle.message_rules.specs.declared.Span.{Span}
 
 -- rows one level deeper
 unfoldable pub raised : List Row → List Row

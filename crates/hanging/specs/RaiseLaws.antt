@@ -17,10 +17,10 @@ use Rattle.maps.specs.RowsLaws.{part-length}
 use Rattle.lent.specs.Lent.{rowCount, rowsOf}
 use Rattle.lent.specs.LentLaws.{both}
 use Rattle.lent.specs.MeaningLaws.{flat-length, rows-flat}
-use Rattle.message.specs.Changes.{After, after, Cuttable, cutRows, cutSize, cutWords, cutValues, changedAt}
-use Rattle.message.specs.declared.Cut.{Cut}
-use Rattle.message.specs.declared.Change.{Change}
-use Rattle.message.specs.declared.Change.the-variants.{Made, NoMessage, NotStorable, NoRun, TooManyFields}
+use Rattle.message_rules.specs.Changes.{After, after, Cuttable, cutRows, cutSize, cutWords, cutValues, changedAt}
+use Rattle.message_rules.specs.declared.Cut.{Cut}
+use Rattle.message_rules.specs.declared.Change.{Change}
+use Rattle.message_rules.specs.declared.Change.the-variants.{Made, NoMessage, NotStorable, NoRun, TooManyFields}
 use Rattle.hanging.specs.Hanging.{raised, raisedFrom, within}
 
 pub raised-length : (rows : List Row) → length (raised rows) ≡ length rows

@@ -11,9 +11,9 @@ use Rattle.tagvalue.specs.Choice.{pick}
 use Rattle.maps.specs.Rows.{Row, row, flat, rowAt, rowsFrom, levelOf, sizes}
 use Rattle.maps.specs.RowsLaws.{rows-step, rows-none}
 use Rattle.lent.specs.Lent.{rowCount, rowsOf}
-use Rattle.message.specs.Changes.{after, changedAt, fieldPlace, runPlace}
-use Rattle.message.specs.declared.Change.the-variants.{NoRun}
-use Rattle.message.specs.declared.Span.{Span}
+use Rattle.message_rules.specs.Changes.{after, changedAt, fieldPlace, runPlace}
+use Rattle.message_rules.specs.declared.Change.the-variants.{NoRun}
+use Rattle.message_rules.specs.declared.Span.{Span}
 use Rattle.hanging.specs.Hanging.{raisedFrom, isUntagged, untaggedIn, isOf, allOf, raised, hungPlace, hungCut, hungFields, startOf, delimiterOf, hangAt}
 
 module _ (words : List ℕ) (i to : ℕ) (more : i < to) where

@@ -5,7 +5,7 @@ ghost use Prim.Native.Nat.{ℕ, _+_, _-_, _*_, _≤_, _<_};
 ghost use lib.ListN.{length, getD, take};
 ghost use Rattle.maps.specs.Rows.{flat, rowAt, rowsFrom, sizes};
 ghost use Rattle.lent.specs.Lent.{rowCount, rowsOf};
-ghost use Rattle.message.specs.Changes.{after, Cuttable, changedAt};
+ghost use Rattle.message_rules.specs.Changes.{after, Cuttable, changedAt};
 ghost use Rattle.hanging.specs.Hanging.{raised, raisedFrom, isUntagged, untaggedIn, isOf, allOf, hungPlace, Lent, Hangable, hangAt};
 
 fn is_untagged(words: &[u32], row: usize) -> bool
@@ -80,12 +80,12 @@ fn raise_rows(words: &mut [u32], from: usize, to: usize)
 fn insert_run(
     words: &mut [u32],
     values: &mut [u8],
-    cut: message::Cut,
+    cut: message_rules::Cut,
     run_words: &[u32],
     run_values: &[u8],
     whole: bool,
     fields: usize,
-) -> message::Change
+) -> message_rules::Change
     requires { ⌜ Lent (now «run_words») (now «run_values») × (cut .kept ≡ cut .to) × (cut .until ≡ cut .to) × Cuttable (now words) (now values) cut (flat (raised (rowsOf (now «run_words»)))) (rowCount (now «run_words»)) fields ⌝ }
     ensures { λ r. ⌜ after r (now (words .exit)) (now (values .exit)) ≡ changedAt cut (flat (raised (rowsOf (now («run_words» .entry))))) (rowCount (now («run_words» .entry))) (take (sizes (rowsOf (now («run_words» .entry)))) (now («run_values» .entry))) whole fields (now (words .entry)) (now (values .entry)) ⌝ }
 {
@@ -104,27 +104,27 @@ fn insert_run(
         fields,
     );
     match change {
-        message::Change::Made => {
+        message_rules::Change::Made => {
             raise_rows(words, from, from + count);
-            return message::Change::Made;
+            return message_rules::Change::Made;
         }
-        message::Change::NoMessage => {
-            return message::Change::NoMessage;
+        message_rules::Change::NoMessage => {
+            return message_rules::Change::NoMessage;
         }
-        message::Change::NotStorable => {
-            return message::Change::NotStorable;
+        message_rules::Change::NotStorable => {
+            return message_rules::Change::NotStorable;
         }
-        message::Change::NoRun => {
-            return message::Change::NoRun;
+        message_rules::Change::NoRun => {
+            return message_rules::Change::NoRun;
         }
-        message::Change::TooManyFields => {
-            return message::Change::TooManyFields;
+        message_rules::Change::TooManyFields => {
+            return message_rules::Change::TooManyFields;
         }
     }
 }
 
 // Where a run on a start tag hangs: behind its count, or where a run on it stands, or last.
-fn hung_place(words: &[u32], span: message::Span, start: u32) -> usize
+fn hung_place(words: &[u32], span: message_rules::Span, start: u32) -> usize
     requires { ⌜ (span .from ≤ span .to) × (span .to ≤ 2051) × (length (now words) ≡ 8205) ⌝ }
     ensures { λ r. ⌜ r ≡ hungPlace span start (now (words .entry)) ⌝ }
 {
@@ -141,17 +141,17 @@ fn hung_place(words: &[u32], span: message::Span, start: u32) -> usize
 pub fn hang_in(
     words: &mut [u32],
     values: &mut [u8],
-    span: message::Span,
+    span: message_rules::Span,
     run_words: &[u32],
     run_values: &[u8],
     fields: usize,
-) -> message::Change
+) -> message_rules::Change
     requires { ⌜ Hangable (now words) (now values) span (now «run_words») (now «run_values») fields ⌝ }
     ensures { λ r. ⌜ after r (now (words .exit)) (now (values .exit)) ≡ hangAt span fields (now («run_words» .entry)) (now («run_values» .entry)) (now (words .entry)) (now (values .entry)) ⌝ }
 {
     let run_count = lent::row_count(run_words);
     if run_count == 0 {
-        return message::Change::NoRun;
+        return message_rules::Change::NoRun;
     }
     let start = maps::tag_of(run_words, 0);
     let delimiter = maps::extra_of(run_words, 0);
@@ -162,7 +162,7 @@ pub fn hang_in(
     let to = maps::run_end(words, 1, start, from, last);
     let replaced = lent::fields_in(words, 1, from, to);
     let added = lent::fields_in(run_words, 0, 0, run_count);
-    let cut = message::Cut {
+    let cut = message_rules::Cut {
         from,
         to,
         kept: to,

@@ -8,11 +8,11 @@ use native.Mathlib.Omega.{arith}
 use lib.ListN.{length, take, drop, getD, set, length-append, length-drop, take-append-drop, drop-of-length-le}
 use lib.Seq.{length-take-le, drop-cons, take-suc, getD-append-add, getD-drop, set-at, append-snoc, take-length, drop-drop}
 use Rattle.tagvalue.specs.FindLaws.{rest-part}
-use Rattle.hunter.specs.Hunt.{actOn, huntFrom}
-use Rattle.hunter.specs.TakeLaws.{first-none, first-hand, first-pass, first-stop}
-use Rattle.verdict.specs.declared.Verdict.{Verdict}
-use Rattle.hunter.specs.declared.Act.the-variants.{Hand, Pass, Stop}
-use Rattle.hunter.specs.declared.Hunted.{Hunted}
+use Rattle.frame_hunter_rules.specs.Hunt.{actOn, huntFrom}
+use Rattle.frame_hunter_rules.specs.TakeLaws.{first-none, first-hand, first-pass, first-stop}
+use Rattle.frame_verdict_rules.specs.declared.Verdict.{Verdict}
+use Rattle.frame_hunter_rules.specs.declared.Act.the-variants.{Hand, Pass, Stop}
+use Rattle.frame_hunter_rules.specs.declared.Hunted.{Hunted}
 
 -- ---- keep
 

@@ -2,60 +2,24 @@
 // drops the places at which none can start.
 // It may not keep anything: the caller lends store and output to each call, and hands the state on as it was returned. And it may not
 // judge a place: `verdict` does.
-use verdict::Verdict;
+use frame_hunter_rules::Act;
+use frame_hunter_rules::Answer;
+use frame_hunter_rules::Hunted;
+use frame_hunter_rules::Reply;
+use frame_hunter_rules::State;
+use frame_hunter_rules::Taken;
+use frame_verdict_rules::Verdict;
 ghost use mathlib.Core.Path.{_≡_};
 ghost use mathlib.Core.List.{_++_};
 ghost use Prim.Native.Nat.{_-_, _≤_};
 ghost use lib.ListN.{length, take, drop};
-ghost use Rattle.verdict.specs.Verdict.{verdictOf};
-ghost use Rattle.hunter.specs.Hunt.{actOn, huntFrom};
-ghost use Rattle.hunter.specs.Bytes.{unfit, refusedTake, freshState, numberOf, Pushes, Finishes, Takes};
+ghost use Rattle.frame_verdict_rules.specs.Verdict.{verdictOf};
+ghost use Rattle.frame_hunter_rules.specs.Hunt.{actOn, huntFrom};
+ghost use Rattle.frame_hunter_rules.specs.Bytes.{unfit, refusedTake, freshState, numberOf, Pushes, Finishes, Takes};
 
 const STORE_SIZE: usize = 16384;
 
 const FRAME_MOST: usize = 8192;
-
-// What the hunt does at a place: it hands out so many bytes, passes the place, or stops there.
-enum Act {
-    Hand(usize),
-    Pass,
-    Stop,
-}
-
-// How many places a take passed, and how many bytes it hands out behind them: 0 if no frame is ready.
-struct Hunted {
-    passed: usize,
-    length: usize,
-}
-
-// The framer's state. Its bytes are the first `used` of the store, which the caller lends to each call.
-pub struct State {
-    pub used: usize,
-    pub dropped: u64,
-    pub ended: bool,
-}
-
-// 01, "Numbers returned": 0, 23, 25, 26 and 27.
-pub enum Answer {
-    Fine,
-    OutputShort,
-    StoreFull,
-    AfterEnd,
-    BadStore,
-}
-
-// What a chunk or the end is answered.
-pub struct Reply {
-    pub answer: Answer,
-    pub state: State,
-}
-
-// What a take is answered: the length of the frame at the start of the output, 0 if none is ready.
-pub struct Taken {
-    pub answer: Answer,
-    pub length: usize,
-    pub state: State,
-}
 
 // What the hunt does at a place of this verdict.
 fn act_on(verdict: Verdict, ended: bool) -> Act

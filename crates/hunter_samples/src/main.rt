@@ -2,7 +2,7 @@
 // must come out, written from 01 by hand.
 
 // A line starts with what was called and the answer's number.
-fn answered(call: &[u8], answer: hunter::Answer) {
+fn answered(call: &[u8], answer: frame_hunter_rules::Answer) {
     io::write_all(1, call);
     io::print_decimal(1, hunter::number(answer) as u64);
 }
@@ -12,7 +12,12 @@ fn field(name: &[u8], value: usize) {
     io::print_decimal(1, value as u64);
 }
 
-fn push(call: &[u8], state: hunter::State, store: &mut [u8; 16384], chunk: &[u8]) -> hunter::State {
+fn push(
+    call: &[u8],
+    state: frame_hunter_rules::State,
+    store: &mut [u8; 16384],
+    chunk: &[u8],
+) -> frame_hunter_rules::State {
     let reply = hunter::push(state, store, chunk);
     let answer = reply.answer;
     let next = reply.state;
@@ -22,7 +27,11 @@ fn push(call: &[u8], state: hunter::State, store: &mut [u8; 16384], chunk: &[u8]
     next
 }
 
-fn end(call: &[u8], state: hunter::State, store: &[u8; 16384]) -> hunter::State {
+fn end(
+    call: &[u8],
+    state: frame_hunter_rules::State,
+    store: &[u8; 16384],
+) -> frame_hunter_rules::State {
     let reply = hunter::end(state, store);
     let answer = reply.answer;
     let next = reply.state;
@@ -32,7 +41,7 @@ fn end(call: &[u8], state: hunter::State, store: &[u8; 16384]) -> hunter::State 
     next
 }
 
-fn taken(call: &[u8], taken: hunter::Taken) -> hunter::State {
+fn taken(call: &[u8], taken: frame_hunter_rules::Taken) -> frame_hunter_rules::State {
     let answer = taken.answer;
     let next = taken.state;
     answered(call, answer);
@@ -46,10 +55,10 @@ fn taken(call: &[u8], taken: hunter::Taken) -> hunter::State {
 
 fn take(
     call: &[u8],
-    state: hunter::State,
+    state: frame_hunter_rules::State,
     store: &mut [u8; 16384],
     output: &mut [u8; 8192],
-) -> hunter::State {
+) -> frame_hunter_rules::State {
     taken(call, hunter::take(state, store, output))
 }
 
@@ -88,7 +97,7 @@ struct Halves {
     second: usize,
     third: usize,
     last: usize,
-    state: hunter::State,
+    state: frame_hunter_rules::State,
 }
 
 fn cut(store: &mut [u8; 16384], output: &mut [u8; 8192], one: &[u8], two: &[u8]) -> Halves {
@@ -230,7 +239,7 @@ fn refusals(store: &mut [u8; 16384], output: &mut [u8; 8192]) {
     take_short(store, &mut short);
     take_unfit(&mut small, output);
     push_unfit(&mut small);
-    let past = hunter::State {
+    let past = frame_hunter_rules::State {
         used: 16385,
         dropped: 7,
         ended: true,

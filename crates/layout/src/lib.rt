@@ -1,41 +1,19 @@
 // layout: what a dictionary means, and the tables that reading uses.
 // Look-ups work on lent tables of numbers, have an answer for every content, and never look at a dictionary's bytes.
+use dictionary_layout_rules::FirstTag;
+use dictionary_layout_rules::Level;
+use dictionary_layout_rules::Marked;
+use dictionary_layout_rules::Nested;
+use dictionary_layout_rules::Position;
 use tagvalue::wide;
 ghost use mathlib.Core.Path.{_≡_};
 ghost use Prim.Native.Nat.{_<_, _/_};
 ghost use lib.ListN.{length};
-ghost use Rattle.layout.specs.Tree.{holdsTag};
-ghost use Rattle.layout.specs.Table.{nextSibling, stopOf, positionOf, groupWithin, delimiterAt, nextRequired};
+ghost use Rattle.dictionary_layout_rules.specs.Tree.{holdsTag};
+ghost use Rattle.dictionary_layout_rules.specs.Table.{nextSibling, stopOf, positionOf, groupWithin, delimiterAt, nextRequired};
 
 // Words to a row of a table.
 const STRIDE: usize = 4;
-
-// The rows of a message's own items, or of a group's entries: the first of them, and the row where they end.
-pub struct Level {
-    pub first: usize,
-    pub end: usize,
-}
-
-pub enum Position {
-    At(usize),
-    Nowhere,
-}
-
-pub enum Nested {
-    Within(Level),
-    NoGroup,
-}
-
-pub enum FirstTag {
-    First(u32),
-    NoTag,
-}
-
-// A required tag, and what is left of its level.
-pub enum Marked {
-    Required(u32, Level),
-    NoMore,
-}
 
 // Where a level ends, or the table does.
 fn stop_of(table: &[u32], level: Level) -> usize

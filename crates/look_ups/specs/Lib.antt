@@ -1,7 +1,5 @@
-pub mod LookUps
 pub mod Opening
 pub mod RowLaws
 pub mod NamedLaws
 pub mod OpeningLaws
 pub mod LookUpLaws
-pub mod Examples

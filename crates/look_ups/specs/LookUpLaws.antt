@@ -10,15 +10,15 @@ use Rattle.maps.specs.Map.{Map, Looked, none, some}
 use Rattle.maps.specs.Rows.{laid, rowsFrom}
 use Rattle.lent.specs.Lent.{isMessage}
 use Rattle.lent.specs.Meaning.{Message, parts, messageIn}
-use Rattle.message.specs.Changes.{placeOf, spanOf}
-use Rattle.message.specs.declared.Part.{Part}
-use Rattle.message.specs.declared.Part.the-variants.{Header, Body, Trailer}
-use Rattle.look_ups.specs.LookUps.{rowsIn, standing, mapAt, valueIn, entryIn, partRow, valueOf, entryOf, partFound, fieldFound, entryFound}
+use Rattle.message_rules.specs.Changes.{placeOf, spanOf}
+use Rattle.message_rules.specs.declared.Part.{Part}
+use Rattle.message_rules.specs.declared.Part.the-variants.{Header, Body, Trailer}
+use Rattle.message_rules.specs.LookUps.{rowsIn, standing, mapAt, valueIn, entryIn, partRow, valueOf, entryOf, partFound, fieldFound, entryFound}
 use Rattle.look_ups.specs.Opening.{rowsBelow, openedAt, valueFrom, entryFrom}
 use Rattle.look_ups.specs.RowLaws.{rows-in, value-laid, entry-laid}
 use Rattle.look_ups.specs.OpeningLaws.{Inside, Opens, shut, opened, opens, opened-no}
-use Rattle.look_ups.specs.declared.FoundValue.the-variants as value
-use Rattle.look_ups.specs.declared.FoundMap.the-variants as map
+use Rattle.message_rules.specs.declared.FoundValue.the-variants as value
+use Rattle.message_rules.specs.declared.FoundMap.the-variants as map
 use Rattle.look_ups.specs.declared.Rows.{Rows}
 use Rattle.look_ups.specs.declared.Opened.{Opened}
 use Rattle.look_ups.specs.declared.Opened.the-variants.{NoMessage, Absent, Within}

@@ -11,9 +11,9 @@ use borrow.Author.Tests.{eqb-true, eqb-false, eq-eqb, ne-eqb, le-leb, lt-leb, le
 use Rattle.tagvalue.specs.Choice.{pick}
 use Rattle.maps.specs.Map.{Map, end, field, entry, Looked, none, some, valuesIn}
 use Rattle.maps.specs.Rows.{Row, row, laid, levelOf, sizeOf, sizes}
-use Rattle.message.specs.LayoutLaws.{sizes-append, sizes-laid}
+use Rattle.message_rules.specs.LayoutLaws.{sizes-append, sizes-laid}
 use Rattle.lent.specs.LaidLaws.{shallow}
-use Rattle.look_ups.specs.LookUps.{rowsIn, Standing, standing, mapAt}
+use Rattle.message_rules.specs.LookUps.{rowsIn, Standing, standing, mapAt}
 use Rattle.look_ups.specs.Opening.{isHead}
 use Rattle.look_ups.specs.RowLaws.{rows-in, headIn, head-past, MapSplit, MapNamed, there, nowhere}
 

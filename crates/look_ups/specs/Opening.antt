@@ -6,10 +6,10 @@ use lib.Dec.{eqb, ltb}
 use Rattle.tagvalue.specs.Choice.{pick}
 use Rattle.maps.specs.Rows.{Row, row, rowAt, rowsFrom, levelOf, sizeOf, matches, endFrom}
 use Rattle.lent.specs.Lent.{rowCount, isMessage}
-use Rattle.look_ups.specs.declared.FoundValue.{FoundValue}
-use Rattle.look_ups.specs.declared.FoundValue.the-variants as value
-use Rattle.look_ups.specs.declared.FoundMap.{FoundMap}
-use Rattle.look_ups.specs.declared.FoundMap.the-variants as map
+use Rattle.message_rules.specs.declared.FoundValue.{FoundValue}
+use Rattle.message_rules.specs.declared.FoundValue.the-variants as value
+use Rattle.message_rules.specs.declared.FoundMap.{FoundMap}
+use Rattle.message_rules.specs.declared.FoundMap.the-variants as map
 use Rattle.look_ups.specs.declared.Rows.{Rows}
 use Rattle.look_ups.specs.declared.Opened.{Opened}
 use Rattle.look_ups.specs.declared.Opened.the-variants.{NoMessage, Absent, Within}

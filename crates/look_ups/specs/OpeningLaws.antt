@@ -16,17 +16,17 @@ use Rattle.lent.specs.Lent.{rowCount, rowsOf, isMessage}
 use Rattle.lent.specs.LentLaws.{message-held}
 use Rattle.lent.specs.Meaning.{Message, parts, messageIn}
 use Rattle.lent.specs.MeaningLaws.{means}
-use Rattle.message.specs.Changes.{placeOf}
-use Rattle.message.specs.LayoutLaws.{sizes-append, end-below}
+use Rattle.message_rules.specs.Changes.{placeOf}
+use Rattle.message_rules.specs.LayoutLaws.{sizes-append, end-below}
 use Rattle.lent.specs.LaidLaws.{shallow}
-use Rattle.message.specs.PlaceLaws.{rows-length, rows-part}
-use Rattle.message.specs.CutLaws.{Sized, laid-sized}
-use Rattle.look_ups.specs.LookUps.{Standing, standing, mapAt}
+use Rattle.message_rules.specs.PlaceLaws.{rows-length, rows-part}
+use Rattle.message_rules.specs.CutLaws.{Sized, laid-sized}
+use Rattle.message_rules.specs.LookUps.{Standing, standing, mapAt}
 use Rattle.look_ups.specs.Opening.{isHead, rowsBelow, openedAt, valueFrom, entryFrom}
 use Rattle.look_ups.specs.RowLaws.{headIn, head-within, head-past, MapSplit, MapNamed, there, nowhere}
 use Rattle.look_ups.specs.NamedLaws.{map-named}
-use Rattle.look_ups.specs.declared.FoundValue.the-variants as value
-use Rattle.look_ups.specs.declared.FoundMap.the-variants as map
+use Rattle.message_rules.specs.declared.FoundValue.the-variants as value
+use Rattle.message_rules.specs.declared.FoundMap.the-variants as map
 use Rattle.look_ups.specs.declared.Rows.{Rows}
 use Rattle.look_ups.specs.declared.Opened.the-variants.{NoMessage, Absent, Within}
 

@@ -12,14 +12,14 @@ use Rattle.tagvalue.specs.Choice.{pick, pick-same}
 use Rattle.maps.specs.Map.{Map, end, field, entry, Looked, none, some, valuesIn}
 use Rattle.maps.specs.Rows.{Row, row, laid, rowAt, rowsFrom, levelOf, sizeOf, sizes, matches, endFrom}
 use Rattle.maps.specs.RowsLaws.{rows-step, rows-none}
-use Rattle.message.specs.LayoutLaws.{sizes-append, sizes-laid}
+use Rattle.message_rules.specs.LayoutLaws.{sizes-append, sizes-laid}
 use Rattle.lent.specs.LaidLaws.{shallow}
-use Rattle.look_ups.specs.LookUps.{rowsIn, Standing, standing, mapAt, valueIn, entryIn}
+use Rattle.message_rules.specs.LookUps.{rowsIn, Standing, standing, mapAt, valueIn, entryIn}
 use Rattle.look_ups.specs.Opening.{isHead, valueFrom, entryFrom}
-use Rattle.look_ups.specs.declared.FoundValue.{FoundValue}
-use Rattle.look_ups.specs.declared.FoundValue.the-variants as value
-use Rattle.look_ups.specs.declared.FoundMap.{FoundMap}
-use Rattle.look_ups.specs.declared.FoundMap.the-variants as map
+use Rattle.message_rules.specs.declared.FoundValue.{FoundValue}
+use Rattle.message_rules.specs.declared.FoundValue.the-variants as value
+use Rattle.message_rules.specs.declared.FoundMap.{FoundMap}
+use Rattle.message_rules.specs.declared.FoundMap.the-variants as map
 
 pub rows-in : (l : ℕ) (m : Map) → length (laid l m) ≡ rowsIn m
 unfolding laid rowsIn

@@ -1,30 +1,15 @@
 // look_ups: what a message made by calls holds. A map of it, a part's or an entry's, is named by the row of its head, which a look-up
 // gives and takes by value; any other number names no map. Nothing is changed, and nothing is demanded of what is lent.
+use message_rules::FoundMap;
+use message_rules::FoundValue;
+use message_rules::Value;
 ghost use mathlib.Core.Path.{_≡_};
 ghost use Prim.Native.Nat.{_+_, _-_, _≤_, _<_};
 ghost use lib.ListN.{length};
 ghost use Rattle.maps.specs.Rows.{rowsFrom, sizes};
-ghost use Rattle.message.specs.Changes.{placeOf};
-ghost use Rattle.look_ups.specs.LookUps.{partFound, fieldFound, entryFound};
+ghost use Rattle.message_rules.specs.Changes.{placeOf};
+ghost use Rattle.message_rules.specs.LookUps.{partFound, fieldFound, entryFound};
 ghost use Rattle.look_ups.specs.Opening.{openedAt, valueFrom, entryFrom};
-
-// Where a value stands in the store.
-pub struct Value {
-    pub place: usize,
-    pub size: usize,
-}
-
-pub enum FoundValue {
-    NoMessage,
-    Absent,
-    At(Value),
-}
-
-pub enum FoundMap {
-    NoMessage,
-    Absent,
-    At(usize),
-}
 
 // The own rows of a map, and their level.
 pub struct Rows {
@@ -102,10 +87,10 @@ fn entry_from(words: &[u32], rows: Rows, start: u32, number: usize) -> FoundMap
 }
 
 // The map of a part.
-pub fn part_map(words: &[u32], values: &[u8], part: message::Part) -> FoundMap
+pub fn part_map(words: &[u32], values: &[u8], part: message_rules::Part) -> FoundMap
     ensures { λ r. ⌜ r ≡ partFound part (now (words .entry)) (now (values .entry)) ⌝ }
 {
-    let message::Located::At(span) = message::locate(words, values, part) else {
+    let message_rules::Located::At(span) = message::locate(words, values, part) else {
         return FoundMap::NoMessage;
     };
     let from = span.from;

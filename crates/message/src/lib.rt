@@ -1,47 +1,16 @@
 // message: FIX messages made and changed by calls. It says what a message means in no other words than maps; `lent` says what may be lent,
 // `maps` moves rows and bytes. No operation demands anything of what is lent: where it is no message the answer is 27.
+use message_rules::Change;
+use message_rules::Cut;
+use message_rules::Located;
+use message_rules::Part;
+use message_rules::Span;
 ghost use mathlib.Core.Path.{_≡_};
 ghost use mathlib.Core.Bool.{true, false};
 ghost use Prim.Native.Nat.{_+_, _-_, _*_, _≤_, _<_};
 ghost use lib.ListN.{length};
 ghost use lib.Dec.{leb};
-ghost use Rattle.message.specs.Changes.{locatedIn, Cuttable, changedAt, Ready, putAt, after, emptying, making, storing, removing};
-
-pub enum Part {
-    Header,
-    Body,
-    Trailer,
-}
-
-// What a call that changes a message answers: 0, 27, 41, 42, 21.
-pub enum Change {
-    Made,
-    NoMessage,
-    NotStorable,
-    NoRun,
-    TooManyFields,
-}
-
-// The rows of a part's map, and how many rows there are in all.
-pub struct Span {
-    pub from: usize,
-    pub to: usize,
-    pub count: usize,
-}
-
-pub enum Located {
-    At(Span),
-    Nowhere,
-}
-
-// Rows that are taken out, from `from` to `to`; those from `kept` on come back behind what follows up to `until`.
-pub struct Cut {
-    pub from: usize,
-    pub to: usize,
-    pub kept: usize,
-    pub until: usize,
-    pub count: usize,
-}
+ghost use Rattle.message_rules.specs.Changes.{locatedIn, Cuttable, changedAt, Ready, putAt, after, emptying, making, storing, removing};
 
 // Where a part of the message stands that is lent, if it is one.
 pub fn locate(words: &[u32], values: &[u8], part: Part) -> Located

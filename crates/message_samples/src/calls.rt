@@ -13,7 +13,7 @@ use crate::laying;
 use crate::looking;
 use crate::reading;
 use crate::showing;
-use message::Part;
+use message_rules::Part;
 
 fn change(words: &mut [u32], values: &mut [u8], part: Part, text: &[u8]) {
     if reading::starts_with(text, b'-') {

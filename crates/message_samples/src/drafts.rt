@@ -6,7 +6,7 @@ use crate::laying;
 use crate::lines;
 use crate::reading;
 use crate::showing;
-use message::Part;
+use message_rules::Part;
 
 fn add_entry(words: &mut [u32], values: &mut [u8], text: &[u8]) {
     let start = reading::number(reading::before(text, b','));

@@ -1,9 +1,9 @@
 // Looks fields up: `b58` in a part, `b78,0,79` in an entry of the run on 78, the first being 0.
 use crate::reading;
 use crate::showing;
-use look_ups::FoundMap;
-use look_ups::FoundValue;
-use message::Part;
+use message_rules::FoundMap;
+use message_rules::FoundValue;
+use message_rules::Part;
 
 fn part_of(letter: u8) -> Part {
     match letter {

@@ -1,9 +1,9 @@
 // Writes answers, messages and encodings.
 use crate::laying;
 use crate::reading;
-use encoding::Encoding;
-use message::Change;
+use message_rules::Change;
 use taking::Taken;
+use written_form::Encoding;
 
 pub fn say(text: &[u8]) {
     io::write_all(1, text);

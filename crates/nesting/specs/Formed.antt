@@ -4,7 +4,7 @@ use mathlib.Core.Path.{_≡_}
 use mathlib.Core.Bool.{true}
 use mathlib.Core.List.{List, [], _∷_, _++_}
 use Prim.Native.Nat.{ℕ, _+_, _-_, _<_}
-use Rattle.layout.specs.declared.Position.the-variants.{At, Nowhere}
+use Rattle.dictionary_layout_rules.specs.declared.Position.the-variants.{At, Nowhere}
 use Rattle.records.specs.Records.{stored}
 use Rattle.records.specs.declared.Record.{Record}
 use Rattle.groups.specs.Groups.{opened, Rules, opens}

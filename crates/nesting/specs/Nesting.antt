@@ -12,8 +12,8 @@ use borrow.Author.Tests.{leb-false}
 use Rattle.tagvalue.specs.Choice.{pick}
 use Rattle.tagvalue.specs.Fields.{Fields, unreadable, field}
 use Rattle.tagvalue.specs.declared.Field.{Field}
-use Rattle.layout.specs.declared.Position.{Position}
-use Rattle.layout.specs.declared.Position.the-variants.{At, Nowhere}
+use Rattle.dictionary_layout_rules.specs.declared.Position.{Position}
+use Rattle.dictionary_layout_rules.specs.declared.Position.the-variants.{At, Nowhere}
 use Rattle.records.specs.Records.{stored}
 use Rattle.records.specs.declared.Record.{Record}
 use Rattle.groups.specs.Groups.{Opened, none, opened, Rules, opens, Kind, plain, count, joins, wrong, ends, counting, declared, kindOf, Frame, run, entry, Move, adds, joinsAt, disorders, leaves, inEntry, decide, recordOf, ended, moved, walk}

@@ -7,7 +7,7 @@ use native.Mathlib.Numerals.{add-one}
 use native.Mathlib.Omega.{arith}
 use lib.ListN.{length, getD, take, drop, set, length-drop}
 use lib.Seq.{take-add, take-suc, take-take, take-length, drop-at, drop-cons, set-at, getD-append-add, getD-drop, length-take-le}
-use Rattle.parser.specs.Framer.{movedToFront}
+use Rattle.frame_parser_rules.specs.Framer.{movedToFront}
 
 -- the store after i bytes from `first` on were moved
 abbrev pub moved : List ℕ → ℕ → ℕ → List ℕ

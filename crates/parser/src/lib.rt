@@ -1,11 +1,17 @@
 // parser: the ported framer. Chunks of a stream go in at the end of a lent store, whole messages come out at its front, cut by
 // their announced lengths alone. It never looks for a message's start, checks no CheckSum and knows no field but by its position.
+use frame_parser_rules::Announced;
+use frame_parser_rules::Answer;
+use frame_parser_rules::Outcome;
+use frame_parser_rules::Ready;
+use frame_parser_rules::State;
+use frame_parser_rules::Value;
 use tagvalue::Found;
 ghost use mathlib.Core.Path.{_≡_};
 ghost use Prim.Native.Nat.{_*_, _%_, _^_, _≤_};
 ghost use lib.ListN.{length, take, drop};
-ghost use Rattle.parser.specs.Announced.{nominal, findFrom, valueFrom, announcedIn};
-ghost use Rattle.parser.specs.Framer.{unusable, fresh, onlyMark, numberOf, valueOf, answersWith, readyOf, movedToFront, pushed, pushedStore, finished, taken, takenStore, takenOutput};
+ghost use Rattle.frame_parser_rules.specs.Announced.{nominal, findFrom, valueFrom, announcedIn};
+ghost use Rattle.frame_parser_rules.specs.Framer.{unusable, fresh, onlyMark, numberOf, valueOf, answersWith, readyOf, movedToFront, pushed, pushedStore, finished, taken, takenStore, takenOutput};
 
 const SEPARATOR: u8 = 1;
 
@@ -16,30 +22,6 @@ const MESSAGE_LIMIT: usize = 8192;
 const STORE_SIZE: usize = 16384;
 
 const CHECKSUM_SIZE: usize = 7;
-
-// What the framer keeps beside the store: how many bytes are used, whether the end was told, and whether a length over 8,192 bytes
-// was announced, the mark that 20 leaves.
-pub struct State {
-    pub used: usize,
-    pub ended: bool,
-    pub over: bool,
-}
-
-// What a call answers. Accepted: a chunk or the end. Message: a take, with the message's length, 0 if none is ready.
-pub enum Answer {
-    Accepted,
-    Message(usize),
-    OverLong,
-    ShortOutput,
-    StoreFull,
-    AfterEnd,
-    BadStore,
-}
-
-pub struct Outcome {
-    pub state: State,
-    pub answer: Answer,
-}
 
 // The number that 01 gives an answer.
 pub fn number(answer: Answer) -> u32
@@ -114,12 +96,6 @@ fn find_from(bytes: &[u8], at: usize, wanted: u8) -> Found
     Found::At(at + offset)
 }
 
-// Where a value starts and where the separator behind it stands.
-pub enum Value {
-    Between(usize, usize),
-    NoValue,
-}
-
 // The first `=` from a place on, and the first separator behind it.
 fn value_from(held: &[u8], at: usize) -> Value
     ensures { λ r. ⌜ r ≡ valueFrom at (now (held .entry)) ⌝ }
@@ -132,13 +108,6 @@ fn value_from(held: &[u8], at: usize) -> Value
         return Value::NoValue;
     };
     Value::Between(first, last)
-}
-
-// Where the message at the front ends: at a place within the limit, past the limit, or not known yet.
-pub enum Announced {
-    Ends(usize),
-    Over,
-    Unknown,
 }
 
 // The length is read between the second `=` and its separator.
@@ -195,12 +164,6 @@ fn over_long() -> Outcome
         state: mark,
         answer: Answer::OverLong,
     }
-}
-
-// How long the message is that can be handed out, 0 if none is ready; or that it is refused for its length.
-pub enum Ready {
-    Length(usize),
-    Refused,
 }
 
 fn ready_of(announced: Announced, used: usize) -> Ready

@@ -1,8 +1,8 @@
 // parser_samples: runs the ported framer on the cases that 01 names and writes what each call answers. The lines of `stdout` come
 // from 01. A line has the call, its number, a take's length, and the state that is left.
-use parser::Answer;
-use parser::Outcome;
-use parser::State;
+use frame_parser_rules::Answer;
+use frame_parser_rules::Outcome;
+use frame_parser_rules::State;
 
 fn say(text: &[u8]) {
     io::write_all(1, text);

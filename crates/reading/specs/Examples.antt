@@ -12,8 +12,8 @@ use Rattle.tagvalue.specs.Text.{bytes}
 use Rattle.tagvalue.specs.CheckSum.{sumOf, checksumOf, checksumDigits}
 use Rattle.tagvalue.specs.Decimal.{decimalWithin}
 use Rattle.integrity.specs.Integrity.{numberOfReason, integrityOf, begun, counted, summed, typed, lengthIs, lengthAgrees, sumIs, sumAgrees}
-use Rattle.layout.specs.Layout.{followedBy as layoutThen, firstOf, positionFrom, positionIn, groupSince, groupOf, delimiterOf, requiredTags}
-use Rattle.layout.specs.Tree.{Nodes, nothing, fieldItem, groupItem, Dictionary, holdsTag, knows, plainFields, headerTags, trailerTags, flattened, sameBytes, messageOf, layoutOf}
+use Rattle.dictionary_layout_rules.specs.Layout.{followedBy as layoutThen, firstOf, positionFrom, positionIn, groupSince, groupOf, delimiterOf, requiredTags}
+use Rattle.dictionary_layout_rules.specs.Tree.{Nodes, nothing, fieldItem, groupItem, Dictionary, holdsTag, knows, plainFields, headerTags, trailerTags, flattened, sameBytes, messageOf, layoutOf}
 use Rattle.records.specs.Records.{stored}
 use Rattle.records.specs.declared.Record.{Record}
 use Rattle.groups.specs.Groups.{isDelimiter, counting, opens, declared, kindOf as entryKind, inEntry, decide, recordOf as entryRecord, moved, walk}

@@ -3,8 +3,8 @@ use crate::drafts;
 use crate::encoded;
 use crate::reading;
 use crate::saying;
-use message::Change;
-use message::Part;
+use message_rules::Change;
+use message_rules::Part;
 
 // 01's numbers.
 pub fn number_of(change: Change) -> u32 {

@@ -1,7 +1,7 @@
 // An encoding, and the whole message after it as rows.
 use crate::reading;
 use crate::saying;
-use encoding::Encoding;
+use written_form::Encoding;
 ghost use mathlib.Core.Path.{_≡_};
 ghost use Prim.Native.Nat.{_<_};
 

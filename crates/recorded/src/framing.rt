@@ -1,7 +1,7 @@
 // Streams for the ported framer, as `CHUNK CHUNK ..`: after each chunk all that is ready is taken.
 use crate::reading;
 use crate::saying;
-use parser::State;
+use frame_parser_rules::State;
 
 // Behind the frames that were taken: a refusal, or `-` where there was no frame.
 fn last_word(frames: usize, number: u32) {

@@ -8,10 +8,10 @@ use lib.ListN.{length}
 use lib.Dec.{eqb}
 use borrow.Author.Tests.{eqb-true, eqb-false}
 use Rattle.tagvalue.specs.Choice.{pick}
-use Rattle.layout.specs.Table.{groupWithin}
-use Rattle.layout.specs.declared.Level.{Level}
-use Rattle.layout.specs.declared.Nested.{Nested}
-use Rattle.layout.specs.declared.Nested.the-variants.{Within, NoGroup}
+use Rattle.dictionary_layout_rules.specs.Table.{groupWithin}
+use Rattle.dictionary_layout_rules.specs.declared.Level.{Level}
+use Rattle.dictionary_layout_rules.specs.declared.Nested.{Nested}
+use Rattle.dictionary_layout_rules.specs.declared.Nested.the-variants.{Within, NoGroup}
 use Rattle.records.specs.Records.{recordsOf, recordAt, between}
 use Rattle.records.specs.WordLaws.{records-length}
 use Rattle.records.specs.declared.Record.{Record}

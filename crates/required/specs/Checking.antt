@@ -6,11 +6,11 @@ use lib.Dec.{eqb}
 use Rattle.tagvalue.specs.Choice.{pick}
 use Rattle.build_answers.specs.declared.Answer.{Answer}
 use Rattle.build_answers.specs.declared.Answer.the-variants.{Valid, RequiredFieldMissing}
-use Rattle.layout.specs.Layout.{Layout, groupOf, delimiterOf, requiredTags}
-use Rattle.layout.specs.Table.{siblings, requiredAmong, groupWithin}
-use Rattle.layout.specs.declared.Level.{Level}
-use Rattle.layout.specs.declared.Nested.{Nested}
-use Rattle.layout.specs.declared.Nested.the-variants.{NoGroup}
+use Rattle.dictionary_layout_rules.specs.Layout.{Layout, groupOf, delimiterOf, requiredTags}
+use Rattle.dictionary_layout_rules.specs.Table.{siblings, requiredAmong, groupWithin}
+use Rattle.dictionary_layout_rules.specs.declared.Level.{Level}
+use Rattle.dictionary_layout_rules.specs.declared.Nested.{Nested}
+use Rattle.dictionary_layout_rules.specs.declared.Nested.the-variants.{NoGroup}
 use Rattle.records.specs.declared.Record.{Record}
 use Rattle.groups.specs.Groups.{isDelimiter}
 use Rattle.groups.specs.Reading.{opensAt, openedBy, openedAs}

@@ -9,8 +9,8 @@ use Rattle.tagvalue.specs.Computing.{reading-fields}
 use Rattle.tagvalue.specs.Text.{bytes}
 use Rattle.tagvalue.specs.Field.{startAt, separatedBy}
 use Rattle.tagvalue.specs.Fields.{fieldsFrom}
-use Rattle.layout.specs.Layout.{Layout, end, field, group, firstOf, positionFrom, positionIn, groupSince, groupOf, delimiterOf, requiredTags}
-use Rattle.layout.specs.Tree.{holdsTag}
+use Rattle.dictionary_layout_rules.specs.Layout.{Layout, end, field, group, firstOf, positionFrom, positionIn, groupSince, groupOf, delimiterOf, requiredTags}
+use Rattle.dictionary_layout_rules.specs.Tree.{holdsTag}
 use Rattle.records.specs.Records.{stored}
 use Rattle.records.specs.declared.Record.{Record}
 use Rattle.build_answers.specs.Answer.{numberOf, valuesOf, listed}

@@ -3,9 +3,9 @@ use mathlib.Core.Path.{_≡_, refl, ap}
 use mathlib.Core.Bool.{Bool}
 use mathlib.Core.List.{List, [], _∷_}
 use Prim.Native.Nat.{ℕ, zero, suc, _+_, _-_}
-use Rattle.layout.specs.Layout.{Layout, requiredTags}
-use Rattle.layout.specs.Tabled.{Tabled, delimiter-means, group-means, required-means}
-use Rattle.layout.specs.declared.Level.{Level}
+use Rattle.dictionary_layout_rules.specs.Layout.{Layout, requiredTags}
+use Rattle.dictionary_layout_rules.specs.Tabled.{Tabled, delimiter-means, group-means, required-means}
+use Rattle.dictionary_layout_rules.specs.declared.Level.{Level}
 use Rattle.records.specs.declared.Record.{Record}
 use Rattle.groups.specs.Groups.{Opened}
 use Rattle.groups.specs.Alike.{OpenedAlike, none-alike, opened-alike}

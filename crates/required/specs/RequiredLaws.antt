@@ -17,8 +17,8 @@ use Rattle.groups.specs.Groups.{Opened, none, opened}
 use Rattle.required.specs.Required.{orElse, has, fieldsLack, before, shallow, opensEntry, runLacks, nestedLack, entriesLack}
 use Rattle.groups.specs.Reading.{opensAt}
 use Rattle.groups.specs.declared.Group.{Group}
-use Rattle.layout.specs.Table.{groupWithin}
-use Rattle.layout.specs.declared.Nested.the-variants.{NoGroup}
+use Rattle.dictionary_layout_rules.specs.Table.{groupWithin}
+use Rattle.dictionary_layout_rules.specs.declared.Nested.the-variants.{NoGroup}
 use Rattle.required.specs.Checking.{tableDemands, startsAt, countAt, endFrom}
 use Rattle.required.specs.declared.Lack.{Lack}
 use Rattle.required.specs.declared.Lack.the-variants.{Missing, Complete}

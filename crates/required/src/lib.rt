@@ -1,9 +1,9 @@
 // required: whether the entries of a body group that was read hold their required fields (4).
 // The run check and the entry check call each other, and the depth that is left falls. It only looks at records and tables.
+use dictionary_layout_rules::Level;
+use dictionary_layout_rules::Marked;
+use dictionary_layout_rules::Nested;
 use groups::Group;
-use layout::Level;
-use layout::Marked;
-use layout::Nested;
 use records::Record;
 use records::Standing;
 ghost use mathlib.Core.Path.{_≡_};

@@ -10,19 +10,19 @@ use Rattle.records.specs.declared.Record.{Record}
 use Rattle.maps.specs.Map.{Map, holds}
 use Rattle.lent.specs.Meaning.{Message, wordsOf, valuesOf}
 use Rattle.lent.specs.FormedLaws.{layout-lends}
-use Rattle.message.specs.Changes.{fieldTotal}
+use Rattle.message_rules.specs.Changes.{fieldTotal}
 use Rattle.nesting.specs.Formed.{Own}
 use Rattle.nesting.specs.Entries.{All}
 use Rattle.standing.specs.ShapeLaws.{all-first, all-rest}
 use Rattle.taking.specs.Derived.{Stands, no-more as stands-none, own as stands-own, in-entry as stands-entry}
 use Rattle.written_form.specs.Encoding.{dropped, encodedMessage}
 use Rattle.tagvalue.specs.Separator.{isRefusedSeparator}
-use Rattle.encoding.specs.Encode.{hasUncounted, isIncomplete, left, encoded, encodingOf}
+use Rattle.written_form.specs.Encode.{hasUncounted, isIncomplete, left, encoded, encodingOf}
 use Rattle.encoding.specs.SizeLaws.{encoded-fields}
 use Rattle.encoding.specs.CountLaws.{gone-once, dropped-uncounted}
 use Rattle.encoding.specs.FoundLaws.{hangs}
 use Rattle.encoding.specs.VerdictLaws.{refused-long, found-fit, encodes, refuses}
-use Rattle.encoding.specs.declared.Encoding.the-variants.{Written, TooLong}
+use Rattle.written_form.specs.declared.Encoding.the-variants.{Written, TooLong}
 use Rattle.rewriting.specs.Written.{rewritten}
 use Rattle.rewriting.specs.EncodedText.{stands-count, stands-counted}
 use Rattle.rewriting.specs.EncodedBuilt.{Built, built-maps, encoding-rewritten}

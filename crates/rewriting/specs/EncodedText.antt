@@ -19,7 +19,7 @@ use Rattle.taking.specs.Taking.{valueAt}
 use Rattle.taking.specs.Derived.{Stands, no-more, own, in-entry}
 use Rattle.written_form.specs.Encoding.{text, bytesOf}
 use Rattle.encoder.specs.WritingLaws.{text-length}
-use Rattle.encoding.specs.Encode.{lacksCount}
+use Rattle.written_form.specs.Encode.{lacksCount}
 use Rattle.rewriting.specs.Written.{written}
 
 pub written-append : (separator : ℕ) (bytes : List ℕ) (rs ss : List Record) → written separator bytes (rs ++ ss) ≡ written separator bytes rs ++ written separator bytes ss

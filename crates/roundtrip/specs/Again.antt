@@ -9,7 +9,7 @@ use lib.ListN.{length}
 use Rattle.build_config.specs.declared.Config.{Config}
 use Rattle.tagvalue.specs.Field.{startAt}
 use Rattle.tagvalue.specs.Fields.{Fields, field, fieldsFrom}
-use Rattle.layout.specs.Tree.{Dictionary}
+use Rattle.dictionary_layout_rules.specs.Tree.{Dictionary}
 use Rattle.records.specs.declared.Record.{Record}
 use Rattle.nesting.specs.Entries.{all-more}
 use Rattle.build_answers.specs.declared.Answer.the-variants.{Valid}

@@ -9,7 +9,7 @@ use native.Mathlib.Decide.{decLe}
 use native.Mathlib.Omega.{arith}
 use lib.ListN.{length, drop}
 use Rattle.build_config.specs.declared.Config.{Config}
-use Rattle.flattening.specs.Meaning.{dictionaryOf}
+use Rattle.dictionary_meaning_rules.specs.Meaning.{dictionaryOf}
 use Rattle.lent.specs.Meaning.{Message, wordsOf, valuesOf}
 use Rattle.build_answers.specs.declared.Answer.the-variants.{Valid}
 use Rattle.reading.specs.Message.{Outcome, messageRead}
@@ -20,8 +20,8 @@ use Rattle.taking.specs.Derived.{derived, given}
 use Rattle.taken.specs.Theorem.{Shown, build-shown, shown-build, build-of-taken}
 use Rattle.written_form.specs.Encoding.{encoding, encodedMessage}
 use Rattle.tagvalue.specs.Separator.{isRefusedSeparator}
-use Rattle.encoding.specs.Encode.{left, encodingOf}
-use Rattle.encoding.specs.declared.Encoding.the-variants.{Written, TooLong}
+use Rattle.written_form.specs.Encode.{left, encodingOf}
+use Rattle.written_form.specs.declared.Encoding.the-variants.{Written, TooLong}
 use Rattle.tags_alone.specs.SimilarLaws.{similar-length}
 use Rattle.roundtrip.specs.Clean.{RepeatFree}
 use Rattle.roundtrip.specs.AgainValues.{Split}

@@ -11,7 +11,7 @@ use Rattle.tagvalue.specs.declared.Field.{Field}
 use Rattle.integrity.specs.Integrity.{integrityOf}
 use Rattle.integrity.specs.declared.Integrity.the-variants.{Sound}
 use Rattle.integrity.specs.declared.Verified.{Verified}
-use Rattle.layout.specs.Tree.{Dictionary, knows, headerTags, trailerTags, laidOut, layoutOf}
+use Rattle.dictionary_layout_rules.specs.Tree.{Dictionary, knows, headerTags, trailerTags, laidOut, layoutOf}
 use Rattle.records.specs.declared.Record.{Record}
 use Rattle.groups.specs.Reading.{accepted, layoutRules}
 use Rattle.required.specs.Checking.{layoutDemands}

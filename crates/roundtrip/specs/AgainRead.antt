@@ -12,7 +12,7 @@ use Rattle.tagvalue.specs.Fields.{Fields, field, fieldsFrom}
 use Rattle.tagvalue.specs.FieldsLaws.{fields-field}
 use Rattle.integrity.specs.VerifiedLaws.{verified-read}
 use Rattle.integrity.specs.declared.Verified.{Verified}
-use Rattle.layout.specs.Tree.{Dictionary, knows, headerTags, trailerTags, laidOut, layoutOf}
+use Rattle.dictionary_layout_rules.specs.Tree.{Dictionary, knows, headerTags, trailerTags, laidOut, layoutOf}
 use Rattle.records.specs.declared.Record.{Record}
 use Rattle.groups.specs.Reading.{accepted, layoutRules}
 use Rattle.required.specs.Checking.{layoutDemands}

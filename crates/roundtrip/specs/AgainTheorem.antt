@@ -6,7 +6,7 @@ use mathlib.Core.List.{List, _∷_, _++_}
 use Prim.Native.Nat.{ℕ, _≤_, _<_}
 use lib.ListN.{length, drop}
 use Rattle.build_config.specs.declared.Config.{Config}
-use Rattle.layout.specs.Tree.{Dictionary}
+use Rattle.dictionary_layout_rules.specs.Tree.{Dictionary}
 use Rattle.records.specs.declared.Record.{Record}
 use Rattle.lent.specs.Meaning.{Message, wordsOf, valuesOf}
 use Rattle.nesting.specs.Formed.{Own}
@@ -18,8 +18,8 @@ use Rattle.standing.specs.Parted.{Takes}
 use Rattle.sequence.specs.InOrder.{InOrder}
 use Rattle.written_form.specs.Encoding.{encoding, encodedMessage}
 use Rattle.tagvalue.specs.Separator.{isRefusedSeparator}
-use Rattle.encoding.specs.Encode.{left, encodingOf}
-use Rattle.encoding.specs.declared.Encoding.the-variants.{Written, TooLong}
+use Rattle.written_form.specs.Encode.{left, encodingOf}
+use Rattle.written_form.specs.declared.Encoding.the-variants.{Written, TooLong}
 use Rattle.rewriting.specs.Written.{rewritten}
 use Rattle.rewriting.specs.EncodedBuilt.{Built, encoding-rewritten}
 use Rattle.rewriting.specs.EncodedFit.{encoding-written, encoding-too-long}

@@ -8,7 +8,7 @@ use Rattle.build_config.specs.declared.Config.{Config}
 use Rattle.tagvalue.specs.Field.{startAt}
 use Rattle.tagvalue.specs.Fields.{fieldsFrom}
 use Rattle.tagvalue.specs.declared.Field.{Field}
-use Rattle.layout.specs.Tree.{Dictionary, headerTags, holdsTag}
+use Rattle.dictionary_layout_rules.specs.Tree.{Dictionary, headerTags, holdsTag}
 use Rattle.build_answers.specs.declared.Answer.the-variants.{Valid}
 use Rattle.reading.specs.Message.{messageRead}
 use Rattle.reading.specs.declared.Stop.the-variants.{At}

@@ -11,8 +11,8 @@ use Rattle.tagvalue.specs.FieldsLaws.{fields-field}
 use Rattle.tagvalue.specs.Standard as standard
 use Rattle.integrity.specs.VerifiedLaws.{verified-read}
 use Rattle.build_config.specs.declared.Config.{Config}
-use Rattle.layout.specs.Tree.{Dictionary}
-use Rattle.flattening.specs.Meaning.{dictionaryOf}
+use Rattle.dictionary_layout_rules.specs.Tree.{Dictionary}
+use Rattle.dictionary_meaning_rules.specs.Meaning.{dictionaryOf}
 use Rattle.records.specs.declared.Record.{Record}
 use Rattle.nesting.specs.Entries.{All, all-append}
 use Rattle.parts.specs.Parts.{recordOf}

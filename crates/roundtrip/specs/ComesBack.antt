@@ -8,7 +8,7 @@ use native.Mathlib.Omega.{arith}
 use lib.ListN.{length, drop}
 use Rattle.tagvalue.specs.Field.{startAt}
 use Rattle.tagvalue.specs.Fields.{Fields, field, fieldsFrom}
-use Rattle.layout.specs.Tree.{Dictionary}
+use Rattle.dictionary_layout_rules.specs.Tree.{Dictionary}
 use Rattle.records.specs.declared.Record.{Record}
 use Rattle.nesting.specs.Entries.{all-more}
 use Rattle.parts.specs.Parts.{recordOf}
@@ -18,10 +18,10 @@ use Rattle.reading.specs.declared.Stop.the-variants.{At}
 use Rattle.lent.specs.Meaning.{Message, wordsOf, valuesOf}
 use Rattle.written_form.specs.Encoding.{encodedMessage}
 use Rattle.tagvalue.specs.Separator.{isRefusedSeparator}
-use Rattle.encoding.specs.Encode.{left, encodingOf}
-use Rattle.encoding.specs.declared.Encoding.the-variants.{Written}
+use Rattle.written_form.specs.Encode.{left, encodingOf}
+use Rattle.written_form.specs.declared.Encoding.the-variants.{Written}
 use Rattle.build_config.specs.declared.Config.{Config}
-use Rattle.flattening.specs.Meaning.{dictionaryOf}
+use Rattle.dictionary_meaning_rules.specs.Meaning.{dictionaryOf}
 use Rattle.build_answers.specs.declared.Answer.the-variants.{Valid}
 use Rattle.builder.specs.Build.{BuildOutcome, buildOf}
 use Rattle.taking.specs.Taking.{after, takingOver}

@@ -7,17 +7,17 @@ use Prim.Native.Nat.{ℕ, _≤_, _<_}
 use native.Mathlib.Omega.{arith}
 use lib.ListN.{length}
 use Rattle.build_config.specs.declared.Config.{Config}
-use Rattle.flattening.specs.Meaning.{dictionaryOf}
-use Rattle.layout.specs.Tree.{Dictionary}
+use Rattle.dictionary_meaning_rules.specs.Meaning.{dictionaryOf}
+use Rattle.dictionary_layout_rules.specs.Tree.{Dictionary}
 use Rattle.build_answers.specs.declared.Answer.the-variants.{Valid}
 use Rattle.reading.specs.Message.{messageRead}
 use Rattle.builder.specs.Build.{BuildOutcome, buildOf}
 use Rattle.lent.specs.Meaning.{wordsOf, valuesOf, messageIn}
-use Rattle.message.specs.Changes.{fieldTotal}
+use Rattle.message_rules.specs.Changes.{fieldTotal}
 use Rattle.written_form.specs.Encoding.{encodedMessage}
-use Rattle.encoding.specs.Encode.{left, encodingOf}
+use Rattle.written_form.specs.Encode.{left, encodingOf}
 use Rattle.encoding.specs.EncodedLaws.{encode-lends}
-use Rattle.encoding.specs.declared.Encoding.the-variants.{Written}
+use Rattle.written_form.specs.declared.Encoding.the-variants.{Written}
 use Rattle.taking.specs.Taking.{after, takingOver}
 use Rattle.taking.specs.declared.Taken.the-variants.{Made}
 use Rattle.standing.specs.Parted.{Takes}

@@ -14,7 +14,7 @@ use Rattle.tagvalue.specs.Choice.{pick, pick-same}
 use Rattle.tagvalue.specs.Fields.{Fields, unreadable, field, fieldsFrom}
 use Rattle.tagvalue.specs.declared.Field.{Field}
 use Rattle.integrity.specs.declared.Verified.{Verified}
-use Rattle.layout.specs.Tree.{Dictionary, headerTags, holdsTag}
+use Rattle.dictionary_layout_rules.specs.Tree.{Dictionary, headerTags, holdsTag}
 use Rattle.records.specs.Records.{stored}
 use Rattle.records.specs.declared.Record.{Record}
 use Rattle.parts.specs.Parts.{ended, recordOf}
@@ -25,7 +25,7 @@ use Rattle.reading.specs.Message.{Outcome}
 use Rattle.reading.specs.declared.Stop.{Stop}
 use Rattle.maps.specs.Map.{Map, holds}
 use Rattle.lent.specs.Meaning.{Message}
-use Rattle.message.specs.Changes.{fieldTotal}
+use Rattle.message_rules.specs.Changes.{fieldTotal}
 use Rattle.taking.specs.Derived.{Stands, StandFor, own as stands-own, in-entry as stands-entry}
 use Rattle.standing.specs.Parted.{Takes}
 use Rattle.written_form.specs.Encoding.{encodedMessage}

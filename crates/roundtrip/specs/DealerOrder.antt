@@ -19,8 +19,8 @@ use Rattle.tagvalue.specs.Decimal.{decimalWithin}
 use Rattle.tagvalue.specs.Field.{startAt, valueOf, separatedBy}
 use Rattle.tagvalue.specs.Fields.{fieldsFrom}
 use Rattle.integrity.specs.Integrity.{integrityOf, begun, counted, summed, typed, lengthIs, lengthAgrees, sumIs, sumAgrees}
-use Rattle.layout.specs.Layout.{followedBy as layoutThen, firstOf, positionFrom, positionIn, groupSince, groupOf}
-use Rattle.layout.specs.Tree.{holdsTag, knows, plainFields, headerTags, trailerTags, flattened, sameBytes, messageOf, layoutOf}
+use Rattle.dictionary_layout_rules.specs.Layout.{followedBy as layoutThen, firstOf, positionFrom, positionIn, groupSince, groupOf}
+use Rattle.dictionary_layout_rules.specs.Tree.{holdsTag, knows, plainFields, headerTags, trailerTags, flattened, sameBytes, messageOf, layoutOf}
 use Rattle.records.specs.Records.{stored}
 use Rattle.groups.specs.Reading.{accepted, openedAs, layoutRules}
 use Rattle.required.specs.Required.{has}
@@ -42,11 +42,11 @@ use Rattle.taking.specs.Taking.{valueAt as valueIn}
 use Rattle.standing.specs.Parted.{Takes}
 use Rattle.written_form.specs.Encoding.{sumDigits, summed as withSum, encoding, encodedMessage}
 use Rattle.tagvalue.specs.Separator.{isRefusedSeparator}
-use Rattle.encoding.specs.Encode.{left, encodingOf}
-use Rattle.encoding.specs.declared.Encoding.the-variants.{Written}
+use Rattle.written_form.specs.Encode.{left, encodingOf}
+use Rattle.written_form.specs.declared.Encoding.the-variants.{Written}
 use Rattle.sequence.specs.Counted.{countedTo, countedFields, fieldsCounted}
 use Rattle.sequence.specs.Twice.{twiceInHeader, twiceInTrailer, twiceBehind, twiceTaking, twiceWithin, twiceInBody, twiceFromBody, twiceFromHeader, storedTwice}
-use Rattle.message.specs.Changes.{fieldTotal}
+use Rattle.message_rules.specs.Changes.{fieldTotal}
 use Rattle.rewriting.specs.Written.{written, rewritten}
 use Rattle.rewriting.specs.EncodedBuilt.{Built, encoding-rewritten}
 use Rattle.rewriting.specs.EncodedFit.{encoding-written}

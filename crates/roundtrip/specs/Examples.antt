@@ -13,8 +13,8 @@ use Rattle.tagvalue.specs.Decimal.{decimalWithin}
 use Rattle.tagvalue.specs.Field.{startAt, separatedBy}
 use Rattle.tagvalue.specs.Fields.{fieldsFrom}
 use Rattle.integrity.specs.Integrity.{integrityOf, begun, counted, summed, typed, lengthIs, lengthAgrees, sumIs, sumAgrees}
-use Rattle.layout.specs.Layout.{followedBy as layoutThen, firstOf, positionFrom, positionIn, groupSince, groupOf, delimiterOf, requiredTags}
-use Rattle.layout.specs.Tree.{holdsTag, knows, plainFields, headerTags, trailerTags, flattened, sameBytes, messageOf, layoutOf}
+use Rattle.dictionary_layout_rules.specs.Layout.{followedBy as layoutThen, firstOf, positionFrom, positionIn, groupSince, groupOf, delimiterOf, requiredTags}
+use Rattle.dictionary_layout_rules.specs.Tree.{holdsTag, knows, plainFields, headerTags, trailerTags, flattened, sameBytes, messageOf, layoutOf}
 use Rattle.records.specs.Records.{stored}
 use Rattle.groups.specs.Groups.{isDelimiter, counting, opens, declared, kindOf as entryKind, inEntry, decide, recordOf as entryRecord, moved, walk}
 use Rattle.groups.specs.Reading.{accepted, openedAs, layoutRules, joinedList, listStore}

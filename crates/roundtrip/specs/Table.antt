@@ -5,14 +5,14 @@ use mathlib.Core.Bool.{false}
 use mathlib.Core.List.{List, [], _++_, map}
 use Prim.Native.Nat.{ℕ}
 use Rattle.build_config.specs.Settings.{validating}
-use Rattle.flat.specs.Examples.{examples}
+use Rattle.dictionary_rules.specs.Examples.{examples}
 use Rattle.builder.specs.Build.{buildOf}
 use Rattle.reading.specs.Examples.{Row, table}
 use Rattle.builder.specs.Examples.{answers, expected, all-hold}
-use Rattle.verdict.specs.Examples.{p1, p2}
-use Rattle.verdict.specs.Verdict.{verdictOf}
-use Rattle.hunter.specs.Examples.{examples as hunted}
-use Rattle.hunter.specs.Hunt.{framer, takeOne}
+use Rattle.frame_verdict_rules.specs.Examples.{p1, p2}
+use Rattle.frame_verdict_rules.specs.Verdict.{verdictOf}
+use Rattle.frame_hunter_rules.specs.Examples.{examples as hunted}
+use Rattle.frame_hunter_rules.specs.Hunt.{framer, takeOne}
 
 -- the rows in 01's order: P1, P2, P3, P4, P5, P6, P7, P8, P9, P10, P11 with validation on, P11 with validation off; then P12, "26 dropped, P1
 -- handed out"

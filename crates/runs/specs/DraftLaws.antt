@@ -16,14 +16,14 @@ use Rattle.lent.specs.LentLaws.{both, Laid, laid-out}
 use Rattle.lent.specs.LaidLaws.{fields-laid, rows-few, shallow}
 use Rattle.lent.specs.Meaning.{openIn, outermost}
 use Rattle.lent.specs.MeaningLaws.{laid-means}
-use Rattle.message.specs.Changes.{After, after, ofStore, Cuttable, changedAt, mapWords, mapValues, judgedMap, putAt, Ready}
-use Rattle.message.specs.LayoutLaws.{laid-joined, values-joined, count-joined, sizes-append, sizes-laid}
-use Rattle.message.specs.PlaceLaws.{rows-length, rows-part}
-use Rattle.message.specs.CutLaws.{Sized, laid-sized}
-use Rattle.message.specs.FrameLaws.{Frame}
-use Rattle.message.specs.declared.Span.{Span}
-use Rattle.message.specs.declared.Change.the-variants.{Made, NoMessage, NotStorable, NoRun}
-use Rattle.runs.specs.Runs.{isDraft, runIn, ofDraft, judgedRun, starting, entering, isEmpty, inLast, storingLast}
+use Rattle.message_rules.specs.Changes.{After, after, ofStore, Cuttable, changedAt, mapWords, mapValues, judgedMap, putAt, Ready}
+use Rattle.message_rules.specs.LayoutLaws.{laid-joined, values-joined, count-joined, sizes-append, sizes-laid}
+use Rattle.message_rules.specs.PlaceLaws.{rows-length, rows-part}
+use Rattle.message_rules.specs.CutLaws.{Sized, laid-sized}
+use Rattle.message_rules.specs.FrameLaws.{Frame}
+use Rattle.message_rules.specs.declared.Span.{Span}
+use Rattle.message_rules.specs.declared.Change.the-variants.{Made, NoMessage, NotStorable, NoRun}
+use Rattle.message_rules.specs.Runs.{isDraft, runIn, ofDraft, judgedRun, starting, entering, isEmpty, inLast, storingLast}
 use Rattle.runs.specs.RunLaws.{onlyEntries, allowed-entries, LastSplit, Last, none-last, one-last, last-of}
 
 -- what is known of a draft

@@ -10,12 +10,12 @@ use Rattle.tagvalue.specs.Choice.{pick}
 use Rattle.maps.specs.Map.{Map, end, field, entry, joined, holdsAny, fieldCount, valuesIn}
 use Rattle.maps.specs.Rows.{Row, row, laid, flat, rowsFrom, sizes}
 use Rattle.lent.specs.Lent.{rowCount, rowsOf, fieldsIn}
-use Rattle.message.specs.Changes.{after, Cuttable, changedAt, judgedMap}
-use Rattle.message.specs.LayoutLaws.{laid-joined, values-joined, count-joined, sizes-laid}
-use Rattle.message.specs.PlaceLaws.{rows-length}
-use Rattle.message.specs.CutLaws.{Cutting, cut-judged, cut-able}
-use Rattle.message.specs.declared.Cut.{Cut}
-use Rattle.runs.specs.Runs.{judgedRun}
+use Rattle.message_rules.specs.Changes.{after, Cuttable, changedAt, judgedMap}
+use Rattle.message_rules.specs.LayoutLaws.{laid-joined, values-joined, count-joined, sizes-laid}
+use Rattle.message_rules.specs.PlaceLaws.{rows-length}
+use Rattle.message_rules.specs.CutLaws.{Cutting, cut-judged, cut-able}
+use Rattle.message_rules.specs.declared.Cut.{Cut}
+use Rattle.message_rules.specs.Runs.{judgedRun}
 use Rattle.runs.specs.DraftLaws.{Draft, fields-run, few-rows}
 
 module _ (words values : List ℕ) (run : Map) (d : Draft words values run) where

@@ -13,16 +13,16 @@ use Rattle.maps.specs.Map.{Map, end, field, entry, joined, holds, holdsAny, pas
 use Rattle.maps.specs.Rows.{Row, row, laid, flat, rowAt, rowsFrom, sizes}
 use Rattle.lent.specs.Lent.{rowCount, rowsOf, fieldsIn}
 use Rattle.lent.specs.Formed.{isRun}
-use Rattle.message.specs.Changes.{After, after, Cuttable, changedAt, judgedMap}
-use Rattle.message.specs.LayoutLaws.{joined-end, laid-joined, count-joined}
-use Rattle.message.specs.FrameLaws.{Frame, Leaves}
-use Rattle.message.specs.FrameLaws as frame
-use Rattle.message.specs.declared.Span.{Span}
-use Rattle.message.specs.declared.Change.the-variants.{NoRun}
+use Rattle.message_rules.specs.Changes.{After, after, Cuttable, changedAt, judgedMap}
+use Rattle.message_rules.specs.LayoutLaws.{joined-end, laid-joined, count-joined}
+use Rattle.message_rules.specs.FrameLaws.{Frame, Leaves}
+use Rattle.message_rules.specs.FrameLaws as frame
+use Rattle.message_rules.specs.declared.Span.{Span}
+use Rattle.message_rules.specs.declared.Change.the-variants.{NoRun}
 use Rattle.hanging.specs.Hanging.{raised, within, allOf, hungPlace, hungStop, hungCut, replacedFields, hungFields, startOf, delimiterOf, hangAt, Lent, Hangable}
 use Rattle.hanging.specs.RowLaws.{hang-none, hang-some}
 use Rattle.hanging.specs.RaiseLaws.{raised-length}
-use Rattle.runs.specs.Runs.{isEmpty, isWhole, hungRun}
+use Rattle.message_rules.specs.Runs.{isEmpty, isWhole, hungRun}
 use Rattle.runs.specs.RunLaws.{onlyEntries, raised-laid, within-laid, all-laid}
 use Rattle.runs.specs.DraftLaws.{Draft, fields-run}
 use Rattle.runs.specs.EnterLaws.{count-rows}

@@ -13,13 +13,13 @@ use Rattle.maps.specs.Map.{Map, end, field, entry, joined, holds, holdsAny, lea
 use Rattle.maps.specs.Rows.{Row, row, laid, flat, rowsFrom, findFrom, runEndFrom, sizes}
 use Rattle.lent.specs.Lent.{rowCount, rowsOf, fieldsIn}
 use Rattle.lent.specs.LaidLaws.{fields-laid, shallow}
-use Rattle.message.specs.Changes.{fieldPlace, runPlace}
-use Rattle.message.specs.LayoutLaws.{joined-assoc, laid-joined, values-joined, count-joined, sizes-laid}
-use Rattle.message.specs.SplitLaws.{field-split, run-split, leading-joined, leading-ends}
-use Rattle.message.specs.PlaceLaws.{rows-part}
-use Rattle.message.specs.FrameLaws.{Frame, Leaves}
-use Rattle.message.specs.FrameLaws as frame
-use Rattle.message.specs.declared.Span.{Span}
+use Rattle.message_rules.specs.Changes.{fieldPlace, runPlace}
+use Rattle.message_rules.specs.LayoutLaws.{joined-assoc, laid-joined, values-joined, count-joined, sizes-laid}
+use Rattle.message_rules.specs.SplitLaws.{field-split, run-split, leading-joined, leading-ends}
+use Rattle.message_rules.specs.PlaceLaws.{rows-part}
+use Rattle.message_rules.specs.FrameLaws.{Frame, Leaves}
+use Rattle.message_rules.specs.FrameLaws as frame
+use Rattle.message_rules.specs.declared.Span.{Span}
 use Rattle.hanging.specs.Hanging.{hungPlace, hungStop, hungCut, replacedFields}
 use Rattle.hanging.specs.RowLaws.{place-count, place-run}
 

@@ -11,12 +11,12 @@ use Rattle.tagvalue.specs.Choice.{pick}
 use Rattle.maps.specs.Map.{Map, end, entry, joined, holdsAny, fieldCount, valuesIn}
 use Rattle.maps.specs.Rows.{laid, sizes}
 use Rattle.lent.specs.Lent.{rowCount, rowsOf}
-use Rattle.message.specs.Changes.{After, after, judgedMap}
-use Rattle.message.specs.LayoutLaws.{sizes-laid}
-use Rattle.message.specs.declared.Change.the-variants.{NoMessage, NotStorable, NoRun}
+use Rattle.message_rules.specs.Changes.{After, after, judgedMap}
+use Rattle.message_rules.specs.LayoutLaws.{sizes-laid}
+use Rattle.message_rules.specs.declared.Change.the-variants.{NoMessage, NotStorable, NoRun}
 use Rattle.hanging.specs.Hanging.{hangAt, Hangable}
 use Rattle.hanging.specs.RowLaws.{hang-none}
-use Rattle.runs.specs.Runs.{isDraft, runIn, judgedRun, isEmpty, isWhole, inLast, hungRun, hasUntagged, hangingLast}
+use Rattle.message_rules.specs.Runs.{isDraft, runIn, judgedRun, isEmpty, isWhole, inLast, hungRun, hasUntagged, hangingLast}
 use Rattle.runs.specs.RunLaws.{LastSplit}
 use Rattle.runs.specs.DraftLaws.{Draft, draft-of, draft-no, draft-yes}
 use Rattle.runs.specs.EnterLaws.{count-rows}

@@ -13,15 +13,15 @@ use Rattle.maps.specs.Map.{Map, end, field, entry, joined, holds, holdsAny, rep
 use Rattle.maps.specs.Rows.{Row, row, laid, rowsFrom}
 use Rattle.lent.specs.Lent.{rowCount, rowsOf, fieldsIn}
 use Rattle.lent.specs.LaidLaws.{fields-laid, shallow}
-use Rattle.message.specs.Changes.{After, after, judgedMap, putAt, Ready}
-use Rattle.message.specs.LayoutLaws.{laid-joined, values-joined, count-joined}
-use Rattle.message.specs.SplitLaws.{field-split}
-use Rattle.message.specs.PlaceLaws.{rows-length, rows-part}
-use Rattle.message.specs.StoreLaws.{stored-holds, stored-adds, stored-long}
-use Rattle.message.specs.FrameLaws.{Frame}
-use Rattle.message.specs.FrameLaws as frame
-use Rattle.message.specs.declared.Change.the-variants.{NotStorable, NoRun}
-use Rattle.runs.specs.Runs.{isDraft, runIn, judgedRun, isEmpty, inLast, lastFrom, storingLast}
+use Rattle.message_rules.specs.Changes.{After, after, judgedMap, putAt, Ready}
+use Rattle.message_rules.specs.LayoutLaws.{laid-joined, values-joined, count-joined}
+use Rattle.message_rules.specs.SplitLaws.{field-split}
+use Rattle.message_rules.specs.PlaceLaws.{rows-length, rows-part}
+use Rattle.message_rules.specs.StoreLaws.{stored-holds, stored-adds, stored-long}
+use Rattle.message_rules.specs.FrameLaws.{Frame}
+use Rattle.message_rules.specs.FrameLaws as frame
+use Rattle.message_rules.specs.declared.Change.the-variants.{NotStorable, NoRun}
+use Rattle.message_rules.specs.Runs.{isDraft, runIn, judgedRun, isEmpty, inLast, lastFrom, storingLast}
 use Rattle.runs.specs.RunLaws.{LastSplit, Last, none-last, one-last, last-of}
 use Rattle.runs.specs.DraftLaws.{Draft, draft-of, draft-yes, fields-run, last-frame}
 

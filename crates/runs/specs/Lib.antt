@@ -1,5 +1,3 @@
-pub mod Runs
-pub mod Examples
 pub mod RowLaws
 pub mod RunLaws
 pub mod DraftLaws

@@ -10,16 +10,16 @@ use Rattle.maps.specs.Map.{Map, end, field, entry, holdsAny, fieldCount}
 use Rattle.maps.specs.Rows.{laid, rowsFrom, sizes}
 use Rattle.lent.specs.Lent.{rowCount, rowsOf, isMessage}
 use Rattle.lent.specs.Meaning.{Message, parts, messageIn}
-use Rattle.message.specs.Changes.{after, partOf, withPart, fieldTotal, valueTotal, judged, spanOf}
-use Rattle.message.specs.ChangeLaws.{of-message}
-use Rattle.message.specs.LayoutLaws.{sizes-laid}
-use Rattle.message.specs.StoreLaws.{lent-in, part-frame, fields-of, few-fields, judged-parts}
-use Rattle.message.specs.PartLaws.{part-split}
-use Rattle.message.specs.declared.Part.{Part}
-use Rattle.message.specs.declared.Change.the-variants.{NoMessage, NotStorable, NoRun}
+use Rattle.message_rules.specs.Changes.{after, partOf, withPart, fieldTotal, valueTotal, judged, spanOf}
+use Rattle.message_rules.specs.ChangeLaws.{of-message}
+use Rattle.message_rules.specs.LayoutLaws.{sizes-laid}
+use Rattle.message_rules.specs.StoreLaws.{lent-in, part-frame, fields-of, few-fields, judged-parts}
+use Rattle.message_rules.specs.PartLaws.{part-split}
+use Rattle.message_rules.specs.declared.Part.{Part}
+use Rattle.message_rules.specs.declared.Change.the-variants.{NoMessage, NotStorable, NoRun}
 use Rattle.hanging.specs.Hanging.{untaggedIn, hangAt, Hangable}
 use Rattle.hanging.specs.RowLaws.{hang-none}
-use Rattle.runs.specs.Runs.{isDraft, runIn, isEmpty, isWhole, hungRun, hasUntagged, hanging}
+use Rattle.message_rules.specs.Runs.{isDraft, runIn, isEmpty, isWhole, hungRun, hasUntagged, hanging}
 use Rattle.runs.specs.RunLaws.{untagged-laid}
 use Rattle.runs.specs.DraftLaws.{draft-of, draft-no, draft-yes}
 use Rattle.runs.specs.EnterLaws.{count-rows}

@@ -11,7 +11,7 @@ use Rattle.tagvalue.specs.Choice.{pick}
 use Rattle.maps.specs.Rows.{Row, row, rowAt, rowsFrom, levelOf}
 use Rattle.maps.specs.RowsLaws.{rows-step, rows-none}
 use Rattle.lent.specs.Lent.{rowsOf, fieldsIn, isLaid}
-use Rattle.runs.specs.Runs.{isDraft, lastFrom}
+use Rattle.message_rules.specs.Runs.{isDraft, lastFrom}
 
 module _ (words : List ℕ) (i to : ℕ) (more : i < to) where
   module _ (start : ℕ) where

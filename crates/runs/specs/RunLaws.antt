@@ -14,9 +14,9 @@ use Rattle.lent.specs.Lent.{deepest, fieldAllowed, rowAllowed, rowsAllowed}
 use Rattle.lent.specs.LentLaws.{both}
 use Rattle.lent.specs.AllowedLaws.{allowed-split}
 use Rattle.lent.specs.Formed.{isRun}
-use Rattle.message.specs.LayoutLaws.{laid-joined}
+use Rattle.message_rules.specs.LayoutLaws.{laid-joined}
 use Rattle.hanging.specs.Hanging.{raised, within, isUntagged, untaggedIn, isOf, allOf}
-use Rattle.runs.specs.Runs.{isEmpty, inLast, lastFrom, hasUntagged}
+use Rattle.message_rules.specs.Runs.{isEmpty, inLast, lastFrom, hasUntagged}
 
 -- a draft has no field at its top level
 unfoldable pub onlyEntries : Map → Bool

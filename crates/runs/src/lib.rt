@@ -4,8 +4,8 @@ ghost use mathlib.Core.Path.{_≡_};
 ghost use Prim.Native.Nat.{_+_, _-_, _*_, _≤_, _<_};
 ghost use lib.ListN.{length};
 ghost use Rattle.maps.specs.Rows.{rowsFrom};
-ghost use Rattle.message.specs.Changes.{after};
-ghost use Rattle.runs.specs.Runs.{isDraft, lastFrom, starting, entering, storingLast, hangingLast, hanging};
+ghost use Rattle.message_rules.specs.Changes.{after};
+ghost use Rattle.message_rules.specs.Runs.{isDraft, lastFrom, starting, entering, storingLast, hangingLast, hanging};
 
 fn is_draft(words: &[u32], values: &[u8]) -> bool
     ensures { λ r. ⌜ r ≡ isDraft (now (words .entry)) (now (values .entry)) ⌝ }
@@ -34,21 +34,21 @@ fn last_start(words: &[u32], count: usize) -> usize
 }
 
 // Makes what is lent a run without any entry.
-pub fn empty(words: &mut [u32], values: &mut [u8]) -> message::Change
+pub fn empty(words: &mut [u32], values: &mut [u8]) -> message_rules::Change
     ensures { λ r. ⌜ after r (now (words .exit)) (now (values .exit)) ≡ starting (now (words .entry)) (now (values .entry)) ⌝ }
 {
     if words.len() != 8205 {
-        return message::Change::NoMessage;
+        return message_rules::Change::NoMessage;
     }
     if values.len() != 8192 {
-        return message::Change::NoMessage;
+        return message_rules::Change::NoMessage;
     }
     let no_words = [0u32; 1];
     let no_bytes = [0u8; 1];
     maps::splice_words(words, 1, 1, 1, 1, 1, &no_words[..0]);
     words[0] = 0;
     maps::splice_bytes(values, 0, 0, 0, 0, 0, &no_bytes[..0]);
-    message::Change::Made
+    message_rules::Change::Made
 }
 
 // Adds an entry, without any field, behind the last.
@@ -57,17 +57,17 @@ pub fn add_entry(
     values: &mut [u8],
     start: u32,
     delimiter: u32,
-) -> message::Change
+) -> message_rules::Change
     ensures { λ r. ⌜ after r (now (words .exit)) (now (values .exit)) ≡ entering start delimiter (now (words .entry)) (now (values .entry)) ⌝ }
 {
     if !is_draft(words, values) {
-        return message::Change::NoMessage;
+        return message_rules::Change::NoMessage;
     }
     let count = lent::row_count(words);
     let fields = lent::fields_in(words, 0, 0, count);
     let head = [2u32, 0, start, delimiter];
     let no_bytes = [0u8; 1];
-    let last = message::Cut {
+    let last = message_rules::Cut {
         from: count,
         to: count,
         kept: count,
@@ -87,26 +87,31 @@ pub fn add_entry(
 }
 
 // Stores a field in the last entry.
-pub fn store_last(words: &mut [u32], values: &mut [u8], tag: u32, value: &[u8]) -> message::Change
+pub fn store_last(
+    words: &mut [u32],
+    values: &mut [u8],
+    tag: u32,
+    value: &[u8],
+) -> message_rules::Change
     ensures { λ r. ⌜ after r (now (words .exit)) (now (values .exit)) ≡ storingLast tag (now (value .entry)) (now (words .entry)) (now (values .entry)) ⌝ }
 {
     if !is_draft(words, values) {
-        return message::Change::NoMessage;
+        return message_rules::Change::NoMessage;
     }
     if tag == 0 {
-        return message::Change::NotStorable;
+        return message_rules::Change::NotStorable;
     }
     let count = lent::row_count(words);
     let from = last_start(words, count);
     if from == 0 {
-        return message::Change::NoRun;
+        return message_rules::Change::NoRun;
     }
     if 8192 < value.len() {
-        return message::Change::NotStorable;
+        return message_rules::Change::NotStorable;
     }
     let others = lent::fields_in(words, 0, 0, from - 1);
     let own = lent::fields_in(words, 1, from, count);
-    let span = message::Span {
+    let span = message_rules::Span {
         from,
         to: count,
         count,
@@ -120,25 +125,25 @@ pub fn hang_last(
     values: &mut [u8],
     run_words: &[u32],
     run_values: &[u8],
-) -> message::Change
+) -> message_rules::Change
     ensures { λ r. ⌜ after r (now (words .exit)) (now (values .exit)) ≡ hangingLast (now («run_words» .entry)) (now («run_values» .entry)) (now (words .entry)) (now (values .entry)) ⌝ }
 {
     if !is_draft(words, values) {
-        return message::Change::NoMessage;
+        return message_rules::Change::NoMessage;
     }
     if !is_draft(run_words, run_values) {
-        return message::Change::NoMessage;
+        return message_rules::Change::NoMessage;
     }
     if hanging::has_untagged(run_words, lent::row_count(run_words)) {
-        return message::Change::NotStorable;
+        return message_rules::Change::NotStorable;
     }
     let count = lent::row_count(words);
     let from = last_start(words, count);
     if from == 0 {
-        return message::Change::NoRun;
+        return message_rules::Change::NoRun;
     }
     let fields = lent::fields_in(words, 0, 0, count);
-    let span = message::Span {
+    let span = message_rules::Span {
         from,
         to: count,
         count,
@@ -150,20 +155,20 @@ pub fn hang_last(
 pub fn hang(
     words: &mut [u32],
     values: &mut [u8],
-    part: message::Part,
+    part: message_rules::Part,
     run_words: &[u32],
     run_values: &[u8],
-) -> message::Change
+) -> message_rules::Change
     ensures { λ r. ⌜ after r (now (words .exit)) (now (values .exit)) ≡ hanging part (now («run_words» .entry)) (now («run_values» .entry)) (now (words .entry)) (now (values .entry)) ⌝ }
 {
-    let message::Located::At(span) = message::locate(words, values, part) else {
-        return message::Change::NoMessage;
+    let message_rules::Located::At(span) = message::locate(words, values, part) else {
+        return message_rules::Change::NoMessage;
     };
     if !is_draft(run_words, run_values) {
-        return message::Change::NoMessage;
+        return message_rules::Change::NoMessage;
     }
     if hanging::has_untagged(run_words, lent::row_count(run_words)) {
-        return message::Change::NotStorable;
+        return message_rules::Change::NotStorable;
     }
     let count = span.count;
     let fields = lent::fields_in(words, 1, 0, count);

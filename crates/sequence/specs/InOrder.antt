@@ -11,7 +11,7 @@ use Rattle.tagvalue.specs.Field.{startAt}
 use Rattle.tagvalue.specs.Fields.{Fields, field, fieldsFrom}
 use Rattle.integrity.specs.VerifiedLaws.{verified-read}
 use Rattle.integrity.specs.declared.Verified.{Verified}
-use Rattle.layout.specs.Tree.{Dictionary, knows, headerTags, trailerTags}
+use Rattle.dictionary_layout_rules.specs.Tree.{Dictionary, knows, headerTags, trailerTags}
 use Rattle.records.specs.Records.{stored}
 use Rattle.records.specs.declared.Record.{Record}
 use Rattle.groups.specs.Reading.{accepted, layoutRules}

@@ -8,15 +8,15 @@ use native.Mathlib.Omega.{arith}
 use lib.Dec.{eqb}
 use borrow.Author.Tests.{eqb-true, eq-eqb}
 use Rattle.tagvalue.specs.Choice.{pick}
-use Rattle.layout.specs.declared.Position.the-variants.{At}
-use Rattle.layout.specs.declared.FirstTag.{FirstTag}
-use Rattle.layout.specs.declared.FirstTag.the-variants.{First, NoTag}
+use Rattle.dictionary_layout_rules.specs.declared.Position.the-variants.{At}
+use Rattle.dictionary_layout_rules.specs.declared.FirstTag.{FirstTag}
+use Rattle.dictionary_layout_rules.specs.declared.FirstTag.the-variants.{First, NoTag}
 use Rattle.records.specs.Records.{stored}
 use Rattle.records.specs.declared.Record.{Record}
 use Rattle.maps.specs.Map.{Map, end, field, entry, joined}
 use Rattle.lent.specs.Formed.{stands, isFormed, isRun}
 use Rattle.lent.specs.MeantLaws.{joined-end}
-use Rattle.message.specs.LayoutLaws.{joined-assoc}
+use Rattle.message_rules.specs.LayoutLaws.{joined-assoc}
 use Rattle.groups.specs.Groups.{Rules, isDelimiter, opens}
 use Rattle.nesting.specs.Formed.{Part, entriesOf, fieldsOf, Own, Formed, no-entry, next-entry, starts, rises, hangs, user}
 use Rattle.nesting.specs.Entries.{All, all-none, all-more, entry-starts, Other, entry-other}

@@ -11,7 +11,7 @@ use Rattle.tagvalue.specs.Fields.{Fields, field, fieldsFrom}
 use Rattle.tagvalue.specs.FieldsLaws.{step-lies}
 use Rattle.tagvalue.specs.declared.Field.{Field}
 use Rattle.integrity.specs.declared.Verified.{Verified}
-use Rattle.layout.specs.declared.Position.the-variants.{At}
+use Rattle.dictionary_layout_rules.specs.declared.Position.the-variants.{At}
 use Rattle.records.specs.Records.{stored}
 use Rattle.records.specs.declared.Record.{Record}
 use Rattle.maps.specs.Map.{Map, end, holdsAny, fieldCount}

@@ -19,9 +19,9 @@ use Rattle.build_config.specs.declared.Config.{Config}
 use Rattle.integrity.specs.declared.Integrity.{Integrity}
 use Rattle.integrity.specs.declared.Integrity.the-variants.{Sound, Garbled}
 use Rattle.integrity.specs.declared.Verified.{Verified}
-use Rattle.flat.specs.Check.{checkOf, numberOf}
-use Rattle.flattening.specs.Meaning.{dictionaryOf}
-use Rattle.layout.specs.Tree.{Dictionary, knows, headerTags, trailerTags, Choice, noMessage, laidOut, layoutOf}
+use Rattle.dictionary_rules.specs.Check.{checkOf, numberOf}
+use Rattle.dictionary_meaning_rules.specs.Meaning.{dictionaryOf}
+use Rattle.dictionary_layout_rules.specs.Tree.{Dictionary, knows, headerTags, trailerTags, Choice, noMessage, laidOut, layoutOf}
 use Rattle.records.specs.Records.{laid, recordsOf, between}
 use Rattle.records.specs.WordLaws.{records-laid, laid-length}
 use Rattle.records.specs.declared.Record.{Record}

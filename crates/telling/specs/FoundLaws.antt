@@ -2,12 +2,12 @@
 use Prim.Native.Nat.{ℕ}
 use mathlib.Core.Path.{_≡_, refl}
 use mathlib.Core.List.{List}
-use Rattle.look_ups.specs.declared.Value.{Value}
-use Rattle.look_ups.specs.declared.FoundValue.{FoundValue}
-use Rattle.look_ups.specs.declared.FoundValue.the-variants as value
-use Rattle.look_ups.specs.declared.FoundMap.{FoundMap}
-use Rattle.look_ups.specs.declared.FoundMap.the-variants as map
-use Rattle.look_ups.specs.LookUps.{numberOfValue, numberOfMap}
+use Rattle.message_rules.specs.declared.Value.{Value}
+use Rattle.message_rules.specs.declared.FoundValue.{FoundValue}
+use Rattle.message_rules.specs.declared.FoundValue.the-variants as value
+use Rattle.message_rules.specs.declared.FoundMap.{FoundMap}
+use Rattle.message_rules.specs.declared.FoundMap.the-variants as map
+use Rattle.message_rules.specs.LookUps.{numberOfValue, numberOfMap}
 use Rattle.telling.specs.Told.{told, toldMap, toldValue}
 
 pub map-refused : (found : FoundMap) (out : List ℕ) → found ≡ map.NoMessage → out ≡ told 0 (0, 0) → (27 ≡ numberOfMap found) × (out ≡ toldMap found)

@@ -2,7 +2,7 @@
 use Prim.Native.Nat.{ℕ}
 use mathlib.Core.Path.{_≡_, refl}
 use borrow.Author.Tests.{eq-eqb, ne-eqb}
-use Rattle.message.specs.declared.Part.the-variants.{Header, Body, Trailer}
+use Rattle.message_rules.specs.declared.Part.the-variants.{Header, Body, Trailer}
 use Rattle.telling.specs.Told.{partNumbered}
 
 pub numbered-header : (n : ℕ) → n ≡ 1 → partNumbered n ≡ Header

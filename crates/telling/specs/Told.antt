@@ -4,16 +4,16 @@ use mathlib.Core.Bool.{Bool}
 use mathlib.Core.List.{List, [], _∷_}
 use lib.Dec.{eqb}
 use Rattle.tagvalue.specs.Choice.{pick}
-use Rattle.message.specs.declared.Part.{Part}
-use Rattle.message.specs.declared.Part.the-variants.{Header, Body, Trailer}
-use Rattle.message.specs.Changes.{After, after, numberOfChange}
-use Rattle.encoding.specs.declared.Encoding.{Encoding}
-use Rattle.encoding.specs.declared.Encoding.the-variants.{Written, NoMessage, InvalidSeparator, Incomplete, TooLong, TooManyFields, NoRoom}
-use Rattle.encoding.specs.Encode.{Left, left, numberOfEncoding}
-use Rattle.look_ups.specs.declared.FoundValue.{FoundValue}
-use Rattle.look_ups.specs.declared.FoundValue.the-variants as value
-use Rattle.look_ups.specs.declared.FoundMap.{FoundMap}
-use Rattle.look_ups.specs.declared.FoundMap.the-variants as map
+use Rattle.message_rules.specs.declared.Part.{Part}
+use Rattle.message_rules.specs.declared.Part.the-variants.{Header, Body, Trailer}
+use Rattle.message_rules.specs.Changes.{After, after, numberOfChange}
+use Rattle.written_form.specs.declared.Encoding.{Encoding}
+use Rattle.written_form.specs.declared.Encoding.the-variants.{Written, NoMessage, InvalidSeparator, Incomplete, TooLong, TooManyFields, NoRoom}
+use Rattle.written_form.specs.Encode.{Left, left, numberOfEncoding}
+use Rattle.message_rules.specs.declared.FoundValue.{FoundValue}
+use Rattle.message_rules.specs.declared.FoundValue.the-variants as value
+use Rattle.message_rules.specs.declared.FoundMap.{FoundMap}
+use Rattle.message_rules.specs.declared.FoundMap.the-variants as map
 use Rattle.taking.specs.Taking.{After as AfterTaking, after as afterTaking, numberOfTaken}
 
 -- "`[records, first value, second value, 0]`, fixed on every answer", each of them as a word of 32 bits

@@ -1,20 +1,20 @@
 // telling: what a caller in another language is told of a core's answer: 01's number, four lent words, and records of twelve bytes.
 // It takes answers and values apart and decides nothing; `gateway` lends what the caller lent.
-use encoding::Encoding;
-use look_ups::FoundMap;
-use look_ups::FoundValue;
-use message::Change;
-use message::Part;
+use written_form::Encoding;
+use message_rules::FoundMap;
+use message_rules::FoundValue;
+use message_rules::Change;
+use message_rules::Part;
 use records::Record;
 use taking::Taken;
 ghost use mathlib.Core.Path.{_≡_};
 ghost use Prim.Native.Nat.{_*_, _%_, _^_, _≤_};
 ghost use lib.ListN.{take, replicate};
-ghost use Rattle.message.specs.Changes.{numberOfChange};
-ghost use Rattle.encoding.specs.Encode.{numberOfEncoding};
+ghost use Rattle.message_rules.specs.Changes.{numberOfChange};
+ghost use Rattle.written_form.specs.Encode.{numberOfEncoding};
 ghost use Rattle.taking.specs.Taking.{numberOfTaken, takingOver};
 ghost use Rattle.records.specs.Records.{onRecords, replaced};
-ghost use Rattle.look_ups.specs.LookUps.{numberOfValue, numberOfMap};
+ghost use Rattle.message_rules.specs.LookUps.{numberOfValue, numberOfMap};
 ghost use Rattle.builder.specs.Build.{buildOf};
 ghost use Rattle.build_config.specs.Settings.{configOf};
 ghost use Rattle.telling.specs.Told.{told, partNumbered, lengthOfEncoding, toldMap, toldValue, takingNumber, takenWords, takenValues};

@@ -6,13 +6,13 @@ use Prim.Native.Nat.{ℕ, _+_, _-_, _≤_, _<_}
 use native.Mathlib.Omega.{arith}
 use lib.ListN.{length, take, drop, length-append}
 use lib.Seq.{length-take-le}
-use Rattle.verdict.specs.Frame.{separator, typeTag, sumTag}
-use Rattle.verdict.specs.Readers.{Out, short, Reader, _>>=_, literal, any}
-use Rattle.verdict.specs.Verdict.{checksumFor, bodyReader, stageOf, asVerdict}
-use Rattle.verdict.specs.FrameExact.{bodyOf}
-use Rattle.verdict.specs.declared.Stage.{Stage}
-use Rattle.verdict.specs.declared.Stage.the-variants.{On, Bad, Short}
-use Rattle.verdict.specs.declared.Verdict.the-variants.{Wait}
+use Rattle.frame_verdict_rules.specs.Frame.{separator, typeTag, sumTag}
+use Rattle.frame_verdict_rules.specs.Readers.{Out, short, Reader, _>>=_, literal, any}
+use Rattle.frame_verdict_rules.specs.Verdict.{checksumFor, bodyReader, stageOf, asVerdict}
+use Rattle.frame_verdict_rules.specs.FrameExact.{bodyOf}
+use Rattle.frame_verdict_rules.specs.declared.Stage.{Stage}
+use Rattle.frame_verdict_rules.specs.declared.Stage.the-variants.{On, Bad, Short}
+use Rattle.frame_verdict_rules.specs.declared.Verdict.the-variants.{Wait}
 use Rattle.verdict.proofs.Places.{Reached, stands, literal-on, refuses, last, any-on, any-short}
 
 module _ (s : List ℕ) (body n : ℕ) where

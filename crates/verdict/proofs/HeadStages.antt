@@ -6,17 +6,17 @@ use Prim.Native.Nat.{ℕ, _+_, _-_, _≤_}
 use native.Mathlib.Omega.{arith}
 use lib.ListN.{length, take, drop, length-append}
 use Rattle.tagvalue.specs.Number.{worth}
-use Rattle.verdict.specs.Frame.{separator, beginTag, lengthTag, frameMost, IsBeginString, lead}
-use Rattle.verdict.specs.Readers.{Out, bad, short, Reader, _>>=_, literal, beginString, bodyLength}
-use Rattle.verdict.specs.Verdict.{framing, bodyReader, frameReader, stageOf, lengthOf, asVerdict, verdictOf}
-use Rattle.verdict.specs.Texts.{Ended, begin-exact, begin-short}
-use Rattle.verdict.specs.Lengths.{Fitting, length-exact}
-use Rattle.verdict.specs.FrameExact.{can-fit}
-use Rattle.verdict.specs.declared.Stage.{Stage}
-use Rattle.verdict.specs.declared.Stage.the-variants.{On, Bad, Short}
-use Rattle.verdict.specs.declared.Length.the-variants.{Announced, BadLength, ShortLength}
-use Rattle.verdict.specs.declared.Verdict.{Verdict}
-use Rattle.verdict.specs.declared.Verdict.the-variants.{Never, Wait}
+use Rattle.frame_verdict_rules.specs.Frame.{separator, beginTag, lengthTag, frameMost, IsBeginString, lead}
+use Rattle.frame_verdict_rules.specs.Readers.{Out, bad, short, Reader, _>>=_, literal, beginString, bodyLength}
+use Rattle.frame_verdict_rules.specs.Verdict.{framing, bodyReader, frameReader, stageOf, lengthOf, asVerdict, verdictOf}
+use Rattle.frame_verdict_rules.specs.Texts.{Ended, begin-exact, begin-short}
+use Rattle.frame_verdict_rules.specs.Lengths.{Fitting, length-exact}
+use Rattle.frame_verdict_rules.specs.FrameExact.{can-fit}
+use Rattle.frame_verdict_rules.specs.declared.Stage.{Stage}
+use Rattle.frame_verdict_rules.specs.declared.Stage.the-variants.{On, Bad, Short}
+use Rattle.frame_verdict_rules.specs.declared.Length.the-variants.{Announced, BadLength, ShortLength}
+use Rattle.frame_verdict_rules.specs.declared.Verdict.{Verdict}
+use Rattle.frame_verdict_rules.specs.declared.Verdict.the-variants.{Never, Wait}
 use Rattle.verdict.proofs.Places.{Reached, stands, literal-on, read-on, refuses, Counted, length-on, length-bad, length-short}
 
 abbrev roomAfter : List ℕ → ℕ

@@ -11,10 +11,10 @@ use lib.Dec.{leb, ltb}
 use borrow.Author.Tests.{eq-eqb, ne-eqb, le-leb, lt-leb, ltb-true, leb-true}
 use Rattle.tagvalue.specs.Choice.{pick}
 use Rattle.tagvalue.specs.Number.{isDigit, worth}
-use Rattle.verdict.specs.Readers.{Out, on, bad, short, Reader, literal, withHead, Kind, ends, goes, wrong, headed, textKind, text, mayBecome, digitKind, bodyLength}
-use Rattle.verdict.specs.Verdict.{stageOf, lengthOf}
-use Rattle.verdict.specs.declared.Stage.the-variants.{On, Bad, Short}
-use Rattle.verdict.specs.declared.Length.the-variants.{Announced, BadLength, ShortLength}
+use Rattle.frame_verdict_rules.specs.Readers.{Out, on, bad, short, Reader, literal, withHead, Kind, ends, goes, wrong, headed, textKind, text, mayBecome, digitKind, bodyLength}
+use Rattle.frame_verdict_rules.specs.Verdict.{stageOf, lengthOf}
+use Rattle.frame_verdict_rules.specs.declared.Stage.the-variants.{On, Bad, Short}
+use Rattle.frame_verdict_rules.specs.declared.Length.the-variants.{Announced, BadLength, ShortLength}
 
 -- ---- given bytes
 

@@ -9,14 +9,14 @@ use lib.Seq.{drop-drop, take-add, drop-append-seam, take-append-seam, length-tak
 use types.Run.{OneOf}
 use denote.Enum.Declared.{tagOf}
 use Rattle.tagvalue.specs.Number.{worth}
-use Rattle.verdict.specs.Readers.{Out, on, bad, short, Reader, _>>=_, literal, withHead, any, bodyLength}
-use Rattle.verdict.specs.Verdict.{stageOf, lengthOf}
-use Rattle.verdict.specs.Exact.{Exact, bind-on, bind-bad, bind-short}
-use Rattle.verdict.specs.Literals.{literal-sound}
-use Rattle.verdict.specs.declared.Stage.{Stage}
-use Rattle.verdict.specs.declared.Stage.the-variants.{On, Bad, Short}
-use Rattle.verdict.specs.declared.Length.the-variants.{Announced, BadLength, ShortLength}
-use Rattle.verdict.proofs.Stage.{the-type}
+use Rattle.frame_verdict_rules.specs.Readers.{Out, on, bad, short, Reader, _>>=_, literal, withHead, any, bodyLength}
+use Rattle.frame_verdict_rules.specs.Verdict.{stageOf, lengthOf}
+use Rattle.frame_verdict_rules.specs.Exact.{Exact, bind-on, bind-bad, bind-short}
+use Rattle.frame_verdict_rules.specs.Literals.{literal-sound}
+use Rattle.frame_verdict_rules.specs.declared.Stage.{Stage}
+use Rattle.frame_verdict_rules.specs.declared.Stage.the-variants.{On, Bad, Short}
+use Rattle.frame_verdict_rules.specs.declared.Length.the-variants.{Announced, BadLength, ShortLength}
+use Rattle.frame_verdict_rules.proofs.Stage.{the-type}
 
 apart : {X : Type 0} → _≡_ {A = ℕ} 0 1 → X
 apart z = absurd (omega arith)

@@ -1,35 +1,17 @@
 // verdict: what is known of a place from the bytes that stand there: a frame starts, none can start, or neither yet. It can be asked of any
 // bytes. It may not judge more than a frame: what stands between `35=` and the CheckSum is no concern of it.
+use frame_verdict_rules::Length;
+use frame_verdict_rules::Stage;
+use frame_verdict_rules::Verdict;
 ghost use mathlib.Core.Path.{_≡_};
 ghost use Prim.Native.Nat.{_-_, _≤_};
 ghost use lib.ListN.{length, take, drop};
-ghost use Rattle.verdict.specs.Readers.{literal, beginString, mayBecome, bodyLength};
-ghost use Rattle.verdict.specs.Verdict.{bodyReader, stageOf, lengthOf, asVerdict, verdictOf};
+ghost use Rattle.frame_verdict_rules.specs.Readers.{literal, beginString, mayBecome, bodyLength};
+ghost use Rattle.frame_verdict_rules.specs.Verdict.{bodyReader, stageOf, lengthOf, asVerdict, verdictOf};
 
 const SEPARATOR: u8 = 1;
 
 const FRAME_MOST: usize = 8192;
-
-// What is known of a place from the bytes that stand there: a frame of so many bytes starts; no continuation makes one start; neither.
-pub enum Verdict {
-    Frame(usize),
-    Never,
-    Wait,
-}
-
-// One stage of reading: read up to a place; no continuation can be read; the bytes do not reach.
-enum Stage {
-    On(usize),
-    Bad,
-    Short,
-}
-
-// The same of the announced length: N, and the place where the N bytes start.
-enum Length {
-    Announced(usize, usize),
-    BadLength,
-    ShortLength,
-}
 
 // From the place `at`: exactly these bytes.
 fn literal_at(bytes: &[u8], at: usize, wanted: &[u8]) -> Stage

@@ -3,11 +3,11 @@
 mod sample;
 mod showing;
 
-use encoding::Encoding;
 use integrity::Config;
-use message::Part;
+use message_rules::Part;
 use tagvalue::Cursor;
 use tagvalue::FieldRead;
+use written_form::Encoding;
 
 const SEPARATOR: u8 = 1;
 

@@ -1,2 +1,4 @@
 pub mod Encoding
 pub mod Examples
+pub mod Encode
+pub mod EncodeExamples

@@ -5,7 +5,7 @@ use Prim.Native.Nat.{ℕ, suc, _+_, _-_, _/_, _≤_, _<_, _^_}
 use native.Mathlib.Omega.{arith}
 use lib.ListN.{length}
 use borrow.Author.Needs.{needs}
-use Rattle.flat_names.specs.Index.{tagAt}
+use Rattle.dictionary_rules.specs.Index.{tagAt}
 use Rattle.groups.specs.Reading.{tableRules}
 use Rattle.required.specs.Checking.{tableDemands}
 use Rattle.parts.specs.Parts.{partTold, Ends, Stays}

@@ -9,13 +9,13 @@ use borrow.Author.Needs.{needs}
 use lib.ListN.{replicate, length-replicate}
 use types.Run.{OneOf}
 use denote.Enum.Declared.{tagOf}
-use Rattle.layout.specs.Tree.{layoutOf}
-use Rattle.flattening.proofs.MessageTable as table-type
-use Rattle.flattening.specs.declared.MessageTable.{MessageTable}
-use Rattle.flattening.specs.declared.MessageTable.the-variants.{Rows, NoMessage, Unprepared}
-use Rattle.flattening.specs.Meaning.{dictionaryOf}
-use Rattle.flattening.specs.MessageTable.{tabling}
-use Rattle.flattening.specs.Theorem.{TableOf}
+use Rattle.dictionary_layout_rules.specs.Tree.{layoutOf}
+use Rattle.dictionary_meaning_rules.proofs.MessageTable as table-type
+use Rattle.dictionary_meaning_rules.specs.declared.MessageTable.{MessageTable}
+use Rattle.dictionary_meaning_rules.specs.declared.MessageTable.the-variants.{Rows, NoMessage, Unprepared}
+use Rattle.dictionary_meaning_rules.specs.Meaning.{dictionaryOf}
+use Rattle.dictionary_meaning_rules.specs.MessageTable.{tabling}
+use Rattle.dictionary_meaning_rules.specs.Theorem.{TableOf}
 use Rattle.parts.specs.Parts.{partOf}
 use Rattle.reading.specs.Beginning.{msgTypeRecord, valueAt}
 use Rattle.builder.specs.Reading.{finishCounts}

@@ -9,7 +9,7 @@ use borrow.Author.Needs.{needs}
 use lib.ListN.{length, getD, take, drop, set, length-set}
 use Rattle.maps.specs.Rows.{rowAt, rowsFrom, sizeOf}
 use Rattle.tagvalue.specs.Decimal.{writtenAt}
-use Rattle.message.specs.Changes.{placeOf}
+use Rattle.message_rules.specs.Changes.{placeOf}
 use Rattle.encoder.specs.Writing.{rowOn, rowText, rowsText}
 use Rattle.encoder.specs.WritingLaws.{Going, going-start, going-on, going-done, going-room, going-place}
 use Rattle.encoder.proofs.write_items.Statement.{statement}

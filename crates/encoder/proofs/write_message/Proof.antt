@@ -10,11 +10,11 @@ use lib.ListN.{length, getD, take, drop, set, length-set}
 use Rattle.maps.specs.Rows.{rowsFrom}
 use Rattle.lent.specs.Lent.{isMessage}
 use Rattle.lent.specs.Meaning.{messageIn}
-use Rattle.message.specs.Changes.{spanOf}
-use Rattle.message.specs.ChangeLaws.{located-no, located-at}
-use Rattle.message.specs.StoreLaws.{lent-in, span-grows}
-use Rattle.message.specs.declared.Part.the-variants.{Header, Body, Trailer}
-use Rattle.message.specs.declared.Span.{Span}
+use Rattle.message_rules.specs.Changes.{spanOf}
+use Rattle.message_rules.specs.ChangeLaws.{located-no, located-at}
+use Rattle.message_rules.specs.StoreLaws.{lent-in, span-grows}
+use Rattle.message_rules.specs.declared.Part.the-variants.{Header, Body, Trailer}
+use Rattle.message_rules.specs.declared.Span.{Span}
 use Rattle.tagvalue.specs.Decimal.{writtenAt}
 use Rattle.tagvalue.specs.DecimalLaws.{written-length}
 use Rattle.written_form.specs.Encoding.{messageText, summed}

@@ -9,7 +9,7 @@ use borrow.Author.Needs.{needs}
 use lib.ListN.{length, getD, take, drop, set, length-set}
 use Rattle.maps.specs.Rows.{rowsFrom}
 use native.Mathlib.Nat.{zero-add}
-use Rattle.message.specs.Changes.{placeOf}
+use Rattle.message_rules.specs.Changes.{placeOf}
 use Rattle.tagvalue.specs.Decimal.{writtenAt}
 use Rattle.encoder.specs.Writing.{rowsText, itemsAt, textAt, Spans}
 use Rattle.encoder.specs.WritingLaws.{Rest, rest-start, rest-step, rest-room, rest-last, rest-done}

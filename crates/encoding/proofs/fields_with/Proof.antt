@@ -3,7 +3,7 @@ use Prim.Native.Nat.{_-_}
 use native.Mathlib.Omega.{arith}
 use borrow.Author.Needs.{needs}
 use Rattle.maps.specs.Rows.{rowsFrom}
-use Rattle.message.specs.PlaceLaws.{rows-length}
+use Rattle.message_rules.specs.PlaceLaws.{rows-length}
 use Rattle.encoding.specs.Judging.{fieldsAt}
 use Rattle.encoding.specs.JudgingLaws.{fields-few}
 use Rattle.encoding.proofs.fields_with.Statement.{statement}

@@ -3,7 +3,7 @@ use mathlib.Core.Path.{ap}
 use Prim.Native.Nat.{ℕ}
 use borrow.Author.Needs.{needs}
 use lib.Dec.{ltb}
-use Rattle.message.specs.Changes.{runPlace}
+use Rattle.message_rules.specs.Changes.{runPlace}
 use Rattle.encoding.specs.Judging.{hungAt}
 use Rattle.encoding.proofs.has_run.Statement.{statement}
 use Rattle.encoding.proofs.has_run.Tie as tie

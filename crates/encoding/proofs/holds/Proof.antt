@@ -3,7 +3,7 @@ use mathlib.Core.Path.{ap}
 use Prim.Native.Nat.{ℕ}
 use borrow.Author.Needs.{needs}
 use lib.Dec.{ltb}
-use Rattle.message.specs.Changes.{fieldPlace}
+use Rattle.message_rules.specs.Changes.{fieldPlace}
 use Rattle.encoding.specs.Judging.{heldAt}
 use Rattle.encoding.proofs.holds.Statement.{statement}
 use Rattle.encoding.proofs.holds.Tie as tie

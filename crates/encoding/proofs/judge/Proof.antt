@@ -8,13 +8,13 @@ use lib.ListN.{length}
 use Rattle.tagvalue.specs.DecimalLaws.{decimal-length}
 use Rattle.tagvalue.specs.Separator.{isRefusedSeparator}
 use Rattle.lent.specs.Meaning.{messageIn}
-use Rattle.message.specs.Changes.{fieldTotal}
-use Rattle.message.specs.ChangeLaws.{located-no, located-at}
-use Rattle.message.specs.declared.Part.the-variants.{Header, Trailer}
+use Rattle.message_rules.specs.Changes.{fieldTotal}
+use Rattle.message_rules.specs.ChangeLaws.{located-no, located-at}
+use Rattle.message_rules.specs.declared.Part.the-variants.{Header, Trailer}
 use Rattle.written_form.specs.Encoding.{dropped, bodyLength, encoding, encodedMessage}
-use Rattle.encoding.specs.Encode.{isIncomplete}
+use Rattle.written_form.specs.Encode.{isIncomplete}
 use Rattle.encoding.specs.VerdictLaws.{Parts, both-within, taken-fits, judged-incomplete, judged-body, judged-length, judged-fields, refused-message, refused-separator, refused-incomplete, refused-long, refused-many, refused-room, found-fit}
-use Rattle.encoding.specs.declared.Verdict.the-variants.{Measured}
+use Rattle.written_form.specs.declared.Verdict.the-variants.{Measured}
 use Rattle.encoding.proofs.judge.Statement.{statement}
 use Rattle.encoding.proofs.judge.Tie as tie
 

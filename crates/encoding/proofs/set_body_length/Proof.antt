@@ -8,8 +8,8 @@ use lib.ListN.{length}
 use lib.Seq.{length-take-le}
 use Rattle.tagvalue.specs.Decimal.{decimal}
 use Rattle.tagvalue.specs.DecimalLaws.{decimal-length, written-length}
-use Rattle.message.specs.Changes.{storing}
-use Rattle.message.specs.declared.Part.the-variants.{Header}
+use Rattle.message_rules.specs.Changes.{storing}
+use Rattle.message_rules.specs.declared.Part.the-variants.{Header}
 use Rattle.encoder.specs.WritingLaws.{next-is, never-full}
 use Rattle.encoding.specs.LeavingLaws.{digits-back}
 use Rattle.encoding.proofs.set_body_length.Statement.{statement}

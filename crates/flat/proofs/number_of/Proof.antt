@@ -1,6 +1,6 @@
 -- `number_of` meets its contract, case by case.
 use borrow.Author.Needs.{needs}
-use Rattle.flat.specs.Check.{numberOf}
+use Rattle.dictionary_rules.specs.Check.{numberOf}
 use Rattle.flat.proofs.number_of.Statement.{statement}
 use Rattle.flat.proofs.number_of.Tie as tie
 

@@ -2,9 +2,9 @@
 use mathlib.Core.Path.{_≡_, sym, ap, _∙_}
 use native.Mathlib.Omega.{arith}
 use borrow.Author.Needs.{needs}
-use Rattle.flat.specs.Check.{outcome, answerOf}
-use Rattle.flat.specs.Check.{preparedOf}
-use Rattle.flat.specs.Prepared.{prepared-long, prepared-short, prepared-answer, check-long}
+use Rattle.dictionary_rules.specs.Check.{outcome, answerOf}
+use Rattle.dictionary_rules.specs.Check.{preparedOf}
+use Rattle.dictionary_rules.specs.Prepared.{prepared-long, prepared-short, prepared-answer, check-long}
 use Rattle.flat.proofs.prepare.Statement.{statement}
 use Rattle.flat.proofs.prepare.Tie as tie
 

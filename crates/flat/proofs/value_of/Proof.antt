@@ -1,6 +1,6 @@
 -- `value_of` meets its contract, case by case.
 use borrow.Author.Needs.{needs}
-use Rattle.flat.specs.Check.{valuesOf}
+use Rattle.dictionary_rules.specs.Check.{valuesOf}
 use Rattle.flat.proofs.value_of.Statement.{statement}
 use Rattle.flat.proofs.value_of.Tie as tie
 

@@ -4,14 +4,14 @@ use Prim.Native.Nat.{_≤_, _-_}
 use native.Mathlib.Omega.{arith}
 use borrow.Author.Needs.{needs}
 use lib.ListN.{length}
-use Rattle.flat_records.specs.Record.{recordAt}
-use Rattle.flat_records.specs.Records.{recordsFrom}
-use Rattle.flat_records.specs.RecordsLaws.{record-falls}
-use Rattle.flat_records.specs.declared.RecordRead.the-variants.{Whole}
-use Rattle.flat.specs.Check.{outcome, walked}
-use Rattle.flat.specs.CheckLaws.{walk-end, walk-bad, walk-refuses, walk-goes}
-use Rattle.flat_names.specs.Index.{looksAt, noted}
-use Rattle.flat_steps.specs.declared.State.the-variants.{TopLevel}
+use Rattle.dictionary_rules.specs.Record.{recordAt}
+use Rattle.dictionary_rules.specs.Records.{recordsFrom}
+use Rattle.dictionary_rules.specs.RecordsLaws.{record-falls}
+use Rattle.dictionary_rules.specs.declared.RecordRead.the-variants.{Whole}
+use Rattle.dictionary_rules.specs.Check.{outcome, walked}
+use Rattle.dictionary_rules.specs.CheckLaws.{walk-end, walk-bad, walk-refuses, walk-goes}
+use Rattle.dictionary_rules.specs.Index.{looksAt, noted}
+use Rattle.dictionary_rules.specs.declared.State.the-variants.{TopLevel}
 use Rattle.flat.proofs.walk.Statement.{statement}
 use Rattle.flat.proofs.walk.Tie as tie
 

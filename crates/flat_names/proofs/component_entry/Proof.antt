@@ -1,6 +1,6 @@
 -- `component_entry` meets its contract.
 use mathlib.Core.Path.{refl}
-use Rattle.flat_names.specs.Index.{componentEntry}
+use Rattle.dictionary_rules.specs.Index.{componentEntry}
 use Rattle.flat_names.proofs.component_entry.Statement.{statement}
 use Rattle.flat_names.proofs.component_entry.Tie as tie
 

@@ -5,8 +5,8 @@ use borrow.Author.Needs.{needs}
 use Rattle.chains.specs.Chain.{found}
 use Rattle.chains.specs.ChainLaws.{found-small}
 use Rattle.chains.specs.declared.Table.the-variants.{Components}
-use Rattle.flat_names.specs.Index.{componentOf}
-use Rattle.flat_names.specs.IndexLaws.{component-missing, component-closed}
+use Rattle.dictionary_rules.specs.Index.{componentOf}
+use Rattle.dictionary_rules.specs.IndexLaws.{component-missing, component-closed}
 use Rattle.flat_names.proofs.component_of.Statement.{statement}
 use Rattle.flat_names.proofs.component_of.Tie as tie
 

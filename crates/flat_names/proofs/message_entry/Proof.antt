@@ -1,7 +1,7 @@
 -- `message_entry` meets its contract.
 use mathlib.Core.Path.{refl}
 use borrow.Author.Needs.{needs}
-use Rattle.flat_names.specs.Index.{messageEntry}
+use Rattle.dictionary_rules.specs.Index.{messageEntry}
 use Rattle.flat_names.proofs.message_entry.Statement.{statement}
 use Rattle.flat_names.proofs.message_entry.Tie as tie
 

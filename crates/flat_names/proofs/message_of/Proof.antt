@@ -3,7 +3,7 @@ use mathlib.Core.Path.{sym, _∙_}
 use borrow.Author.Needs.{needs}
 use Rattle.chains.specs.ChainLaws.{found-small}
 use Rattle.chains.specs.declared.Table.the-variants.{MsgTypes}
-use Rattle.flat_names.specs.IndexLaws.{message-nowhere, message-placed}
+use Rattle.dictionary_rules.specs.IndexLaws.{message-nowhere, message-placed}
 use Rattle.flat_names.proofs.message_of.Statement.{statement}
 use Rattle.flat_names.proofs.message_of.Tie as tie
 

@@ -1,7 +1,7 @@
 -- `tag_entry` meets its contract.
 use mathlib.Core.Path.{refl}
 use borrow.Author.Needs.{needs}
-use Rattle.flat_names.specs.Index.{tagEntry}
+use Rattle.dictionary_rules.specs.Index.{tagEntry}
 use Rattle.flat_names.proofs.tag_entry.Statement.{statement}
 use Rattle.flat_names.proofs.tag_entry.Tie as tie
 

@@ -2,7 +2,7 @@
 use mathlib.Core.Path.{sym, _∙_}
 use borrow.Author.Needs.{needs}
 use borrow.Author.Tests.{eq-eqb, ne-eqb}
-use Rattle.flat_names.specs.Index.{tagAt}
+use Rattle.dictionary_rules.specs.Index.{tagAt}
 use Rattle.flat_names.proofs.tag_known.Statement.{statement}
 use Rattle.flat_names.proofs.tag_known.Tie as tie
 

@@ -1,7 +1,7 @@
 -- `take_note` meets its contract: each note enters its own table.
 use mathlib.Core.Path.{_∙_}
 use borrow.Author.Needs.{needs}
-use Rattle.flat_names.specs.Index.{noted}
+use Rattle.dictionary_rules.specs.Index.{noted}
 use Rattle.flat_names.proofs.take_note.Statement.{statement}
 use Rattle.flat_names.proofs.take_note.Tie as tie
 

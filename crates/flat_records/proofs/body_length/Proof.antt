@@ -1,7 +1,7 @@
 -- `body_length` meets its contract, kind by kind.
 use mathlib.Core.Path.{sym}
-use Rattle.flat_records.specs.RecordLaws.{length-other}
-use Rattle.flat_records.specs.Record.{bodyLength}
+use Rattle.dictionary_rules.specs.RecordLaws.{length-other}
+use Rattle.dictionary_rules.specs.Record.{bodyLength}
 use Rattle.flat_records.proofs.body_length.Statement.{statement}
 use Rattle.flat_records.proofs.body_length.Tie as tie
 

@@ -2,8 +2,8 @@
 use mathlib.Core.Path.{sym, _∙_}
 use native.Mathlib.Omega.{arith}
 use borrow.Author.Needs.{needs}
-use Rattle.flat_records.specs.Record.{bodyOf, knownTag, opensComponent, fieldItem, componentItem, opensGroup}
-use Rattle.flat_records.specs.RecordLaws.{length-tag, length-component, length-message, length-field, length-item, length-group, body-other}
+use Rattle.dictionary_rules.specs.Record.{bodyOf, knownTag, opensComponent, fieldItem, componentItem, opensGroup}
+use Rattle.dictionary_rules.specs.RecordLaws.{length-tag, length-component, length-message, length-field, length-item, length-group, body-other}
 use Rattle.flat_records.proofs.body_of.Statement.{statement}
 use Rattle.flat_records.proofs.body_of.Tie as tie
 

@@ -1,6 +1,6 @@
 -- `marked` meets its contract: a mark is 0 or 1.
 use borrow.Author.Tests.{le-ltb, lt-ltb}
-use Rattle.flat_records.specs.Record.{withMark}
+use Rattle.dictionary_rules.specs.Record.{withMark}
 use Rattle.flat_records.proofs.marked.Statement.{statement}
 use Rattle.flat_records.proofs.marked.Tie as tie
 

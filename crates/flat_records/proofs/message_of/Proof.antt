@@ -2,7 +2,7 @@
 use mathlib.Core.Path.{sym, _∙_}
 use borrow.Author.Needs.{needs}
 use borrow.Author.Tests.{eq-eqb, ne-eqb}
-use Rattle.flat_records.specs.Record.{opensMessage}
+use Rattle.dictionary_rules.specs.Record.{opensMessage}
 use Rattle.flat_records.proofs.message_of.Statement.{statement}
 use Rattle.flat_records.proofs.message_of.Tie as tie
 

@@ -4,9 +4,9 @@ use Prim.Native.Nat.{ℕ, _+_, _≤_, _-_}
 use native.Mathlib.Nat.{add-sub-cancel-left}
 use borrow.Author.Needs.{needs}
 use lib.ListN.{length, getD, take, drop}
-use Rattle.flat_records.specs.Record.{bodyLength, bodyOf}
-use Rattle.flat_records.specs.declared.RecordRead.the-variants.{Whole}
-use Rattle.flat_records.specs.RecordLaws.{at-end, at-cut, at-wrong, at-whole}
+use Rattle.dictionary_rules.specs.Record.{bodyLength, bodyOf}
+use Rattle.dictionary_rules.specs.declared.RecordRead.the-variants.{Whole}
+use Rattle.dictionary_rules.specs.RecordLaws.{at-end, at-cut, at-wrong, at-whole}
 use Rattle.flat_records.proofs.record_at.Statement.{statement}
 use Rattle.flat_records.proofs.record_at.Tie as tie
 

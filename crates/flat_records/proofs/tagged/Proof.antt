@@ -1,6 +1,6 @@
 -- `tagged` meets its contract: a tag is not 0.
 use borrow.Author.Tests.{eq-eqb, ne-eqb}
-use Rattle.flat_records.specs.Record.{withTag}
+use Rattle.dictionary_rules.specs.Record.{withTag}
 use Rattle.flat_records.proofs.tagged.Statement.{statement}
 use Rattle.flat_records.proofs.tagged.Tie as tie
 

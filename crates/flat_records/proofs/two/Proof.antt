@@ -3,7 +3,7 @@ use mathlib.Core.Path.{sym}
 use Prim.Native.Nat.{_+_}
 use native.Mathlib.Omega.{arith}
 use borrow.Author.Needs.{needs}
-use Rattle.flat_records.specs.RecordLaws.{low-two}
+use Rattle.dictionary_rules.specs.RecordLaws.{low-two}
 use Rattle.flat_records.proofs.two.Statement.{statement}
 use Rattle.flat_records.proofs.two.Tie as tie
 

@@ -6,8 +6,8 @@ use Prim.Native.Nat.{_≤_, _-_}
 use native.Mathlib.Omega.{arith}
 use borrow.Author.Needs.{needs}
 use lib.ListN.{length, drop}
-use Rattle.flat_records.specs.Record.{zeroFilled}
-use Rattle.flat_records.specs.RecordLaws.{fill-zero, fill-text, fill-after, fill-end}
+use Rattle.dictionary_rules.specs.Record.{zeroFilled}
+use Rattle.dictionary_rules.specs.RecordLaws.{fill-zero, fill-text, fill-after, fill-end}
 use Rattle.flat_records.proofs.zero_filled.Statement.{statement}
 use Rattle.flat_records.proofs.zero_filled.Tie as tie
 

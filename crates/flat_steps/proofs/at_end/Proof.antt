@@ -1,8 +1,8 @@
 -- `at_end` meets its contract: left open, then component 0, then 1.
 use mathlib.Core.Path.{sym, _∙_}
 use borrow.Author.Needs.{needs}
-use Rattle.flat_steps.specs.Step.{atEnd, present}
-use Rattle.flat_names.specs.Index.{looksAt}
+use Rattle.dictionary_rules.specs.Step.{atEnd, present}
+use Rattle.dictionary_rules.specs.Index.{looksAt}
 use Rattle.flat_steps.proofs.at_end.Statement.{statement}
 use Rattle.flat_steps.proofs.at_end.Tie as tie
 

@@ -1,7 +1,7 @@
 -- `close_group` meets its contract: a group that closes holds an item.
 use borrow.Author.Needs.{needs}
 use borrow.Author.Tests.{eq-eqb, ne-eqb}
-use Rattle.flat_steps.specs.Step.{closesGroup, notEmpty}
+use Rattle.dictionary_rules.specs.Step.{closesGroup, notEmpty}
 use Rattle.flat_steps.proofs.close_group.Statement.{statement}
 use Rattle.flat_steps.proofs.close_group.Tie as tie
 

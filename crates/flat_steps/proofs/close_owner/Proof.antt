@@ -1,6 +1,6 @@
 -- `close_owner` meets its contract, case by case.
 use borrow.Author.Needs.{needs}
-use Rattle.flat_steps.specs.Step.{closesOwner}
+use Rattle.dictionary_rules.specs.Step.{closesOwner}
 use Rattle.flat_steps.proofs.close_owner.Statement.{statement}
 use Rattle.flat_steps.proofs.close_owner.Tie as tie
 

@@ -1,6 +1,6 @@
 -- `deeper_of` meets its contract.
 use borrow.Author.Tests.{lt-ltb, le-ltb}
-use Rattle.flat_steps.specs.Step.{deeper}
+use Rattle.dictionary_rules.specs.Step.{deeper}
 use Rattle.flat_steps.proofs.deeper_of.Statement.{statement}
 use Rattle.flat_steps.proofs.deeper_of.Tie as tie
 

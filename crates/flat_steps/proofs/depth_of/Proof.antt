@@ -1,6 +1,6 @@
 -- `depth_of` meets its contract, case by case.
 use borrow.Author.Needs.{needs}
-use Rattle.flat_steps.specs.Step.{depthOf}
+use Rattle.dictionary_rules.specs.Step.{depthOf}
 use Rattle.flat_steps.proofs.depth_of.Statement.{statement}
 use Rattle.flat_steps.proofs.depth_of.Tie as tie
 

@@ -1,6 +1,6 @@
 -- `fresh` meets its contract.
 use mathlib.Core.Path.{refl}
-use Rattle.flat_steps.specs.Step.{opens}
+use Rattle.dictionary_rules.specs.Step.{opens}
 use Rattle.flat_steps.proofs.fresh.Statement.{statement}
 use Rattle.flat_steps.proofs.fresh.Tie as tie
 

@@ -1,6 +1,6 @@
 -- `grow` meets its contract.
 use mathlib.Core.Path.{refl}
-use Rattle.flat_steps.specs.Step.{grown}
+use Rattle.dictionary_rules.specs.Step.{grown}
 use Rattle.flat_steps.proofs.grow.Statement.{statement}
 use Rattle.flat_steps.proofs.grow.Tie as tie
 

@@ -1,7 +1,7 @@
 -- `hold` meets its contract: an empty component adds nothing.
 use borrow.Author.Needs.{needs}
 use borrow.Author.Tests.{eq-eqb, ne-eqb}
-use Rattle.flat_steps.specs.Step.{heldWith, heldAlso}
+use Rattle.dictionary_rules.specs.Step.{heldWith, heldAlso}
 use Rattle.flat_steps.proofs.hold.Statement.{statement}
 use Rattle.flat_steps.proofs.hold.Tie as tie
 

@@ -1,8 +1,8 @@
 -- `on_close` meets its contract: each return cites the law of its way.
 use mathlib.Core.Path.{sym, _∙_}
 use borrow.Author.Needs.{needs}
-use Rattle.flat_steps.specs.Step.{onClose, inside}
-use Rattle.flat_steps.specs.StepLaws.{close-none, close-one, close-two, close-three, close-four}
+use Rattle.dictionary_rules.specs.Step.{onClose, inside}
+use Rattle.dictionary_rules.specs.StepLaws.{close-none, close-one, close-two, close-three, close-four}
 use Rattle.flat_steps.proofs.on_close.Statement.{statement}
 use Rattle.flat_steps.proofs.on_close.Tie as tie
 

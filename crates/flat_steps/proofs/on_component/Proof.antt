@@ -1,8 +1,8 @@
 -- `on_component` meets its contract: at top level, and only once.
 use mathlib.Core.Path.{sym, _∙_}
 use borrow.Author.Needs.{needs}
-use Rattle.flat_steps.specs.Step.{onComponent, atTop, onceComponent}
-use Rattle.flat_names.specs.Index.{looksAt}
+use Rattle.dictionary_rules.specs.Step.{onComponent, atTop, onceComponent}
+use Rattle.dictionary_rules.specs.Index.{looksAt}
 use Rattle.flat_steps.proofs.on_component.Statement.{statement}
 use Rattle.flat_steps.proofs.on_component.Tie as tie
 

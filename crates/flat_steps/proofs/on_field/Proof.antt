@@ -4,8 +4,8 @@ use Prim.Native.Nat.{ℕ, _+_, _≤_, _<_}
 use native.Mathlib.Omega.{arith}
 use borrow.Author.Needs.{needs}
 use borrow.Author.Tests.{not-true, not-false}
-use Rattle.flat_steps.specs.Step.{onField, inside}
-use Rattle.flat_steps.specs.StepLaws.{looks-known, field-unknown, field-many, field-goes}
+use Rattle.dictionary_rules.specs.Step.{onField, inside}
+use Rattle.dictionary_rules.specs.StepLaws.{looks-known, field-unknown, field-many, field-goes}
 use Rattle.flat_steps.proofs.on_field.Statement.{statement}
 use Rattle.flat_steps.proofs.on_field.Tie as tie
 

@@ -4,8 +4,8 @@ use Prim.Native.Nat.{ℕ, _+_, _≤_, _<_}
 use native.Mathlib.Omega.{arith}
 use borrow.Author.Needs.{needs}
 use borrow.Author.Tests.{not-true, not-false}
-use Rattle.flat_steps.specs.Step.{onGroup, inside}
-use Rattle.flat_steps.specs.StepLaws.{looks-known, depth-small, group-unknown, group-deep, group-many, group-goes}
+use Rattle.dictionary_rules.specs.Step.{onGroup, inside}
+use Rattle.dictionary_rules.specs.StepLaws.{looks-known, depth-small, group-unknown, group-deep, group-many, group-goes}
 use Rattle.flat_steps.proofs.on_group.Statement.{statement}
 use Rattle.flat_steps.proofs.on_group.Tie as tie
 

@@ -2,8 +2,8 @@
 use mathlib.Core.Path.{sym, _∙_}
 use native.Mathlib.Omega.{arith}
 use borrow.Author.Needs.{needs}
-use Rattle.flat_steps.specs.Step.{onItem, inside}
-use Rattle.flat_steps.specs.StepLaws.{looks-component, depth-small, item-missing, item-deep, item-many, item-goes}
+use Rattle.dictionary_rules.specs.Step.{onItem, inside}
+use Rattle.dictionary_rules.specs.StepLaws.{looks-component, depth-small, item-missing, item-deep, item-many, item-goes}
 use Rattle.flat_steps.proofs.on_item.Statement.{statement}
 use Rattle.flat_steps.proofs.on_item.Tie as tie
 

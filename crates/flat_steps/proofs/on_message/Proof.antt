@@ -1,8 +1,8 @@
 -- `on_message` meets its contract: at top level, and only once.
 use mathlib.Core.Path.{sym, _∙_}
 use borrow.Author.Needs.{needs}
-use Rattle.flat_steps.specs.Step.{onMessage, atTop, onceMessage}
-use Rattle.flat_names.specs.Index.{looksAt}
+use Rattle.dictionary_rules.specs.Step.{onMessage, atTop, onceMessage}
+use Rattle.dictionary_rules.specs.Index.{looksAt}
 use Rattle.flat_steps.proofs.on_message.Statement.{statement}
 use Rattle.flat_steps.proofs.on_message.Tie as tie
 

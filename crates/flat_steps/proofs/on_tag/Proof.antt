@@ -1,8 +1,8 @@
 -- `on_tag` meets its contract: a known tag changes nothing.
 use mathlib.Core.Path.{sym, _∙_}
 use borrow.Author.Needs.{needs}
-use Rattle.flat_steps.specs.Step.{onTag, atTop}
-use Rattle.flat_names.specs.Index.{looksAt}
+use Rattle.dictionary_rules.specs.Step.{onTag, atTop}
+use Rattle.dictionary_rules.specs.Index.{looksAt}
 use Rattle.flat_steps.proofs.on_tag.Statement.{statement}
 use Rattle.flat_steps.proofs.on_tag.Tie as tie
 

@@ -1,6 +1,6 @@
 -- `open_group` meets its contract, case by case.
 use borrow.Author.Needs.{needs}
-use Rattle.flat_steps.specs.Step.{opened}
+use Rattle.dictionary_rules.specs.Step.{opened}
 use Rattle.flat_steps.proofs.open_group.Statement.{statement}
 use Rattle.flat_steps.proofs.open_group.Tie as tie
 

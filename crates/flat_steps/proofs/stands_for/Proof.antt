@@ -1,6 +1,6 @@
 -- `stands_for` meets its contract, case by case.
 use borrow.Author.Needs.{needs}
-use Rattle.flat_steps.specs.Step.{standsFor}
+use Rattle.dictionary_rules.specs.Step.{standsFor}
 use Rattle.flat_steps.proofs.stands_for.Statement.{statement}
 use Rattle.flat_steps.proofs.stands_for.Tie as tie
 

@@ -1,6 +1,6 @@
 -- `step_of` meets its contract, kind by kind.
 use borrow.Author.Needs.{needs}
-use Rattle.flat_steps.specs.Step.{stepOf}
+use Rattle.dictionary_rules.specs.Step.{stepOf}
 use Rattle.flat_steps.proofs.step_of.Statement.{statement}
 use Rattle.flat_steps.proofs.step_of.Tie as tie
 

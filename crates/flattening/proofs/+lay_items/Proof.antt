@@ -10,17 +10,17 @@ use borrow.Author.Needs.{needs}
 use lib.ListN.{length}
 use borrow.Fn.Kinds.{In}
 use borrow.Fn.PlainCycle.{Measures, is, falls, and}
-use Rattle.flat_records.specs.Record.{recordAt}
-use Rattle.flat_records.specs.RecordsLaws.{record-falls}
-use Rattle.flat_names.specs.Index.{componentAt}
-use Rattle.flat_records.specs.declared.Record.{Record}
-use Rattle.flat_records.specs.declared.Record.the-variants.{FieldItem, ComponentItem, OpensGroup, Closes}
-use Rattle.flat_records.specs.declared.RecordRead.the-variants.{Whole}
-use Rattle.flattening.specs.Laying.{Laying, laying, standsAt, putRow, itemsFrom, layItems}
-use Rattle.flattening.specs.LayingLaws.{Advances, lay-advances, lay-field, lay-field-full, lay-group, lay-group-broken, lay-group-full, lay-empty, lay-component, lay-component-broken, lay-close, lay-deep, lay-down, put-length}
-use Rattle.flattening.specs.declared.Laid.{Laid}
-use Rattle.flattening.specs.declared.Laid.the-variants.{Upto, Broken}
-use Rattle.flattening.specs.declared.Expansion.the-variants.{ItemsAt, NoItems}
+use Rattle.dictionary_rules.specs.Record.{recordAt}
+use Rattle.dictionary_rules.specs.RecordsLaws.{record-falls}
+use Rattle.dictionary_rules.specs.Index.{componentAt}
+use Rattle.dictionary_rules.specs.declared.Record.{Record}
+use Rattle.dictionary_rules.specs.declared.Record.the-variants.{FieldItem, ComponentItem, OpensGroup, Closes}
+use Rattle.dictionary_rules.specs.declared.RecordRead.the-variants.{Whole}
+use Rattle.dictionary_meaning_rules.specs.Laying.{Laying, laying, standsAt, putRow, itemsFrom, layItems}
+use Rattle.dictionary_meaning_rules.specs.LayingLaws.{Advances, lay-advances, lay-field, lay-field-full, lay-group, lay-group-broken, lay-group-full, lay-empty, lay-component, lay-component-broken, lay-close, lay-deep, lay-down, put-length}
+use Rattle.dictionary_meaning_rules.specs.declared.Laid.{Laid}
+use Rattle.dictionary_meaning_rules.specs.declared.Laid.the-variants.{Upto, Broken}
+use Rattle.dictionary_meaning_rules.specs.declared.Expansion.the-variants.{ItemsAt, NoItems}
 use Rattle.flattening.proofs.Arms.{unread, top-level, reached, read-as, laid-as}
 use Rattle.flattening.proofs.lay_items.Reads as lay-items
 use Rattle.flattening.proofs.lay_items.Kinds as lay-items-kinds

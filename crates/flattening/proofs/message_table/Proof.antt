@@ -2,12 +2,12 @@
 use mathlib.Core.Path.{_≡_, refl, sym, ap, _∙_}
 use Prim.Native.Nat.{ℕ, _+_}
 use borrow.Author.Needs.{needs}
-use Rattle.flat_names.specs.Index.{componentAt, messageAt}
-use Rattle.flat_names.specs.declared.Placed.the-variants.{At}
-use Rattle.flattening.specs.Laying.{laying, layItems}
-use Rattle.flattening.specs.MsgType.{nameOf}
-use Rattle.flattening.specs.MessageTableLaws.{table-unnamed, table-nowhere, table-rows, table-unprepared}
-use Rattle.flattening.specs.declared.MsgTypeName.the-variants.{Named}
+use Rattle.dictionary_rules.specs.Index.{componentAt, messageAt}
+use Rattle.dictionary_rules.specs.declared.Placed.the-variants.{At}
+use Rattle.dictionary_meaning_rules.specs.Laying.{laying, layItems}
+use Rattle.dictionary_meaning_rules.specs.MsgType.{nameOf}
+use Rattle.dictionary_meaning_rules.specs.MessageTableLaws.{table-unnamed, table-nowhere, table-rows, table-unprepared}
+use Rattle.dictionary_meaning_rules.specs.declared.MsgTypeName.the-variants.{Named}
 use Rattle.flattening.proofs.Arms.{laid-as}
 use Rattle.flattening.proofs.message_table.Statement.{statement}
 use Rattle.flattening.proofs.message_table.Tie as tie

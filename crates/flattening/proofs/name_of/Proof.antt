@@ -4,7 +4,7 @@ use Prim.Native.Nat.{ℕ, _+_, _-_, _*_, _≤_, _<_}
 use native.Mathlib.Omega.{arith}
 use borrow.Author.Needs.{needs}
 use lib.ListN.{length, getD}
-use Rattle.flattening.specs.MsgTypeLaws.{ReadBack, back-start, number-fits, back-on, name-empty, name-long, name-zero, name-good}
+use Rattle.dictionary_meaning_rules.specs.MsgTypeLaws.{ReadBack, back-start, number-fits, back-on, name-empty, name-long, name-zero, name-good}
 use Rattle.flattening.proofs.name_of.Statement.{statement}
 use Rattle.flattening.proofs.name_of.Tie as tie
 

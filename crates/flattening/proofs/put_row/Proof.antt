@@ -6,8 +6,8 @@ use borrow.Author.Needs.{needs}
 use mir.Val.{boolByte}
 use lib.ListN.{length, length-set}
 use mathlib.Core.Bool.{Bool, true, false}
-use Rattle.layout.specs.Table.{mark}
-use Rattle.flattening.specs.Laying.{putRow}
+use Rattle.dictionary_layout_rules.specs.Table.{mark}
+use Rattle.dictionary_meaning_rules.specs.Laying.{putRow}
 use Rattle.flattening.proofs.put_row.Statement.{statement}
 use Rattle.flattening.proofs.put_row.Tie as tie
 

@@ -2,10 +2,10 @@
 use mathlib.Core.Path.{_≡_, refl, sym, ap, _∙_}
 use Prim.Native.Nat.{ℕ, _+_}
 use borrow.Author.Needs.{needs}
-use Rattle.flat_names.specs.Index.{componentAt}
-use Rattle.flat_names.specs.declared.Looked.the-variants.{Closed, Missing}
-use Rattle.flattening.specs.LayingLaws.{stands-missing, stands-empty, stands-lost, stands-somewhere}
-use Rattle.flattening.specs.declared.Expansion.the-variants.{ItemsAt}
+use Rattle.dictionary_rules.specs.Index.{componentAt}
+use Rattle.dictionary_rules.specs.declared.Looked.the-variants.{Closed, Missing}
+use Rattle.dictionary_meaning_rules.specs.LayingLaws.{stands-missing, stands-empty, stands-lost, stands-somewhere}
+use Rattle.dictionary_meaning_rules.specs.declared.Expansion.the-variants.{ItemsAt}
 use Rattle.flattening.proofs.stands_at.Statement.{statement}
 use Rattle.flattening.proofs.stands_at.Tie as tie
 

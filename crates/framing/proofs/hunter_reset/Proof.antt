@@ -1,8 +1,8 @@
 -- `hunter_reset` meets its contract: a fresh state is told.
 use mathlib.Core.Path.{ap, _∙_}
-use Rattle.hunter.specs.declared.State.{State}
-use Rattle.hunter.specs.declared.Answer.the-variants.{Fine}
-use Rattle.hunter.specs.Bytes.{numberOf}
+use Rattle.frame_hunter_rules.specs.declared.State.{State}
+use Rattle.frame_hunter_rules.specs.declared.Answer.the-variants.{Fine}
+use Rattle.frame_hunter_rules.specs.Bytes.{numberOf}
 use Rattle.framing.specs.States.{hunterTold}
 use borrow.Author.Needs.{needs}
 use Rattle.framing.proofs.hunter_reset.Statement.{statement}

@@ -1,8 +1,8 @@
 -- `ported_reset` meets its contract: a fresh state is told.
 use mathlib.Core.Path.{ap, _∙_}
-use Rattle.parser.specs.declared.State.{State}
-use Rattle.parser.specs.declared.Answer.the-variants.{Accepted}
-use Rattle.parser.specs.Framer.{numberOf}
+use Rattle.frame_parser_rules.specs.declared.State.{State}
+use Rattle.frame_parser_rules.specs.declared.Answer.the-variants.{Accepted}
+use Rattle.frame_parser_rules.specs.Framer.{numberOf}
 use Rattle.framing.specs.States.{portedTold}
 use borrow.Author.Needs.{needs}
 use Rattle.framing.proofs.ported_reset.Statement.{statement}

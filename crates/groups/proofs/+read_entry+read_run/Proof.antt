@@ -7,7 +7,7 @@ use lib.ListN.{length}
 use borrow.Author.Needs.{needs}
 use borrow.Author.Tests.{not-true, not-false}
 use Rattle.tagvalue.specs.declared.Field.{Field}
-use Rattle.flat_names.specs.Index.{tagAt}
+use Rattle.dictionary_rules.specs.Index.{tagAt}
 use Rattle.groups.specs.Reading.{FitsAt, runOf, entryOf}
 use Rattle.groups.specs.ReadingLaws.{Follows, roomOf, makes-one, next-follows}
 use Rattle.groups.specs.declared.Progress.{Progress}

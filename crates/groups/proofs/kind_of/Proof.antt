@@ -2,8 +2,8 @@
 use mathlib.Core.Path.{_≡_, sym, _∙_}
 use borrow.Author.Needs.{needs}
 use mathlib.Core.Bool.{false}
-use Rattle.layout.specs.Table.{positionOf}
-use Rattle.layout.specs.declared.Position.the-variants.{At}
+use Rattle.dictionary_layout_rules.specs.Table.{positionOf}
+use Rattle.dictionary_layout_rules.specs.declared.Position.the-variants.{At}
 use Rattle.groups.specs.Reading.{opensAt, meant}
 use Rattle.groups.proofs.LookUps.{kind-delimiter, kind-user, kind-other, kind-wrong, kind-plain, kind-count, kind-deep}
 use Rattle.groups.proofs.kind_of.Statement.{statement}

@@ -9,7 +9,7 @@ use borrow.Author.Needs.{needs}
 use lib.ListN.{length, getD, take, drop, set, length-set}
 use Rattle.maps.specs.Rows.{flat, rowsFrom, runEndFrom, sizes}
 use Rattle.lent.specs.Lent.{rowCount, rowsOf, fieldsIn}
-use Rattle.message.specs.Changes.{after, Cuttable, changedAt}
+use Rattle.message_rules.specs.Changes.{after, Cuttable, changedAt}
 use Rattle.hanging.specs.Hanging.{raised, allOf, hungPlace, hungStop, hungCut, replacedFields, hungFields, startOf, delimiterOf, Hangable, hangAt}
 use Rattle.hanging.specs.RowLaws.{hang-none, hang-some}
 use Rattle.hanging.proofs.hang_in.Statement.{statement}

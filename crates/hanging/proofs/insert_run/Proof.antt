@@ -11,9 +11,9 @@ use lib.Seq.{length-take-le}
 use Rattle.maps.specs.Rows.{flat, rowsFrom, sizes}
 use Rattle.lent.specs.Lent.{rowCount, rowsOf}
 use Rattle.lent.specs.MeaningLaws.{flat-length}
-use Rattle.message.specs.Changes.{after, Cuttable, cutWords, cutValues, changedAt}
-use Rattle.message.specs.PlaceLaws.{rows-length}
-use Rattle.message.specs.declared.Change.the-variants.{Made, NoMessage, NotStorable, NoRun, TooManyFields}
+use Rattle.message_rules.specs.Changes.{after, Cuttable, cutWords, cutValues, changedAt}
+use Rattle.message_rules.specs.PlaceLaws.{rows-length}
+use Rattle.message_rules.specs.declared.Change.the-variants.{Made, NoMessage, NotStorable, NoRun, TooManyFields}
 use Rattle.hanging.specs.Hanging.{raised, raisedFrom, Lent}
 use Rattle.hanging.specs.RaiseLaws.{raise-cut, low-cut, cut-others, refused-same, made-others, run-rows}
 use Rattle.hanging.proofs.insert_run.Statement.{statement}

@@ -1,6 +1,6 @@
 -- `act_on` meets its contract: each arm is a case of the definition.
 use borrow.Author.Needs.{needs}
-use Rattle.hunter.specs.Hunt.{actOn}
+use Rattle.frame_hunter_rules.specs.Hunt.{actOn}
 use Rattle.hunter.proofs.act_on.Statement.{statement}
 use Rattle.hunter.proofs.act_on.Tie as tie
 

@@ -1,7 +1,7 @@
 -- `end` meets its contract: each return cites the law of `BytesLaws` for its way.
 use mathlib.Core.Path.{sym, _∙_}
 use borrow.Author.Needs.{needs}
-use Rattle.hunter.specs.BytesLaws.{end-unfit, end-ended, end-fine}
+use Rattle.frame_hunter_rules.specs.BytesLaws.{end-unfit, end-ended, end-fine}
 use Rattle.hunter.proofs.end.Statement.{statement}
 use Rattle.hunter.proofs.end.Tie as tie
 

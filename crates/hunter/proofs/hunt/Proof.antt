@@ -6,8 +6,8 @@ use native.Mathlib.Omega.{arith}
 use borrow.Author.Needs.{needs}
 use lib.ListN.{length, drop}
 use Rattle.tagvalue.specs.FindLaws.{rest-part}
-use Rattle.verdict.specs.Verdict.{verdictOf}
-use Rattle.hunter.specs.Hunt.{actOn, huntFrom}
+use Rattle.frame_verdict_rules.specs.Verdict.{verdictOf}
+use Rattle.frame_hunter_rules.specs.Hunt.{actOn, huntFrom}
 use Rattle.hunter.proofs.Moves.{behind, hunt-start, hunt-hand, hunt-stop, hunt-pass, hunt-end}
 use Rattle.hunter.proofs.hunt.Statement.{statement}
 use Rattle.hunter.proofs.hunt.Tie as tie

@@ -1,7 +1,7 @@
 -- `number` meets its contract: each arm is a case of the definition.
 use mathlib.Core.Path.{sym, ap}
 use borrow.Author.Needs.{needs}
-use Rattle.hunter.specs.Bytes.{numberOf}
+use Rattle.frame_hunter_rules.specs.Bytes.{numberOf}
 use Rattle.hunter.proofs.number.Statement.{statement}
 use Rattle.hunter.proofs.number.Tie as tie
 

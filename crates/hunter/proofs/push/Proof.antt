@@ -5,11 +5,11 @@ use Prim.Native.Nat.{ℕ, _+_}
 use native.Mathlib.Omega.{arith}
 use borrow.Author.Needs.{needs}
 use lib.ListN.{length, length-drop}
-use Rattle.hunter.specs.Bytes.{unfit}
-use Rattle.hunter.specs.BytesLaws.{Fit, fits, push-unfit, push-ended, push-full, push-fine}
-use Rattle.hunter.specs.declared.State.{State}
-use Rattle.hunter.specs.declared.Reply.{Reply}
-use Rattle.hunter.specs.declared.Answer.the-variants.{Fine}
+use Rattle.frame_hunter_rules.specs.Bytes.{unfit}
+use Rattle.frame_hunter_rules.specs.BytesLaws.{Fit, fits, push-unfit, push-ended, push-full, push-fine}
+use Rattle.frame_hunter_rules.specs.declared.State.{State}
+use Rattle.frame_hunter_rules.specs.declared.Reply.{Reply}
+use Rattle.frame_hunter_rules.specs.declared.Answer.the-variants.{Fine}
 use Rattle.tagvalue.specs.FindLaws.{rest-part}
 use Rattle.hunter.proofs.Moves.{put-behind}
 use Rattle.hunter.proofs.push.Statement.{statement}

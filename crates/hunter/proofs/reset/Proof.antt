@@ -1,6 +1,6 @@
 -- `reset` meets its contract by computation.
 use mathlib.Core.Path.{refl}
-use Rattle.hunter.specs.Bytes.{freshState, stateOf}
+use Rattle.frame_hunter_rules.specs.Bytes.{freshState, stateOf}
 use Rattle.hunter.proofs.reset.Statement.{statement}
 use Rattle.hunter.proofs.reset.Tie as tie
 

@@ -7,15 +7,15 @@ use Prim.Native.Nat.{ℕ, _+_, _-_, _%_, _≤_}
 use native.Mathlib.Omega.{arith}
 use borrow.Author.Needs.{needs}
 use lib.ListN.{length, take, drop}
-use Rattle.verdict.specs.Frame.{frameMost}
-use Rattle.hunter.specs.Hunt.{countWrap}
-use Rattle.hunter.specs.Bytes.{unfit, refusedTake, Handout, unmoved, tookFrom, Takes}
-use Rattle.hunter.specs.BytesLaws.{Fit, fits, held-length, take-unfit, take-short, hunt-inside, hunt-small, Moved, take-fine}
-use Rattle.hunter.specs.declared.State.{State}
-use Rattle.hunter.specs.declared.Taken.{Taken}
-use Rattle.hunter.specs.declared.Hunted.{Hunted}
-use Rattle.hunter.specs.declared.Answer.{Answer}
-use Rattle.hunter.specs.declared.Answer.the-variants.{Fine}
+use Rattle.frame_verdict_rules.specs.Frame.{frameMost}
+use Rattle.frame_hunter_rules.specs.Hunt.{countWrap}
+use Rattle.frame_hunter_rules.specs.Bytes.{unfit, refusedTake, Handout, unmoved, tookFrom, Takes}
+use Rattle.frame_hunter_rules.specs.BytesLaws.{Fit, fits, held-length, take-unfit, take-short, hunt-inside, hunt-small, Moved, take-fine}
+use Rattle.frame_hunter_rules.specs.declared.State.{State}
+use Rattle.frame_hunter_rules.specs.declared.Taken.{Taken}
+use Rattle.frame_hunter_rules.specs.declared.Hunted.{Hunted}
+use Rattle.frame_hunter_rules.specs.declared.Answer.{Answer}
+use Rattle.frame_hunter_rules.specs.declared.Answer.the-variants.{Fine}
 use Rattle.hunter.proofs.Moves.{part-length, put-first}
 use Rattle.hunter.proofs.take.Statement.{statement}
 use Rattle.hunter.proofs.take.Tie as tie

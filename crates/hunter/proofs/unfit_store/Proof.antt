@@ -1,6 +1,6 @@
 -- `unfit_store` meets its contract: its test is the definition's.
 use borrow.Author.Tests.{eq-eqb, ne-eqb}
-use Rattle.hunter.specs.Bytes.{unfit}
+use Rattle.frame_hunter_rules.specs.Bytes.{unfit}
 use Rattle.hunter.proofs.unfit_store.Statement.{statement}
 use Rattle.hunter.proofs.unfit_store.Tie as tie
 

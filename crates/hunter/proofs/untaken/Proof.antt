@@ -1,6 +1,6 @@
 -- `untaken` meets its contract by computation.
 use mathlib.Core.Path.{refl}
-use Rattle.hunter.specs.Bytes.{refusedTake}
+use Rattle.frame_hunter_rules.specs.Bytes.{refusedTake}
 use Rattle.hunter.proofs.untaken.Statement.{statement}
 use Rattle.hunter.proofs.untaken.Tie as tie
 

@@ -4,7 +4,7 @@ use Prim.Native.Nat.{ℕ, _+_, _-_, _*_, _/_, _≤_, _<_}
 use native.Mathlib.Omega.{arith}
 use borrow.Author.Needs.{needs}
 use lib.ListN.{length, drop}
-use Rattle.layout.specs.TableLaws.{stop-within, first-some, first-none, delimiter-walk}
+use Rattle.dictionary_layout_rules.specs.TableLaws.{stop-within, first-some, first-none, delimiter-walk}
 use Rattle.layout.proofs.delimiter.Statement.{statement}
 use Rattle.layout.proofs.delimiter.Tie as tie
 

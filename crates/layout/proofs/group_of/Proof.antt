@@ -5,9 +5,9 @@ use native.Mathlib.Omega.{arith}
 use borrow.Author.Needs.{needs}
 use lib.ListN.{length, drop}
 use mathlib.Core.Logic.{⊎-elim}
-use Rattle.layout.specs.Table.{nextSibling, siblingsFrom, groupAmong}
-use Rattle.layout.specs.TableLaws.{stop-within, sibling-rises, group-hit, group-plain, group-other, group-end, group-walk}
-use Rattle.layout.specs.declared.Nested.the-variants.{NoGroup}
+use Rattle.dictionary_layout_rules.specs.Table.{nextSibling, siblingsFrom, groupAmong}
+use Rattle.dictionary_layout_rules.specs.TableLaws.{stop-within, sibling-rises, group-hit, group-plain, group-other, group-end, group-walk}
+use Rattle.dictionary_layout_rules.specs.declared.Nested.the-variants.{NoGroup}
 use Rattle.layout.proofs.group_of.Statement.{statement}
 use Rattle.layout.proofs.group_of.Tie as tie
 

@@ -4,8 +4,8 @@ use Prim.Native.Nat.{ℕ, _+_, _-_, _*_, _/_, _≤_, _<_}
 use native.Mathlib.Omega.{arith}
 use borrow.Author.Needs.{needs}
 use lib.ListN.{length, drop}
-use Rattle.layout.specs.Tree.{holdsTag}
-use Rattle.layout.specs.TreeLaws.{holds-hit, holds-miss, holds-end}
+use Rattle.dictionary_layout_rules.specs.Tree.{holdsTag}
+use Rattle.dictionary_layout_rules.specs.TreeLaws.{holds-hit, holds-miss, holds-end}
 use Rattle.layout.proofs.holds.Statement.{statement}
 use Rattle.layout.proofs.holds.Tie as tie
 

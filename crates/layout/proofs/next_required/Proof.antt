@@ -4,8 +4,8 @@ use Prim.Native.Nat.{ℕ, _+_, _-_, _*_, _/_, _≤_, _<_}
 use native.Mathlib.Omega.{arith}
 use borrow.Author.Needs.{needs}
 use lib.ListN.{length, drop}
-use Rattle.layout.specs.Table.{siblingsFrom, firstRequired}
-use Rattle.layout.specs.TableLaws.{stop-within, sibling-rises, required-hit, required-miss, required-end, required-walk}
+use Rattle.dictionary_layout_rules.specs.Table.{siblingsFrom, firstRequired}
+use Rattle.dictionary_layout_rules.specs.TableLaws.{stop-within, sibling-rises, required-hit, required-miss, required-end, required-walk}
 use Rattle.layout.proofs.next_required.Statement.{statement}
 use Rattle.layout.proofs.next_required.Tie as tie
 

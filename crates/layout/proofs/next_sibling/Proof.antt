@@ -4,7 +4,7 @@ use Prim.Native.Nat.{ℕ, _+_, _-_, _*_, _/_, _≤_, _<_}
 use native.Mathlib.Omega.{arith}
 use borrow.Author.Needs.{needs}
 use lib.ListN.{length, drop}
-use Rattle.layout.specs.TableLaws.{sibling-link, sibling-stop}
+use Rattle.dictionary_layout_rules.specs.TableLaws.{sibling-link, sibling-stop}
 use Rattle.layout.proofs.next_sibling.Statement.{statement}
 use Rattle.layout.proofs.next_sibling.Tie as tie
 

@@ -5,8 +5,8 @@ use Prim.Native.Nat.{ℕ, _+_, _-_, _*_, _/_, _≤_, _<_}
 use native.Mathlib.Omega.{arith}
 use borrow.Author.Needs.{needs}
 use lib.ListN.{length, drop}
-use Rattle.layout.specs.Table.{siblingsFrom, positionAmong}
-use Rattle.layout.specs.TableLaws.{stop-within, sibling-rises, position-hit, position-miss, position-end, position-walk}
+use Rattle.dictionary_layout_rules.specs.Table.{siblingsFrom, positionAmong}
+use Rattle.dictionary_layout_rules.specs.TableLaws.{stop-within, sibling-rises, position-hit, position-miss, position-end, position-walk}
 use Rattle.layout.proofs.position_of.Statement.{statement}
 use Rattle.layout.proofs.position_of.Tie as tie
 

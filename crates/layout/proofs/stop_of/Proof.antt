@@ -4,7 +4,7 @@ use Prim.Native.Nat.{ℕ, _+_, _-_, _*_, _/_, _≤_, _<_}
 use native.Mathlib.Omega.{arith}
 use borrow.Author.Needs.{needs}
 use lib.ListN.{length, drop}
-use Rattle.layout.specs.TableLaws.{stop-table, stop-level}
+use Rattle.dictionary_layout_rules.specs.TableLaws.{stop-table, stop-level}
 use Rattle.layout.proofs.stop_of.Statement.{statement}
 use Rattle.layout.proofs.stop_of.Tie as tie
 

@@ -8,9 +8,9 @@ use native.Mathlib.Omega.{arith}
 use borrow.Author.Needs.{needs}
 use lib.ListN.{length, getD, take, drop, set, length-set}
 use Rattle.lent.specs.Meaning.{messageIn}
-use Rattle.message.specs.Changes.{spanOf}
-use Rattle.message.specs.ChangeLaws.{located-no, located-at}
-use Rattle.look_ups.specs.LookUps.{partRow}
+use Rattle.message_rules.specs.Changes.{spanOf}
+use Rattle.message_rules.specs.ChangeLaws.{located-no, located-at}
+use Rattle.message_rules.specs.LookUps.{partRow}
 use Rattle.look_ups.specs.LookUpLaws.{part-row, part-none, part-at}
 use Rattle.look_ups.proofs.part_map.Statement.{statement}
 use Rattle.look_ups.proofs.part_map.Tie as tie

@@ -10,8 +10,8 @@ use lib.ListN.{length, getD, take, drop, set, length-set}
 use lib.Dec.{leb}
 use borrow.Author.Tests.{not-true, not-false, leb-true}
 use Rattle.maps.specs.Rows.{rowsFrom, sizes}
-use Rattle.message.specs.Changes.{after, placeOf, Cuttable, cutRows, cutSize, cutWords, cutValues, changedAt}
-use Rattle.message.specs.ChangeLaws.{change-large, change-run, change-many, change-made, Places, places-of}
+use Rattle.message_rules.specs.Changes.{after, placeOf, Cuttable, cutRows, cutSize, cutWords, cutValues, changedAt}
+use Rattle.message_rules.specs.ChangeLaws.{change-large, change-run, change-many, change-made, Places, places-of}
 use Rattle.message.proofs.cut_rows.Statement.{statement}
 use Rattle.message.proofs.cut_rows.Tie as tie
 

@@ -7,8 +7,8 @@ use Prim.Native.Nat.{ℕ, zero, suc, _+_, _-_, _*_, _^_, _≤_, _<_}
 use native.Mathlib.Omega.{arith}
 use borrow.Author.Needs.{needs}
 use lib.ListN.{length, getD, take, drop, set, length-set}
-use Rattle.message.specs.Changes.{after, emptying}
-use Rattle.message.specs.ChangeLaws.{empty-words, empty-values, empty-short, empty-store, empty-made}
+use Rattle.message_rules.specs.Changes.{after, emptying}
+use Rattle.message_rules.specs.ChangeLaws.{empty-words, empty-values, empty-short, empty-store, empty-made}
 use Rattle.message.proofs.empty.Statement.{statement}
 use Rattle.message.proofs.empty.Tie as tie
 

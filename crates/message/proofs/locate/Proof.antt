@@ -13,8 +13,8 @@ use Rattle.lent.specs.Lent.{isMessage, rowCount, rowsOf}
 use Rattle.lent.specs.LentLaws.{Held, message-held}
 use Rattle.lent.specs.Meaning.{Message, messageIn}
 use Rattle.lent.specs.MeaningLaws.{means}
-use Rattle.message.specs.Changes.{locatedIn, spanOf}
-use Rattle.message.specs.PlaceLaws.{Standing, standing}
+use Rattle.message_rules.specs.Changes.{locatedIn, spanOf}
+use Rattle.message_rules.specs.PlaceLaws.{Standing, standing}
 use Rattle.message.proofs.locate.Statement.{statement}
 use Rattle.message.proofs.locate.Tie as tie
 

@@ -8,8 +8,8 @@ use native.Mathlib.Omega.{arith}
 use borrow.Author.Needs.{needs}
 use lib.ListN.{length, getD, take, drop, set, length-set}
 use borrow.Author.Tests.{not-true, not-false, leb-true}
-use Rattle.message.specs.Changes.{after, making}
-use Rattle.message.specs.NewLaws.{new-short, new-store, new-large, new-done}
+use Rattle.message_rules.specs.Changes.{after, making}
+use Rattle.message_rules.specs.NewLaws.{new-short, new-store, new-large, new-done}
 use Rattle.message.proofs.new.Statement.{statement}
 use Rattle.message.proofs.new.Tie as tie
 

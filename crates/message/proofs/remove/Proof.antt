@@ -11,12 +11,12 @@ use borrow.Author.Tests.{eq-eqb}
 use Rattle.maps.specs.Rows.{rowsFrom, findFrom}
 use Rattle.lent.specs.Lent.{isMessage, fieldsIn}
 use Rattle.lent.specs.Meaning.{messageIn}
-use Rattle.message.specs.Changes.{after, spanOf, partOf, fieldTotal, storing, removing, putAt, Ready, fieldPlace}
-use Rattle.message.specs.declared.Span.{Span}
+use Rattle.message_rules.specs.Changes.{after, spanOf, partOf, fieldTotal, storing, removing, putAt, Ready, fieldPlace}
+use Rattle.message_rules.specs.declared.Span.{Span}
 use Rattle.maps.specs.Map.{holds, withoutField}
-use Rattle.message.specs.Changes.{withPart, Cuttable, changedAt}
-use Rattle.message.specs.ChangeLaws.{located-no, located-at, no-message, remove-none, remove-on}
-use Rattle.message.specs.StoreLaws.{In, lent-in, fields-now, span-grows, is-held, is-absent, remove-leaves, remove-fields}
+use Rattle.message_rules.specs.Changes.{withPart, Cuttable, changedAt}
+use Rattle.message_rules.specs.ChangeLaws.{located-no, located-at, no-message, remove-none, remove-on}
+use Rattle.message_rules.specs.StoreLaws.{In, lent-in, fields-now, span-grows, is-held, is-absent, remove-leaves, remove-fields}
 use Rattle.message.proofs.remove.Statement.{statement}
 use Rattle.message.proofs.remove.Tie as tie
 

@@ -11,10 +11,10 @@ use borrow.Author.Tests.{eq-eqb}
 use Rattle.maps.specs.Rows.{rowsFrom, findFrom}
 use Rattle.lent.specs.Lent.{isMessage, fieldsIn}
 use Rattle.lent.specs.Meaning.{messageIn}
-use Rattle.message.specs.Changes.{after, spanOf, partOf, fieldTotal, storing, removing, putAt, Ready, fieldPlace}
-use Rattle.message.specs.declared.Span.{Span}
-use Rattle.message.specs.ChangeLaws.{located-no, located-at, no-message, store-zero, store-on}
-use Rattle.message.specs.StoreLaws.{In, lent-in, fields-now, span-grows, put-ready, put-judged, put-large, few-fields}
+use Rattle.message_rules.specs.Changes.{after, spanOf, partOf, fieldTotal, storing, removing, putAt, Ready, fieldPlace}
+use Rattle.message_rules.specs.declared.Span.{Span}
+use Rattle.message_rules.specs.ChangeLaws.{located-no, located-at, no-message, store-zero, store-on}
+use Rattle.message_rules.specs.StoreLaws.{In, lent-in, fields-now, span-grows, put-ready, put-judged, put-large, few-fields}
 use Rattle.message.proofs.store.Statement.{statement}
 use Rattle.message.proofs.store.Tie as tie
 

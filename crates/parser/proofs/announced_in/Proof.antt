@@ -3,10 +3,10 @@
 use mathlib.Core.Path.{_≡_, sym, ap, _∙_}
 use Prim.Native.Nat.{ℕ, _+_}
 use native.Mathlib.Omega.{arith}
-use Rattle.parser.specs.Announced.{valueFrom, messageEnd, limited, announcedIn}
-use Rattle.parser.specs.AnnouncedLaws.{value-in, announced-no-first, announced-no-second, announced-second, limit-over, limit-ends}
-use Rattle.parser.specs.declared.Value.the-variants.{Between}
-use Rattle.parser.specs.declared.Announced.the-variants.{Ends}
+use Rattle.frame_parser_rules.specs.Announced.{valueFrom, messageEnd, limited, announcedIn}
+use Rattle.frame_parser_rules.specs.AnnouncedLaws.{value-in, announced-no-first, announced-no-second, announced-second, limit-over, limit-ends}
+use Rattle.frame_parser_rules.specs.declared.Value.the-variants.{Between}
+use Rattle.frame_parser_rules.specs.declared.Announced.the-variants.{Ends}
 use borrow.Author.Needs.{needs}
 use Rattle.parser.proofs.announced_in.Statement.{statement}
 use Rattle.parser.proofs.announced_in.Tie as tie

@@ -3,8 +3,8 @@
 use mathlib.Core.Path.{_≡_, sym, _∙_}
 use mathlib.Core.Bool.{false}
 use borrow.Author.Needs.{needs}
-use Rattle.parser.specs.Framer.{unusable, withEnd}
-use Rattle.parser.specs.FramerLaws.{end-bad, end-ended, end-over, end-accepted}
+use Rattle.frame_parser_rules.specs.Framer.{unusable, withEnd}
+use Rattle.frame_parser_rules.specs.FramerLaws.{end-bad, end-ended, end-over, end-accepted}
 use Rattle.parser.proofs.end.Statement.{statement}
 use Rattle.parser.proofs.end.Tie as tie
 

@@ -5,8 +5,8 @@ use Prim.Native.Nat.{_+_}
 use native.Mathlib.Omega.{arith}
 use Rattle.tagvalue.specs.FindLaws.{rest-part}
 use Rattle.tagvalue.specs.declared.Found.the-variants.{At}
-use Rattle.parser.specs.Announced.{findFrom}
-use Rattle.parser.specs.AnnouncedLaws.{from-past, from-none, from-offset, from-in}
+use Rattle.frame_parser_rules.specs.Announced.{findFrom}
+use Rattle.frame_parser_rules.specs.AnnouncedLaws.{from-past, from-none, from-offset, from-in}
 use borrow.Author.Needs.{needs}
 use Rattle.parser.proofs.find_from.Statement.{statement}
 use Rattle.parser.proofs.find_from.Tie as tie

@@ -1,7 +1,7 @@
 -- `is_unusable` meets its contract: the store's size decides, then the used length.
 -- Each return cites the law of its way.
 use mathlib.Core.Path.{sym}
-use Rattle.parser.specs.FramerLaws.{wrong-size, right-size}
+use Rattle.frame_parser_rules.specs.FramerLaws.{wrong-size, right-size}
 use Rattle.parser.proofs.is_unusable.Statement.{statement}
 use Rattle.parser.proofs.is_unusable.Tie as tie
 

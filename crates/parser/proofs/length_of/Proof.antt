@@ -1,7 +1,7 @@
 -- `length_of` meets its contract: each arm knows which answer it was.
 -- The definition gives the length that the arm returns.
 use mathlib.Core.Path.{sym, ap}
-use Rattle.parser.specs.Framer.{valueOf}
+use Rattle.frame_parser_rules.specs.Framer.{valueOf}
 use borrow.Author.Needs.{needs}
 use Rattle.parser.proofs.length_of.Statement.{statement}
 use Rattle.parser.proofs.length_of.Tie as tie

@@ -5,8 +5,8 @@ use Prim.Native.Nat.{ℕ, _+_, _-_, _*_, _%_, _^_, _≤_}
 use native.Mathlib.Omega.{arith}
 use borrow.Author.Needs.{needs}
 use lib.ListN.{length, drop, getD}
-use Rattle.parser.specs.Announced.{nominal, digitOf}
-use Rattle.parser.specs.AnnouncedLaws.{nominal-step, nominal-end, digit-wraps}
+use Rattle.frame_parser_rules.specs.Announced.{nominal, digitOf}
+use Rattle.frame_parser_rules.specs.AnnouncedLaws.{nominal-step, nominal-end, digit-wraps}
 use Rattle.parser.proofs.nominal_length.Statement.{statement}
 use Rattle.parser.proofs.nominal_length.Tie as tie
 

@@ -1,6 +1,6 @@
 -- `number` meets its contract: each arm knows which answer it was.
 -- The definition gives the number that the arm returns.
-use Rattle.parser.specs.Framer.{numberOf}
+use Rattle.frame_parser_rules.specs.Framer.{numberOf}
 use borrow.Author.Needs.{needs}
 use Rattle.parser.proofs.number.Statement.{statement}
 use Rattle.parser.proofs.number.Tie as tie

@@ -1,7 +1,7 @@
 -- `over_long` meets its contract: its code is the definition.
 -- Nothing is left to prove but that.
 use mathlib.Core.Path.{refl}
-use Rattle.parser.specs.Framer.{onlyMark}
+use Rattle.frame_parser_rules.specs.Framer.{onlyMark}
 use Rattle.parser.proofs.over_long.Statement.{statement}
 use Rattle.parser.proofs.over_long.Tie as tie
 

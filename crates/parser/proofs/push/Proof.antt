@@ -7,8 +7,8 @@ use native.Mathlib.Omega.{arith}
 use borrow.Author.Needs.{needs}
 use lib.ListN.{length}
 use Rattle.tagvalue.specs.DecimalLaws.{written-copied}
-use Rattle.parser.specs.Framer.{unusable, withChunk}
-use Rattle.parser.specs.FramerLaws.{usable-is, push-bad, push-ended, push-over, push-full, push-accepted}
+use Rattle.frame_parser_rules.specs.Framer.{unusable, withChunk}
+use Rattle.frame_parser_rules.specs.FramerLaws.{usable-is, push-bad, push-ended, push-over, push-full, push-accepted}
 use Rattle.parser.proofs.push.Statement.{statement}
 use Rattle.parser.proofs.push.Tie as tie
 

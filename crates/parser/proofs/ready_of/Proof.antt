@@ -1,8 +1,8 @@
 -- `ready_of` meets its contract: each arm knows what is announced.
 -- Where it is an end, the test says whether its bytes are there.
 use mathlib.Core.Path.{sym, ap, _∙_}
-use Rattle.parser.specs.Framer.{readyOf}
-use Rattle.parser.specs.FramerLaws.{ready-whole, ready-short}
+use Rattle.frame_parser_rules.specs.Framer.{readyOf}
+use Rattle.frame_parser_rules.specs.FramerLaws.{ready-whole, ready-short}
 use borrow.Author.Needs.{needs}
 use Rattle.parser.proofs.ready_of.Statement.{statement}
 use Rattle.parser.proofs.ready_of.Tie as tie

@@ -1,7 +1,7 @@
 -- `reset` meets its contract: its code is the definition.
 -- Nothing is left to prove but that.
 use mathlib.Core.Path.{refl}
-use Rattle.parser.specs.Framer.{fresh}
+use Rattle.frame_parser_rules.specs.Framer.{fresh}
 use Rattle.parser.proofs.reset.Statement.{statement}
 use Rattle.parser.proofs.reset.Tie as tie
 

@@ -7,11 +7,11 @@ use native.Mathlib.Omega.{arith}
 use borrow.Author.Needs.{needs}
 use lib.ListN.{length-take}
 use lib.Seq.{length-take-le}
-use Rattle.parser.specs.Announced.{announcedIn}
-use Rattle.parser.specs.AnnouncedLaws.{announced-limit}
-use Rattle.parser.specs.Framer.{unusable, held, readyOf, takeState}
-use Rattle.parser.specs.FramerLaws.{usable-is, ready-in, take-bad, take-short, take-marked, take-over, take-message, take-none}
-use Rattle.parser.specs.declared.Ready.the-variants.{Length}
+use Rattle.frame_parser_rules.specs.Announced.{announcedIn}
+use Rattle.frame_parser_rules.specs.AnnouncedLaws.{announced-limit}
+use Rattle.frame_parser_rules.specs.Framer.{unusable, held, readyOf, takeState}
+use Rattle.frame_parser_rules.specs.FramerLaws.{usable-is, ready-in, take-bad, take-short, take-marked, take-over, take-message, take-none}
+use Rattle.frame_parser_rules.specs.declared.Ready.the-variants.{Length}
 use Rattle.parser.proofs.Front.{copied-front}
 use Rattle.parser.proofs.take.Statement.{statement}
 use Rattle.parser.proofs.take.Tie as tie

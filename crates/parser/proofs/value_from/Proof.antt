@@ -3,8 +3,8 @@
 use mathlib.Core.Path.{_≡_, sym, _∙_}
 use native.Mathlib.Omega.{arith}
 use Rattle.tagvalue.specs.declared.Found.the-variants.{At}
-use Rattle.parser.specs.Announced.{findFrom}
-use Rattle.parser.specs.AnnouncedLaws.{from-in, value-no-equals, value-no-separator, value-between}
+use Rattle.frame_parser_rules.specs.Announced.{findFrom}
+use Rattle.frame_parser_rules.specs.AnnouncedLaws.{from-in, value-no-equals, value-no-separator, value-between}
 use borrow.Author.Needs.{needs}
 use Rattle.parser.proofs.value_from.Statement.{statement}
 use Rattle.parser.proofs.value_from.Tie as tie

@@ -5,8 +5,8 @@ use Prim.Native.Nat.{_-_}
 use native.Mathlib.Omega.{arith}
 use borrow.Author.Needs.{needs}
 use lib.ListN.{length}
-use Rattle.layout.specs.Table.{siblings, requiredAmong}
-use Rattle.layout.specs.RequiredLaws.{NextOf, required-over, required-next}
+use Rattle.dictionary_layout_rules.specs.Table.{siblings, requiredAmong}
+use Rattle.dictionary_layout_rules.specs.RequiredLaws.{NextOf, required-over, required-next}
 use Rattle.records.specs.Records.{recordsOf, between}
 use Rattle.required.specs.Required.{fieldsLack}
 use Rattle.required.specs.Checking.{tableDemands, lackOfFields}

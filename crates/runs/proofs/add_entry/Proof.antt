@@ -9,7 +9,7 @@ use borrow.Author.Needs.{needs}
 use lib.ListN.{length, getD, take, drop, set, length-set}
 use borrow.Author.Tests.{not-true, not-false}
 use Rattle.maps.specs.Map.{end, entry, joined, fieldCount}
-use Rattle.runs.specs.Runs.{isDraft, runIn, judgedRun, entering}
+use Rattle.message_rules.specs.Runs.{isDraft, runIn, judgedRun, entering}
 use Rattle.runs.specs.DraftLaws.{Draft, draft-of, draft-no, draft-yes}
 use Rattle.runs.specs.EnterLaws.{fields-now, enter-able, enter-done}
 use Rattle.runs.proofs.add_entry.Statement.{statement}

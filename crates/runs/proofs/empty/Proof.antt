@@ -7,7 +7,7 @@ use Prim.Native.Nat.{ℕ, zero, suc, _+_, _-_, _*_, _^_, _≤_, _<_}
 use native.Mathlib.Omega.{arith}
 use borrow.Author.Needs.{needs}
 use lib.ListN.{length, getD, take, drop, set, length-set}
-use Rattle.runs.specs.Runs.{starting}
+use Rattle.message_rules.specs.Runs.{starting}
 use Rattle.runs.specs.DraftLaws.{empty-words, empty-values, start-short, start-store, start-made}
 use Rattle.runs.proofs.empty.Statement.{statement}
 use Rattle.runs.proofs.empty.Tie as tie

@@ -11,11 +11,11 @@ use borrow.Author.Tests.{not-true, not-false}
 use Rattle.maps.specs.Rows.{rowsFrom}
 use Rattle.lent.specs.Lent.{isMessage, fieldsIn}
 use Rattle.lent.specs.Meaning.{messageIn}
-use Rattle.message.specs.Changes.{after, spanOf, fieldTotal}
-use Rattle.message.specs.declared.Span.{Span}
-use Rattle.message.specs.ChangeLaws.{located-no, located-at, no-message}
-use Rattle.message.specs.StoreLaws.{In, lent-in, fields-now, span-grows}
-use Rattle.runs.specs.Runs.{isDraft, hasUntagged, runIn, hanging}
+use Rattle.message_rules.specs.Changes.{after, spanOf, fieldTotal}
+use Rattle.message_rules.specs.declared.Span.{Span}
+use Rattle.message_rules.specs.ChangeLaws.{located-no, located-at, no-message}
+use Rattle.message_rules.specs.StoreLaws.{In, lent-in, fields-now, span-grows}
+use Rattle.message_rules.specs.Runs.{isDraft, hasUntagged, runIn, hanging}
 use Rattle.runs.specs.DraftLaws.{Draft, draft-of}
 use Rattle.runs.specs.PartLaws.{draft-tags, hang-no-run, hang-untagged, hang-on, part-able, part-judged}
 use Rattle.runs.proofs.hang.Statement.{statement}

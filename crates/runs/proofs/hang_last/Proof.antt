@@ -9,7 +9,7 @@ use borrow.Author.Needs.{needs}
 use lib.ListN.{length, getD, take, drop, set, length-set}
 use borrow.Author.Tests.{not-true, not-false}
 use Rattle.maps.specs.Map.{fieldCount}
-use Rattle.runs.specs.Runs.{isDraft, hasUntagged, runIn, hangingLast}
+use Rattle.message_rules.specs.Runs.{isDraft, hasUntagged, runIn, hangingLast}
 use Rattle.runs.specs.DraftLaws.{Draft, draft-of, draft-no}
 use Rattle.runs.specs.EnterLaws.{fields-now}
 use Rattle.runs.specs.LastLaws.{LastAt, last-at, HasEntry, some-entry, none-entry}

@@ -10,7 +10,7 @@ use lib.ListN.{length, getD, take, drop, set, length-set}
 use borrow.Author.Tests.{not-true, not-false}
 use Rattle.lent.specs.Lent.{isLaid, rowCount, rowsOf, fieldsIn}
 use Rattle.lent.specs.LentLaws.{Laid, laid-out}
-use Rattle.runs.specs.Runs.{isDraft}
+use Rattle.message_rules.specs.Runs.{isDraft}
 use Rattle.runs.specs.RowLaws.{draft-not, draft-on}
 use Rattle.runs.proofs.is_draft.Statement.{statement}
 use Rattle.runs.proofs.is_draft.Tie as tie

@@ -8,7 +8,7 @@ use native.Mathlib.Omega.{arith}
 use borrow.Author.Needs.{needs}
 use lib.ListN.{length, getD, take, drop, set, length-set}
 use Rattle.maps.specs.Rows.{rowAt, rowsFrom, levelOf}
-use Rattle.runs.specs.Runs.{lastFrom}
+use Rattle.message_rules.specs.Runs.{lastFrom}
 use Rattle.runs.specs.RowLaws.{last-here, last-on, last-end}
 use Rattle.runs.proofs.last_start.Statement.{statement}
 use Rattle.runs.proofs.last_start.Tie as tie

@@ -9,12 +9,12 @@ use borrow.Author.Needs.{needs}
 use lib.ListN.{length, getD, take, drop, set, length-set}
 use borrow.Author.Tests.{not-true, not-false}
 use Rattle.maps.specs.Map.{fieldCount}
-use Rattle.runs.specs.Runs.{isDraft, runIn, storingLast}
+use Rattle.message_rules.specs.Runs.{isDraft, runIn, storingLast}
 use Rattle.runs.specs.RunLaws.{LastSplit}
 use Rattle.runs.specs.DraftLaws.{Draft, draft-of, draft-no}
 use Rattle.runs.specs.EnterLaws.{count-rows}
 use Rattle.runs.specs.LastLaws.{LastAt, last-at, HasEntry, some-entry, none-entry, entry-frame, last-fields, front-fields, own-fields, last-ready, last-judged, last-large, store-untagged, store-nowhere, store-last}
-use Rattle.message.specs.FrameLaws as frame
+use Rattle.message_rules.specs.FrameLaws as frame
 use Rattle.runs.proofs.store_last.Statement.{statement}
 use Rattle.runs.proofs.store_last.Tie as tie
 

@@ -1,5 +1,5 @@
 -- `change_number` meets its contract: each arm knows which answer it was.
-use Rattle.message.specs.Changes.{numberOfChange}
+use Rattle.message_rules.specs.Changes.{numberOfChange}
 use borrow.Author.Needs.{needs}
 use Rattle.telling.proofs.change_number.Statement.{statement}
 use Rattle.telling.proofs.change_number.Tie as tie

@@ -1,5 +1,5 @@
 -- `encoding_number` meets its contract: each arm knows which answer it was.
-use Rattle.encoding.specs.Encode.{numberOfEncoding}
+use Rattle.written_form.specs.Encode.{numberOfEncoding}
 use borrow.Author.Needs.{needs}
 use Rattle.telling.proofs.encoding_number.Statement.{statement}
 use Rattle.telling.proofs.encoding_number.Tie as tie

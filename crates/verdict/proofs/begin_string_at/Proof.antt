@@ -6,8 +6,8 @@ use native.Mathlib.Omega.{arith}
 use borrow.Author.Needs.{needs}
 use lib.ListN.{length, drop}
 use mathlib.Core.List.{List}
-use Rattle.verdict.specs.Readers.{text, beginString}
-use Rattle.verdict.specs.Verdict.{stageOf}
+use Rattle.frame_verdict_rules.specs.Readers.{text, beginString}
+use Rattle.frame_verdict_rules.specs.Verdict.{stageOf}
 use Rattle.verdict.proofs.Loops.{text-ends, text-early, text-late, text-goes, text-none}
 use Rattle.verdict.proofs.begin_string_at.Statement.{statement}
 use Rattle.verdict.proofs.begin_string_at.Tie as tie

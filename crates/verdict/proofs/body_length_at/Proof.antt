@@ -7,8 +7,8 @@ use borrow.Author.Needs.{needs}
 use borrow.Author.Tests.{not-true, not-false}
 use mathlib.Core.Bool.{true, false}
 use lib.ListN.{length, drop, getD}
-use Rattle.verdict.specs.Readers.{mayBecome, bodyLength}
-use Rattle.verdict.specs.Verdict.{lengthOf}
+use Rattle.frame_verdict_rules.specs.Readers.{mayBecome, bodyLength}
+use Rattle.frame_verdict_rules.specs.Verdict.{lengthOf}
 use Rattle.verdict.proofs.Loops.{may-small, length-ends, length-few, length-low, length-high, length-more, length-large, length-goes, length-none}
 use Rattle.verdict.proofs.body_length_at.Statement.{statement}
 use Rattle.verdict.proofs.body_length_at.Tie as tie

@@ -4,8 +4,8 @@ use Prim.Native.Nat.{_-_, _≤_}
 use native.Mathlib.Omega.{arith}
 use borrow.Author.Needs.{needs}
 use lib.ListN.{length, drop}
-use Rattle.verdict.specs.Readers.{literal}
-use Rattle.verdict.specs.Verdict.{stageOf}
+use Rattle.frame_verdict_rules.specs.Readers.{literal}
+use Rattle.frame_verdict_rules.specs.Verdict.{stageOf}
 use Rattle.verdict.proofs.Loops.{literal-goes, literal-bad, literal-short, literal-on}
 use Rattle.verdict.proofs.literal_at.Statement.{statement}
 use Rattle.verdict.proofs.literal_at.Tie as tie

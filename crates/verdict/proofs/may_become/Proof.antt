@@ -1,6 +1,6 @@
 -- `may_become` meets its contract: its test is the definition's.
 use borrow.Author.Tests.{lt-ltb, le-ltb}
-use Rattle.verdict.specs.Readers.{mayBecome}
+use Rattle.frame_verdict_rules.specs.Readers.{mayBecome}
 use Rattle.verdict.proofs.may_become.Statement.{statement}
 use Rattle.verdict.proofs.may_become.Tie as tie
 

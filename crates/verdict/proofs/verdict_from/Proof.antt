@@ -1,7 +1,7 @@
 -- `verdict_from` meets its contract: each arm is a case of the definition.
 use mathlib.Core.Path.{sym, ap}
 use borrow.Author.Needs.{needs}
-use Rattle.verdict.specs.Verdict.{asVerdict}
+use Rattle.frame_verdict_rules.specs.Verdict.{asVerdict}
 use Rattle.verdict.proofs.verdict_from.Statement.{statement}
 use Rattle.verdict.proofs.verdict_from.Tie as tie
 

@@ -3,7 +3,7 @@
 use mathlib.Core.Path.{sym, _∙_}
 use native.Mathlib.Omega.{arith}
 use borrow.Author.Needs.{needs}
-use Rattle.verdict.specs.Frame.{beginTag}
+use Rattle.frame_verdict_rules.specs.Frame.{beginTag}
 use Rattle.verdict.proofs.Places.{Reached, refused}
 use Rattle.verdict.proofs.HeadStages.{whole, afterOpen, open-refused, open-read, begin-refused, Begun, begin-read, number-refused, Numbered, number-read, Body, length-read, length-refused, length-waits, as-whole, as-body}
 use Rattle.verdict.proofs.verdict_of.Statement.{statement}

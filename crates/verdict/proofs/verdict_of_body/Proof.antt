@@ -7,10 +7,10 @@ use native.Mathlib.Omega.{arith}
 use borrow.Author.Needs.{needs}
 use lib.ListN.{drop, length-take}
 use Rattle.tagvalue.specs.CheckSum.{sumOf, checksumDigits}
-use Rattle.verdict.specs.Frame.{separator, typeTag, sumTag}
-use Rattle.verdict.specs.Readers.{literal}
-use Rattle.verdict.specs.Verdict.{checksumFor, stageOf, asVerdict}
-use Rattle.verdict.specs.declared.Stage.the-variants.{On}
+use Rattle.frame_verdict_rules.specs.Frame.{separator, typeTag, sumTag}
+use Rattle.frame_verdict_rules.specs.Readers.{literal}
+use Rattle.frame_verdict_rules.specs.Verdict.{checksumFor, stageOf, asVerdict}
+use Rattle.frame_verdict_rules.specs.declared.Stage.the-variants.{On}
 use Rattle.verdict.proofs.Places.{refused}
 use Rattle.verdict.proofs.BodyStages.{all, type-refused, middle-short, end-refused, end-inside, summed, tag-refused, tag-inside, sum-refused, sum-inside, closed}
 use Rattle.verdict.proofs.verdict_of_body.Statement.{statement}

@@ -6,12 +6,12 @@ use Prim.Native.Nat.{ℕ, _+_, _-_, _≤_, _<_}
 use native.Mathlib.Omega.{arith}
 use borrow.Author.Needs.{needs}
 use lib.ListN.{length, set, length-set}
-use Rattle.flat_records.specs.Record.{recordAt}
-use Rattle.flat_records.specs.RecordsLaws.{record-falls}
-use Rattle.flat_records.specs.declared.Record.the-variants.{FieldItem}
-use Rattle.flat_records.specs.declared.RecordRead.the-variants.{Whole}
-use Rattle.flattening.specs.PlainTags.{tagsFrom}
-use Rattle.flattening.specs.PlainTagsLaws.{tags-field, tags-full, tags-within, tags-component, tags-group, tags-closed, tags-closes}
+use Rattle.dictionary_rules.specs.Record.{recordAt}
+use Rattle.dictionary_rules.specs.RecordsLaws.{record-falls}
+use Rattle.dictionary_rules.specs.declared.Record.the-variants.{FieldItem}
+use Rattle.dictionary_rules.specs.declared.RecordRead.the-variants.{Whole}
+use Rattle.dictionary_meaning_rules.specs.PlainTags.{tagsFrom}
+use Rattle.dictionary_meaning_rules.specs.PlainTagsLaws.{tags-field, tags-full, tags-within, tags-component, tags-group, tags-closed, tags-closes}
 use Rattle.flattening.proofs.Arms.{read-as}
 use Rattle.flattening.proofs.TagArms.{unread-tags, top-level-tags}
 use Rattle.flattening.proofs.tags.list_tags.Statement.{statement}

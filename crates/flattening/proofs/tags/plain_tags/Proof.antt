@@ -2,7 +2,7 @@
 use mathlib.Core.Path.{_≡_, refl, sym, ap, _∙_}
 use Prim.Native.Nat.{ℕ, _+_}
 use borrow.Author.Needs.{needs}
-use Rattle.flattening.specs.PlainTagsLaws.{plain-missing, plain-closed}
+use Rattle.dictionary_meaning_rules.specs.PlainTagsLaws.{plain-missing, plain-closed}
 use Rattle.flattening.proofs.tags.plain_tags.Statement.{statement}
 use Rattle.flattening.proofs.tags.plain_tags.Tie as tie
 

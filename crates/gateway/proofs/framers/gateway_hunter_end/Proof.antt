@@ -41,7 +41,7 @@ use denote.Triple.Spec.{Meets, tripleOf}
 use denote.Triple.Table.{entered, cited}
 use denote.Triple.Walked.{says, Stays, stay-ref, stay-none-slice, gave-ref, walkOf, goes-ref, goes-none-slice, goes-gave-ref, Walks, ends-at, walked, walk-meets}
 use denote.Exit.{yes}
-use Rattle.hunter.specs.Bytes.{finished}
+use Rattle.frame_hunter_rules.specs.Bytes.{finished}
 use Rattle.telling.specs.Told.{told}
 use Rattle.framing.specs.States.{hunterIn, hunterTold}
 use Rattle.framing.specs.declared.HunterState.{HunterState}

@@ -40,7 +40,7 @@ use denote.Triple.Entry.{onEntry}
 use denote.Triple.Spec.{Meets, tripleOf}
 use denote.Triple.Table.{entered, cited}
 use denote.Triple.Walked.{says, Stays, stay-ref, gave-slice, gave-ref, walkOf, goes-ref, goes-gave-slice, goes-gave-ref, Walks, ends-at, walked, walk-meets}
-use Rattle.hunter.specs.Bytes.{tookFrom}
+use Rattle.frame_hunter_rules.specs.Bytes.{tookFrom}
 use Rattle.telling.specs.Told.{told}
 use Rattle.framing.specs.States.{hunterIn, hunterTold}
 use Rattle.framing.specs.declared.HunterState.{HunterState}

@@ -41,7 +41,7 @@ use denote.Triple.Spec.{Meets, tripleOf}
 use denote.Triple.Table.{entered, cited}
 use denote.Triple.Walked.{says, Stays, stay-ref, stay-none-slice, gave-ref, walkOf, goes-ref, goes-none-slice, goes-gave-ref, Walks, ends-at, walked, walk-meets}
 use denote.Exit.{yes}
-use Rattle.parser.specs.Framer.{finished}
+use Rattle.frame_parser_rules.specs.Framer.{finished}
 use Rattle.telling.specs.Told.{told}
 use Rattle.framing.specs.States.{portedIn, portedTold}
 use Rattle.framing.specs.declared.PortedState.{PortedState}

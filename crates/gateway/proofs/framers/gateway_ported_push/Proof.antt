@@ -41,7 +41,7 @@ use denote.Triple.Spec.{Meets, tripleOf}
 use denote.Triple.Table.{entered, cited}
 use denote.Triple.Walked.{says, Stays, stay-ref, gave-slice, stay-none-slice, gave-ref, walkOf, goes-ref, goes-gave-slice, goes-none-slice, goes-gave-ref, Walks, ends-at, walked, walk-meets}
 use denote.Exit.{yes}
-use Rattle.parser.specs.Framer.{pushed, pushedStore}
+use Rattle.frame_parser_rules.specs.Framer.{pushed, pushedStore}
 use Rattle.telling.specs.Told.{told}
 use Rattle.framing.specs.States.{portedIn, portedTold}
 use Rattle.framing.specs.declared.PortedState.{PortedState}

@@ -40,7 +40,7 @@ use denote.Triple.Entry.{onEntry}
 use denote.Triple.Spec.{Meets, tripleOf}
 use denote.Triple.Table.{entered, cited}
 use denote.Triple.Walked.{says, Stays, stay-ref, gave-slice, gave-ref, walkOf, goes-ref, goes-gave-slice, goes-gave-ref, Walks, ends-at, walked, walk-meets}
-use Rattle.parser.specs.Framer.{valueOf, taken, takenStore, takenOutput}
+use Rattle.frame_parser_rules.specs.Framer.{valueOf, taken, takenStore, takenOutput}
 use Rattle.telling.specs.Told.{told}
 use Rattle.framing.specs.States.{portedIn, portedTold}
 use Rattle.framing.specs.declared.PortedState.{PortedState}

@@ -1,0 +1,132 @@
+-- Worked examples of this crate's definitions, one table to a definition, each under one statement that antt computes.
+-- A wrong definition is refused here, whatever code is proved against it.
+use mathlib.Core.Path.{_≡_, refl}
+use mathlib.Core.List.{List, [], _∷_, map}
+use mathlib.Core.Bool.{Bool, true, false}
+use Prim.Native.Nat.{ℕ, _+_}
+use Prim.Native.String.{String}
+use Rattle.tagvalue.specs.Text.{bytes}
+use Rattle.dictionary_layout_rules.specs.Layout.{Layout, end, field, group, followedBy, firstOf, positionFrom, positionIn, Group, none, entries, groupSince, groupOf, delimiterOf, requiredTags, items, larger, depth}
+use Rattle.dictionary_layout_rules.specs.Tree.{Nodes, nothing, fieldItem, componentItem, groupItem, Message, Dictionary, holdsTag, knows, plainFields, headerTags, trailerTags, flattened, sameBytes, Choice, noMessage, laidOut, messageOf, layoutOf}
+use Rattle.dictionary_layout_rules.specs.Table.{stride, mark, rowsFrom, nextSibling, rowAt, siblingsWithin, siblingsFrom, stopOf, siblings, positionAmong, positionOf, laterGroup, groupAmong, groupWithin, firstAmong, delimiterAt, firstRequired, nextRequired}
+use Rattle.dictionary_layout_rules.specs.declared.Level.{Level}
+use Rattle.dictionary_layout_rules.specs.declared.Position.{Position}
+use Rattle.dictionary_layout_rules.specs.declared.Position.the-variants.{At, Nowhere}
+use Rattle.dictionary_layout_rules.specs.declared.Nested.{Nested}
+use Rattle.dictionary_layout_rules.specs.declared.Nested.the-variants.{Within, NoGroup}
+use Rattle.dictionary_layout_rules.specs.declared.FirstTag.{FirstTag}
+use Rattle.dictionary_layout_rules.specs.declared.FirstTag.the-variants.{First, NoTag}
+use Rattle.dictionary_layout_rules.specs.declared.Marked.{Marked}
+use Rattle.dictionary_layout_rules.specs.declared.Marked.the-variants.{Required, NoMore}
+
+abbrev plain : List ℕ → Nodes
+plain [] = nothing
+plain (tag ∷ tags) = fieldItem tag false (plain tags)
+
+-- "group 78 (79 and 80 required; group 539 with 524 required, 525)"
+abbrev allocations : Nodes
+allocations = fieldItem 79 true (fieldItem 80 true (groupItem 539 false (fieldItem 524 true (fieldItem 525 false nothing)) nothing))
+
+-- "Dictionary: header 8 9 35 34 49; trailer 93 89 10; message `0` with 112; message `D` with 38, group 78 (..), 58."
+abbrev dictionary : Dictionary
+dictionary = record {
+  known = 8 ∷ 9 ∷ 35 ∷ 34 ∷ 49 ∷ 93 ∷ 89 ∷ 10 ∷ 112 ∷ 38 ∷ 78 ∷ 79 ∷ 80 ∷ 539 ∷ 524 ∷ 525 ∷ 58 ∷ [];
+  header = plain (8 ∷ 9 ∷ 35 ∷ 34 ∷ 49 ∷ []);
+  trailer = plain (93 ∷ 89 ∷ 10 ∷ []);
+  messages = record { msgType = bytes "0"; nodes = plain (112 ∷ []) } ∷ record { msgType = bytes "D"; nodes = fieldItem 38 false (groupItem 78 false allocations (fieldItem 58 false nothing)) } ∷ [];
+}
+
+abbrev entriesOf : Layout
+entriesOf = field 79 true (field 80 true (group 539 false (field 524 true (field 525 false end)) end))
+
+abbrev order : Layout
+order = field 38 false (group 78 false entriesOf (field 58 false end))
+
+-- a MsgType is compared with its length
+layouts : map (layoutOf dictionary) (bytes "D" ∷ bytes "0" ∷ (68 ∷ 0 ∷ []) ∷ bytes "" ∷ bytes "DD" ∷ bytes "d" ∷ []) ≡ laidOut order ∷ laidOut (field 112 false end) ∷ noMessage ∷ noMessage ∷ noMessage ∷ noMessage ∷ []
+unfolding layoutOf messageOf sameBytes flattened followedBy
+layouts = refl
+
+-- a group's count in component 0 is no header tag, nor is a field of a component within it
+header-tags : map plainFields (dictionary .header ∷ dictionary .trailer ∷ fieldItem 8 true (componentItem true (plain (9 ∷ [])) (groupItem 627 false (plain (628 ∷ [])) (fieldItem 35 false nothing))) ∷ []) ≡ (8 ∷ 9 ∷ 35 ∷ 34 ∷ 49 ∷ []) ∷ (93 ∷ 89 ∷ 10 ∷ []) ∷ (8 ∷ 35 ∷ []) ∷ []
+unfolding plainFields
+header-tags = refl
+
+known-tags : map (knows dictionary) (38 ∷ 10 ∷ 5001 ∷ 0 ∷ []) ≡ true ∷ true ∷ false ∷ false ∷ []
+unfolding knows holdsTag
+known-tags = refl
+
+-- components are flattened in place, also in a group, and only an item's own mark counts
+flattening : map flattened (componentItem true (plain (1 ∷ 2 ∷ [])) (fieldItem 3 true nothing) ∷ fieldItem 1 false (componentItem false (componentItem true nothing (fieldItem 2 true nothing)) (fieldItem 3 false nothing)) ∷ groupItem 4 false (componentItem true allocations nothing) nothing ∷ []) ≡ field 1 false (field 2 false (field 3 true end)) ∷ field 1 false (field 2 true (field 3 false end)) ∷ group 4 false entriesOf end ∷ []
+unfolding flattened followedBy
+flattening = refl
+
+positions : map (λ (tag : ℕ). positionIn tag order) (38 ∷ 78 ∷ 58 ∷ 79 ∷ 5001 ∷ []) ≡ At 0 ∷ At 1 ∷ At 2 ∷ Nowhere ∷ Nowhere ∷ []
+unfolding positionIn positionFrom firstOf
+positions = refl
+
+-- 58 twice, plain; 78 as a group, then plain, then as a group again, then plain
+abbrev twice : Layout
+twice = field 58 false (group 78 false (field 79 false end) (field 78 true (field 58 true (group 78 true (field 80 false end) (field 78 false end)))))
+
+-- "its position is the first, its group the last, and each required mark counts at its own place"
+twice-positions : map (λ (tag : ℕ). positionIn tag twice) (58 ∷ 78 ∷ 79 ∷ []) ≡ At 0 ∷ At 1 ∷ Nowhere ∷ []
+unfolding positionIn positionFrom firstOf
+twice-positions = refl
+
+groups : map (λ (tag : ℕ). groupOf tag twice) (78 ∷ 58 ∷ 79 ∷ []) ≡ entries (field 80 false end) ∷ none ∷ none ∷ []
+unfolding groupOf groupSince
+groups = refl
+
+required : map requiredTags (twice ∷ order ∷ entriesOf ∷ end ∷ []) ≡ (78 ∷ 58 ∷ 78 ∷ []) ∷ [] ∷ (79 ∷ 80 ∷ []) ∷ [] ∷ []
+unfolding requiredTags
+required = refl
+
+delimiters : map delimiterOf (entriesOf ∷ twice ∷ group 78 false entriesOf end ∷ end ∷ []) ≡ First 79 ∷ First 58 ∷ First 78 ∷ NoTag ∷ []
+unfolding delimiterOf
+delimiters = refl
+
+sizes : map {B = ℕ × ℕ} (λ (layout : Layout). (items layout, depth layout)) (order ∷ twice ∷ entriesOf ∷ end ∷ []) ≡ (8, 2) ∷ (8, 1) ∷ (5, 1) ∷ (0, 0) ∷ []
+unfolding items depth larger
+sizes = refl
+
+-- the table of `D`: tag, required mark, group mark, where what belongs to it ends
+abbrev orderTable : List ℕ
+orderTable =
+    38 ∷ 0 ∷ 0 ∷ 1 ∷
+    78 ∷ 0 ∷ 1 ∷ 7 ∷
+    79 ∷ 1 ∷ 0 ∷ 3 ∷
+    80 ∷ 1 ∷ 0 ∷ 4 ∷
+    539 ∷ 0 ∷ 1 ∷ 7 ∷
+    524 ∷ 1 ∷ 0 ∷ 6 ∷
+    525 ∷ 0 ∷ 0 ∷ 7 ∷
+    58 ∷ 0 ∷ 0 ∷ 8 ∷ []
+
+tables : rowsFrom 0 order ≡ orderTable
+unfolding rowsFrom items mark
+tables = refl
+
+abbrev level : ℕ → ℕ → Level
+level first last = record { first = first; end = last }
+
+-- looking up in it: the message's own level, the entries of 78, those of 539, and levels that pass the table
+table-positions : map {B = Position × Position × Position} (λ (l : Level). (positionOf orderTable l 58, positionOf orderTable l 539, positionOf orderTable l 525)) (level 0 8 ∷ level 2 7 ∷ level 5 7 ∷ level 7 100 ∷ level 8 8 ∷ []) ≡ (At 2, Nowhere, Nowhere) ∷ (Nowhere, At 2, Nowhere) ∷ (Nowhere, Nowhere, At 1) ∷ (At 0, Nowhere, Nowhere) ∷ (Nowhere, Nowhere, Nowhere) ∷ []
+unfolding positionOf positionAmong firstOf siblings siblingsFrom siblingsWithin stopOf rowAt nextSibling
+table-positions = refl
+
+table-groups : map {B = Nested × Nested × Nested} (λ (l : Level). (groupWithin orderTable l 78, groupWithin orderTable l 539, groupWithin orderTable l 58)) (level 0 8 ∷ level 2 7 ∷ level 5 7 ∷ []) ≡ (Within (level 2 7), NoGroup, NoGroup) ∷ (NoGroup, Within (level 5 7), NoGroup) ∷ (NoGroup, NoGroup, NoGroup) ∷ []
+unfolding groupWithin groupAmong laterGroup siblings siblingsFrom siblingsWithin stopOf rowAt nextSibling
+table-groups = refl
+
+table-delimiters : map (delimiterAt orderTable) (level 0 8 ∷ level 2 7 ∷ level 5 7 ∷ level 7 7 ∷ level 9 20 ∷ []) ≡ First 38 ∷ First 79 ∷ First 524 ∷ NoTag ∷ NoTag ∷ []
+unfolding delimiterAt firstAmong siblings siblingsFrom siblingsWithin stopOf rowAt nextSibling
+table-delimiters = refl
+
+table-required : map (nextRequired orderTable) (level 2 7 ∷ level 3 7 ∷ level 4 7 ∷ level 0 8 ∷ []) ≡ Required 79 (level 3 7) ∷ Required 80 (level 4 7) ∷ NoMore ∷ NoMore ∷ []
+unfolding nextRequired firstRequired siblings siblingsFrom siblingsWithin stopOf rowAt nextSibling
+table-required = refl
+
+-- a link that doesn't rise ends the level, and words that make no whole row are no row
+odd-tables : map (λ (table : List ℕ). positionOf table (level 0 9) 2) ((1 ∷ 0 ∷ 0 ∷ 0 ∷ 2 ∷ 0 ∷ 0 ∷ 2 ∷ []) ∷ (1 ∷ 0 ∷ 0 ∷ 1 ∷ 2 ∷ 0 ∷ 0 ∷ []) ∷ (1 ∷ 0 ∷ 0 ∷ 1 ∷ 2 ∷ 0 ∷ 0 ∷ 0 ∷ []) ∷ [] ∷ []) ≡ Nowhere ∷ Nowhere ∷ At 1 ∷ Nowhere ∷ []
+unfolding positionOf positionAmong firstOf siblings siblingsFrom siblingsWithin stopOf rowAt nextSibling
+odd-tables = refl

@@ -1,0 +1,35 @@
+-- The table of a message: its MsgType is looked up in the index, and its items are laid from the first row on. An item takes two of the
+-- depth at the most, and 1,024 items pass the check.
+use Prim.Native.Nat.{ℕ, _+_}
+use mathlib.Core.List.{List}
+use Rattle.dictionary_rules.specs.Index.{componentAt, messageAt}
+use Rattle.dictionary_rules.specs.declared.Placed.{Placed}
+use Rattle.dictionary_rules.specs.declared.Placed.the-variants.{At, Nowhere}
+use Rattle.dictionary_meaning_rules.specs.Laying.{Laying, laying, layItems}
+use Rattle.dictionary_meaning_rules.specs.MsgType.{nameOf}
+use Rattle.dictionary_meaning_rules.specs.declared.Laid.{Laid}
+use Rattle.dictionary_meaning_rules.specs.declared.Laid.the-variants.{Upto, Broken}
+use Rattle.dictionary_meaning_rules.specs.declared.MsgTypeName.{MsgTypeName}
+use Rattle.dictionary_meaning_rules.specs.declared.MsgTypeName.the-variants.{Named, Unnamed}
+use Rattle.dictionary_meaning_rules.specs.declared.MessageTable.{MessageTable}
+use Rattle.dictionary_meaning_rules.specs.declared.MessageTable.the-variants.{Rows, NoMessage, Unprepared}
+
+-- the answer, and what the table holds then
+pub data Tabling : Type 0 where
+  tabling : MessageTable → List ℕ → Tabling
+
+unfoldable pub asTable : Laying → Tabling
+asTable (laying Broken table) = tabling Unprepared table
+asTable (laying (Upto after rows) table) = tabling (Rows rows) table
+
+-- a message's items stand behind the record of nine bytes that opens it
+unfoldable pub placedTable : List ℕ → List ℕ → Placed → List ℕ → Tabling
+placedTable dictionary index Nowhere table = tabling NoMessage table
+placedTable dictionary index (At place) table = asTable (layItems 2050 dictionary (componentAt index) (place + 9) 0 table)
+
+unfoldable pub namedTable : List ℕ → List ℕ → MsgTypeName → List ℕ → Tabling
+namedTable dictionary index Unnamed table = tabling NoMessage table
+namedTable dictionary index (Named msgType) table = placedTable dictionary index (messageAt index msgType) table
+
+unfoldable pub messageTable : List ℕ → List ℕ → List ℕ → List ℕ → Tabling
+messageTable dictionary index value table = namedTable dictionary index (nameOf value) table

@@ -1,0 +1,150 @@
+-- The index and the names of a dictionary agree: every look-up of the one answers as the other does, from the first record to the
+-- last, so the check over the index is the check, and what it leaves in the index is what the dictionary names.
+use mathlib.Core.Path.{_≡_, refl, sym, ap, _∙_}
+use mathlib.Core.Bool.{Bool, true, false}
+use mathlib.Core.List.{List, _++_}
+use Prim.Native.Nat.{ℕ, _+_, _<_}
+use native.Mathlib.Omega.{arith}
+use lib.ListN.{length, drop, replicate, length-append, length-drop, length-replicate}
+use lib.Dec.{eqb}
+use borrow.Author.Tests.{eqb-true, eqb-false}
+use Rattle.tagvalue.specs.Choice.{pick}
+use Rattle.chains.specs.Chain.{keyOf, found, entered, numberAt}
+use Rattle.chains.specs.ChainLaws.{Bounded, found-bounded, enter-length, enter-entry, enter-older, enter-bounded, enter-found, enter-elsewhere, clear-bounded, clear-found}
+use Rattle.chains.specs.declared.Table.{Table}
+use Rattle.chains.specs.declared.Table.the-variants.{Tags, Components, MsgTypes}
+use Rattle.chains.specs.declared.Entry.{Entry}
+use Rattle.dictionary_rules.specs.Index.{tagEntry, componentEntry, messageEntry, componentOf, tagAt, componentAt, messageAt, noted}
+use Rattle.dictionary_rules.specs.IndexLaws.{tag-unknown, tag-known, component-missing, component-closed, message-nowhere, message-placed}
+use Rattle.dictionary_rules.specs.declared.Component.{Component}
+use Rattle.dictionary_rules.specs.declared.Looked.the-variants.{Closed}
+use Rattle.dictionary_rules.specs.declared.Placed.the-variants.{At}
+use Rattle.dictionary_rules.specs.declared.Note.the-variants.{KnowsTag, ClosesComponent, NamesMessage}
+use Rattle.dictionary_rules.specs.Names.{Names, isKnown, componentIn, messageIn, named, noNames}
+
+-- the index answers as the names do, and no entry is newer than b
+pub record Agrees (index : List ℕ) (names : Names) (b : ℕ) : Type 0 where
+  pub size : length index ≡ 96150
+  pub bound : Bounded index b
+  pub tags : (tag : ℕ) → tagAt index tag ≡ isKnown (names .tags) tag
+  pub components : (number : ℕ) → componentAt index number ≡ componentIn (names .components) number
+  pub messages : (msgType : ℕ) → messageAt index msgType ≡ messageIn (names .messages) msgType
+
+tag-key : (place tag : ℕ) → keyOf Tags (tagEntry place tag) ≡ tag
+unfolding keyOf tagEntry
+tag-key place tag = omega arith
+
+component-key : (c : Component) → keyOf Components (componentEntry c) ≡ c .number
+unfolding keyOf componentEntry
+component-key c = refl
+
+message-key : (place msgType : ℕ) → keyOf MsgTypes (messageEntry place msgType) ≡ msgType
+unfolding keyOf messageEntry
+message-key place msgType = omega arith
+
+whole-component : (c : Component) → componentOf (componentEntry c) ≡ c
+unfolding componentOf componentEntry
+whole-component c = refl
+
+-- a new entry changes no other answer
+module _ (table : Table) (index : List ℕ) (e : Entry) (b : ℕ) (size : length index ≡ 96150) (bound : Bounded index b) (early : e .place < 60000) (newer : b < numberAt (e .place)) where
+  number-some : numberAt (e .place) ≡ 0 → ⊥
+  number-some z = omega arith
+
+  other-tag : (tag : ℕ) → (Tags ≡ table → tag ≡ keyOf table e → ⊥) → tagAt (entered table index e) tag ≡ tagAt index tag
+  unfolding tagAt
+  other-tag tag apart = rw (enter-elsewhere table index e b size bound early newer Tags tag apart)
+
+  other-component : (number : ℕ) → (Components ≡ table → number ≡ keyOf table e → ⊥) → componentAt (entered table index e) number ≡ componentAt index number
+  unfolding componentAt
+  other-component number apart =
+      let old : found Components index number < numberAt (e .place) = omega (arith, found-bounded Components index number b bound) in
+      rw (enter-elsewhere table index e b size bound early newer Components number apart, enter-older table index e b size bound early newer (found Components index number) old)
+
+  other-message : (msgType : ℕ) → (MsgTypes ≡ table → msgType ≡ keyOf table e → ⊥) → messageAt (entered table index e) msgType ≡ messageAt index msgType
+  unfolding messageAt
+  other-message msgType apart =
+      let old : found MsgTypes index msgType < numberAt (e .place) = omega (arith, found-bounded MsgTypes index msgType b bound) in
+      rw (enter-elsewhere table index e b size bound early newer MsgTypes msgType apart, enter-older table index e b size bound early newer (found MsgTypes index msgType) old)
+
+not-components : Tags ≡ Components → ⊥
+not-components q = let z : _≡_ {A = ℕ} 0 1 = cc in omega arith
+
+not-messages : Tags ≡ MsgTypes → ⊥
+not-messages q = let z : _≡_ {A = ℕ} 0 1 = cc in omega arith
+
+components-messages : Components ≡ MsgTypes → ⊥
+components-messages q = let z : _≡_ {A = ℕ} 0 1 = cc in omega arith
+
+module _ (index : List ℕ) (names : Names) (b : ℕ) (a : Agrees index names b) where
+  pub knows-tag : (place tag : ℕ) → place < 60000 → b < numberAt place → Agrees (noted index (KnowsTag place tag)) (named names (KnowsTag place tag)) (numberAt place)
+  unfolding noted named tagEntry isKnown
+  knows-tag place tag early newer =
+      let e = tagEntry place tag in
+      record {
+        size = enter-length Tags index e b (a .size) (a .bound) early newer;
+        bound = enter-bounded Tags index e b (a .size) (a .bound) early newer;
+        tags = λ t. go t (eqb t tag) refl;
+        components = λ n. other-component Tags index e b (a .size) (a .bound) early newer n (λ q k. not-components (sym q)) ∙ a .components n;
+        messages = λ m. other-message Tags index e b (a .size) (a .bound) early newer m (λ q k. not-messages (sym q)) ∙ a .messages m;
+      }
+    where
+      go : (t : ℕ) (s : Bool) → eqb t tag ≡ s → tagAt (entered Tags index (tagEntry place tag)) t ≡ pick s true (isKnown (names .tags) t)
+      go t true q =
+          tag-known _ t (numberAt place) (ap (found Tags (entered Tags index (tagEntry place tag))) (eqb-true t tag q ∙ sym (tag-key place tag)) ∙ enter-found Tags index (tagEntry place tag) b (a .size) (a .bound) early newer) (number-some Tags index (tagEntry place tag) b (a .size) (a .bound) early newer)
+      go t false q =
+          other-tag Tags index (tagEntry place tag) b (a .size) (a .bound) early newer t (λ r k. eqb-false t tag q (k ∙ tag-key place tag)) ∙ a .tags t
+
+  pub closes-component : (c : Component) → c .place < 60000 → b < numberAt (c .place) → Agrees (noted index (ClosesComponent c)) (named names (ClosesComponent c)) (numberAt (c .place))
+  unfolding noted named componentEntry componentIn
+  closes-component c early newer =
+      let e = componentEntry c in
+      record {
+        size = enter-length Components index e b (a .size) (a .bound) early newer;
+        bound = enter-bounded Components index e b (a .size) (a .bound) early newer;
+        tags = λ t. other-tag Components index e b (a .size) (a .bound) early newer t (λ q k. not-components q) ∙ a .tags t;
+        components = λ n. go n (eqb n (c .number)) refl;
+        messages = λ m. other-message Components index e b (a .size) (a .bound) early newer m (λ q k. components-messages (sym q)) ∙ a .messages m;
+      }
+    where
+      whole : componentOf (componentEntry c) ≡ c
+      whole = whole-component c
+
+      go : (n : ℕ) (s : Bool) → eqb n (c .number) ≡ s → componentAt (entered Components index (componentEntry c)) n ≡ pick s (Closed c) (componentIn (names .components) n)
+      go n true q =
+          component-closed _ n (numberAt (c .place)) (ap (found Components (entered Components index (componentEntry c))) (eqb-true n (c .number) q ∙ sym (component-key c)) ∙ enter-found Components index (componentEntry c) b (a .size) (a .bound) early newer) (number-some Components index (componentEntry c) b (a .size) (a .bound) early newer)
+          ∙ ap (λ (x : Entry). Closed (componentOf x)) (enter-entry Components index (componentEntry c) b (a .size) (a .bound) early newer)
+          ∙ ap Closed whole
+      go n false q =
+          other-component Components index (componentEntry c) b (a .size) (a .bound) early newer n (λ r k. eqb-false n (c .number) q (k ∙ component-key c)) ∙ a .components n
+
+  pub names-message : (place msgType : ℕ) → place < 60000 → b < numberAt place → Agrees (noted index (NamesMessage place msgType)) (named names (NamesMessage place msgType)) (numberAt place)
+  unfolding noted named messageEntry messageIn
+  names-message place msgType early newer =
+      let e = messageEntry place msgType in
+      record {
+        size = enter-length MsgTypes index e b (a .size) (a .bound) early newer;
+        bound = enter-bounded MsgTypes index e b (a .size) (a .bound) early newer;
+        tags = λ t. other-tag MsgTypes index e b (a .size) (a .bound) early newer t (λ q k. not-messages q) ∙ a .tags t;
+        components = λ n. other-component MsgTypes index e b (a .size) (a .bound) early newer n (λ q k. components-messages q) ∙ a .components n;
+        messages = λ m. go m (eqb m msgType) refl;
+      }
+    where
+      go : (m : ℕ) (s : Bool) → eqb m msgType ≡ s → messageAt (entered MsgTypes index (messageEntry place msgType)) m ≡ pick s (At place) (messageIn (names .messages) m)
+      go m true q =
+          message-placed _ m (numberAt place) (ap (found MsgTypes (entered MsgTypes index (messageEntry place msgType))) (eqb-true m msgType q ∙ sym (message-key place msgType)) ∙ enter-found MsgTypes index (messageEntry place msgType) b (a .size) (a .bound) early newer) (number-some MsgTypes index (messageEntry place msgType) b (a .size) (a .bound) early newer)
+          ∙ ap (λ (x : Entry). At (x .place)) (enter-entry MsgTypes index (messageEntry place msgType) b (a .size) (a .bound) early newer)
+      go m false q =
+          other-message MsgTypes index (messageEntry place msgType) b (a .size) (a .bound) early newer m (λ r k. eqb-false m msgType q (k ∙ message-key place msgType)) ∙ a .messages m
+
+-- a cleared index agrees with no names
+pub clear-agrees : (index : List ℕ) → length index ≡ 96150 → Agrees (replicate 6144 0 ++ drop 6144 index) noNames 0
+unfolding noNames isKnown componentIn messageIn
+clear-agrees index h =
+    record {
+      size = rw (length-append, length-replicate, length-drop) (omega arith);
+      bound = clear-bounded (drop 6144 index);
+      tags = λ t. tag-unknown _ t (clear-found (drop 6144 index) Tags t);
+      components = λ n. component-missing _ n (clear-found (drop 6144 index) Components n);
+      messages = λ m. message-nowhere _ m (clear-found (drop 6144 index) MsgTypes m);
+    }

@@ -1,0 +1,15 @@
+pub mod Record
+pub mod Records
+pub mod RecordLaws
+pub mod RecordsLaws
+pub mod Names
+pub mod Index
+pub mod IndexLaws
+pub mod Agreement
+pub mod Step
+pub mod StepLaws
+pub mod Check
+pub mod CheckLaws
+pub mod Prepared
+pub mod Stands
+pub mod Examples

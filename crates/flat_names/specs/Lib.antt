@@ -1,4 +1,0 @@
-pub mod Names
-pub mod Index
-pub mod IndexLaws
-pub mod Agreement

@@ -1,4 +1,0 @@
-pub mod Record
-pub mod Records
-pub mod RecordLaws
-pub mod RecordsLaws

@@ -1,0 +1,213 @@
+-- The operations on a message, in 01's words: "27 first", and then "judged by what it would leave: 41, 42, 21".
+use Prim.Native.Nat.{ℕ, zero, suc, _+_, _-_, _*_, _≤_, _<_}
+use mathlib.Core.Path.{_≡_}
+use mathlib.Core.Bool.{Bool, true, false}
+use mathlib.Core.List.{List, [], _∷_, _++_}
+use lib.ListN.{length, set}
+use lib.Dec.{eqb, leb, ltb}
+use Rattle.tagvalue.specs.Choice.{pick}
+use Rattle.maps.specs.Map.{Map, end, field, entry, holds, withoutField, stored, hung, fieldCount, valuesIn}
+use Rattle.maps.specs.Rows.{laid, flat, rowsFrom, findFrom, runEndFrom, sizes, padded, spliced}
+use Rattle.lent.specs.Lent.{isMessage}
+use Rattle.lent.specs.Meaning.{Message, parts, wordsOf, valuesOf, messageIn}
+use Rattle.message_rules.specs.declared.Part.{Part}
+use Rattle.message_rules.specs.declared.Part.the-variants.{Header, Body, Trailer}
+use Rattle.message_rules.specs.declared.Change.{Change}
+use Rattle.message_rules.specs.declared.Change.the-variants.{Made, NoMessage, NotStorable, NoRun, TooManyFields}
+use Rattle.message_rules.specs.declared.Span.{Span}
+use Rattle.message_rules.specs.declared.Cut.{Cut}
+use Rattle.message_rules.specs.declared.Located.{Located}
+use Rattle.message_rules.specs.declared.Located.the-variants.{At, Nowhere}
+
+-- 01's number for each answer
+unfoldable pub numberOfChange : Change → ℕ
+numberOfChange Made = 0
+numberOfChange NoMessage = 27
+numberOfChange NotStorable = 41
+numberOfChange NoRun = 42
+numberOfChange TooManyFields = 21
+
+unfoldable pub partOf : Part → Message → Map
+partOf Header m = m .header
+partOf Body m = m .body
+partOf Trailer m = m .trailer
+
+-- a message with another map in a part
+unfoldable pub withPart : Part → Map → Message → Message
+withPart Header map m = record { header = map; body = m .body; trailer = m .trailer }
+withPart Body map m = record { header = m .header; body = map; trailer = m .trailer }
+withPart Trailer map m = record { header = m .header; body = m .body; trailer = map }
+
+-- the number of stored fields of a message, and all its values
+unfoldable pub fieldTotal : Message → ℕ
+fieldTotal m = fieldCount (m .header) + (fieldCount (m .body) + fieldCount (m .trailer))
+
+unfoldable pub valueTotal : Message → ℕ
+valueTotal m = length (valuesIn (parts m))
+
+-- what a call answers, and what it leaves of words and values
+pub data After : Type 0 where
+  after : Change → List ℕ → List ℕ → After
+
+-- "judged by what it would leave: 41, 42, 21": the size of all values, whether a run is whole, the number of fields. What is refused
+-- leaves everything as it was.
+abbrev pub judgedBy : List ℕ → List ℕ → ℕ → Bool → ℕ → List ℕ → List ℕ → After
+judgedBy words values size whole fields left-words left-values =
+    pick (leb size 8192)
+    (pick whole
+    (pick (leb fields 1024) (after Made left-words left-values) (after TooManyFields words values))
+    (after NoRun words values))
+    (after NotStorable words values)
+
+-- a map in the layout of what is lent, with zeros past it
+unfoldable pub mapWords : Map → List ℕ
+mapWords map = padded 8205 (length (laid 0 map) ∷ flat (laid 0 map))
+
+unfoldable pub mapValues : Map → List ℕ
+mapValues map = padded 8192 (valuesIn map)
+
+unfoldable pub judgedMap : List ℕ → List ℕ → Bool → ℕ → Map → After
+judgedMap words values whole fields map =
+    judgedBy words values (length (valuesIn map)) whole fields (mapWords map) (mapValues map)
+
+unfoldable pub judged : List ℕ → List ℕ → Bool → Message → After
+judged words values whole m = judgedBy words values (valueTotal m) whole (fieldTotal m) (wordsOf m) (valuesOf m)
+
+-- "27 first"
+unfoldable pub ofMessage : List ℕ → List ℕ → (Message → After) → After
+ofMessage words values then = pick (isMessage words values) (then (messageIn words values)) (after NoMessage words values)
+
+-- an empty message
+unfoldable pub noFields : Message
+noFields = record { header = end; body = end; trailer = end }
+
+-- what is lent must have its lengths: 27
+unfoldable pub ofStore : List ℕ → List ℕ → After → After
+ofStore words values then =
+    pick (eqb (length words) 8205)
+    (pick (eqb (length values) 8192) then (after NoMessage words values))
+    (after NoMessage words values)
+
+unfoldable pub emptying : List ℕ → List ℕ → After
+emptying words values = ofStore words values (after Made (wordsOf noFields) (valuesOf noFields))
+
+-- a new message: its header has 8 and then 35
+unfoldable pub newMessage : List ℕ → List ℕ → Message
+newMessage beginString messageType =
+    withPart Header (stored 35 messageType (stored 8 beginString end)) noFields
+
+unfoldable pub making : List ℕ → List ℕ → List ℕ → List ℕ → After
+making beginString messageType words values =
+    ofStore words values (judged words values true (newMessage beginString messageType))
+
+-- a field is stored in a part
+unfoldable pub storing : Part → ℕ → List ℕ → List ℕ → List ℕ → After
+storing part tag value words values =
+    ofMessage words values (λ m.
+    pick (eqb tag 0) (after NotStorable words values)
+    (judged words values true (withPart part (stored tag value (partOf part m)) m)))
+
+-- a field is removed from a part; its run stays. What is not held leaves everything as it was.
+unfoldable pub removing : Part → ℕ → List ℕ → List ℕ → After
+removing part tag words values =
+    ofMessage words values (λ m.
+    pick (holds tag (partOf part m))
+    (judged words values true (withPart part (withoutField tag (partOf part m)) m))
+    (after Made words values))
+
+-- where a part's rows stand
+unfoldable pub spanOf : Part → Message → Span
+spanOf Header m =
+    record { from = 1; to = 1 + length (laid 1 (m .header)); count = length (laid 0 (parts m)) }
+spanOf Body m =
+    record {
+      from = 1 + length (laid 1 (m .header)) + 1;
+      to = 1 + length (laid 1 (m .header)) + 1 + length (laid 1 (m .body));
+      count = length (laid 0 (parts m));
+    }
+spanOf Trailer m =
+    record {
+      from = 1 + length (laid 1 (m .header)) + 1 + length (laid 1 (m .body)) + 1;
+      to = length (laid 0 (parts m));
+      count = length (laid 0 (parts m));
+    }
+
+unfoldable pub locatedIn : Part → List ℕ → List ℕ → Located
+locatedIn part words values = pick (isMessage words values) (At (spanOf part (messageIn words values))) Nowhere
+
+-- the layer of words: what a cut of rows makes of them
+unfoldable pub placeOf : List ℕ → ℕ → ℕ
+placeOf words i = sizes (rowsFrom (i - 0) 0 words)
+
+pub record Cuttable (words values : List ℕ) (cut : Cut) (rows : List ℕ) (added fields : ℕ) : Type 0 where
+  pub whole : length words ≡ 8205
+  pub store : length values ≡ 8192
+  pub forwards : cut .from ≤ cut .kept
+  pub back : cut .kept ≤ cut .to
+  pub on : cut .to ≤ cut .until
+  pub last : cut .until ≤ cut .count
+  pub few : cut .count ≤ 2051
+  pub four : length rows ≡ 4 * added
+  pub room : fields ≤ 1024 → (cut .from + (cut .until - cut .to) + (cut .to - cut .kept) + (cut .count - cut .until)) + added ≤ 2051
+  pub within : placeOf words (cut .count) ≤ 8192
+
+unfoldable pub cutRows : Cut → ℕ
+cutRows cut = cut .from + (cut .until - cut .to) + (cut .to - cut .kept) + (cut .count - cut .until)
+
+unfoldable pub cutSize : List ℕ → Cut → ℕ
+cutSize words cut =
+    placeOf words (cut .from) + (placeOf words (cut .until) - placeOf words (cut .to))
+    + (placeOf words (cut .to) - placeOf words (cut .kept))
+    + (placeOf words (cut .count) - placeOf words (cut .until))
+
+unfoldable pub cutWords : Cut → List ℕ → ℕ → List ℕ → List ℕ
+cutWords cut rows added words =
+    set
+    (padded 8205 (spliced (4 * cut .from + 1) (4 * cut .to + 1) (4 * cut .kept + 1) (4 * cut .until + 1) (4 * cut .count + 1) rows words))
+    0 (cutRows cut + added)
+
+unfoldable pub cutValues : Cut → List ℕ → List ℕ → List ℕ → List ℕ
+cutValues cut bytes words values =
+    padded 8192
+    (spliced (placeOf words (cut .from)) (placeOf words (cut .to)) (placeOf words (cut .kept)) (placeOf words (cut .until)) (placeOf words (cut .count)) bytes values)
+
+unfoldable pub changedAt : Cut → List ℕ → ℕ → List ℕ → Bool → ℕ → List ℕ → List ℕ → After
+changedAt cut rows added bytes whole fields words values =
+    judgedBy words values (cutSize words cut + length bytes) whole fields (cutWords cut rows added words) (cutValues cut bytes words values)
+
+-- the row of a field in a part
+unfoldable pub fieldRow : ℕ → List ℕ → List ℕ
+fieldRow tag value = 1 ∷ 1 ∷ tag ∷ length value ∷ []
+
+unfoldable pub fieldPlace : Span → ℕ → List ℕ → ℕ
+fieldPlace span tag words = findFrom 1 1 tag (span .from) (rowsFrom (span .to - span .from) (span .from) words)
+
+unfoldable pub runPlace : Span → ℕ → List ℕ → ℕ
+runPlace span tag words = findFrom 2 1 tag (span .from) (rowsFrom (span .to - span .from) (span .from) words)
+
+unfoldable pub runStop : Span → ℕ → List ℕ → ℕ
+runStop span tag words = runEndFrom 1 tag (runPlace span tag words) (rowsFrom (span .to - runPlace span tag words) (runPlace span tag words) words)
+
+-- the cut of one row, and the cut that moves a run behind what follows it in its part
+unfoldable pub oneRow : ℕ → ℕ → Cut
+oneRow at count = record { from = at; to = at + 1; kept = at + 1; until = at + 1; count = count }
+
+unfoldable pub runLast : ℕ → ℕ → Span → Cut
+runLast first last span = record { from = first; to = last; kept = first; until = span .to; count = span .count }
+
+-- a field is put in its place, or last with its run
+unfoldable pub putAt : Span → ℕ → List ℕ → ℕ → List ℕ → List ℕ → After
+putAt span tag value fields words values =
+    pick (ltb (fieldPlace span tag words) (span .to))
+    (changedAt (oneRow (fieldPlace span tag words) (span .count)) (fieldRow tag value) 1 value true fields words values)
+    (changedAt (runLast (runPlace span tag words) (runStop span tag words) span) (fieldRow tag value) 1 value true (fields + 1) words values)
+
+pub record Ready (words values : List ℕ) (span : Span) (tag : ℕ) (value : List ℕ) (fields : ℕ) : Type 0 where
+  pub whole : length words ≡ 8205
+  pub forwards : span .from ≤ span .to
+  pub last : span .to ≤ span .count
+  pub few : span .count ≤ 2051
+  pub small : length value ≤ 8192
+  pub counted : fields < 8192
+  pub replaces : fieldPlace span tag words < span .to → Cuttable words values (oneRow (fieldPlace span tag words) (span .count)) (fieldRow tag value) 1 fields
+  pub appends : span .to ≤ fieldPlace span tag words → Cuttable words values (runLast (runPlace span tag words) (runStop span tag words) span) (fieldRow tag value) 1 (fields + 1)

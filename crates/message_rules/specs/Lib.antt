@@ -1,0 +1,16 @@
+pub mod LayoutLaws
+pub mod SplitLaws
+pub mod Changes
+pub mod PlaceLaws
+pub mod CutLaws
+pub mod ChangeLaws
+pub mod PartLaws
+pub mod FrameLaws
+pub mod StoreLaws
+pub mod NewLaws
+pub mod FormedLaws
+pub mod Examples
+pub mod LookUps
+pub mod LookUpExamples
+pub mod Runs
+pub mod RunExamples
