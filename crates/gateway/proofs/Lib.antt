@@ -1,1 +1,3 @@
+pub mod Calling
+pub mod Framer
 pub mod NoFreedom
