@@ -1,3 +1,5 @@
 pub mod Calling
+pub mod Counting
 pub mod Framer
 pub mod NoFreedom
+pub mod Words

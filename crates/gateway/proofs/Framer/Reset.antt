@@ -26,12 +26,12 @@ use denote.Steps.{heard, nothing}
 use denote.Triple.Statement.{Contract, Triple}
 use denote.Triple.Call.{calls-at}
 use denote.Triple.Clauses.{Ended, Clauses, closing}
-use denote.Triple.Entry.{onEntry, alive}
+use denote.Triple.Entry.{onEntry}
 use denote.Triple.Spec.{tripleOf}
 use denote.Triple.Walked.{says, Stays, stay-ref, gave-ref, walkOf, goes-ref, goes-gave-ref, Walks, ends-at, walked, walk-meets}
 use denote.Exit.{yes}
 use denote.Plain.{uint-lawful}
-use Rattle.gateway.proofs.Calling.{asked, answered, Stands, stands}
+use Rattle.gateway.proofs.Calling.{asked, answered, tokens, Stands, stands}
 use Rattle.gateway.proofs.Framer.{Framer, Four, St, reply, reply-laws, Re, ReTy, lent, words, values, lends-words, replies}
 use Rattle.gateway.proofs.Framer.Steps.{opened, parted, shut}
 use denote.Struct.Laws as LL
@@ -87,7 +87,7 @@ module _ (F : Framer) (key : Name) (replied : F .Reply) (told : List ℕ) where
     to = (((κ₁, tt), (q₁, tt), tt, (y, tt), (p ∷ [], tt)), tt)
 
     abbrev Left : F .Reply → List ℕ → List (Item 𝓤)
-    Left r os = ‵ (fobs γ (St F .coded .code (F .state r))) ∷ ‵ (fbor κ (Body (mem (St F)) b o γ)) ∷ ‵ (flft κ q) ∷ ‵ (u32 .own (F .number r) (vint w32 (F .number r) ∷ [])) ∷ raw (alive 𝓤 H A (core-ended .signature) (κ₁, tt) (q₁, tt)) ∷ ‵ (fres (y .name) (Four .coded .code os)) ∷ []
+    Left r os = ‵ (fobs γ (St F .coded .code (F .state r))) ∷ ‵ (fbor κ (Body (mem (St F)) b o γ)) ∷ ‵ (flft κ q) ∷ ‵ (u32 .own (F .number r) (vint w32 (F .number r) ∷ [])) ∷ tokens 𝓤 1 (κ₁, tt) (q₁, tt) ∷ ‵ (fres (y .name) (Four .coded .code os)) ∷ []
 
     exits : (r : F .Reply) (os : List ℕ) → Said r os → ent 𝓤 (⋆ 𝓤 H A (Left r os)) (Post (vint w32 (F .number r)))
     exits r os e =
