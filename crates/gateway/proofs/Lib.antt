@@ -2,4 +2,5 @@ pub mod Calling
 pub mod Counting
 pub mod Framer
 pub mod NoFreedom
+pub mod Walk
 pub mod Words
