@@ -2,14 +2,16 @@
 -- state that comes next and a number. Here stands what the walks share; each walk is a module below, and `Kinds` has the two framers.
 use mathlib.Core.Path.{_≡_}
 use mathlib.Core.List.{List, [], _∷_, map}
+use lib.ListN.{length}
 use Prim.Native.Nat.{ℕ}
 use mir.Syntax.{Sym, Lifetime, named, Mutability, mut, Ty, tyInt, tyRef, tyArray, w8, w32, place, deref, field as part, copy, rvOpd, addrOf, aggregate, Name, Body, seq, assign, call, return, Local, local, valueLocal}
-use mir.Val.{Val}
+use mir.Val.{Val, vptr}
 use denote.RattleType.{RattleType, Denots}
 use denote.Memory.{pointee}
 use denote.Array.{Array}
 use denote.Builtin.{u32}
-use denote.Slice.{sliceTy}
+use denote.Ref.{RefT, now}
+use denote.Slice.{sliceTy, sliceVal}
 use denote.Struct.Field.{rows, u32-field}
 use denote.Struct.Struct.{layout}
 use denote.Struct.Declared.{Declared, shape, row, field}
@@ -31,9 +33,15 @@ pub record Framer : Type 2 where
   pub number : Reply → ℕ
   pub one : (x y : Reply) → _≡_ {A = Denots (rows (field State ∷ u32-field ∷ []))} (State .to (state x), (number x, tt)) (State .to (state y), (number y, tt)) → x ≡ y
 
--- the words of an answer
+-- the words of an answer, and the machine values of what is lent: of bytes, and of those words
 abbrev pub Four : RattleType
 Four = Array u32 4
+
+abbrev pub slice : RefT (List ℕ) → Val
+slice s = sliceVal (s .ptr) (length (now s))
+
+abbrev pub pointer : RefT (List ℕ) → Val
+pointer y = vptr (y .ptr .0) (y .ptr .1)
 
 module _ (F : Framer) where
   -- the state: its type, as MIR lays it out, and a state's machine value

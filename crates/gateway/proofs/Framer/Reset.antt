@@ -1,20 +1,24 @@
 -- The walk of an export that resets: the core is handed no state, and its reply is stored in the lent one's place, whatever it was.
 -- The borrow of the state is opened, and closed at what is stored. Of the core only its contract is known.
 use Rattle.gateway.proofs.Walk.{_≡_, refl, ap, List, [], _∷_, ℕ, URA, fullShare, named, w32, erased, Name, Fn, tyInt, Val, vptr, vint, SProp, ent, emp, via, fst∗, id⊢, Lft, GName, Share, ftrue, fat, flft, fobs, fbor, fres}
-use Rattle.gateway.proofs.Walk.{Heap, Calls, Loops, WpFn, Tables, Atoms, fact, Given, ‵, raw, _⊛_, ⋆, _$_, _∵_, !, qed, by, move, keep, drop, use2, split, join, rewrite, fsplit, fsplit3, fjoin, fjoin3, feqI, suffices, frame, done, Item, look, store, init, forget, stop, hop, fld, from, load, of-opd, addr, and-then, no-more, assigns, land, returns, enter, alloc1, alloc0, params1, pass1, pass0, free1, free0, whole, sub, look-in, Body, FmC, fmOf, WpFn-mono}
-use Rattle.gateway.proofs.Walk.{owns, mem, u32, RefMutOf, RefT, MutRef, now, ptr-vals, mut-tells, plain, heard, nothing, Contract, Triple, calls-at, Ended, Clauses, closing, onEntry, tripleOf, says, Stays, stay-ref, gave-ref, walkOf, goes-ref, goes-gave-ref, Walks, ends-at, walked, walk-meets, yes, uint-lawful}
+use Rattle.gateway.proofs.Walk.{Heap, Calls, Loops, WpFn, Atoms, fact, Given, ‵, raw, _⊛_, ⋆, _$_, _∵_, !, qed, by, move, keep, drop, use2, split, join, rewrite, fsplit, fsplit3, fjoin, fjoin3, feqI, suffices, frame, done, Item, look, store, init, forget, stop, hop, fld, from, load, of-opd, addr, and-then, no-more, assigns, land, returns, enter, alloc1, alloc0, params1, pass1, pass0, free1, free0, whole, sub, look-in, Body, FmC}
+use Rattle.gateway.proofs.Walk.{owns, mem, u32, RefMutOf, RefT, MutRef, now, ptr-vals, mut-tells, plain, heard, nothing, Contract, Triple, calls-at, Ended, Clauses, closing, onEntry, tripleOf, says, Stays, stay-ref, gave-ref, walkOf, goes-ref, goes-gave-ref, ends-at, yes, uint-lawful}
 use Rattle.gateway.proofs.Calling.{asked, answered, tokens, Stands, stands}
-use Rattle.gateway.proofs.Framer.{Framer, Four, St, reply, reply-laws, Re, ReTy, lent, words, values, lends-words, replies}
+use Rattle.gateway.proofs.Framer.{Framer, Four, St, reply, reply-laws, Re, ReTy, lent, words, values, lends-words, replies, pointer}
 use Rattle.gateway.proofs.Framer.Steps.{opened, parted, shut}
 use denote.Struct.Laws as LL
 
 module _ (F : Framer) (key : Name) (replied : F .Reply) (told : List ℕ) where
+  -- what the core says of its result r and of what it leaves
+  abbrev Said : F .Reply → List ℕ → Type 0
+  Said r os = (r ≡ replied) × (os ≡ told)
+
   -- the core's contract, and the export's
   abbrev core-ended : Ended
   core-ended = record { signature = record { lifetimes = 1; outlives = []; params = RefMutOf (0 ∷ []) tt (plain (λ _. Four)) (λ _. tt) ∷ []; result = plain (λ _. Re F) }; kept = (yes, tt) }
 
   abbrev core-clauses : {M : Type 1} (𝓤 : URA M) → Clauses 𝓤 core-ended
-  core-clauses 𝓤 κs a = record { ghost = Unit {0}; requires = λ _. emp 𝓤; ensures = λ _ r e. fact 𝓤 ((r ≡ replied) × (now (e .0) ≡ told)) }
+  core-clauses 𝓤 κs a = record { ghost = Unit {0}; requires = λ _. emp 𝓤; ensures = λ _ r e. fact 𝓤 (Said r (now (e .0))) }
 
   abbrev Core : (M : Type 1) (𝓤 : URA M) (H : Heap 𝓤) (A : Atoms 𝓤) → Contract 𝓤
   Core M 𝓤 H A = tripleOf 𝓤 H A (core-ended .signature) (closing 𝓤 H A core-ended (core-clauses 𝓤))
@@ -24,9 +28,6 @@ module _ (F : Framer) (key : Name) (replied : F .Reply) (told : List ℕ) where
 
   abbrev clauses : {M : Type 1} (𝓤 : URA M) → Clauses 𝓤 ended
   clauses 𝓤 κs a = record { ghost = Unit {0}; requires = λ _. emp 𝓤; ensures = λ _ r e. fact 𝓤 ((r ≡ F .number replied) × (now (e .0) ≡ F .state replied) × (now (e .1 .0) ≡ told)) }
-
-  abbrev Made : (M : Type 1) (𝓤 : URA M) (H : Heap 𝓤) (A : Atoms 𝓤) → Contract 𝓤
-  Made M 𝓤 H A = tripleOf 𝓤 H A (ended .signature) (closing 𝓤 H A ended (clauses 𝓤))
 
   -- the export's MIR
   abbrev function : Fn
@@ -39,15 +40,8 @@ module _ (F : Framer) (key : Name) (replied : F .Reply) (told : List ℕ) where
     abbrev a : RefT (F .State .D) × (RefT (List ℕ) × Unit {0})
     a = (record { ptr = (b, o); name = γ; now = h }, (y, tt))
 
-    abbrev p : Val
-    p = vptr (y .ptr .0) (y .ptr .1)
-
     abbrev vals : List Val × (List Val × Unit {0})
-    vals = (vptr b o ∷ [], (p ∷ [], tt))
-
-    -- what the core says of its result r and of what it leaves
-    abbrev Said : F .Reply → List ℕ → Type 0
-    Said r os = (r ≡ replied) × (os ≡ told)
+    vals = (vptr b o ∷ [], (pointer y ∷ [], tt))
 
     abbrev ghosts : walkOf 𝓤 H A ended stayed (clauses 𝓤) .Ghost
     ghosts = (((κ, (κ₁, tt)), (q, (q₁, tt)), tt, a, vals), tt)
@@ -56,7 +50,7 @@ module _ (F : Framer) (key : Name) (replied : F .Reply) (told : List ℕ) where
     Post = walkOf 𝓤 H A ended stayed (clauses 𝓤) .post ghosts
 
     abbrev to : Core M 𝓤 H A .Ghost
-    to = (((κ₁, tt), (q₁, tt), tt, (y, tt), (p ∷ [], tt)), tt)
+    to = (((κ₁, tt), (q₁, tt), tt, (y, tt), (pointer y ∷ [], tt)), tt)
 
     abbrev Left : F .Reply → List ℕ → List (Item 𝓤)
     Left r os = ‵ (fobs γ (St F .coded .code (F .state r))) ∷ ‵ (fbor κ (Body (mem (St F)) b o γ)) ∷ ‵ (flft κ q) ∷ ‵ (u32 .own (F .number r) (vint w32 (F .number r) ∷ [])) ∷ tokens 𝓤 1 (κ₁, tt) (q₁, tt) ∷ ‵ (fres (y .name) (Four .coded .code os)) ∷ []
@@ -69,9 +63,9 @@ module _ (F : Framer) (key : Name) (replied : F .Reply) (told : List ℕ) where
         nothing ! $ move ! (3 ∷ 0 ∷ []) $ fjoin ! $ move ! (1 ∷ 0 ∷ []) $ fjoin ! $ frame ! $ done !
 
     module _ (C : Calls 𝓤 H) (Λ : Loops 𝓤 H) (fm : FmC 𝓤 H (W .laws) C) (known : Triple 𝓤 (C key) (Core M 𝓤 H A)) where
-      walk : ent 𝓤 (onEntry 𝓤 H A (ended .signature) (κ, (κ₁, tt)) (q, (q₁, tt)) a vals) (WpFn 𝓤 H C Λ function (vptr b o ∷ p ∷ []) Post)
+      walk : ent 𝓤 (onEntry 𝓤 H A (ended .signature) (κ, (κ₁, tt)) (q, (q₁, tt)) a vals) (WpFn 𝓤 H C Λ function (vptr b o ∷ pointer y ∷ []) Post)
       walk =
-          qed W ((‵ (flft κ q) ⊛ ‵ (flft κ₁ q₁) ⊛ ‵ ftrue) ∷ ‵ (owns (MutRef (named 0) κ (St F) ∷ MutRef (named 1) κ₁ Four ∷ []) a vals) ∷ []) ∵ enter ! C Λ function (vptr b o ∷ p ∷ []) _ $
+          qed W ((‵ (flft κ q) ⊛ ‵ (flft κ₁ q₁) ⊛ ‵ ftrue) ∷ ‵ (owns (MutRef (named 0) κ (St F) ∷ MutRef (named 1) κ₁ Four ∷ []) a vals) ∷ []) ∵ enter ! C Λ function (vptr b o ∷ pointer y ∷ []) _ $
           alloc1 ! (λ l₀. alloc1 ! (λ l₁. alloc1 ! (λ l₂. alloc1 ! (λ l₃. alloc1 ! (λ l₄. alloc0 ! $ params1 ! $
           pass1 ! (init ! 6 refl (tt, tt)) $ pass1 ! (init ! 4 refl (tt, tt)) $ pass0 ! $
           -- the borrow of the state is opened
@@ -92,17 +86,8 @@ module _ (F : Framer) (key : Name) (replied : F .Reply) (told : List ℕ) where
           move ! (14 ∷ 15 ∷ []) $ free1 ! $ move ! (12 ∷ 13 ∷ []) $ free1 ! $ move ! (10 ∷ 11 ∷ []) $ free1 ! $ move ! (8 ∷ 9 ∷ []) $ free1 ! $ move ! (6 ∷ 7 ∷ []) $ free1 ! $ free0 ! $
           keep ! (0 ∷ 1 ∷ 2 ∷ 3 ∷ 4 ∷ 5 ∷ []) $ by ! (exits r (ws .0) e)))))))))))
 
-  module _ {M : Type 1} (𝓤 : URA M) (H : Heap 𝓤) (A : Atoms 𝓤) (W : Given 𝓤 H A) where
-    walks : (C : Calls 𝓤 H) (Λ : Loops 𝓤 H) → FmC 𝓤 H (W .laws) C → Triple 𝓤 (C key) (Core M 𝓤 H A) → Walks 𝓤 H A ended stayed (WpFn 𝓤 H C Λ function) (clauses 𝓤)
-    walks C Λ fm known = walked 𝓤 H A ended stayed (clauses 𝓤) (WpFn 𝓤 H C Λ function)
-        (λ κs. (ptr-vals, (ptr-vals, tt))) (λ κs. (mut-tells (named 0) (κs .0) (St F), (mut-tells (named 1) (κs .1 .0) Four, tt)))
-        (λ κs qs bounds a g are. via 𝓤 _ (fst∗ 𝓤 _ (emp 𝓤))
-        (walk 𝓤 H A W (κs .0) (κs .1 .0) (qs .0) (qs .1 .0) (a .0 .ptr .0) (a .0 .ptr .1) (a .0 .name) (a .0 .now) (a .1 .0) C Λ fm known))
-
-  meets : (M : Type 1) (𝓤 : URA M) (H : Heap 𝓤) (A : Atoms 𝓤) → Given 𝓤 H A → (𝓣 : Tables 𝓤 H) → Triple 𝓤 (𝓣 .C key) (Core M 𝓤 H A) → Triple 𝓤 (WpFn 𝓤 H (𝓣 .C) (𝓣 .Λ) function) (Made M 𝓤 H A)
-  meets M 𝓤 H A W 𝓣 known =
-      walk-meets 𝓤 H A ended stayed W (goes-ref 𝓤 H A W 2 0 tt (plain (λ _. St F)), (goes-gave-ref 𝓤 H A W 2 1 tt (plain (λ _. Four)), tt)) (clauses 𝓤)
-      (WpFn 𝓤 H (𝓣 .C) (𝓣 .Λ) function) (WpFn-mono 𝓤 H (W .laws) 𝓣 function) (walks 𝓤 H A W (𝓣 .C) (𝓣 .Λ) (fmOf 𝓤 H (W .laws) 𝓣) known)
-
-  pub proved : Stands key function Core Made
-  proved = stands key function Core Made meets
+  pub proved : Stands key function core-ended (λ M 𝓤 H A _ _. core-clauses 𝓤) ended (λ M 𝓤 H A _ _. clauses 𝓤)
+  proved =
+      stands key function core-ended (λ M 𝓤 H A _ _. core-clauses 𝓤) ended (λ M 𝓤 H A _ _. clauses 𝓤) stayed (λ M 𝓤 H A W. (goes-ref 𝓤 H A W 2 0 tt (plain (λ _. St F)), (goes-gave-ref 𝓤 H A W 2 1 tt (plain (λ _. Four)), tt)))
+      (λ κs. (ptr-vals, (ptr-vals, tt))) (λ κs. (mut-tells (named 0) (κs .0) (St F), (mut-tells (named 1) (κs .1 .0) Four, tt)))
+      (λ M 𝓤 H A W _ _ 𝓣 fm known κs qs bounds a g are. via 𝓤 _ (fst∗ 𝓤 _ (emp 𝓤)) (walk 𝓤 H A W (κs .0) (κs .1 .0) (qs .0) (qs .1 .0) (a .0 .ptr .0) (a .0 .ptr .1) (a .0 .name) (a .0 .now) (a .1 .0) (𝓣 .C) (𝓣 .Λ) fm known))

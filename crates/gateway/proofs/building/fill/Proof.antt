@@ -1,10 +1,10 @@
 -- `fill` meets its contract: a walk of its MIR, by hand. The borrow of the records is opened once, before the loop, and closed once, after it. A turn calls
 -- `field_at`, of which only its contract is known, and stores what it returns.
 use Rattle.gateway.proofs.Walk.{_≡_, refl, sym, ap, subst, ℕ, suc, _+_, _*_, _<_, _≤_, _^_, add-one, arith, Bool, List, [], _∷_, length, set, lit<, lt-ltb, le-ltb, URA, fullShare, Ty, loop, named, mut, imm, w64, tyInt, tyBool, tyPtr, tyUnit, tyRef, Val, vbool, vint, vptr, vunit, SProp, ent, emp, sep, id⊢, Lft, GName, Share, Fml, ftrue, fat, froom, fdies, flft, fobs, fauth, fbor, fobor}
-use Rattle.gateway.proofs.Walk.{Memory, Routine, Heap, Out, Env, afterSeq, afterBlock, afterTurn, Calls, Loops, Wp, atReturn, WpFn, Tables, Atoms, sem, Fun, givenOf, tables, tablesOf, FmC, fmOf, WpFn-mono, Given, Item, ‵, raw, _⊛_, ⋆, anyQ, atRet, _$_, _∵_, !, qed, by, move, keep, drop, use1, use2, split, join, rewrite, fsplit, fjoin, feqI, suffices, frame, done, whole, sub, look-in, look, store, store-raw, init, forget, stop, hop, fld, from, load, lit, unit-lit, of-opd, bin, and-then, no-more, assigns, assigns-last, land, stays, leaves-loop, returns, enter, alloc1, alloc0, params1, pass1, pass0, free1, free0, exec}
-use Rattle.gateway.proofs.Walk.{owns, pureI, Is, shows, pointee, uint-makes, uint-vals, uint-tells, usize, RefT, ShrRef, now, ptr-vals, shr-tells, shr-copy, shr-lawful, sliceTy, sliceVal, MutSlice, Room, heres, codedHoleys, at-slice, slice-vals, mut-slice-tells, Held, row, place-is, elem-out, elem-put, opens-slice, closes-slice, plain, owned, peeks, heard, nothing, Contract, Triple, calls-at, onEntry, Meets, tripleOf, entered, cited, says, needs, Stays, stay-slice, stay-none-ref, stay-none, walkOf, goes-slice, goes-none-ref, goes-none, Walks, ends-at, walked, walk-meets, yes}
+use Rattle.gateway.proofs.Walk.{Memory, Routine, Heap, Out, Env, afterSeq, afterBlock, afterTurn, Calls, Loops, Wp, atReturn, WpFn, Tables, Atoms, sem, Fun, FmC, Given, Item, ‵, raw, _⊛_, ⋆, anyQ, atRet, _$_, _∵_, !, qed, by, move, keep, drop, use1, use2, split, join, rewrite, fsplit, fjoin, feqI, suffices, frame, done, whole, sub, look-in, look, store, store-raw, init, forget, stop, hop, fld, from, load, lit, unit-lit, of-opd, bin, and-then, no-more, assigns, assigns-last, land, stays, leaves-loop, returns, enter, alloc1, alloc0, params1, pass1, pass0, free1, free0, exec}
+use Rattle.gateway.proofs.Walk.{owns, pureI, Is, shows, pointee, uint-makes, uint-vals, uint-tells, usize, RefT, ShrRef, now, ptr-vals, shr-tells, shr-copy, shr-lawful, sliceTy, sliceVal, MutSlice, Room, heres, codedHoleys, at-slice, slice-vals, mut-slice-tells, Held, row, place-is, elem-out, elem-put, opens-slice, closes-slice, plain, owned, peeks, heard, nothing, Contract, Triple, calls-at, onEntry, tripleOf, says, needs, Stays, stay-slice, stay-none-ref, stay-none, walkOf, goes-slice, goes-none-ref, goes-none, ends-at, yes}
 use denote.Struct.Laws as LL
-use Rattle.gateway.proofs.Calling.{asked, answered}
+use Rattle.gateway.proofs.Calling.{asked, answered, stands}
 use Rattle.gateway.proofs.Counting.{counted}
 use Rattle.gateway.proofs.Words.{Words}
 use Rattle.telling.specs.Lent.{blankField, fieldAt, filled}
@@ -188,23 +188,10 @@ module _ {M : Type 1} (𝓤 : URA M) (H : Heap 𝓤) (A : Atoms 𝓤) (W : Given
       -- [the row; the open borrow; obs; auth; the tags' token; tags; _8; …]
       keep ! (0 ∷ 4 ∷ 5 ∷ 14 ∷ 12 ∷ 10 ∷ 8 ∷ 6 ∷ 22 ∷ 20 ∷ 18 ∷ 16 ∷ 24 ∷ 1 ∷ 2 ∷ 3 ∷ 25 ∷ 23 ∷ 21 ∷ 19 ∷ 17 ∷ 15 ∷ 13 ∷ 11 ∷ 9 ∷ 7 ∷ []) $ by ! (loops 𝓣 fm known room l₀ l₁ l₂ l₃ l₄ l₅ l₆ l₇ l₈ l₉)))))))))))
 
-module _ {M : Type 1} (𝓤 : URA M) (H : Heap 𝓤) (A : Atoms 𝓤) (W : Given 𝓤 H A) (mem : Memory → SProp 𝓤) (run : Routine → Fun 𝓤) where
-  fill-walks : (𝓣 : Tables 𝓤 H) → FmC 𝓤 H (W .laws) (𝓣 .C) → Triple 𝓤 (𝓣 .C #telling·field-at) (FieldAt 𝓤 H A mem run) → Walks 𝓤 H A fill.ended stayed (WpFn 𝓤 H (𝓣 .C) (𝓣 .Λ) code.function) (fill.clauses 𝓤 H A mem run)
-  fill-walks 𝓣 fm known = walked 𝓤 H A fill.ended stayed (fill.clauses 𝓤 H A mem run) (WpFn 𝓤 H (𝓣 .C) (𝓣 .Λ) code.function)
-      (λ κs. (slice-vals, (ptr-vals, (uint-vals w64, (uint-vals w64, tt))))) (λ κs. (mut-slice-tells (named 0) (κs .0) T.the-row, (shr-tells (named 1) (κs .1 .0) Words, (uint-tells w64, (uint-tells w64, tt)))))
-      (λ κs qs bounds a g are. needs 𝓤 (a .1 .1 .1 .0 ≤ length (now (a .0))) _ (λ in-range.
-      walk 𝓤 H A W mem run (κs .0) (κs .1 .0) (qs .0) (qs .1 .0) (a .0 .ptr .0) (a .0 .ptr .1) (a .0 .name) (a .0 .now) (a .1 .0) (a .1 .1 .0) (a .1 .1 .1 .0) (are .1 .1 .0 .1) (are .1 .1 .1 .0 .1) in-range 𝓣 fm known (are .0 .0 .1) (are .1 .0)))
-
-fill-meets : {M : Type 1} (𝓤 : URA M) (H : Heap 𝓤) (A : Atoms 𝓤) → Given 𝓤 H A → (mem : Memory → SProp 𝓤) (run : Routine → Fun 𝓤) (𝓣 : Tables 𝓤 H) → Triple 𝓤 (𝓣 .C #telling·field-at) (FieldAt 𝓤 H A mem run)
-    → Meets 𝓤 H A fill.signature (WpFn 𝓤 H (𝓣 .C) (𝓣 .Λ) code.function) (fill.spec 𝓤 H A mem run)
-fill-meets 𝓤 H A W mem run 𝓣 known =
-    walk-meets 𝓤 H A fill.ended stayed W (goes-slice 𝓤 H A W 2 0 tt (plain (λ _. T.the-row)), (goes-none-ref 𝓤 H A W 2 (1 ∷ []) tt (plain (λ _. Words)) yes, (goes-none 𝓤 H A W 2 (λ _. usize) yes (λ κs x f. refl), (goes-none 𝓤 H A W 2 (λ _. usize) yes (λ κs x f. refl), tt)))) (fill.clauses 𝓤 H A mem run)
-    (WpFn 𝓤 H (𝓣 .C) (𝓣 .Λ) code.function) (WpFn-mono 𝓤 H (W .laws) 𝓣 code.function) (fill-walks 𝓤 H A W mem run 𝓣 (fmOf 𝓤 H (W .laws) 𝓣) known)
-
 pub fill-spec : {M : Type 1} → stated.statement M
-unfolding code.routine tablesOf
-fill-spec 𝓤 H 𝓜 𝓖 𝓡 =
-    entered 𝓤 H (tripleOf 𝓤 H (𝓖 .A) fill.signature (fill.spec 𝓤 H (𝓖 .A) (𝓜 .mem) (𝓡 .run)))
-    (tables 𝓤 H 𝓜 𝓡 code.env .C) (tables 𝓤 H 𝓜 𝓡 code.env .Λ) #building·fill code.function (code.unfolded 𝓤 H 𝓜 𝓡)
-    (fill-meets 𝓤 H (𝓖 .A) (givenOf 𝓤 H 𝓜 𝓖) (𝓜 .mem) (𝓡 .run) (tablesOf 𝓤 H 𝓜 (tables 𝓤 H 𝓜 𝓡 code.env))
-    (cited 𝓤 H (FieldAt 𝓤 H (𝓖 .A) (𝓜 .mem) (𝓡 .run)) 𝓜 𝓡 code.env #telling·field-at callee-def.routine code.calls-telling·field-at (callee-thm.met 𝓤 H 𝓜 𝓖 𝓡)))
+unfolding code.routine
+fill-spec {M} 𝓤 H 𝓜 𝓖 𝓡 =
+    stands #telling·field-at code.function callee.ended (λ M 𝓤 H. callee.clauses 𝓤 H) fill.ended (λ M 𝓤 H. fill.clauses 𝓤 H) stayed (λ M 𝓤 H A W. (goes-slice 𝓤 H A W 2 0 tt (plain (λ _. T.the-row)), (goes-none-ref 𝓤 H A W 2 (1 ∷ []) tt (plain (λ _. Words)) yes, (goes-none 𝓤 H A W 2 (λ _. usize) yes (λ κs x f. refl), (goes-none 𝓤 H A W 2 (λ _. usize) yes (λ κs x f. refl), tt)))))
+    (λ κs. (slice-vals, (ptr-vals, (uint-vals w64, (uint-vals w64, tt))))) (λ κs. (mut-slice-tells (named 0) (κs .0) T.the-row, (shr-tells (named 1) (κs .1 .0) Words, (uint-tells w64, (uint-tells w64, tt)))))
+    (λ M 𝓤 H A W mem run 𝓣 fm known κs qs bounds a g are. needs 𝓤 (a .1 .1 .1 .0 ≤ length (now (a .0))) _ (λ in-range. walk 𝓤 H A W mem run (κs .0) (κs .1 .0) (qs .0) (qs .1 .0) (a .0 .ptr .0) (a .0 .ptr .1) (a .0 .name) (a .0 .now) (a .1 .0) (a .1 .1 .0) (a .1 .1 .1 .0) (are .1 .1 .0 .1) (are .1 .1 .1 .0 .1) in-range 𝓣 fm known (are .0 .0 .1) (are .1 .0)))
+    M 𝓤 H 𝓜 𝓖 𝓡 code.env #building·fill (code.unfolded 𝓤 H 𝓜 𝓡) callee-def.routine code.calls-telling·field-at (callee-thm.met 𝓤 H 𝓜 𝓖 𝓡)

@@ -1,10 +1,10 @@
 -- `lay` meets its contract: a walk of its MIR, by hand. The borrow of the words is opened once, before the loop, and closed once, after it. A turn looks into the
 -- records, copies one out, and lends the words to `put_field`, of which only its contract is known.
 use Rattle.gateway.proofs.Walk.{_≡_, refl, sym, _∙_, ℕ, suc, _+_, _*_, _<_, _≤_, _^_, add-one, arith, Bool, List, [], _∷_, length, getD, lit<, lt-ltb, le-ltb, URA, fullShare, Ty, loop, named, erased, mut, imm, w64, tyInt, tyBool, tyPtr, tyUnit, tyRef, Val, vbool, vint, vptr, vunit, SProp, ent, emp, id⊢, Lft, GName, Share, Fml, ftrue, fex, fsep, fat, froom, fdies, flft, flent, fobs, fauth, fbor, fobor, fshr-bor}
-use Rattle.gateway.proofs.Walk.{Memory, Routine, Heap, Out, Env, afterSeq, afterBlock, afterTurn, Calls, Loops, Wp, atReturn, WpFn, Tables, Atoms, Fun, givenOf, tables, tablesOf, FmC, fmOf, WpFn-mono, Given, Item, ‵, raw, _⊛_, ⋆, some, later, anyQ, atRet, _$_, _∵_, !, qed, by, move, keep, drop, use1, use2, use3, split, join, pick, rewrite, fsplit, fsplit3, fjoin, fjoin3, fpick, feqI, suffices, frame, await, done, whole, sub, look-in, look, look-raw, store, init, forget, stop, hop, fld, from, load, lit, unit-lit, of-opd, addr, bin, and-then, no-more, assigns, assigns-last, land, stays, leaves-loop, returns, enter, alloc1, alloc0, params1, pass1, pass0, free1, free0, exec, Body, arr-parts, lft-new, lft-end}
-use Rattle.gateway.proofs.Walk.{owns, Is, shows, pointee, mem, cellAt, partAt, shares, uint-makes, uint-vals, uint-tells, nothing-lawful, usize, unit, RefT, MutRef, now, ptr-vals, mut-tells, sliceTy, sliceVal, ShrSlice, Room, slice-vals, shr-slice-tells, shr-slice-copy, shr-slice-lawful, lends-ref, ref-back, place-is, elem-out, elem-back, looks-slice, shuts-slice, plain, opens, closes, owned, peeks, heard, nothing, Contract, Triple, calls-at, onEntry, Meets, tripleOf, entered, cited, says, needs, Stays, stay-ref, stay-none-slice, stay-none, walkOf, goes-ref, goes-none-slice, goes-none, Walks, ends-at, walked, walk-meets, yes}
+use Rattle.gateway.proofs.Walk.{Memory, Routine, Heap, Out, Env, afterSeq, afterBlock, afterTurn, Calls, Loops, Wp, atReturn, WpFn, Tables, Atoms, Fun, FmC, Given, Item, ‵, raw, _⊛_, ⋆, some, later, anyQ, atRet, _$_, _∵_, !, qed, by, move, keep, drop, use1, use2, use3, split, join, pick, rewrite, fsplit, fsplit3, fjoin, fjoin3, fpick, feqI, suffices, frame, await, done, whole, sub, look-in, look, look-raw, store, init, forget, stop, hop, fld, from, load, lit, unit-lit, of-opd, addr, bin, and-then, no-more, assigns, assigns-last, land, stays, leaves-loop, returns, enter, alloc1, alloc0, params1, pass1, pass0, free1, free0, exec, Body, arr-parts, lft-new, lft-end}
+use Rattle.gateway.proofs.Walk.{owns, Is, shows, pointee, mem, cellAt, partAt, shares, uint-makes, uint-vals, uint-tells, nothing-lawful, usize, unit, RefT, MutRef, now, ptr-vals, mut-tells, sliceTy, sliceVal, ShrSlice, Room, slice-vals, shr-slice-tells, shr-slice-copy, shr-slice-lawful, lends-ref, ref-back, place-is, elem-out, elem-back, looks-slice, shuts-slice, plain, opens, closes, owned, peeks, heard, nothing, Contract, Triple, calls-at, onEntry, tripleOf, says, needs, Stays, stay-ref, stay-none-slice, stay-none, walkOf, goes-ref, goes-none-slice, goes-none, ends-at, yes}
 use denote.Struct.Laws as LL
-use Rattle.gateway.proofs.Calling.{asked, answered}
+use Rattle.gateway.proofs.Calling.{asked, answered, stands}
 use Rattle.gateway.proofs.Counting.{counted}
 use Rattle.gateway.proofs.Words.{Words, packed, unpacked}
 use Rattle.records.specs.Records.{onRecords, replaced}
@@ -184,23 +184,10 @@ module _ {M : Type 1} (𝓤 : URA M) (H : Heap 𝓤) (A : Atoms 𝓤) (W : Given
       move ! (4 ∷ 5 ∷ 2 ∷ []) $ opens ! tt Words {h = cs} wb wo (λ us. use2 W (‵ (partAt Words fullShare cs wb wo)) (packed 𝓤 H A W cs wb wo us) $
       keep ! (0 ∷ 4 ∷ 6 ∷ 5 ∷ 19 ∷ 17 ∷ 15 ∷ 13 ∷ 11 ∷ 9 ∷ 7 ∷ 25 ∷ 23 ∷ 21 ∷ 27 ∷ 1 ∷ 2 ∷ 3 ∷ 28 ∷ 26 ∷ 24 ∷ 22 ∷ 20 ∷ 18 ∷ 16 ∷ 14 ∷ 12 ∷ 10 ∷ 8 ∷ []) $ by ! (loops 𝓣 fm known room l₀ l₁ l₂ l₃ l₄ l₅ l₆ l₇ l₈ l₉ l₁₀)))))))))))))
 
-module _ {M : Type 1} (𝓤 : URA M) (H : Heap 𝓤) (A : Atoms 𝓤) (W : Given 𝓤 H A) (mem′ : Memory → SProp 𝓤) (run : Routine → Fun 𝓤) where
-  lay-walks : (𝓣 : Tables 𝓤 H) → FmC 𝓤 H (W .laws) (𝓣 .C) → Triple 𝓤 (𝓣 .C #telling·put-field) (Put 𝓤 H A mem′ run) → Walks 𝓤 H A lay.ended stayed (WpFn 𝓤 H (𝓣 .C) (𝓣 .Λ) code.function) (lay.clauses 𝓤 H A mem′ run)
-  lay-walks 𝓣 fm known = walked 𝓤 H A lay.ended stayed (lay.clauses 𝓤 H A mem′ run) (WpFn 𝓤 H (𝓣 .C) (𝓣 .Λ) code.function)
-      (λ κs. (slice-vals, (uint-vals w64, (ptr-vals, tt)))) (λ κs. (shr-slice-tells (named 0) (κs .0) T.the-row, (uint-tells w64, (mut-tells (named 1) (κs .1 .0) Words, tt))))
-      (λ κs qs bounds a g are. needs 𝓤 (a .1 .0 ≤ length (now (a .0))) _ (λ in-range.
-      walk 𝓤 H A W mem′ run (κs .0) (κs .1 .0) (qs .0) (qs .1 .0) (a .0 .ptr .0) (a .0 .ptr .1) (a .0 .name) (a .0 .now) (a .1 .0) (are .1 .0 .1) (a .1 .1 .0 .ptr .0) (a .1 .1 .0 .ptr .1) (a .1 .1 .0 .name) (a .1 .1 .0 .now) in-range 𝓣 fm known (are .0 .0 .1) (are .0)))
-
-lay-meets : {M : Type 1} (𝓤 : URA M) (H : Heap 𝓤) (A : Atoms 𝓤) → Given 𝓤 H A → (mem′ : Memory → SProp 𝓤) (run : Routine → Fun 𝓤) (𝓣 : Tables 𝓤 H) → Triple 𝓤 (𝓣 .C #telling·put-field) (Put 𝓤 H A mem′ run)
-    → Meets 𝓤 H A lay.signature (WpFn 𝓤 H (𝓣 .C) (𝓣 .Λ) code.function) (lay.spec 𝓤 H A mem′ run)
-lay-meets 𝓤 H A W mem′ run 𝓣 known =
-    walk-meets 𝓤 H A lay.ended stayed W (goes-none-slice 𝓤 H A W 2 (0 ∷ []) tt (plain (λ _. T.the-row)) yes, (goes-none 𝓤 H A W 2 (λ _. usize) yes (λ κs x f. refl), (goes-ref 𝓤 H A W 2 1 tt (plain (λ _. Words)), tt))) (lay.clauses 𝓤 H A mem′ run)
-    (WpFn 𝓤 H (𝓣 .C) (𝓣 .Λ) code.function) (WpFn-mono 𝓤 H (W .laws) 𝓣 code.function) (lay-walks 𝓤 H A W mem′ run 𝓣 (fmOf 𝓤 H (W .laws) 𝓣) known)
-
 pub lay-spec : {M : Type 1} → stated.statement M
-unfolding code.routine tablesOf
-lay-spec 𝓤 H 𝓜 𝓖 𝓡 =
-    entered 𝓤 H (tripleOf 𝓤 H (𝓖 .A) lay.signature (lay.spec 𝓤 H (𝓖 .A) (𝓜 .mem) (𝓡 .run)))
-    (tables 𝓤 H 𝓜 𝓡 code.env .C) (tables 𝓤 H 𝓜 𝓡 code.env .Λ) #taking-over·lay code.function (code.unfolded 𝓤 H 𝓜 𝓡)
-    (lay-meets 𝓤 H (𝓖 .A) (givenOf 𝓤 H 𝓜 𝓖) (𝓜 .mem) (𝓡 .run) (tablesOf 𝓤 H 𝓜 (tables 𝓤 H 𝓜 𝓡 code.env))
-    (cited 𝓤 H (Put 𝓤 H (𝓖 .A) (𝓜 .mem) (𝓡 .run)) 𝓜 𝓡 code.env #telling·put-field callee-def.routine code.calls-telling·put-field (callee-thm.met 𝓤 H 𝓜 𝓖 𝓡)))
+unfolding code.routine
+lay-spec {M} 𝓤 H 𝓜 𝓖 𝓡 =
+    stands #telling·put-field code.function callee.ended (λ M 𝓤 H. callee.clauses 𝓤 H) lay.ended (λ M 𝓤 H. lay.clauses 𝓤 H) stayed (λ M 𝓤 H A W. (goes-none-slice 𝓤 H A W 2 (0 ∷ []) tt (plain (λ _. T.the-row)) yes, (goes-none 𝓤 H A W 2 (λ _. usize) yes (λ κs x f. refl), (goes-ref 𝓤 H A W 2 1 tt (plain (λ _. Words)), tt))))
+    (λ κs. (slice-vals, (uint-vals w64, (ptr-vals, tt)))) (λ κs. (shr-slice-tells (named 0) (κs .0) T.the-row, (uint-tells w64, (mut-tells (named 1) (κs .1 .0) Words, tt))))
+    (λ M 𝓤 H A W mem run 𝓣 fm known κs qs bounds a g are. needs 𝓤 (a .1 .0 ≤ length (now (a .0))) _ (λ in-range. walk 𝓤 H A W mem run (κs .0) (κs .1 .0) (qs .0) (qs .1 .0) (a .0 .ptr .0) (a .0 .ptr .1) (a .0 .name) (a .0 .now) (a .1 .0) (are .1 .0 .1) (a .1 .1 .0 .ptr .0) (a .1 .1 .0 .ptr .1) (a .1 .1 .0 .name) (a .1 .1 .0 .now) in-range 𝓣 fm known (are .0 .0 .1) (are .0)))
+    M 𝓤 H 𝓜 𝓖 𝓡 code.env #taking-over·lay (code.unfolded 𝓤 H 𝓜 𝓡) callee-def.routine code.calls-telling·put-field (callee-thm.met 𝓤 H 𝓜 𝓖 𝓡)
