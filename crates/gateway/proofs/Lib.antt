@@ -1,1 +1,6 @@
+pub mod Calling
+pub mod Counting
+pub mod Framer
 pub mod NoFreedom
+pub mod Walk
+pub mod Words
