@@ -11,7 +11,7 @@ use Rattle.tagvalue.specs.declared.Cursor.{Cursor}
 use Rattle.tagvalue.specs.declared.Field.{Field}
 use Rattle.build_config.specs.declared.Config.{Config}
 use Rattle.dictionary_layout_rules.specs.declared.Level.{Level}
-use Rattle.records.specs.Records.{recordsOf, between}
+use Rattle.records.specs.Records.{recordsOf, between, stride}
 use Rattle.records.specs.WordLaws.{records-length}
 use Rattle.records.specs.RecordLaws.{between-parts}
 use Rattle.records.specs.declared.Record.{Record}
@@ -63,7 +63,7 @@ front-parts rs other from place h e =
     front-is from rs ∙ sym (take-take from place rs h) ∙ ap (take from) e ∙ take-take from place other h ∙ sym (front-is from other)
 
 module _ (message : List ℕ) (config : Config) (table : List ℕ) (known : ℕ → Bool) (inner : Level) (tag : ℕ) (cursor : Cursor) (room : ℕ) (entry mid exit : List ℕ) (from count : ℕ) (r : Record) (opening : Opening) (opened : Opened entry mid from count r opening)
-    (kept : length mid ≡ length entry) (last : length exit ≡ length mid) (fits : opening .records + room ≤ length mid / 6) where
+    (kept : length mid ≡ length entry) (last : length exit ≡ length mid) (fits : opening .records + room ≤ length mid / stride) where
   abbrev pub start : Progress
   start = record { room = room; records = opening .records; place = opening .place }
 
@@ -117,9 +117,9 @@ module _ (message : List ℕ) (config : Config) (table : List ℕ) (known : ℕ 
     pub alone-is : alone ≡ ended f (fieldsFrom (config .mode) message (f .next)) (p .room) (partOf (opening .place) (p .place) exit)
     pub stores : partOf from (p .records) exit ≡ storedRun r (partOf (opening .place) (p .place) exit) (partOf from count entry)
     pub before-stays : partOf 0 from exit ≡ partOf 0 from entry
-    pub fits-in : p .records + p .room < length entry / 6
+    pub fits-in : p .records + p .room < length entry / stride
     pub starts-at : from ≤ p .records
-    pub ends-in : p .place ≤ length exit / 6
+    pub ends-in : p .place ≤ length exit / stride
     pub inside : Inside message f
     pub falls : p .room < room
 
@@ -188,7 +188,7 @@ module _ (message : List ℕ) (config : Config) (table : List ℕ) (known : ℕ 
     group-read : GroupEnded f p
     group-read = group-ended short f p (ap (λ (k : Reading). toldBy (config .mode) message k exit) (sym q) ∙ told)
 
-    pub run-fits : p .place ≤ length exit / 6
+    pub run-fits : p .place ≤ length exit / stride
     run-fits = group-read .ends-in
 
     pub answers-lack : (count-is : Record) → r ≡ count-is → (lack : Lack) → lack ≡ lackOfRun table (record { level = inner; tag = tag; depth = 1 }) (between (opening .place) (p .place) (recordsOf exit)) → (wanted group : ℕ) → lack ≡ Missing wanted group →

@@ -9,7 +9,7 @@ use lib.Seq.{drop-drop, take-add, take-at, drop-at, length-take-le}
 use lib.Dec.{eqb}
 use borrow.Author.Tests.{eq-eqb, ne-eqb}
 use Rattle.tagvalue.specs.Choice.{pick}
-use Rattle.records.specs.Records.{recordsOf, onRecords, blank, recordAt, between, heldFrom, storedBetween, removed, stored}
+use Rattle.records.specs.Records.{recordsOf, onRecords, blank, recordAt, between, heldFrom, storedBetween, removed, stored, stride}
 use Rattle.records.specs.WordLaws.{records-length, records-on}
 use Rattle.records.specs.RecordLaws.{between-on, between-past, between-end, between-parts, removed-parts, stored-held, stored-new}
 use Rattle.records.specs.declared.Record.{Record}
@@ -65,7 +65,7 @@ shut entry exit place end count a m b rest behind was is p e c ends =
     }
 
 -- the run goes, and what stands behind it moves up
-pub dropped : (words : List ℕ) (place end count : ℕ) → RunEnd words place count end → count ≤ length words / 6 → Dropped words (onRecords (removed count place (end - place)) words) place count (count - (end - place))
+pub dropped : (words : List ℕ) (place end count : ℕ) → RunEnd words place count end → count ≤ length words / stride → Dropped words (onRecords (removed count place (end - place)) words) place count (count - (end - place))
 dropped words place end count ends l =
     let h = ends .from in
     let g = ends .to in
@@ -121,7 +121,7 @@ run-new r (x ∷ rs) run at e =
 
 module _ (entry stores exit : List ℕ) (from count : ℕ) (r : Record) where
   -- a count that is held keeps its place, and its old run goes
-  pub open-held : (i after : ℕ) → from ≤ count → count < length entry / 6 → length stores ≡ length entry → length exit ≡ length entry → heldFrom from (r .depth) (r .tag) (between from count (recordsOf entry)) ≡ At i → stores ≡ onRecords (storedBetween count from count r) entry → Dropped stores exit (i + 1) count after → Opened entry exit from count r (record { records = after; place = i + 1 })
+  pub open-held : (i after : ℕ) → from ≤ count → count < length entry / stride → length stores ≡ length entry → length exit ≡ length entry → heldFrom from (r .depth) (r .tag) (between from count (recordsOf entry)) ≡ At i → stores ≡ onRecords (storedBetween count from count r) entry → Dropped stores exit (i + 1) count after → Opened entry exit from count r (record { records = after; place = i + 1 })
   unfolding partOf
   open-held i after h l same last e is gone =
       let kept : Kept entry stores from count r count = rw is (keep-held entry from count r h l i e) in
@@ -154,7 +154,7 @@ module _ (entry stores exit : List ℕ) (from count : ℕ) (r : Record) where
       }
 
   -- a new count comes last
-  pub open-new : from ≤ count → count < length entry / 6 → heldFrom from (r .depth) (r .tag) (between from count (recordsOf entry)) ≡ Nowhere → exit ≡ onRecords (storedBetween count from count r) entry → Opened entry exit from count r (record { records = count + 1; place = count + 1 })
+  pub open-new : from ≤ count → count < length entry / stride → heldFrom from (r .depth) (r .tag) (between from count (recordsOf entry)) ≡ Nowhere → exit ≡ onRecords (storedBetween count from count r) entry → Opened entry exit from count r (record { records = count + 1; place = count + 1 })
   unfolding partOf
   open-new h l e is = let kept : Kept entry exit from count r (count + 1) = rw is (keep-new entry from count r h l e) in
       record {

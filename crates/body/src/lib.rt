@@ -20,7 +20,7 @@ ghost use Rattle.dictionary_rules.specs.Index.{tagAt};
 ghost use Prim.Native.Nat.{suc, _+_, _≤_, _<_, _/_, _^_};
 ghost use lib.ListN.{length};
 ghost use Rattle.tagvalue.specs.Fields.{field, fieldsFrom, Inside};
-ghost use Rattle.records.specs.Records.{stored};
+ghost use Rattle.records.specs.Records.{stored, stride};
 ghost use Rattle.groups.specs.Reading.{tableRules, answerOf};
 ghost use Rattle.required.specs.Checking.{tableDemands};
 ghost use Rattle.parts.specs.Parts.{recordOf, partOf, partTold, Stays};
@@ -65,7 +65,7 @@ fn read_plain(
     from: usize,
     progress: Progress,
 ) -> PartRead
-    requires { ⌜ (length (now message) < 2 ^ 32) × (Inside (now message) plain) × (from ≤ progress .records) × (progress .records + progress .room < length (now words) / 6) ⌝ }
+    requires { ⌜ (length (now message) < 2 ^ 32) × (Inside (now message) plain) × (from ≤ progress .records) × (progress .records + progress .room < length (now words) / stride) ⌝ }
     ensures { λ r. ⌜ partTold (config .mode) (now (message .entry)) from r (now (words .exit)) ≡ nextFrom (fieldsFrom (config .mode) (now (message .entry)) (plain .next)) (progress .room) (stored (recordOf 2 plain) (partOf from (progress .records) (now (words .entry)))) ⌝ }
     ensures { λ r. ⌜ Stays (now (message .entry)) (now (words .entry)) (now (words .exit)) from (progress .room) r ⌝ }
 {
@@ -100,7 +100,7 @@ fn answer_of(refusal: Refusal) -> Answer
 
 // Where the run ends that starts at a place.
 fn run_end(words: &[u32], place: usize, records: usize) -> usize
-    requires { ⌜ (place ≤ records) × (records ≤ length (now words) / 6) ⌝ }
+    requires { ⌜ (place ≤ records) × (records ≤ length (now words) / stride) ⌝ }
     ensures { λ r. ⌜ RunEnd (now (words .entry)) place records r ⌝ }
 {
     let mut end = place;
@@ -116,7 +116,7 @@ fn run_end(words: &[u32], place: usize, records: usize) -> usize
 
 // Takes the run out that starts at a place; answers how many records are left.
 fn drop_run(words: &mut [u32], place: usize, records: usize) -> usize
-    requires { ⌜ (place ≤ records) × (records ≤ length (now words) / 6) ⌝ }
+    requires { ⌜ (place ≤ records) × (records ≤ length (now words) / stride) ⌝ }
     ensures { λ r. ⌜ Dropped (now (words .entry)) (now (words .exit)) place records r ⌝ }
 {
     let gone = run_end(words, place, records) - place;
@@ -126,7 +126,7 @@ fn drop_run(words: &mut [u32], place: usize, records: usize) -> usize
 
 // Stores a count in the last map, whose records start at an index, and makes way for its run. "A second run replaces the first."
 fn open_run(words: &mut [u32], from: usize, records: usize, stored: Record) -> Opening
-    requires { ⌜ (from ≤ records) × (records < length (now words) / 6) ⌝ }
+    requires { ⌜ (from ≤ records) × (records < length (now words) / stride) ⌝ }
     ensures { λ r. ⌜ Opened (now (words .entry)) (now (words .exit)) from records stored r ⌝ }
 {
     match records::store(words, records, from, records, stored) {
@@ -156,7 +156,7 @@ fn read_group(
     from: usize,
     progress: Progress,
 ) -> PartRead
-    requires { ⌜ (length (now message) < 2 ^ 32) × (Inside (now message) count) × (from ≤ progress .records) × (progress .records + progress .room < length (now words) / 6) × (length (now words) < 2 ^ 32) ⌝ }
+    requires { ⌜ (length (now message) < 2 ^ 32) × (Inside (now message) count) × (from ≤ progress .records) × (progress .records + progress .room < length (now words) / stride) × (length (now words) < 2 ^ 32) ⌝ }
     ensures { λ r. ⌜ partTold (config .mode) (now (message .entry)) from r (now (words .exit)) ≡ withRun (recordOf 2 count) (partOf from (progress .records) (now (words .entry))) (runFrom (tableRules config (now (table .entry)) (tagAt (now (index .entry)))) (tableDemands (now (table .entry))) inner (count .tag) (fieldsFrom (config .mode) (now (message .entry)) (count .next)) (progress .room)) ⌝ }
     ensures { λ r. ⌜ Stays (now (message .entry)) (now (words .entry)) (now (words .exit)) from (progress .room) r ⌝ }
 {
@@ -218,7 +218,7 @@ pub fn read_body(
     from: usize,
     progress: Progress,
 ) -> PartRead
-    requires { ⌜ (length (now message) < 2 ^ 32) × (Inside (now message) first) × (from ≤ progress .records) × (progress .records + progress .room < length (now words) / 6) × (length (now words) < 2 ^ 32) ⌝ }
+    requires { ⌜ (length (now message) < 2 ^ 32) × (Inside (now message) first) × (from ≤ progress .records) × (progress .records + progress .room < length (now words) / stride) × (length (now words) < 2 ^ 32) ⌝ }
     ensures { λ r. ⌜ partTold (config .mode) (now (message .entry)) from r (now (words .exit)) ≡ bodyFrom (bodyOf (tableRules config (now (table .entry)) (tagAt (now (index .entry)))) (tableDemands (now (table .entry))) (now («trailer_tags» .entry)) level) (field first (fieldsFrom (config .mode) (now (message .entry)) (first .next))) (suc (progress .room)) (partOf from (progress .records) (now (words .entry))) ⌝ }
     ensures { λ r. ⌜ Stays (now (message .entry)) (now (words .entry)) (now (words .exit)) from (suc (progress .room)) r ⌝ }
 {

@@ -10,7 +10,7 @@ use Rattle.build_config.specs.declared.Config.{Config}
 use Rattle.dictionary_rules.specs.Check.{checkOf, numberOf as numberOfCheck}
 use Rattle.dictionary_rules.specs.declared.Checked.{Checked}
 use Rattle.dictionary_meaning_rules.specs.Meaning.{dictionaryOf}
-use Rattle.records.specs.Records.{laid}
+use Rattle.records.specs.Records.{laid, recordWords}
 use Rattle.records.specs.declared.Record.{Record}
 use Rattle.build_answers.specs.declared.Answer.{Answer}
 use Rattle.build_answers.specs.declared.Answer.the-variants.{TooLong as MessageTooLong, InvalidSeparator, TooFewRecords, BadDictionary}
@@ -29,7 +29,7 @@ pub record BuildOutcome : Type 0 where
 
 -- "all lent past them are zero": the words of the records, and zeros up to 1,025 records
 unfoldable pub wordsWith : List Record → List ℕ
-wordsWith records = laid records ++ replicate (6150 - length (laid records)) 0
+wordsWith records = laid records ++ replicate (recordWords - length (laid records)) 0
 
 -- 20, 22 and 23 leave the records as they were
 unfoldable pub untouched : Answer → List ℕ → BuildOutcome

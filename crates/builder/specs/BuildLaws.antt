@@ -15,7 +15,7 @@ use Rattle.dictionary_meaning_rules.specs.PlainTags.{listing, plainTags}
 use Rattle.dictionary_meaning_rules.specs.TagsMeant.{header-listed, trailer-listed}
 use Rattle.dictionary_meaning_rules.specs.declared.TagList.{TagList}
 use Rattle.dictionary_meaning_rules.specs.declared.TagList.the-variants.{Listed, Unlisted}
-use Rattle.records.specs.Records.{recordsOf, leftover, laid, between}
+use Rattle.records.specs.Records.{recordsOf, leftover, laid, between, recordWords, recordRoom, stride}
 use Rattle.records.specs.WordLaws.{words-whole, laid-append, laid-length, records-length}
 use Rattle.records.specs.declared.Record.{Record}
 use Rattle.build_answers.specs.declared.Answer.{Answer}
@@ -57,22 +57,22 @@ blank-step words n i l h =
 pub blank-start : (words : List ℕ) (n : ℕ) → words ≡ take n words ++ (replicate (n - n) 0 ++ drop n words)
 blank-start words n = let none : n - n ≡ 0 = omega arith in rw none (sym (take-append-drop n words))
 
-pub blank-end : (words : List ℕ) (n i : ℕ) → length words ≡ 6150 → i ≡ 6150 → take n words ++ (replicate (i - n) 0 ++ drop i words) ≡ take n words ++ replicate (6150 - n) 0
-blank-end words n i size e = ap (λ (l : List ℕ). take n words ++ (replicate (i - n) 0 ++ l)) (drop-of-length-le words {i = i} (omega arith)) ∙ rw e (ap (λ (l : List ℕ). take n words ++ l) (append-nil (replicate (6150 - n) 0)))
+pub blank-end : (words : List ℕ) (n i : ℕ) → length words ≡ recordWords → i ≡ recordWords → take n words ++ (replicate (i - n) 0 ++ drop i words) ≡ take n words ++ replicate (recordWords - n) 0
+blank-end words n i size e = ap (λ (l : List ℕ). take n words ++ (replicate (i - n) 0 ++ l)) (drop-of-length-le words {i = i} (omega arith)) ∙ rw e (ap (λ (l : List ℕ). take n words ++ l) (append-nil (replicate (recordWords - n) 0)))
 
 -- the words of so many records, and zeros behind them
-pub blanked : (words : List ℕ) (n : ℕ) → length words ≡ 6150 → n ≤ 1025 → take (6 * n) words ++ replicate (6150 - 6 * n) 0 ≡ wordsWith (partOf 0 n words)
+pub blanked : (words : List ℕ) (n : ℕ) → length words ≡ recordWords → n ≤ recordRoom → take (stride * n) words ++ replicate (recordWords - stride * n) 0 ≡ wordsWith (partOf 0 n words)
 unfolding wordsWith partOf
 blanked words n size few =
     let rs : List Record = recordsOf words in
     let count : length (between 0 n rs) ≡ n = part-length rs 0 n (omega arith) (omega (arith, records-length words)) ∙ omega arith in
     let whole : words ≡ laid (between 0 n rs) ++ (laid (drop n rs) ++ leftover words) =
     sym (words-whole words) ∙ ap (λ (l : List Record). laid l ++ leftover words) (parted rs 0 n (omega arith)) ∙ ap (λ (l : List ℕ). l ++ leftover words) (laid-append (between 0 n rs) (drop n rs)) ∙ append-assoc (laid (between 0 n rs)) (laid (drop n rs)) (leftover words) in
-    let long : length (laid (between 0 n rs)) ≡ 6 * n = laid-length (between 0 n rs) ∙ omega (arith, count) in
-    let front : take (6 * n) words ≡ laid (between 0 n rs) = ap (take (6 * n)) whole ∙ take-at (laid (between 0 n rs)) (laid (drop n rs) ++ leftover words) (6 * n) long in
+    let long : length (laid (between 0 n rs)) ≡ stride * n = laid-length (between 0 n rs) ∙ omega (arith, count) in
+    let front : take (stride * n) words ≡ laid (between 0 n rs) = ap (take (stride * n)) whole ∙ take-at (laid (between 0 n rs)) (laid (drop n rs) ++ leftover words) (stride * n) long in
     rw (front, long)
 
-pub part-count : (words : List ℕ) (n : ℕ) → length words ≡ 6150 → n ≤ 1025 → length (partOf 0 n words) ≡ n
+pub part-count : (words : List ℕ) (n : ℕ) → length words ≡ recordWords → n ≤ recordRoom → length (partOf 0 n words) ≡ n
 unfolding partOf
 part-count words n size few = part-length (recordsOf words) 0 n (omega arith) (omega (arith, records-length words)) ∙ omega arith
 

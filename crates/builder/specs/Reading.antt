@@ -5,6 +5,7 @@ use mathlib.Core.List.{List}
 use mathlib.Core.Bool.{Bool, true, false}
 use lib.ListN.{length}
 use lib.Dec.{eqb, leb}
+use Rattle.records.specs.Records.{stride}
 use Rattle.tagvalue.specs.Choice.{pick}
 use Rattle.tagvalue.specs.Fields.{fieldsFrom, Inside}
 use Rattle.tagvalue.specs.declared.Mode.{Mode}
@@ -50,7 +51,7 @@ finishCounts (RefusedWhole answer) = 0
 pub record HeaderEnds (message words : List ℕ) (h : Headed) : Type 0 where
   pub stops : Inside message (h .stop)
   pub sums : Inside message (h .checksum)
-  pub fits : h .progress .records + h .progress .room < length words / 6
+  pub fits : h .progress .records + h .progress .room < length words / stride
   pub types : msgTypeRecord (partOf 0 (h .progress .records) words) .place + msgTypeRecord (partOf 0 (h .progress .records) words) .length ≤ length message
 
 pub record Begins (message words : List ℕ) (r : Begun) : Type 0 where

@@ -8,6 +8,7 @@ use native.Mathlib.Omega.{arith}
 use lib.ListN.{length, take, replicate}
 use lib.Dec.{eqb, leb, ltb}
 use borrow.Author.Tests.{le-ltb, lt-ltb}
+use Rattle.records.specs.Records.{recordWords, recordRoom, stride}
 use Rattle.tagvalue.specs.Choice.{pick}
 use Rattle.tagvalue.specs.Separator.{isRefusedSeparator}
 use Rattle.tagvalue.specs.Fields.{fieldsFrom}
@@ -134,6 +135,6 @@ module _ (message : List ℕ) (config : Config) (d : List ℕ) (lent : ℕ) (wor
       build-reads h = rw (good, le-ltb lent 1024 enough, le-ltb 8192 (length message) h)
 
 -- the records that were read, and blank ones behind them
-pub shows-read : (lent : ℕ) (answer : Answer) (stop : Stop) (n : ℕ) (words : List ℕ) → length words ≡ 6150 → n ≤ 1025 → (out : Outcome) → readTold (record { answer = answer; stop = stop; records = n }) words ≡ out → builtTold (record { answer = answer; stop = stop; records = n; written = lent }) (take (6 * n) words ++ replicate (6150 - 6 * n) 0) ≡ shown lent out
+pub shows-read : (lent : ℕ) (answer : Answer) (stop : Stop) (n : ℕ) (words : List ℕ) → length words ≡ recordWords → n ≤ recordRoom → (out : Outcome) → readTold (record { answer = answer; stop = stop; records = n }) words ≡ out → builtTold (record { answer = answer; stop = stop; records = n; written = lent }) (take (stride * n) words ++ replicate (recordWords - stride * n) 0) ≡ shown lent out
 unfolding readTold builtTold shown
 shows-read lent answer stop n words size few out e = rw (← e, part-count words n size few, blanked words n size few)

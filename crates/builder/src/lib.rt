@@ -18,6 +18,7 @@ ghost use mathlib.Core.Path.{_≡_};
 ghost use mathlib.Core.List.{[], _++_};
 ghost use Prim.Native.Nat.{suc, _+_, _-_, _*_, _≤_, _<_, _/_, _^_};
 ghost use lib.ListN.{length, take, replicate};
+ghost use Rattle.records.specs.Records.{recordWords, recordRoom, stride};
 ghost use Rattle.dictionary_rules.specs.Index.{tagAt};
 ghost use Rattle.tagvalue.specs.Fields.{field, fieldsFrom, Inside};
 ghost use Rattle.groups.specs.Reading.{tableRules};
@@ -86,9 +87,9 @@ fn finish(
     headed: Headed,
     words: &mut [u32],
 ) -> Finished
-    requires { ⌜ (length (now message) < 2 ^ 32) × (Inside (now message) (headed .stop)) × (Inside (now message) (headed .checksum)) × (headed .progress .records + headed .progress .room < length (now words) / 6) × (length (now words) < 2 ^ 32) ⌝ }
+    requires { ⌜ (length (now message) < 2 ^ 32) × (Inside (now message) (headed .stop)) × (Inside (now message) (headed .checksum)) × (headed .progress .records + headed .progress .room < length (now words) / stride) × (length (now words) < 2 ^ 32) ⌝ }
     ensures { λ r. ⌜ finishTold (headed .progress .records) r (now (words .exit)) ≡ afterBody (partOf 0 (headed .progress .records) (now (words .entry))) (headed .checksum) (bodyFrom (bodyOf (tableRules config (now (table .entry)) (tagAt (now (index .entry)))) (tableDemands (now (table .entry))) (now («trailer_tags» .entry)) level) (field (headed .stop) (fieldsFrom (config .mode) (now (message .entry)) (headed .stop .next))) (suc (headed .progress .room)) []) ⌝ }
-    ensures { λ r. ⌜ finishCounts r ≤ length (now (words .entry)) / 6 ⌝ }
+    ensures { λ r. ⌜ finishCounts r ≤ length (now (words .entry)) / stride ⌝ }
 {
     let begun = headed.progress;
     let first = headed.stop;
@@ -130,7 +131,7 @@ fn finish(
 
 // The fields that were verified stand first in the header; answers how many records they make.
 fn keep_verified(words: &mut [u32], verified: Verified) -> usize
-    requires { ⌜ (3 ≤ length (now words) / 6) × VerifiedInside verified ⌝ }
+    requires { ⌜ (3 ≤ length (now words) / stride) × VerifiedInside verified ⌝ }
     ensures { λ r. ⌜ (partOf 0 r (now (words .exit)) ≡ verifiedRecords verified) × (r ≤ 3) ⌝ }
 {
     let begin_string = parts::record_of(records::HEADER, verified.begin_string);
@@ -143,7 +144,7 @@ fn keep_verified(words: &mut [u32], verified: Verified) -> usize
 
 // Integrity, and the header behind the fields that it verified.
 fn begin(message: &[u8], config: Config, header_tags: &[u32], words: &mut [u32]) -> Begun
-    requires { ⌜ (length (now message) < 2 ^ 32) × (length (now words) ≡ 6150) ⌝ }
+    requires { ⌜ (length (now message) < 2 ^ 32) × (length (now words) ≡ recordWords) ⌝ }
     ensures { λ r. ⌜ startTold (config .mode) (now (message .entry)) r (now (words .exit)) ≡ startOf (now («header_tags» .entry)) config (now (message .entry)) ⌝ }
     ensures { λ r. ⌜ Begins (now (message .entry)) (now (words .exit)) r ⌝ }
 {
@@ -171,7 +172,7 @@ fn begin(message: &[u8], config: Config, header_tags: &[u32], words: &mut [u32])
 
 // MsgType is the value that was stored last under 35.
 fn msg_type_of(words: &[u32], count: usize) -> Record
-    requires { ⌜ count ≤ length (now words) / 6 ⌝ }
+    requires { ⌜ count ≤ length (now words) / stride ⌝ }
     ensures { λ r. ⌜ r ≡ msgTypeRecord (partOf 0 count (now (words .entry))) ⌝ }
 {
     let mut i: usize = 0;
@@ -195,9 +196,9 @@ fn read_headed(
     headed: Headed,
     words: &mut [u32],
 ) -> Finished
-    requires { ⌜ (length (now message) < 2 ^ 32) × (length (now words) ≡ 6150) × HeaderEnds (now message) (now words) headed × Prepared (now dictionary) (now index) × (now «trailer_tags» ≡ trailerTags (dictionaryOf (now dictionary))) ⌝ }
+    requires { ⌜ (length (now message) < 2 ^ 32) × (length (now words) ≡ recordWords) × HeaderEnds (now message) (now words) headed × Prepared (now dictionary) (now index) × (now «trailer_tags» ≡ trailerTags (dictionaryOf (now dictionary))) ⌝ }
     ensures { λ r. ⌜ finishTold (headed .progress .records) r (now (words .exit)) ≡ afterType (dictionaryOf (now (dictionary .entry))) config (headed .stop) (fieldsFrom (config .mode) (now (message .entry)) (headed .stop .next)) (headed .progress .room) (partOf 0 (headed .progress .records) (now (words .entry))) (headed .checksum) (layoutOf (dictionaryOf (now (dictionary .entry))) (valueAt (now (message .entry)) (msgTypeRecord (partOf 0 (headed .progress .records) (now (words .entry)))))) ⌝ }
-    ensures { λ r. ⌜ finishCounts r ≤ 1025 ⌝ }
+    ensures { λ r. ⌜ finishCounts r ≤ recordRoom ⌝ }
 {
     let progress = headed.progress;
     let msg_type = msg_type_of(words, progress.records);
@@ -260,9 +261,9 @@ fn read_message(
     index: &[u16; 96150],
     words: &mut [u32],
 ) -> Read
-    requires { ⌜ (length (now message) < 2 ^ 32) × (length (now words) ≡ 6150) × Prepared (now dictionary) (now index) ⌝ }
+    requires { ⌜ (length (now message) < 2 ^ 32) × (length (now words) ≡ recordWords) × Prepared (now dictionary) (now index) ⌝ }
     ensures { λ r. ⌜ readTold r (now (words .exit)) ≡ messageRead (dictionaryOf (now (dictionary .entry))) config (now (message .entry)) ⌝ }
-    ensures { λ r. ⌜ r .records ≤ 1025 ⌝ }
+    ensures { λ r. ⌜ r .records ≤ recordRoom ⌝ }
 {
     let mut header_tags = [0u32; 1024];
     let mut trailer_tags = [0u32; 1024];
@@ -302,9 +303,9 @@ fn read_message(
 
 // The dictionary is checked, and then the message is read by it.
 fn read_checked(message: &[u8], config: Config, dictionary: &[u8], words: &mut [u32]) -> Read
-    requires { ⌜ (length (now message) < 2 ^ 32) × (length (now words) ≡ 6150) ⌝ }
+    requires { ⌜ (length (now message) < 2 ^ 32) × (length (now words) ≡ recordWords) ⌝ }
     ensures { λ r. ⌜ readTold r (now (words .exit)) ≡ checkedRead (now (message .entry)) config (now (dictionary .entry)) (checkOf (now (dictionary .entry))) ⌝ }
-    ensures { λ r. ⌜ r .records ≤ 1025 ⌝ }
+    ensures { λ r. ⌜ r .records ≤ recordRoom ⌝ }
 {
     let mut index = [0u16; 96150];
     let checked = flat::prepare(dictionary, &mut index);
@@ -320,8 +321,8 @@ fn read_checked(message: &[u8], config: Config, dictionary: &[u8], words: &mut [
 
 // "all lent past them are zero"
 fn blank(words: &mut [u32], records: usize)
-    requires { ⌜ (length (now words) ≡ 6150) × (records ≤ 1025) ⌝ }
-    ensures { λ _. ⌜ now (words .exit) ≡ take (6 * records) (now (words .entry)) ++ replicate (6150 - 6 * records) 0 ⌝ }
+    requires { ⌜ (length (now words) ≡ recordWords) × (records ≤ recordRoom) ⌝ }
+    ensures { λ _. ⌜ now (words .exit) ≡ take (stride * records) (now (words .entry)) ++ replicate (recordWords - stride * records) 0 ⌝ }
 {
     let mut i = 6 * records;
     while i < words.len() {
@@ -348,7 +349,7 @@ pub fn build(
     config: Config,
     dictionary: &[u8],
     lent: usize,
-    words: &mut [u32; 6150],
+    words: &mut [u32; records::WORDS],
 ) -> Built
     ensures { λ r. ⌜ builtTold r (now (words .exit)) ≡ buildOf (now (message .entry)) config (now (dictionary .entry)) lent (now (words .entry)) ⌝ }
 {

@@ -15,7 +15,7 @@ use Rattle.tagvalue.specs.DecimalLaws.{written-fits}
 use Rattle.tagvalue.specs.CheckSum.{checksumDigits}
 use Rattle.tagvalue.specs.Field.{fieldBytes}
 use Rattle.maps.specs.Map.{Map, end, field, entry, valuesIn}
-use Rattle.maps.specs.Rows.{Row, row, laid, rowsFrom, sizes}
+use Rattle.maps.specs.Rows.{Row, row, laid, rowsFrom, sizes, messageRows}
 use Rattle.lent.specs.Lent.{rowCount, rowsOf, isMessage}
 use Rattle.lent.specs.Meaning.{Message, parts, messageIn}
 use Rattle.message_rules.specs.Changes.{placeOf, partOf, spanOf}
@@ -116,7 +116,7 @@ module _ (words values : List ℕ) (part : Part) (m : Message) (i : In words val
       let e = count-is words values part m i in
       omega (arith, place-grows words (spanOf part m .to) (spanOf part m .count) (span-grows words values part m i .1), ap (λ (n : ℕ). sizes (rowsFrom (n - 0) 0 words)) e, i .sized .within, i .sized .store)
 
-  pub span-fine : (spanOf part m .from ≤ spanOf part m .to) × (spanOf part m .to ≤ 2051) × (placeOf words (spanOf part m .to) ≤ length values)
+  pub span-fine : (spanOf part m .from ≤ spanOf part m .to) × (spanOf part m .to ≤ messageRows) × (placeOf words (spanOf part m .to) ≤ length values)
   span-fine = let g = span-grows words values part m i in (g .0, omega (arith, g .1, g .2), place-within)
 
 total-bytes : (m : Message) → bytesIn (row 2 0 1 0 ∷ (laid 1 (m .header) ++ (row 2 0 2 0 ∷ (laid 1 (m .body) ++ (row 2 0 3 0 ∷ (laid 1 (m .trailer) ++ [])))))) ≡ bytesOf (m .header) + (bytesOf (m .body) + bytesOf (m .trailer))

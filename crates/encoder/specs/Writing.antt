@@ -8,7 +8,7 @@ use lib.Dec.{eqb, leb, ltb}
 use Rattle.tagvalue.specs.Choice.{pick}
 use Rattle.tagvalue.specs.Decimal.{decimal}
 use Rattle.tagvalue.specs.Field.{fieldBytes}
-use Rattle.maps.specs.Rows.{Row, row, rowsFrom, sizeOf, sizes}
+use Rattle.maps.specs.Rows.{Row, row, rowsFrom, sizeOf, sizes, messageWords, messageRows}
 use Rattle.tagvalue.specs.Decimal.{writtenAt}
 use Rattle.lent.specs.Lent.{heldBefore, isMessage}
 use Rattle.lent.specs.Meaning.{Message, messageIn}
@@ -64,10 +64,10 @@ textAt words values head middle tail separator =
     ++ (itemsAt words values head 1 separator ++ (itemsAt words values middle 0 separator ++ itemsAt words values tail 0 separator))))
 
 pub record Spans (words values output : List ℕ) (head middle tail : Span) (separator : ℕ) : Type 0 where
-  pub whole : length words ≡ 8205
-  pub header : (head .from ≤ head .to) × (head .to ≤ 2051) × (placeOf words (head .to) ≤ length values)
-  pub body : (middle .from ≤ middle .to) × (middle .to ≤ 2051) × (placeOf words (middle .to) ≤ length values)
-  pub trailer : (tail .from ≤ tail .to) × (tail .to ≤ 2051) × (placeOf words (tail .to) ≤ length values)
+  pub whole : length words ≡ messageWords
+  pub header : (head .from ≤ head .to) × (head .to ≤ messageRows) × (placeOf words (head .to) ≤ length values)
+  pub body : (middle .from ≤ middle .to) × (middle .to ≤ messageRows) × (placeOf words (middle .to) ≤ length values)
+  pub trailer : (tail .from ≤ tail .to) × (tail .to ≤ messageRows) × (placeOf words (tail .to) ≤ length values)
   pub room : length (textAt words values head middle tail separator) ≤ length output
 
 -- "the prefix `10=`, three digits and the separator"

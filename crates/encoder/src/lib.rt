@@ -13,7 +13,7 @@ ghost use lib.ListN.{length, take, drop};
 ghost use Rattle.tagvalue.specs.Decimal.{decimal, writtenAt};
 ghost use Rattle.tagvalue.specs.CheckSum.{sumOf};
 ghost use Rattle.tagvalue.specs.Field.{fieldBytes};
-ghost use Rattle.maps.specs.Rows.{rowAt, rowsFrom, rowsBefore, sizeOf, sizes};
+ghost use Rattle.maps.specs.Rows.{rowAt, rowsFrom, rowsBefore, sizeOf, sizes, messageWords, messageRows};
 ghost use Rattle.message_rules.specs.Changes.{placeOf};
 ghost use Rattle.encoder.specs.Writing.{chosen, rowOn, rowText, rowsText, rowBytes, bytesIn, isUncounted, uncounted, itemsAt, textAt, Spans, tailOf, Outcome, outcome, writing};
 
@@ -62,7 +62,7 @@ fn is_chosen(which: u32, tag: u32) -> bool
 
 // How many bytes a row takes when it is written.
 pub fn row_bytes(words: &[u32], row: usize) -> usize
-    requires { ⌜ (row < 2051) × (length (now words) ≡ 8205) ⌝ }
+    requires { ⌜ (row < messageRows) × (length (now words) ≡ messageWords) ⌝ }
     ensures { λ r. ⌜ r ≡ rowBytes (rowAt (now (words .entry)) row) ⌝ }
     ensures { λ r. ⌜ r < 8589934592 ⌝ }
 {
@@ -75,9 +75,9 @@ pub fn row_bytes(words: &[u32], row: usize) -> usize
 }
 
 pub fn bytes_between(words: &[u32], from: usize, to: usize) -> usize
-    requires { ⌜ (from ≤ to) × (to ≤ 2051) × (length (now words) ≡ 8205) ⌝ }
+    requires { ⌜ (from ≤ to) × (to ≤ messageRows) × (length (now words) ≡ messageWords) ⌝ }
     ensures { λ r. ⌜ r ≡ bytesIn (rowsFrom (to - from) from (now (words .entry))) ⌝ }
-    ensures { λ r. ⌜ r ≤ 2051 * 8589934592 ⌝ }
+    ensures { λ r. ⌜ r ≤ messageRows * 8589934592 ⌝ }
 {
     let mut size: usize = 0;
     let mut i = from;
@@ -89,7 +89,7 @@ pub fn bytes_between(words: &[u32], from: usize, to: usize) -> usize
 }
 
 fn is_uncounted(words: &[u32], row: usize) -> bool
-    requires { ⌜ (row < 2051) × (length (now words) ≡ 8205) ⌝ }
+    requires { ⌜ (row < messageRows) × (length (now words) ≡ messageWords) ⌝ }
     ensures { λ r. ⌜ r ≡ isUncounted (rowsBefore row (now (words .entry))) (rowAt (now (words .entry)) row) ⌝ }
 {
     if maps::kind_of(words, row) != 2 {
@@ -106,7 +106,7 @@ fn is_uncounted(words: &[u32], row: usize) -> bool
 }
 
 pub fn has_uncounted(words: &[u32], to: usize) -> bool
-    requires { ⌜ (to ≤ 2051) × (length (now words) ≡ 8205) ⌝ }
+    requires { ⌜ (to ≤ messageRows) × (length (now words) ≡ messageWords) ⌝ }
     ensures { λ r. ⌜ r ≡ uncounted [] (rowsFrom (to - 0) 0 (now (words .entry))) ⌝ }
 {
     let mut i: usize = 0;
@@ -120,7 +120,7 @@ pub fn has_uncounted(words: &[u32], to: usize) -> bool
 }
 
 fn row_on(words: &[u32], row: usize, which: u32, on: bool) -> bool
-    requires { ⌜ (row < 2051) × (length (now words) ≡ 8205) ⌝ }
+    requires { ⌜ (row < messageRows) × (length (now words) ≡ messageWords) ⌝ }
     ensures { λ r. ⌜ r ≡ rowOn which on (rowAt (now (words .entry)) row) ⌝ }
 {
     if maps::level_of(words, row) == 1 {
@@ -140,7 +140,7 @@ fn write_row(
     on: bool,
     separator: u8,
 ) -> usize
-    requires { ⌜ (row < 2051) × (length (now words) ≡ 8205) × (place + sizeOf (rowAt (now words) row) ≤ length (now values)) × (at + length (rowText separator on (rowAt (now words) row) (drop place (now values))) ≤ length (now output)) ⌝ }
+    requires { ⌜ (row < messageRows) × (length (now words) ≡ messageWords) × (place + sizeOf (rowAt (now words) row) ≤ length (now values)) × (at + length (rowText separator on (rowAt (now words) row) (drop place (now values))) ≤ length (now output)) ⌝ }
     ensures { λ r. ⌜ r ≡ at + length (rowText separator on (rowAt (now (words .entry)) row) (drop place (now (values .entry)))) ⌝ }
     ensures { λ _. ⌜ now (output .exit) ≡ writtenAt at (rowText separator on (rowAt (now (words .entry)) row) (drop place (now (values .entry)))) (now (output .entry)) ⌝ }
 {
@@ -171,7 +171,7 @@ fn write_items(
     which: u32,
     separator: u8,
 ) -> usize
-    requires { ⌜ (from ≤ to) × (to ≤ 2051) × (length (now words) ≡ 8205) × (placeOf (now words) to ≤ length (now values)) × (at + length (rowsText which separator false (rowsFrom (to - from) from (now words)) (drop (placeOf (now words) from) (now values))) ≤ length (now output)) ⌝ }
+    requires { ⌜ (from ≤ to) × (to ≤ messageRows) × (length (now words) ≡ messageWords) × (placeOf (now words) to ≤ length (now values)) × (at + length (rowsText which separator false (rowsFrom (to - from) from (now words)) (drop (placeOf (now words) from) (now values))) ≤ length (now output)) ⌝ }
     ensures { λ r. ⌜ r ≡ at + length (rowsText which separator false (rowsFrom (to - from) from (now (words .entry))) (drop (placeOf (now (words .entry)) from) (now (values .entry)))) ⌝ }
     ensures { λ _. ⌜ now (output .exit) ≡ writtenAt at (rowsText which separator false (rowsFrom (to - from) from (now (words .entry))) (drop (placeOf (now (words .entry)) from) (now (values .entry)))) (now (output .entry)) ⌝ }
 {

@@ -6,7 +6,7 @@ use mathlib.Core.List.{List, []}
 use lib.ListN.{length}
 use lib.Dec.{ltb}
 use Rattle.tagvalue.specs.Choice.{pick}
-use Rattle.maps.specs.Rows.{rowAt, rowsFrom}
+use Rattle.maps.specs.Rows.{rowAt, rowsFrom, messageWords, messageRows}
 use Rattle.lent.specs.Lent.{fieldsIn}
 use Rattle.message_rules.specs.Changes.{fieldPlace, runPlace}
 use Rattle.message_rules.specs.declared.Span.{Span}
@@ -14,10 +14,10 @@ use Rattle.encoder.specs.Writing.{rowBytes, bytesIn, uncounted}
 
 -- a span of rows that are lent
 pub record Within (words : List ℕ) (span : Span) : Type 0 where
-  pub whole : length words ≡ 8205
+  pub whole : length words ≡ messageWords
   pub forwards : span .from ≤ span .to
   pub last : span .to ≤ span .count
-  pub few : span .count ≤ 2051
+  pub few : span .count ≤ messageRows
 
 -- a part's own field, and a run of a part
 unfoldable pub heldAt : List ℕ → Span → ℕ → Bool

@@ -9,9 +9,10 @@ use borrow.Author.Tests.{ltb-false, leb-true, leb-false, le-leb, lt-leb}
 use lib.Dec.{eqb, leb, ltb}
 use lib.ListN.{length, take, drop, getD, set, replicate, length-replicate}
 use lib.Seq.{take-at, take-take, length-take-le}
+use Rattle.maps.specs.Rows.{messageWords}
 use Rattle.tagvalue.specs.Choice.{pick, pick-same}
 use Rattle.records.specs.declared.Record.{Record}
-use Rattle.records.specs.Records.{laid, recordsOf, leftover, onRecords, replaced, between}
+use Rattle.records.specs.Records.{laid, recordsOf, leftover, onRecords, replaced, between, recordWords, stride}
 use Rattle.records.specs.WordLaws.{words-whole, records-laid, records-on, records-length, laid-append, laid-length}
 use Rattle.taking.specs.declared.Taken.the-variants.{NoMessage}
 use Rattle.taking.specs.Taking.{After, after, takingOver}
@@ -51,33 +52,33 @@ take-from (suc n) [] = refl
 take-from (suc n) (f ∷ fs) = ap (λ (rs : List Record). recordOf f ∷ rs) (take-from n fs)
 
 -- what is put into blank words stands at their start
-pub put-words : (fs : List FieldRecord) (n : ℕ) → n ≤ length fs → n ≤ 1024 → take (6 * n) (putFields fs n (replicate 6150 0)) ≡ wordsLent (take n fs)
+pub put-words : (fs : List FieldRecord) (n : ℕ) → n ≤ length fs → n ≤ 1024 → take (stride * n) (putFields fs n (replicate recordWords 0)) ≡ wordsLent (take n fs)
 unfolding wordsLent
-put-words fs n lent most = ap (take (6 * n)) whole ∙ take-at (laid read) (laid rest ++ leftover put) (6 * n) size
+put-words fs n lent most = ap (take (stride * n)) whole ∙ take-at (laid read) (laid rest ++ leftover put) (stride * n) size
   where
     put : List ℕ
-    put = putFields fs n (replicate 6150 0)
+    put = putFields fs n (replicate recordWords 0)
 
     read : List Record
     read = recordsFrom (take n fs)
 
     blanks : List Record
-    blanks = recordsOf (replicate 6150 0)
+    blanks = recordsOf (replicate recordWords 0)
 
     rest : List Record
     rest = drop n blanks
 
     many : n ≤ length blanks
-    many = omega (arith, records-length (replicate 6150 0), length-replicate {A = ℕ} 6150 0)
+    many = omega (arith, records-length (replicate recordWords 0), length-replicate {A = ℕ} recordWords 0)
 
     records : recordsOf put ≡ read ++ rest
-    records = put-records fs n (replicate 6150 0) ∙ sets-part (nth fs) blanks n many ∙ ap (λ (rs : List Record). rs ++ rest) (table-read fs n lent)
+    records = put-records fs n (replicate recordWords 0) ∙ sets-part (nth fs) blanks n many ∙ ap (λ (rs : List Record). rs ++ rest) (table-read fs n lent)
 
     whole : put ≡ laid read ++ (laid rest ++ leftover put)
     whole = sym (words-whole put) ∙ ap (λ (rs : List Record). laid rs ++ leftover put) records ∙ ap (λ (ws : List ℕ). ws ++ leftover put) (laid-append read rest) ∙ append-assoc (laid read) (laid rest) (leftover put)
 
-    size : length (laid read) ≡ 6 * n
-    size = laid-length read ∙ ap (λ (k : ℕ). 6 * k) (length-from (take n fs) ∙ length-take-le n fs lent)
+    size : length (laid read) ≡ stride * n
+    size = laid-length read ∙ ap (λ (k : ℕ). stride * k) (length-from (take n fs) ∙ length-take-le n fs lent)
 
 -- the records that words of lent records hold
 lent-records : (fs : List FieldRecord) → recordsOf (wordsLent fs) ≡ recordsFrom fs
@@ -93,15 +94,15 @@ same-answer records other count bytes words values e f = rw (e, f) refl
 none-there : (records : List ℕ) (count : ℕ) (bytes words values : List ℕ) → leb count (length (recordsOf records)) ≡ false → takingOver records count bytes words values ≡ after NoMessage words values
 unfolding takingOver
 none-there records count bytes words values e =
-    rw e (ap (λ (x : After). pick (eqb (length words) 8205) x (after NoMessage words values)) (pick-same (eqb (length values) 8192) (after NoMessage words values)) ∙ pick-same (eqb (length words) 8205) (after NoMessage words values))
+    rw e (ap (λ (x : After). pick (eqb (length words) messageWords) x (after NoMessage words values)) (pick-same (eqb (length values) 8192) (after NoMessage words values)) ∙ pick-same (eqb (length words) messageWords) (after NoMessage words values))
 
 too-many : (records : List ℕ) (count : ℕ) (bytes words values : List ℕ) → leb count 1024 ≡ false → takingOver records count bytes words values ≡ after NoMessage words values
 unfolding takingOver
 too-many records count bytes words values e =
     rw e
-    (ap (λ (x : After). pick (eqb (length words) 8205) (pick (eqb (length values) 8192) x (after NoMessage words values)) (after NoMessage words values)) (pick-same (leb count (length (recordsOf records))) (after NoMessage words values))
-    ∙ ap (λ (x : After). pick (eqb (length words) 8205) x (after NoMessage words values)) (pick-same (eqb (length values) 8192) (after NoMessage words values))
-    ∙ pick-same (eqb (length words) 8205) (after NoMessage words values))
+    (ap (λ (x : After). pick (eqb (length words) messageWords) (pick (eqb (length values) 8192) x (after NoMessage words values)) (after NoMessage words values)) (pick-same (leb count (length (recordsOf records))) (after NoMessage words values))
+    ∙ ap (λ (x : After). pick (eqb (length words) messageWords) x (after NoMessage words values)) (pick-same (eqb (length values) 8192) (after NoMessage words values))
+    ∙ pick-same (eqb (length words) messageWords) (after NoMessage words values))
 
 -- how many records stand in words of lent ones
 lent-length : (fs : List FieldRecord) → length (recordsOf (wordsLent fs)) ≡ length fs
@@ -170,9 +171,9 @@ read-most lent count = by-tests (ltb lent count)
     by-tests false = inner (ltb 1024 count) refl
 
 -- what the walk hears of the core, as its caller reads it
-pub taken-from : (fs : List FieldRecord) (count read : ℕ) (laid bytes words values : List ℕ) → read ≡ readCount (length fs) count → laid ≡ putFields fs read (replicate 6150 0)
-    → takingOver (take (6 * read) laid) count bytes words values ≡ takingOver (wordsLent fs) count bytes words values
+pub taken-from : (fs : List FieldRecord) (count read : ℕ) (laid bytes words values : List ℕ) → read ≡ readCount (length fs) count → laid ≡ putFields fs read (replicate recordWords 0)
+    → takingOver (take (stride * read) laid) count bytes words values ≡ takingOver (wordsLent fs) count bytes words values
 taken-from fs count read laid bytes words values er el =
     ap (λ (ws : List ℕ). takingOver ws count bytes words values)
-    (ap (take (6 * read)) el ∙ ap (λ (n : ℕ). take (6 * n) (putFields fs n (replicate 6150 0))) er ∙ put-words fs (readCount (length fs) count) (read-within (length fs) count) (read-most (length fs) count))
+    (ap (take (stride * read)) el ∙ ap (λ (n : ℕ). take (stride * n) (putFields fs n (replicate recordWords 0))) er ∙ put-words fs (readCount (length fs) count) (read-within (length fs) count) (read-most (length fs) count))
     ∙ taking-read fs count bytes words values

@@ -6,6 +6,7 @@ pub mod framers;
 pub mod messages;
 pub mod taking_over;
 
+ghost use Rattle.maps.specs.Rows.{messageWords};
 ghost use mathlib.Core.Path.{_≡_};
 
 // How many records a build wants lent at the least, and how many fields a message has at the most.
@@ -43,7 +44,7 @@ pub extern "C" fn gateway_most_dictionary_bytes() -> u32
 // The words of a lent message.
 #[no_mangle]
 pub extern "C" fn gateway_message_words() -> u32
-    ensures { λ r. ⌜ r ≡ 8205 ⌝ }
+    ensures { λ r. ⌜ r ≡ messageWords ⌝ }
 {
-    8205
+    maps::WORDS
 }

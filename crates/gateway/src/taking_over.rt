@@ -8,7 +8,7 @@ ghost use Rattle.telling.specs.Told.{told, takingNumber, takenWords, takenValue
 ghost use Rattle.telling.specs.Lent.{wordsLent, putFields};
 
 // Puts so many of the lent records into the words.
-fn lay(records: &[FieldRecord], read: usize, words: &mut [u32; 6150])
+fn lay(records: &[FieldRecord], read: usize, words: &mut [u32; records::WORDS])
     requires { ⌜ read ≤ length (now records) ⌝ }
     ensures { λ _. ⌜ now (words .exit) ≡ putFields (now (records .entry)) read (now (words .entry)) ⌝ }
 {

@@ -6,7 +6,7 @@ use mathlib.Core.List.{List, [], _∷_}
 use lib.ListN.{length, getD, set, take}
 use lib.Dec.{eqb, ltb, leb}
 use Rattle.tagvalue.specs.Choice.{pick}
-use Rattle.maps.specs.Rows.{Row, row, flat, rowAt, rowsFrom, levelOf, sizes, runEndFrom}
+use Rattle.maps.specs.Rows.{Row, row, flat, rowAt, rowsFrom, levelOf, sizes, runEndFrom, messageWords, messageRows}
 use Rattle.lent.specs.Lent.{rowCount, rowsOf, fieldsIn}
 use Rattle.message_rules.specs.Changes.{After, after, Cuttable, changedAt, fieldPlace, runPlace}
 use Rattle.message_rules.specs.declared.Change.the-variants.{NoRun}
@@ -86,20 +86,20 @@ hangAt span fields runWords runValues words values =
 
 -- a run that is lent: its lengths and limits
 pub record Lent (runWords runValues : List ℕ) : Type 0 where
-  pub whole : length runWords ≡ 8205
+  pub whole : length runWords ≡ messageWords
   pub store : length runValues ≡ 8192
-  pub counted : rowCount runWords ≤ 2051
+  pub counted : rowCount runWords ≤ messageRows
   pub sized : sizes (rowsOf runWords) ≤ 8192
-  pub near : within 2051 (rowsOf runWords) ≡ true
+  pub near : within messageRows (rowsOf runWords) ≡ true
   pub fields : fieldsIn 0 (rowsOf runWords) ≤ 1024
 
 -- a place for it
 pub record Hangable (words values : List ℕ) (span : Span) (runWords runValues : List ℕ) (fields : ℕ) : Type 0 where
   pub run : Lent runWords runValues
-  pub whole : length words ≡ 8205
+  pub whole : length words ≡ messageWords
   pub forwards : span .from ≤ span .to
   pub last : span .to ≤ span .count
-  pub few : span .count ≤ 2051
+  pub few : span .count ≤ messageRows
   pub counted : fields ≤ 1024
   pub placed : hungPlace span (startOf runWords) words ≤ span .to
   pub replaced : replacedFields span (startOf runWords) words ≤ fields

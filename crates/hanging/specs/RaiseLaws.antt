@@ -12,7 +12,7 @@ use lib.Dec.{leb}
 use native.Mathlib.Decide.{decLe}
 use borrow.Author.Tests.{leb-true}
 use Rattle.tagvalue.specs.Choice.{pick}
-use Rattle.maps.specs.Rows.{Row, row, flat, part, padded, spliced, levelOf, rowsFrom}
+use Rattle.maps.specs.Rows.{Row, row, flat, part, padded, spliced, levelOf, rowsFrom, messageWords, messageRows}
 use Rattle.maps.specs.RowsLaws.{part-length}
 use Rattle.lent.specs.Lent.{rowCount, rowsOf}
 use Rattle.lent.specs.LentLaws.{both}
@@ -75,7 +75,7 @@ regroup : (k : ℕ) (head rows tail zeros : List ℕ) → k ∷ ((head ++ (rows 
 regroup k head rows tail zeros =
     ap (λ (l : List ℕ). k ∷ l) (append-assoc head (rows ++ tail) zeros ∙ ap (λ (l : List ℕ). head ++ l) (append-assoc rows tail zeros))
 
-padded-set : (k w : ℕ) (s : List ℕ) → set (padded 8205 (w ∷ s)) 0 k ≡ k ∷ (s ++ replicate (8205 - suc (length s)) 0)
+padded-set : (k w : ℕ) (s : List ℕ) → set (padded messageWords (w ∷ s)) 0 k ≡ k ∷ (s ++ replicate (messageWords - suc (length s)) 0)
 unfolding padded
 padded-set k w s = refl
 
@@ -93,7 +93,7 @@ module _ (words : List ℕ) (cut : Cut) where
   unfoldable back : ℕ → List ℕ
   back size =
       part (4 * cut .to + 1) (4 * cut .count + 1) words
-      ++ replicate (8205 - (1 + length (take (4 * cut .from) (drop 1 words)) + (size + length (part (4 * cut .to + 1) (4 * cut .count + 1) words)))) 0
+      ++ replicate (messageWords - (1 + length (take (4 * cut .from) (drop 1 words)) + (size + length (part (4 * cut .to + 1) (4 * cut .count + 1) words)))) 0
 
   module _ (kept : cut .kept ≡ cut .to) (until : cut .until ≡ cut .to) where
     cut-shape : (rows : List ℕ) (n : ℕ) → 0 < length words → cutWords cut rows n words ≡ front n ++ (rows ++ back (length rows))
@@ -102,7 +102,7 @@ module _ (words : List ℕ) (cut : Cut) where
       where
         by-words : (s : List ℕ) → 0 < length s
             → cutWords cut rows n s ≡ ((cutRows cut + n) ∷ take (4 * cut .from) (drop 1 s)) ++ (rows ++ (part (4 * cut .to + 1) (4 * cut .count + 1) s
-            ++ replicate (8205 - (1 + length (take (4 * cut .from) (drop 1 s)) + (length rows + length (part (4 * cut .to + 1) (4 * cut .count + 1) s)))) 0))
+            ++ replicate (messageWords - (1 + length (take (4 * cut .from) (drop 1 s)) + (length rows + length (part (4 * cut .to + 1) (4 * cut .count + 1) s)))) 0))
         by-words [] h = absurd (omega arith)
         by-words (w ∷ s) h =
             let tail = part (4 * cut .to + 1) (4 * cut .count + 1) (w ∷ s) in
@@ -110,13 +110,13 @@ module _ (words : List ℕ) (cut : Cut) where
             let size : suc (length (head ++ (rows ++ tail))) ≡ 1 + length head + (length rows + length tail) = simp length-append (omega arith) in
             let r : spliced (4 * cut .from + 1) (4 * cut .to + 1) (4 * cut .kept + 1) (4 * cut .until + 1) (4 * cut .count + 1) rows (w ∷ s) ≡ w ∷ (head ++ (rows ++ tail)) =
             rw (kept, until) (spliced-plain w s rows (cut .from) (4 * cut .to + 1) (4 * cut .count + 1)) in
-            ap (λ (l : List ℕ). set (padded 8205 l) 0 (cutRows cut + n)) r
+            ap (λ (l : List ℕ). set (padded messageWords l) 0 (cutRows cut + n)) r
             ∙ padded-set (cutRows cut + n) w (head ++ (rows ++ tail))
-            ∙ ap (λ (m : ℕ). (cutRows cut + n) ∷ ((head ++ (rows ++ tail)) ++ replicate (8205 - m) 0)) size
-            ∙ regroup (cutRows cut + n) head rows tail (replicate (8205 - (1 + length head + (length rows + length tail))) 0)
+            ∙ ap (λ (m : ℕ). (cutRows cut + n) ∷ ((head ++ (rows ++ tail)) ++ replicate (messageWords - m) 0)) size
+            ∙ regroup (cutRows cut + n) head rows tail (replicate (messageWords - (1 + length head + (length rows + length tail))) 0)
 
     -- raising what is inserted is inserting it raised
-    module _ (rows : List Row) (whole : length words ≡ 8205) (few : cut .from ≤ 2051) where
+    module _ (rows : List Row) (whole : length words ≡ messageWords) (few : cut .from ≤ messageRows) where
       front-length : (n : ℕ) → length (front n) ≡ 4 * cut .from + 1
       unfolding front
       front-length n = omega (arith, length-take (4 * cut .from) (drop 1 words), length-drop 1 words)
@@ -177,7 +177,7 @@ module _ (words values : List ℕ) (cut : Cut) (added : ℕ) (bytes : List ℕ) 
       by-tests false b c f e = let z : _≡_ {A = ℕ} 0 1 = cc in absurd (omega arith)
 
 -- the rows that a run's words hold
-pub run-rows : (runWords : List ℕ) (count size : ℕ) → length runWords ≡ 8205 → rowCount runWords ≤ 2051 → count ≡ rowCount runWords → size ≡ 4 * count + 1 → take (size - 1) (drop 1 runWords) ≡ flat (rowsOf runWords)
+pub run-rows : (runWords : List ℕ) (count size : ℕ) → length runWords ≡ messageWords → rowCount runWords ≤ messageRows → count ≡ rowCount runWords → size ≡ 4 * count + 1 → take (size - 1) (drop 1 runWords) ≡ flat (rowsOf runWords)
 unfolding rowsOf
 run-rows runWords count size whole few c e =
     let z : rowCount runWords - 0 ≡ rowCount runWords = omega arith in

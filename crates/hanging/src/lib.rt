@@ -3,13 +3,13 @@
 ghost use mathlib.Core.Path.{_≡_};
 ghost use Prim.Native.Nat.{ℕ, _+_, _-_, _*_, _≤_, _<_};
 ghost use lib.ListN.{length, getD, take};
-ghost use Rattle.maps.specs.Rows.{flat, rowAt, rowsFrom, sizes};
+ghost use Rattle.maps.specs.Rows.{flat, rowAt, rowsFrom, sizes, messageWords, messageRows};
 ghost use Rattle.lent.specs.Lent.{rowCount, rowsOf};
 ghost use Rattle.message_rules.specs.Changes.{after, Cuttable, changedAt};
 ghost use Rattle.hanging.specs.Hanging.{raised, raisedFrom, isUntagged, untaggedIn, isOf, allOf, hungPlace, Lent, Hangable, hangAt};
 
 fn is_untagged(words: &[u32], row: usize) -> bool
-    requires { ⌜ (row < 2051) × (length (now words) ≡ 8205) ⌝ }
+    requires { ⌜ (row < messageRows) × (length (now words) ≡ messageWords) ⌝ }
     ensures { λ r. ⌜ r ≡ isUntagged (rowAt (now (words .entry)) row) ⌝ }
 {
     if maps::level_of(words, row) != 0 {
@@ -23,7 +23,7 @@ fn is_untagged(words: &[u32], row: usize) -> bool
 
 // Whether an entry at the top level has a tag 0.
 pub fn has_untagged(words: &[u32], count: usize) -> bool
-    requires { ⌜ (count ≤ 2051) × (length (now words) ≡ 8205) ⌝ }
+    requires { ⌜ (count ≤ messageRows) × (length (now words) ≡ messageWords) ⌝ }
     ensures { λ r. ⌜ r ≡ untaggedIn (rowsFrom (count - 0) 0 (now (words .entry))) ⌝ }
 {
     let mut i: usize = 0;
@@ -37,7 +37,7 @@ pub fn has_untagged(words: &[u32], count: usize) -> bool
 }
 
 fn is_of(words: &[u32], row: usize, start: u32, delimiter: u32) -> bool
-    requires { ⌜ (row < 2051) × (length (now words) ≡ 8205) ⌝ }
+    requires { ⌜ (row < messageRows) × (length (now words) ≡ messageWords) ⌝ }
     ensures { λ r. ⌜ r ≡ isOf start delimiter (rowAt (now (words .entry)) row) ⌝ }
 {
     if maps::level_of(words, row) != 0 {
@@ -51,7 +51,7 @@ fn is_of(words: &[u32], row: usize, start: u32, delimiter: u32) -> bool
 
 // Whether all entries at the top level have the same tags.
 fn all_of(words: &[u32], count: usize, start: u32, delimiter: u32) -> bool
-    requires { ⌜ (count ≤ 2051) × (length (now words) ≡ 8205) ⌝ }
+    requires { ⌜ (count ≤ messageRows) × (length (now words) ≡ messageWords) ⌝ }
     ensures { λ r. ⌜ r ≡ allOf start delimiter (rowsFrom (count - 0) 0 (now (words .entry))) ⌝ }
 {
     let mut i: usize = 0;
@@ -65,7 +65,7 @@ fn all_of(words: &[u32], count: usize, start: u32, delimiter: u32) -> bool
 }
 
 fn raise_rows(words: &mut [u32], from: usize, to: usize)
-    requires { ⌜ (from ≤ to) × (to ≤ 2051) × (length (now words) ≡ 8205) × ((i : ℕ) → from ≤ i → i < to → getD (now words) (4 * i + 2) 0 ≤ 2051) ⌝ }
+    requires { ⌜ (from ≤ to) × (to ≤ messageRows) × (length (now words) ≡ messageWords) × ((i : ℕ) → from ≤ i → i < to → getD (now words) (4 * i + 2) 0 ≤ messageRows) ⌝ }
     ensures { λ _. ⌜ now (words .exit) ≡ raisedFrom (to - from) from (now (words .entry)) ⌝ }
 {
     let mut i = from;
@@ -125,7 +125,7 @@ fn insert_run(
 
 // Where a run on a start tag hangs: behind its count, or where a run on it stands, or last.
 fn hung_place(words: &[u32], span: message_rules::Span, start: u32) -> usize
-    requires { ⌜ (span .from ≤ span .to) × (span .to ≤ 2051) × (length (now words) ≡ 8205) ⌝ }
+    requires { ⌜ (span .from ≤ span .to) × (span .to ≤ messageRows) × (length (now words) ≡ messageWords) ⌝ }
     ensures { λ r. ⌜ r ≡ hungPlace span start (now (words .entry)) ⌝ }
 {
     let from = span.from;

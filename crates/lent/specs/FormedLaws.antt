@@ -8,7 +8,7 @@ use native.Mathlib.Omega.{arith}
 use lib.ListN.{length}
 use borrow.Author.Tests.{eq-eqb, ne-eqb, le-leb}
 use Rattle.maps.specs.Map.{Map, valuesIn, fieldCount}
-use Rattle.maps.specs.Rows.{Row, row, laid, padded, sizes, levelOf, matches}
+use Rattle.maps.specs.Rows.{Row, row, laid, padded, sizes, levelOf, matches, messageWords, messageRows}
 use Rattle.maps.specs.RowsLaws.{padded-length}
 use Rattle.lent.specs.Lent.{deepest, headAllowed, rowAllowed, rowsAllowed, delimiterIs, isPart, nextPart, partsFrom, fieldsIn, rowCount, isLaid, isMessage}
 use Rattle.lent.specs.LentLaws.{both, message-held}
@@ -71,10 +71,10 @@ pub formed-laid : (m : Message) → Formed m → length (valuesIn (parts m)) ≤
 unfolding isMessage isLaid
 formed-laid m f small few =
     let rows = rows-of-layout m in
-    let lw : length (wordsOf m) ≡ 8205 = unfold wordsOf in padded-length 8205 _ (omega (arith, rows-parts m, flat-length (laid 0 (parts m)))) in
+    let lw : length (wordsOf m) ≡ messageWords = unfold wordsOf in padded-length messageWords _ (omega (arith, rows-parts m, flat-length (laid 0 (parts m)))) in
     let lv : length (valuesOf m) ≡ 8192 = unfold valuesOf in padded-length 8192 _ small in
     let count : rowCount (wordsOf m) ≡ length (laid 0 (parts m)) = unfold rowCount wordsOf padded in refl in
-    rw (rows, eq-eqb (length (wordsOf m)) 8205 lw, eq-eqb (length (valuesOf m)) 8192 lv, count, le-leb (length (laid 0 (parts m))) 2051 (omega (arith, rows-parts m)), parts-allowed m f, le-leb (sizes (laid 0 (parts m))) 8192 (omega (arith, sizes-laid 0 (parts m))), parts-order m)
+    rw (rows, eq-eqb (length (wordsOf m)) messageWords lw, eq-eqb (length (valuesOf m)) 8192 lv, count, le-leb (length (laid 0 (parts m))) messageRows (omega (arith, rows-parts m)), parts-allowed m f, le-leb (sizes (laid 0 (parts m))) 8192 (omega (arith, sizes-laid 0 (parts m))), parts-order m)
     (le-leb (fieldsIn 1 (laid 0 (parts m))) 1024 (omega (arith, fields-parts m)))
 
 -- what is lent as a message is formed, and within the limits

@@ -7,7 +7,7 @@ use lib.ListN.{length, getD, take, drop}
 use lib.Dec.{eqb, leb, ltb}
 use Rattle.tagvalue.specs.Choice.{pick}
 use Rattle.maps.specs.Map.{Map, end, field, entry}
-use Rattle.maps.specs.Rows.{Row, row, rowAt, rowsFrom, rowsBefore, levelOf, sizeOf, matches, sizes}
+use Rattle.maps.specs.Rows.{Row, row, rowAt, rowsFrom, rowsBefore, levelOf, sizeOf, matches, sizes, messageWords, messageRows}
 
 -- whether a map has a row of a kind and tag before the next row; `before` are the rows before it, the nearest first
 unfoldable pub heldBefore : ℕ → ℕ → ℕ → List Row → Bool
@@ -96,9 +96,9 @@ rowsOf words = rowsFrom (rowCount words - 0) 0 words
 
 unfoldable pub isLaid : List ℕ → List ℕ → Bool
 isLaid words values =
-    pick (eqb (length words) 8205)
+    pick (eqb (length words) messageWords)
     (pick (eqb (length values) 8192)
-    (pick (leb (rowCount words) 2051) (pick (rowsAllowed [] (rowsOf words)) (leb (sizes (rowsOf words)) 8192) false) false)
+    (pick (leb (rowCount words) messageRows) (pick (rowsAllowed [] (rowsOf words)) (leb (sizes (rowsOf words)) 8192) false) false)
     false)
     false
 

@@ -8,7 +8,7 @@ use lib.ListN.{length, getD}
 use lib.Dec.{leb, ltb, eqb}
 use borrow.Author.Tests.{le-leb, lt-leb, lt-ltb, le-ltb, eq-eqb, ne-eqb, eqb-true, leb-true}
 use Rattle.tagvalue.specs.Choice.{pick}
-use Rattle.maps.specs.Rows.{Row, row, rowAt, rowsFrom, rowsBefore, levelOf, matches, sizes}
+use Rattle.maps.specs.Rows.{Row, row, rowAt, rowsFrom, rowsBefore, levelOf, matches, sizes, messageWords, messageRows}
 use Rattle.maps.specs.RowsLaws.{rows-step, rows-none, before-step}
 use Rattle.lent.specs.Lent.{heldBefore, delimiterIs, continues, followsOn, deepest, fieldAllowed, headAllowed, rowAllowed, rowsAllowed, isPart, nextPart, partsFrom, isOwn, ownBelow, weight, fieldsIn, rowCount, rowsOf, isLaid, isMessage}
 
@@ -126,9 +126,9 @@ both false x h = let z : _≡_ {A = ℕ} 0 1 = cc in absurd (omega arith)
 
 -- what is laid out has its lengths and is within its limits
 pub record Laid (words values : List ℕ) : Type 0 where
-  pub whole : length words ≡ 8205
+  pub whole : length words ≡ messageWords
   pub store : length values ≡ 8192
-  pub counted : rowCount words ≤ 2051
+  pub counted : rowCount words ≤ messageRows
   pub allowed : rowsAllowed [] (rowsOf words) ≡ true
   pub within : sizes (rowsOf words) ≤ 8192
 

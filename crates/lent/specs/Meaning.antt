@@ -5,7 +5,7 @@ use lib.ListN.{length, take, drop}
 use lib.Dec.{eqb}
 use Rattle.tagvalue.specs.Choice.{pick}
 use Rattle.maps.specs.Map.{Map, end, field, entry, valuesIn}
-use Rattle.maps.specs.Rows.{Row, row, laid, flat, padded, sizeOf}
+use Rattle.maps.specs.Rows.{Row, row, laid, flat, padded, sizeOf, messageWords}
 use Rattle.lent.specs.Lent.{rowsOf}
 
 -- a message: three maps
@@ -20,7 +20,7 @@ parts m = entry 1 0 (m .header) (entry 2 0 (m .body) (entry 3 0 (m .trailer) end
 
 -- the layout of a message, with zeros past it
 unfoldable pub wordsOf : Message → List ℕ
-wordsOf m = padded 8205 (length (laid 0 (parts m)) ∷ flat (laid 0 (parts m)))
+wordsOf m = padded messageWords (length (laid 0 (parts m)) ∷ flat (laid 0 (parts m)))
 
 unfoldable pub valuesOf : Message → List ℕ
 valuesOf m = padded 8192 (valuesIn (parts m))

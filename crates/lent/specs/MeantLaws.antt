@@ -8,7 +8,7 @@ use native.Mathlib.Nat.{sub-zero}
 use lib.ListN.{length, getD, drop, replicate}
 use lib.Seq.{take-at, drop-at, getD-drop, drop-drop}
 use Rattle.maps.specs.Map.{Map, end, field, entry, joined, valuesIn}
-use Rattle.maps.specs.Rows.{Row, row, laid, flat, rowAt, rowsFrom, padded, sizeOf}
+use Rattle.maps.specs.Rows.{Row, row, laid, flat, rowAt, rowsFrom, padded, sizeOf, messageWords}
 use Rattle.lent.specs.Lent.{rowCount, rowsOf}
 use Rattle.lent.specs.Meaning.{Message, parts, wordsOf, valuesOf, opened, withField, withEntry, withRow, openIn, outermost, thirdOf, secondOf, partsIn, messageIn}
 use Rattle.lent.specs.MeaningLaws.{opened-length}
@@ -28,7 +28,7 @@ pub rows-of-layout : (m : Message) → rowsOf (wordsOf m) ≡ laid 0 (parts m)
 unfolding rowsOf rowCount wordsOf padded
 rows-of-layout m =
     let rows = laid 0 (parts m) in
-    rw (sub-zero (length rows)) (rows-back rows 0 (length rows ∷ (flat rows ++ replicate (8205 - suc (length (flat rows))) 0)) (replicate (8205 - suc (length (flat rows))) 0) refl)
+    rw (sub-zero (length rows)) (rows-back rows 0 (length rows ∷ (flat rows ++ replicate (messageWords - suc (length (flat rows))) 0)) (replicate (messageWords - suc (length (flat rows))) 0) refl)
 
 -- what is open, down to a level at least
 unfoldable raised : ℕ → List Map → List Map

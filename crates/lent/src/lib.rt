@@ -4,11 +4,11 @@ ghost use mathlib.Core.Path.{_≡_};
 ghost use mathlib.Core.List.{[]};
 ghost use Prim.Native.Nat.{_+_, _-_, _≤_, _<_};
 ghost use lib.ListN.{length, getD};
-ghost use Rattle.maps.specs.Rows.{rowAt, rowsFrom, rowsBefore, levelOf, sizes};
+ghost use Rattle.maps.specs.Rows.{rowAt, rowsFrom, rowsBefore, levelOf, sizes, messageWords, messageRows};
 ghost use Rattle.lent.specs.Lent.{heldBefore, continues, followsOn, deepest, fieldAllowed, headAllowed, rowAllowed, rowsAllowed, isPart, nextPart, partsFrom, isOwn, ownBelow, weight, fieldsIn, rowCount, rowsOf, isLaid, isMessage};
 
 pub fn held_before(words: &[u32], row: usize, kind: u32, level: u32, tag: u32) -> bool
-    requires { ⌜ (row ≤ 2051) × (length (now words) ≡ 8205) ⌝ }
+    requires { ⌜ (row ≤ messageRows) × (length (now words) ≡ messageWords) ⌝ }
     ensures { λ r. ⌜ r ≡ heldBefore kind level tag (rowsBefore row (now (words .entry))) ⌝ }
 {
     let mut i = row;
@@ -25,7 +25,7 @@ pub fn held_before(words: &[u32], row: usize, kind: u32, level: u32, tag: u32) -
 }
 
 fn continues_run(words: &[u32], row: usize, level: u32, start: u32, delimiter: u32) -> bool
-    requires { ⌜ (row < 2051) × (length (now words) ≡ 8205) ⌝ }
+    requires { ⌜ (row < messageRows) × (length (now words) ≡ messageWords) ⌝ }
     ensures { λ r. ⌜ r ≡ continues level start delimiter (rowAt (now (words .entry)) row) ⌝ }
 {
     if maps::is_row(words, row, 1, level, start) {
@@ -38,7 +38,7 @@ fn continues_run(words: &[u32], row: usize, level: u32, start: u32, delimiter: u
 }
 
 fn follows_on(words: &[u32], row: usize, level: u32, start: u32, delimiter: u32) -> bool
-    requires { ⌜ (row ≤ 2051) × (length (now words) ≡ 8205) ⌝ }
+    requires { ⌜ (row ≤ messageRows) × (length (now words) ≡ messageWords) ⌝ }
     ensures { λ r. ⌜ r ≡ followsOn level start delimiter (rowsBefore row (now (words .entry))) ⌝ }
 {
     let mut i = row;
@@ -53,7 +53,7 @@ fn follows_on(words: &[u32], row: usize, level: u32, start: u32, delimiter: u32)
 
 // How deep a row may stand: as deep as the row before it, and one level deeper behind a head.
 fn deepest_at(words: &[u32], row: usize) -> usize
-    requires { ⌜ (row < 2051) × (length (now words) ≡ 8205) ⌝ }
+    requires { ⌜ (row < messageRows) × (length (now words) ≡ messageWords) ⌝ }
     ensures { λ r. ⌜ r ≡ deepest (rowsBefore row (now (words .entry))) ⌝ }
 {
     if row == 0 {
@@ -67,7 +67,7 @@ fn deepest_at(words: &[u32], row: usize) -> usize
 }
 
 fn field_allowed(words: &[u32], row: usize, level: u32, tag: u32) -> bool
-    requires { ⌜ (row < 2051) × (length (now words) ≡ 8205) ⌝ }
+    requires { ⌜ (row < messageRows) × (length (now words) ≡ messageWords) ⌝ }
     ensures { λ r. ⌜ r ≡ fieldAllowed (rowsBefore row (now (words .entry))) level tag ⌝ }
 {
     if level == 0 {
@@ -86,7 +86,7 @@ fn field_allowed(words: &[u32], row: usize, level: u32, tag: u32) -> bool
 }
 
 fn head_allowed(words: &[u32], row: usize, level: u32, start: u32, delimiter: u32) -> bool
-    requires { ⌜ (row < 2051) × (length (now words) ≡ 8205) ⌝ }
+    requires { ⌜ (row < messageRows) × (length (now words) ≡ messageWords) ⌝ }
     ensures { λ r. ⌜ r ≡ headAllowed (rowsBefore row (now (words .entry))) level start delimiter ⌝ }
 {
     if level == 0 {
@@ -108,7 +108,7 @@ fn head_allowed(words: &[u32], row: usize, level: u32, start: u32, delimiter: u3
 }
 
 fn row_allowed(words: &[u32], row: usize) -> bool
-    requires { ⌜ (row < 2051) × (length (now words) ≡ 8205) ⌝ }
+    requires { ⌜ (row < messageRows) × (length (now words) ≡ messageWords) ⌝ }
     ensures { λ r. ⌜ r ≡ rowAllowed (rowsBefore row (now (words .entry))) (rowAt (now (words .entry)) row) ⌝ }
 {
     let level = maps::level_of(words, row);
@@ -127,7 +127,7 @@ fn row_allowed(words: &[u32], row: usize) -> bool
 }
 
 fn rows_allowed(words: &[u32], to: usize) -> bool
-    requires { ⌜ (to ≤ 2051) × (length (now words) ≡ 8205) ⌝ }
+    requires { ⌜ (to ≤ messageRows) × (length (now words) ≡ messageWords) ⌝ }
     ensures { λ r. ⌜ r ≡ rowsAllowed [] (rowsFrom (to - 0) 0 (now (words .entry))) ⌝ }
 {
     let mut i: usize = 0;
@@ -141,7 +141,7 @@ fn rows_allowed(words: &[u32], to: usize) -> bool
 }
 
 fn is_part(words: &[u32], row: usize, part: u32) -> bool
-    requires { ⌜ (row < 2051) × (length (now words) ≡ 8205) ⌝ }
+    requires { ⌜ (row < messageRows) × (length (now words) ≡ messageWords) ⌝ }
     ensures { λ r. ⌜ r ≡ isPart part (rowAt (now (words .entry)) row) ⌝ }
 {
     if maps::is_row(words, row, 2, 0, part) {
@@ -152,7 +152,7 @@ fn is_part(words: &[u32], row: usize, part: u32) -> bool
 
 // The part that must come next after a row, or 0 where the row is no part and should be one.
 fn next_part(words: &[u32], row: usize, part: u32) -> u32
-    requires { ⌜ (row < 2051) × (length (now words) ≡ 8205) × (part ≤ 2051) ⌝ }
+    requires { ⌜ (row < messageRows) × (length (now words) ≡ messageWords) × (part ≤ messageRows) ⌝ }
     ensures { λ r. ⌜ r ≡ nextPart part (rowAt (now (words .entry)) row) ⌝ }
     ensures { λ r. ⌜ r ≤ part + 1 ⌝ }
 {
@@ -166,7 +166,7 @@ fn next_part(words: &[u32], row: usize, part: u32) -> u32
 }
 
 fn has_parts(words: &[u32], to: usize) -> bool
-    requires { ⌜ (to ≤ 2051) × (length (now words) ≡ 8205) ⌝ }
+    requires { ⌜ (to ≤ messageRows) × (length (now words) ≡ messageWords) ⌝ }
     ensures { λ r. ⌜ r ≡ partsFrom 1 (rowsFrom (to - 0) 0 (now (words .entry))) ⌝ }
 {
     let mut part: u32 = 1;
@@ -183,7 +183,7 @@ fn has_parts(words: &[u32], to: usize) -> bool
 }
 
 fn is_own(words: &[u32], row: usize, level: usize) -> bool
-    requires { ⌜ (row < 2051) × (length (now words) ≡ 8205) ⌝ }
+    requires { ⌜ (row < messageRows) × (length (now words) ≡ messageWords) ⌝ }
     ensures { λ r. ⌜ r ≡ isOwn level (rowAt (now (words .entry)) row) ⌝ }
 {
     if maps::kind_of(words, row) != 1 {
@@ -194,7 +194,7 @@ fn is_own(words: &[u32], row: usize, level: usize) -> bool
 
 // Whether a head has a field of its own; its rows start at `from`.
 fn own_below(words: &[u32], level: u32, from: usize, to: usize) -> bool
-    requires { ⌜ (from ≤ to) × (to ≤ 2051) × (length (now words) ≡ 8205) ⌝ }
+    requires { ⌜ (from ≤ to) × (to ≤ messageRows) × (length (now words) ≡ messageWords) ⌝ }
     ensures { λ r. ⌜ r ≡ ownBelow level (rowsFrom (to - from) from (now (words .entry))) ⌝ }
 {
     let below = wide(level) + 1;
@@ -212,7 +212,7 @@ fn own_below(words: &[u32], level: u32, from: usize, to: usize) -> bool
 }
 
 fn weight_of(words: &[u32], floor: u32, row: usize, to: usize) -> usize
-    requires { ⌜ (row < to) × (to ≤ 2051) × (length (now words) ≡ 8205) ⌝ }
+    requires { ⌜ (row < to) × (to ≤ messageRows) × (length (now words) ≡ messageWords) ⌝ }
     ensures { λ r. ⌜ r ≡ weight floor (rowAt (now (words .entry)) row) (rowsFrom (to - (row + 1)) (row + 1) (now (words .entry))) ⌝ }
     ensures { λ r. ⌜ r ≤ 1 ⌝ }
 {
@@ -231,7 +231,7 @@ fn weight_of(words: &[u32], floor: u32, row: usize, to: usize) -> usize
 
 // The number of stored fields of rows.
 pub fn fields_in(words: &[u32], floor: u32, from: usize, to: usize) -> usize
-    requires { ⌜ (from ≤ to) × (to ≤ 2051) × (length (now words) ≡ 8205) ⌝ }
+    requires { ⌜ (from ≤ to) × (to ≤ messageRows) × (length (now words) ≡ messageWords) ⌝ }
     ensures { λ r. ⌜ r ≡ fieldsIn floor (rowsFrom (to - from) from (now (words .entry))) ⌝ }
 {
     let mut fields: usize = 0;
@@ -245,7 +245,7 @@ pub fn fields_in(words: &[u32], floor: u32, from: usize, to: usize) -> usize
 
 // How many rows are lent, as their first word says.
 pub fn row_count(words: &[u32]) -> usize
-    requires { ⌜ length (now words) ≡ 8205 ⌝ }
+    requires { ⌜ length (now words) ≡ messageWords ⌝ }
     ensures { λ r. ⌜ r ≡ rowCount (now (words .entry)) ⌝ }
 {
     wide(words[0])
@@ -254,14 +254,14 @@ pub fn row_count(words: &[u32]) -> usize
 pub fn is_laid(words: &[u32], values: &[u8]) -> bool
     ensures { λ r. ⌜ r ≡ isLaid (now (words .entry)) (now (values .entry)) ⌝ }
 {
-    if words.len() != 8205 {
+    if words.len() != maps::WORDS {
         return false;
     }
     if values.len() != 8192 {
         return false;
     }
     let count = row_count(words);
-    if 2051 < count {
+    if maps::ROWS < count {
         return false;
     }
     if !rows_allowed(words, count) {

@@ -7,7 +7,7 @@ use native.Mathlib.Omega.{arith}
 use lib.ListN.{length}
 use Rattle.tagvalue.specs.Choice.{pick}
 use Rattle.maps.specs.Map.{Map, Looked, none, some}
-use Rattle.maps.specs.Rows.{laid, rowsFrom}
+use Rattle.maps.specs.Rows.{laid, rowsFrom, messageRows}
 use Rattle.lent.specs.Lent.{isMessage}
 use Rattle.lent.specs.Meaning.{Message, parts, messageIn}
 use Rattle.message_rules.specs.Changes.{placeOf, spanOf}
@@ -61,7 +61,7 @@ module _ (head : ℕ) (words values : List ℕ) where
   -- the rows of the map that is named
   pub record Ranged (rows : Rows) : Type 0 where
     pub forwards : rows .from ≤ rows .to
-    pub few : rows .to ≤ 2051
+    pub few : rows .to ≤ messageRows
     pub small : placeOf words (rows .from) ≤ 8192
     pub lent : isMessage words values ≡ true
 

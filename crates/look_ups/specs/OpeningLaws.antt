@@ -10,7 +10,7 @@ use lib.Dec.{leb, ltb, eqb}
 use borrow.Author.Tests.{ltb-true, ltb-false, lt-ltb, le-ltb, eq-eqb, ne-eqb, leb-true, lt-leb}
 use Rattle.tagvalue.specs.Choice.{pick, pick-same}
 use Rattle.maps.specs.Map.{Map, Looked, none, some, valuesIn}
-use Rattle.maps.specs.Rows.{Row, row, laid, rowAt, rowsFrom, levelOf, sizeOf, sizes, matches, endFrom}
+use Rattle.maps.specs.Rows.{Row, row, laid, rowAt, rowsFrom, levelOf, sizeOf, sizes, matches, endFrom, messageRows}
 use Rattle.maps.specs.RowsLaws.{rows-step, rows-none}
 use Rattle.lent.specs.Lent.{rowCount, rowsOf, isMessage}
 use Rattle.lent.specs.LentLaws.{message-held}
@@ -72,8 +72,8 @@ pub record Inside (head : ℕ) (rows : Rows) (words : List ℕ) (m : Map) : Type
   pub own-rows : rowsFrom (rows .to - rows .from) (rows .from) words ≡ laid (rows .level) own
   pub starts : placeOf words (rows .from) ≡ place
   pub forwards : rows .from ≤ rows .to
-  pub few : rows .to ≤ 2051
-  pub near : rows .level ≤ 2051
+  pub few : rows .to ≤ messageRows
+  pub near : rows .level ≤ messageRows
   pub small : place ≤ 8192
 
 place-front : (words : List ℕ) (n i : ℕ) (front behind : List Row) → rowsFrom n 0 words ≡ front ++ behind → i ≡ length front → placeOf words i ≡ sizes front
@@ -203,10 +203,10 @@ module _ (head : ℕ) (words values : List ℕ) (lent : isMessage words values �
           let is : isHead (rowAt words head) ≡ true = ap isHead (head-row words values m sized rows head s) ∙ (unfold isHead in refl) in
           opened (opened-head below is) (split-inside words values m sized rows head s)
 
-  pub level-near : head < rowCount words → isHead (rowAt words head) ≡ true → levelOf (rowAt words head) + 1 ≤ 2051
+  pub level-near : head < rowCount words → isHead (rowAt words head) ≡ true → levelOf (rowAt words head) + 1 ≤ messageRows
   level-near below is = by-opens opens
     where
-      by-opens : Opens → levelOf (rowAt words head) + 1 ≤ 2051
+      by-opens : Opens → levelOf (rowAt words head) + 1 ≤ messageRows
       by-opens (shut e f) = let q = sym e ∙ opened-head below is in let z : _≡_ {A = ℕ} 0 1 = cc in absurd (omega arith)
       by-opens (opened e i) = unfold rowsBelow in i .near
 

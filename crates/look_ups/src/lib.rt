@@ -6,7 +6,7 @@ use message_rules::Value;
 ghost use mathlib.Core.Path.{_≡_};
 ghost use Prim.Native.Nat.{_+_, _-_, _≤_, _<_};
 ghost use lib.ListN.{length};
-ghost use Rattle.maps.specs.Rows.{rowsFrom, sizes};
+ghost use Rattle.maps.specs.Rows.{rowsFrom, sizes, messageWords, messageRows};
 ghost use Rattle.message_rules.specs.Changes.{placeOf};
 ghost use Rattle.message_rules.specs.LookUps.{partFound, fieldFound, entryFound};
 ghost use Rattle.look_ups.specs.Opening.{openedAt, valueFrom, entryFrom};
@@ -48,7 +48,7 @@ fn open_map(words: &[u32], values: &[u8], map: usize) -> Opened
 }
 
 fn value_from(words: &[u32], rows: Rows, tag: u32) -> FoundValue
-    requires { ⌜ (rows .from ≤ rows .to) × (rows .to ≤ 2051) × (length (now words) ≡ 8205) × (placeOf (now words) (rows .from) ≤ 8192) ⌝ }
+    requires { ⌜ (rows .from ≤ rows .to) × (rows .to ≤ messageRows) × (length (now words) ≡ messageWords) × (placeOf (now words) (rows .from) ≤ 8192) ⌝ }
     ensures { λ r. ⌜ r ≡ valueFrom (rows .level) tag (placeOf (now (words .entry)) (rows .from)) (rowsFrom (rows .to - rows .from) (rows .from) (now (words .entry))) ⌝ }
 {
     let level = rows.level;
@@ -67,7 +67,7 @@ fn value_from(words: &[u32], rows: Rows, tag: u32) -> FoundValue
 }
 
 fn entry_from(words: &[u32], rows: Rows, start: u32, number: usize) -> FoundMap
-    requires { ⌜ (rows .from ≤ rows .to) × (rows .to ≤ 2051) × (length (now words) ≡ 8205) ⌝ }
+    requires { ⌜ (rows .from ≤ rows .to) × (rows .to ≤ messageRows) × (length (now words) ≡ messageWords) ⌝ }
     ensures { λ r. ⌜ r ≡ entryFrom (rows .level) start number (rows .from) (rowsFrom (rows .to - rows .from) (rows .from) (now (words .entry))) ⌝ }
 {
     let level = rows.level;

@@ -9,6 +9,14 @@ use lib.Dec.{eqb, leb, ltb}
 use Rattle.tagvalue.specs.Choice.{pick}
 use Rattle.maps.specs.Map.{Map, end, field, entry}
 
+-- rows to a message: one for each field and entry, of which there are 1,024 each, and one for each part
+abbrev pub messageRows : ℕ
+messageRows = 2051
+
+-- words to a message: how many rows there are, and four to a row
+abbrev pub messageWords : ℕ
+messageWords = 8205
+
 -- kind, level, tag or start tag, length or delimiter tag
 pub data Row : Type 0 where
   row : ℕ → ℕ → ℕ → ℕ → Row

@@ -13,7 +13,7 @@ use borrow.Author.Tests.{le-leb, lt-leb}
 use Rattle.tagvalue.specs.Choice.{pick}
 use Rattle.tagvalue.specs.Decimal.{writtenAt}
 use Rattle.tagvalue.specs.DecimalLaws.{written-fits, written-copied}
-use Rattle.maps.specs.Rows.{Row, row, rowAt, rowsFrom, rowsBefore, levelOf, sizeOf, matches, findFrom, endFrom, inRun, runEndFrom, sizes, padded, part, spliced}
+use Rattle.maps.specs.Rows.{Row, row, rowAt, rowsFrom, rowsBefore, levelOf, sizeOf, matches, findFrom, endFrom, inRun, runEndFrom, sizes, padded, part, spliced, messageRows, messageWords}
 
 pub rows-step : (words : List ℕ) (i to : ℕ) → i < to → rowsFrom (to - i) i words ≡ rowAt words i ∷ rowsFrom (to - (i + 1)) (i + 1) words
 unfolding rowsFrom
@@ -158,3 +158,7 @@ module _ (n from to kept until used : ℕ) (new s : List ℕ) (a : from ≤ to) 
       let o₅ : five ≡ padded n ((((p ++ q) ++ new) ++ r) ++ t) = e₅ ∙ ap (writtenAt fourth t) o₄ ∙ written-next n fourth (((p ++ q) ++ new) ++ r) t (omega arith) (omega arith) in
       let l₅ : length five ≡ n = ap length o₅ ∙ padded-length n _ (simp length-append (omega arith)) in
       e₆ ∙ rw (take-length five, drop-of-length-le s {i = length five} (omega arith), append-nil) (o₅ ∙ simp append-assoc)
+
+-- as many words as the rows take, and one that counts them
+sizes : messageWords ≡ 1 + 4 * messageRows
+sizes = refl

@@ -7,31 +7,37 @@ ghost use mathlib.Core.Bool.{true, false};
 ghost use Prim.Native.Nat.{_+_, _-_, _*_, _≤_, _<_};
 ghost use lib.ListN.{length, getD, take, drop};
 ghost use Rattle.tagvalue.specs.Decimal.{writtenAt};
-ghost use Rattle.maps.specs.Rows.{rowAt, rowsFrom, rowsBefore, levelOf, sizeOf, matches, findFrom, endFrom, inRun, runEndFrom, sizes, padded, part, spliced};
+ghost use Rattle.maps.specs.Rows.{rowAt, rowsFrom, rowsBefore, levelOf, sizeOf, matches, findFrom, endFrom, inRun, runEndFrom, sizes, padded, part, spliced, messageWords, messageRows};
+
+// Rows to a message: one for each field and entry, of which there are 1,024 each, and one for each part.
+pub const ROWS: usize = 2051;
+
+// Words to a message: how many rows there are, and four to a row.
+pub const WORDS: usize = 1 + 4 * ROWS;
 
 pub fn kind_of(words: &[u32], row: usize) -> u32
-    requires { ⌜ (row < 2051) × (length (now words) ≡ 8205) ⌝ }
+    requires { ⌜ (row < messageRows) × (length (now words) ≡ messageWords) ⌝ }
     ensures { λ r. ⌜ r ≡ getD (now (words .entry)) (4 * row + 1) 0 ⌝ }
 {
     words[4 * row + 1]
 }
 
 pub fn level_of(words: &[u32], row: usize) -> u32
-    requires { ⌜ (row < 2051) × (length (now words) ≡ 8205) ⌝ }
+    requires { ⌜ (row < messageRows) × (length (now words) ≡ messageWords) ⌝ }
     ensures { λ r. ⌜ r ≡ levelOf (rowAt (now (words .entry)) row) ⌝ }
 {
     words[4 * row + 2]
 }
 
 pub fn tag_of(words: &[u32], row: usize) -> u32
-    requires { ⌜ (row < 2051) × (length (now words) ≡ 8205) ⌝ }
+    requires { ⌜ (row < messageRows) × (length (now words) ≡ messageWords) ⌝ }
     ensures { λ r. ⌜ r ≡ getD (now (words .entry)) (4 * row + 3) 0 ⌝ }
 {
     words[4 * row + 3]
 }
 
 pub fn extra_of(words: &[u32], row: usize) -> u32
-    requires { ⌜ (row < 2051) × (length (now words) ≡ 8205) ⌝ }
+    requires { ⌜ (row < messageRows) × (length (now words) ≡ messageWords) ⌝ }
     ensures { λ r. ⌜ r ≡ getD (now (words .entry)) (4 * row + 4) 0 ⌝ }
 {
     words[4 * row + 4]
@@ -39,7 +45,7 @@ pub fn extra_of(words: &[u32], row: usize) -> u32
 
 // How many bytes the value of a row has.
 pub fn size_of(words: &[u32], row: usize) -> usize
-    requires { ⌜ (row < 2051) × (length (now words) ≡ 8205) ⌝ }
+    requires { ⌜ (row < messageRows) × (length (now words) ≡ messageWords) ⌝ }
     ensures { λ r. ⌜ r ≡ sizeOf (rowAt (now (words .entry)) row) ⌝ }
     ensures { λ r. ⌜ r < 4294967296 ⌝ }
 {
@@ -50,7 +56,7 @@ pub fn size_of(words: &[u32], row: usize) -> usize
 }
 
 pub fn is_row(words: &[u32], row: usize, kind: u32, level: u32, tag: u32) -> bool
-    requires { ⌜ (row < 2051) × (length (now words) ≡ 8205) ⌝ }
+    requires { ⌜ (row < messageRows) × (length (now words) ≡ messageWords) ⌝ }
     ensures { λ r. ⌜ r ≡ matches kind level tag (rowAt (now (words .entry)) row) ⌝ }
 {
     if kind_of(words, row) != kind {
@@ -63,7 +69,7 @@ pub fn is_row(words: &[u32], row: usize, kind: u32, level: u32, tag: u32) -> boo
 }
 
 pub fn find_row(words: &[u32], kind: u32, level: u32, tag: u32, from: usize, to: usize) -> usize
-    requires { ⌜ (from ≤ to) × (to ≤ 2051) × (length (now words) ≡ 8205) ⌝ }
+    requires { ⌜ (from ≤ to) × (to ≤ messageRows) × (length (now words) ≡ messageWords) ⌝ }
     ensures { λ r. ⌜ r ≡ findFrom kind level tag from (rowsFrom (to - from) from (now (words .entry))) ⌝ }
 {
     let mut i = from;
@@ -77,7 +83,7 @@ pub fn find_row(words: &[u32], kind: u32, level: u32, tag: u32, from: usize, to:
 }
 
 pub fn end_of(words: &[u32], level: u32, from: usize, to: usize) -> usize
-    requires { ⌜ (from ≤ to) × (to ≤ 2051) × (length (now words) ≡ 8205) ⌝ }
+    requires { ⌜ (from ≤ to) × (to ≤ messageRows) × (length (now words) ≡ messageWords) ⌝ }
     ensures { λ r. ⌜ r ≡ endFrom level from (rowsFrom (to - from) from (now (words .entry))) ⌝ }
 {
     let mut i = from;
@@ -91,7 +97,7 @@ pub fn end_of(words: &[u32], level: u32, from: usize, to: usize) -> usize
 }
 
 fn in_run(words: &[u32], row: usize, level: u32, start: u32) -> bool
-    requires { ⌜ (row < 2051) × (length (now words) ≡ 8205) ⌝ }
+    requires { ⌜ (row < messageRows) × (length (now words) ≡ messageWords) ⌝ }
     ensures { λ r. ⌜ r ≡ inRun level start (rowAt (now (words .entry)) row) ⌝ }
 {
     if level < level_of(words, row) {
@@ -101,7 +107,7 @@ fn in_run(words: &[u32], row: usize, level: u32, start: u32) -> bool
 }
 
 pub fn run_end(words: &[u32], level: u32, start: u32, from: usize, to: usize) -> usize
-    requires { ⌜ (from ≤ to) × (to ≤ 2051) × (length (now words) ≡ 8205) ⌝ }
+    requires { ⌜ (from ≤ to) × (to ≤ messageRows) × (length (now words) ≡ messageWords) ⌝ }
     ensures { λ r. ⌜ r ≡ runEndFrom level start from (rowsFrom (to - from) from (now (words .entry))) ⌝ }
 {
     let mut i = from;
@@ -116,7 +122,7 @@ pub fn run_end(words: &[u32], level: u32, start: u32, from: usize, to: usize) ->
 
 // How many bytes the values of the rows have.
 pub fn size_between(words: &[u32], from: usize, to: usize) -> usize
-    requires { ⌜ (from ≤ to) × (to ≤ 2051) × (length (now words) ≡ 8205) ⌝ }
+    requires { ⌜ (from ≤ to) × (to ≤ messageRows) × (length (now words) ≡ messageWords) ⌝ }
     ensures { λ r. ⌜ r ≡ sizes (rowsFrom (to - from) from (now (words .entry))) ⌝ }
 {
     let mut size: usize = 0;
@@ -170,10 +176,10 @@ pub fn splice_words(
     used: usize,
     new: &[u32],
 )
-    requires { ⌜ (from ≤ to) × (kept ≤ to) × (to ≤ end) × (end ≤ used) × (used ≤ 8205) × (length (now words) ≡ 8205) × (from + (end - to) + length (now new) + (to - kept) + (used - end) ≤ 8205) ⌝ }
-    ensures { λ _. ⌜ now (words .exit) ≡ padded 8205 (spliced from to kept end used (now (new .entry)) (now (words .entry))) ⌝ }
+    requires { ⌜ (from ≤ to) × (kept ≤ to) × (to ≤ end) × (end ≤ used) × (used ≤ messageWords) × (length (now words) ≡ messageWords) × (from + (end - to) + length (now new) + (to - kept) + (used - end) ≤ messageWords) ⌝ }
+    ensures { λ _. ⌜ now (words .exit) ≡ padded messageWords (spliced from to kept end used (now (new .entry)) (now (words .entry))) ⌝ }
 {
-    let mut scratch = [0u32; 8205];
+    let mut scratch = [0u32; WORDS];
     let room = &mut scratch[..];
     let first = put_words(room, 0, words, 0, from);
     let second = put_words(room, first, words, to, end);

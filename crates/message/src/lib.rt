@@ -153,7 +153,7 @@ pub fn put_field(
 pub fn empty(words: &mut [u32], values: &mut [u8]) -> Change
     ensures { λ r. ⌜ after r (now (words .exit)) (now (values .exit)) ≡ emptying (now (words .entry)) (now (values .entry)) ⌝ }
 {
-    if words.len() != 8205 {
+    if words.len() != maps::WORDS {
         return Change::NoMessage;
     }
     if values.len() != 8192 {
@@ -189,7 +189,7 @@ pub fn store(words: &mut [u32], values: &mut [u8], part: Part, tag: u32, value: 
 pub fn new(words: &mut [u32], values: &mut [u8], begin_string: &[u8], message_type: &[u8]) -> Change
     ensures { λ r. ⌜ after r (now (words .exit)) (now (values .exit)) ≡ making (now («begin_string» .entry)) (now («message_type» .entry)) (now (words .entry)) (now (values .entry)) ⌝ }
 {
-    if words.len() != 8205 {
+    if words.len() != maps::WORDS {
         return Change::NoMessage;
     }
     if values.len() != 8192 {

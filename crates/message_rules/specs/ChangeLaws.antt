@@ -9,7 +9,7 @@ use lib.Dec.{leb, ltb, eqb}
 use borrow.Author.Tests.{le-leb, lt-leb, eq-eqb, ne-eqb, lt-ltb, le-ltb}
 use Rattle.tagvalue.specs.Choice.{pick}
 use Rattle.maps.specs.Map.{Map, end, entry, valuesIn, holds, withoutField, stored}
-use Rattle.maps.specs.Rows.{laid, flat, part, padded, spliced, rowsFrom, findFrom, runEndFrom}
+use Rattle.maps.specs.Rows.{laid, flat, part, padded, spliced, rowsFrom, findFrom, runEndFrom, messageWords}
 use Rattle.lent.specs.Lent.{isMessage}
 use Rattle.lent.specs.Meaning.{Message, parts, wordsOf, valuesOf, messageIn}
 use Rattle.message_rules.specs.Changes.{After, after, placeOf, Cuttable, cutSize, cutWords, cutValues, changedAt, ofMessage, partOf, withPart, judged, noFields, ofStore, emptying, storing, removing, spanOf, locatedIn, fieldRow, fieldPlace, runPlace, runStop, oneRow, runLast, putAt, Ready}
@@ -133,7 +133,7 @@ module _ (part : Part) (tag : ℕ) (words values : List ℕ) where
   remove-on h e = of-message words values _ h ∙ rw e
 
 -- an empty message takes the place of what was there
-pub empty-words : (words spliced-words : List ℕ) → length words ≡ 8205 → spliced-words ≡ padded 8205 (spliced 1 1 1 1 1 (2 ∷ 0 ∷ 1 ∷ 0 ∷ 2 ∷ 0 ∷ 2 ∷ 0 ∷ 2 ∷ 0 ∷ 3 ∷ 0 ∷ []) words) → set spliced-words 0 3 ≡ wordsOf noFields
+pub empty-words : (words spliced-words : List ℕ) → length words ≡ messageWords → spliced-words ≡ padded messageWords (spliced 1 1 1 1 1 (2 ∷ 0 ∷ 1 ∷ 0 ∷ 2 ∷ 0 ∷ 2 ∷ 0 ∷ 2 ∷ 0 ∷ 3 ∷ 0 ∷ []) words) → set spliced-words 0 3 ≡ wordsOf noFields
 unfolding wordsOf noFields parts laid flat spliced part padded
 empty-words [] s h e = absurd (omega arith)
 empty-words (w ∷ words) s h e = ap (λ (l : List ℕ). set l 0 3) e
@@ -143,14 +143,14 @@ unfolding valuesOf noFields parts valuesIn spliced part padded
 empty-values values left e = e
 
 module _ (words values : List ℕ) where
-  pub empty-short : (length words ≡ 8205 → ⊥) → emptying words values ≡ after NoMessage words values
+  pub empty-short : (length words ≡ messageWords → ⊥) → emptying words values ≡ after NoMessage words values
   unfolding emptying ofStore
   empty-short h = rw (ne-eqb _ _ h)
 
-  pub empty-store : length words ≡ 8205 → (length values ≡ 8192 → ⊥) → emptying words values ≡ after NoMessage words values
+  pub empty-store : length words ≡ messageWords → (length values ≡ 8192 → ⊥) → emptying words values ≡ after NoMessage words values
   unfolding emptying ofStore
   empty-store h k = rw (eq-eqb _ _ h, ne-eqb _ _ k)
 
-  pub empty-made : length words ≡ 8205 → length values ≡ 8192 → emptying words values ≡ after Made (wordsOf noFields) (valuesOf noFields)
+  pub empty-made : length words ≡ messageWords → length values ≡ 8192 → emptying words values ≡ after Made (wordsOf noFields) (valuesOf noFields)
   unfolding emptying ofStore
   empty-made h k = rw (eq-eqb _ _ h, eq-eqb _ _ k)

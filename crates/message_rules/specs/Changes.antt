@@ -7,7 +7,7 @@ use lib.ListN.{length, set}
 use lib.Dec.{eqb, leb, ltb}
 use Rattle.tagvalue.specs.Choice.{pick}
 use Rattle.maps.specs.Map.{Map, end, field, entry, holds, withoutField, stored, hung, fieldCount, valuesIn}
-use Rattle.maps.specs.Rows.{laid, flat, rowsFrom, findFrom, runEndFrom, sizes, padded, spliced}
+use Rattle.maps.specs.Rows.{laid, flat, rowsFrom, findFrom, runEndFrom, sizes, padded, spliced, messageWords, messageRows}
 use Rattle.lent.specs.Lent.{isMessage}
 use Rattle.lent.specs.Meaning.{Message, parts, wordsOf, valuesOf, messageIn}
 use Rattle.message_rules.specs.declared.Part.{Part}
@@ -61,7 +61,7 @@ judgedBy words values size whole fields left-words left-values =
 
 -- a map in the layout of what is lent, with zeros past it
 unfoldable pub mapWords : Map → List ℕ
-mapWords map = padded 8205 (length (laid 0 map) ∷ flat (laid 0 map))
+mapWords map = padded messageWords (length (laid 0 map) ∷ flat (laid 0 map))
 
 unfoldable pub mapValues : Map → List ℕ
 mapValues map = padded 8192 (valuesIn map)
@@ -84,7 +84,7 @@ noFields = record { header = end; body = end; trailer = end }
 -- what is lent must have its lengths: 27
 unfoldable pub ofStore : List ℕ → List ℕ → After → After
 ofStore words values then =
-    pick (eqb (length words) 8205)
+    pick (eqb (length words) messageWords)
     (pick (eqb (length values) 8192) then (after NoMessage words values))
     (after NoMessage words values)
 
@@ -140,15 +140,15 @@ unfoldable pub placeOf : List ℕ → ℕ → ℕ
 placeOf words i = sizes (rowsFrom (i - 0) 0 words)
 
 pub record Cuttable (words values : List ℕ) (cut : Cut) (rows : List ℕ) (added fields : ℕ) : Type 0 where
-  pub whole : length words ≡ 8205
+  pub whole : length words ≡ messageWords
   pub store : length values ≡ 8192
   pub forwards : cut .from ≤ cut .kept
   pub back : cut .kept ≤ cut .to
   pub on : cut .to ≤ cut .until
   pub last : cut .until ≤ cut .count
-  pub few : cut .count ≤ 2051
+  pub few : cut .count ≤ messageRows
   pub four : length rows ≡ 4 * added
-  pub room : fields ≤ 1024 → (cut .from + (cut .until - cut .to) + (cut .to - cut .kept) + (cut .count - cut .until)) + added ≤ 2051
+  pub room : fields ≤ 1024 → (cut .from + (cut .until - cut .to) + (cut .to - cut .kept) + (cut .count - cut .until)) + added ≤ messageRows
   pub within : placeOf words (cut .count) ≤ 8192
 
 unfoldable pub cutRows : Cut → ℕ
@@ -163,7 +163,7 @@ cutSize words cut =
 unfoldable pub cutWords : Cut → List ℕ → ℕ → List ℕ → List ℕ
 cutWords cut rows added words =
     set
-    (padded 8205 (spliced (4 * cut .from + 1) (4 * cut .to + 1) (4 * cut .kept + 1) (4 * cut .until + 1) (4 * cut .count + 1) rows words))
+    (padded messageWords (spliced (4 * cut .from + 1) (4 * cut .to + 1) (4 * cut .kept + 1) (4 * cut .until + 1) (4 * cut .count + 1) rows words))
     0 (cutRows cut + added)
 
 unfoldable pub cutValues : Cut → List ℕ → List ℕ → List ℕ → List ℕ
@@ -203,10 +203,10 @@ putAt span tag value fields words values =
     (changedAt (runLast (runPlace span tag words) (runStop span tag words) span) (fieldRow tag value) 1 value true (fields + 1) words values)
 
 pub record Ready (words values : List ℕ) (span : Span) (tag : ℕ) (value : List ℕ) (fields : ℕ) : Type 0 where
-  pub whole : length words ≡ 8205
+  pub whole : length words ≡ messageWords
   pub forwards : span .from ≤ span .to
   pub last : span .to ≤ span .count
-  pub few : span .count ≤ 2051
+  pub few : span .count ≤ messageRows
   pub small : length value ≤ 8192
   pub counted : fields < 8192
   pub replaces : fieldPlace span tag words < span .to → Cuttable words values (oneRow (fieldPlace span tag words) (span .count)) (fieldRow tag value) 1 fields

@@ -11,7 +11,7 @@ use lib.Seq.{take-at, drop-at, drop-cons}
 use lib.Dec.{leb, ltb, eqb}
 use Rattle.tagvalue.specs.Choice.{pick, pick-same}
 use Rattle.maps.specs.Map.{Map, end, field, entry, valuesIn}
-use Rattle.maps.specs.Rows.{Row, row, laid, flat, part, padded, rowAt, rowsFrom, levelOf, sizes, endFrom, spliced}
+use Rattle.maps.specs.Rows.{Row, row, laid, flat, part, padded, rowAt, rowsFrom, levelOf, sizes, endFrom, spliced, messageWords, messageRows}
 use Rattle.lent.specs.Lent.{rowCount, rowsOf, isMessage}
 use Rattle.lent.specs.LentLaws.{Laid, Held, message-held}
 use Rattle.lent.specs.Meaning.{Message, parts, wordsOf, valuesOf, messageIn}
@@ -25,9 +25,9 @@ use Rattle.message_rules.specs.declared.Cut.{Cut}
 
 -- words and values of their lengths, within their limits
 pub record Sized (words values : List ℕ) : Type 0 where
-  pub whole : length words ≡ 8205
+  pub whole : length words ≡ messageWords
   pub store : length values ≡ 8192
-  pub counted : rowCount words ≤ 2051
+  pub counted : rowCount words ≤ messageRows
   pub within : sizes (rowsOf words) ≤ 8192
 
 pub laid-sized : (words values : List ℕ) → Laid words values → Sized words values
@@ -93,7 +93,7 @@ module _ (words values : List ℕ) (cut : Cut) (a b c d e : List Row) (va vb vc 
       ap (padded 8192)
       (spliced-parts va vb vc vd ve (drop n values) bytes values _ _ _ _ _ s place-from place-kept place-to place-until place-count)
 
-  pub cut-words : (x : List Row) → cutWords cut (flat x) (length x) words ≡ padded 8205 (length (a ++ (d ++ (x ++ (c ++ e)))) ∷ flat (a ++ (d ++ (x ++ (c ++ e)))))
+  pub cut-words : (x : List Row) → cutWords cut (flat x) (length x) words ≡ padded messageWords (length (a ++ (d ++ (x ++ (c ++ e)))) ∷ flat (a ++ (d ++ (x ++ (c ++ e)))))
   unfolding cutWords
   cut-words x =
       let n = rowCount words in
@@ -106,14 +106,14 @@ module _ (words values : List ℕ) (cut : Cut) (a b c d e : List Row) (va vb vc 
       (omega (arith, k .until, flat-length a, flat-length b, flat-length c, flat-length d)) (omega (arith, k .count, flat-length a, flat-length b, flat-length c, flat-length d, flat-length e))
       ∙ ap (λ (r : List ℕ). n ∷ r) (rw (flat-append, flat-append, flat-append, flat-append)) in
       let l : cutRows cut + length x ≡ length (a ++ (d ++ (x ++ (c ++ e)))) = unfold cutRows in simp length-append (omega (arith, k .from, k .kept, k .to, k .until, k .count)) in
-      ap (λ (w : List ℕ). set (padded 8205 w) 0 (cutRows cut + length x)) r ∙ rw l (unfold padded in refl)
+      ap (λ (w : List ℕ). set (padded messageWords w) 0 (cutRows cut + length x)) r ∙ rw l (unfold padded in refl)
 
   pub cut-size : (bytes : List ℕ) → cutSize words cut + length bytes ≡ length (va ++ (vd ++ (bytes ++ (vc ++ ve))))
   unfolding cutSize
   cut-size bytes = simp length-append (omega (arith, place-from, place-kept, place-to, place-until, place-count))
 
   -- where a map has the rows and values that the cut leaves, the cut is judged and done as 01 says
-  module _ (map : Map) (fields : ℕ) (few : fields ≤ 1024 → length (laid 0 map) ≤ 2051) (x : List Row) (bytes : List ℕ)
+  module _ (map : Map) (fields : ℕ) (few : fields ≤ 1024 → length (laid 0 map) ≤ messageRows) (x : List Row) (bytes : List ℕ)
       (rows : laid 0 map ≡ a ++ (d ++ (x ++ (c ++ e)))) (texts : valuesIn map ≡ va ++ (vd ++ (bytes ++ (vc ++ ve)))) where
     pub cut-judged : (whole : Bool) → changedAt cut (flat x) (length x) bytes whole fields words values ≡ judgedMap words values whole fields map
     unfolding changedAt judgedMap mapWords mapValues

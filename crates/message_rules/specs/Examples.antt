@@ -6,6 +6,8 @@ use mathlib.Core.Bool.{Bool, true, false}
 use Prim.Native.Nat.{ℕ, zero, suc}
 use lib.ListN.{replicate}
 use native.Mathlib.Omega.{arith}
+use Rattle.maps.specs.Rows.{messageWords}
+use Rattle.records.specs.Records.{recordRoom}
 use Rattle.tagvalue.specs.Text.{bytes}
 use Rattle.maps.specs.Map.{Map, end, field, entry, joined, holds, holdsAny, replaced, withoutField, leading, pastLeading, runOn, withoutRun, stored, fieldCount, valuesIn}
 use Rattle.lent.specs.Meaning.{Message, parts, wordsOf, valuesOf}
@@ -50,8 +52,8 @@ cases =
     ∷ (true, inBody (field 1 (replicate 8193 0) end))
     ∷ (false, inBody (field 1 (replicate 8193 0) end))
     ∷ (true, inBody (many 1024))
-    ∷ (true, inBody (many 1025))
-    ∷ (false, inBody (many 1025))
+    ∷ (true, inBody (many recordRoom))
+    ∷ (false, inBody (many recordRoom))
     ∷ []
 
 abbrev number : After → ℕ
@@ -98,6 +100,6 @@ calls =
     (rw (lent .is-message, lent .meant), rw (lent .is-message), rw (lent .is-message, lent .meant), rw (lent .is-message, lent .meant))
 
 -- what is emptied holds nothing of what it held, and other lengths are none of a message
-emptied : (emptying (replicate 8205 7) (replicate 8192 7) ≡ left noFields) × (emptying (replicate 8204 7) (replicate 8192 7) ≡ after NoMessage (replicate 8204 7) (replicate 8192 7))
+emptied : (emptying (replicate messageWords 7) (replicate 8192 7) ≡ left noFields) × (emptying (replicate 8204 7) (replicate 8192 7) ≡ after NoMessage (replicate 8204 7) (replicate 8192 7))
 unfolding emptying ofStore
 emptied = (refl, refl)

@@ -7,6 +7,7 @@ use native.Mathlib.Omega.{arith}
 use lib.ListN.{length}
 use lib.Dec.{leb, eqb}
 use borrow.Author.Tests.{leb-true, eqb-true, eqb-false}
+use Rattle.maps.specs.Rows.{messageWords}
 use Rattle.tagvalue.specs.Choice.{pick}
 use Rattle.maps.specs.Map.{Map, holds, withoutField, stored, fieldCount, valuesIn}
 use Rattle.lent.specs.Lent.{isMessage}
@@ -84,7 +85,7 @@ judged-keeps words values whole m r w v f h e = by-tests (leb (valueTotal m) 819
 -- an empty message
 pub empty-lends : (words values w v : List ℕ) → emptying words values ≡ after Made w v → Lends w v noFields
 unfolding emptying ofStore
-empty-lends words values w v e = by-tests (eqb (length words) 8205) (eqb (length values) 8192) e
+empty-lends words values w v e = by-tests (eqb (length words) messageWords) (eqb (length values) 8192) e
   where
     none-formed : Formed noFields
     none-formed = unfold noFields isFormed in record { header = refl; body = refl; trailer = refl }

@@ -11,7 +11,7 @@ use lib.Dec.{leb, ltb, eqb}
 use borrow.Author.Tests.{lt-leb, ltb-true, ltb-false}
 use Rattle.tagvalue.specs.Choice.{pick}
 use Rattle.maps.specs.Map.{Map, end, field, entry, joined, holds, holdsAny, replaced, withoutField, leading, pastLeading, runOn, withoutRun, stored, hungOnCount, hungAlone, hung, fieldCount, valuesIn}
-use Rattle.maps.specs.Rows.{Row, row, laid, flat, rowsFrom, sizes, sizeOf, matches, findFrom, runEndFrom}
+use Rattle.maps.specs.Rows.{Row, row, laid, flat, rowsFrom, sizes, sizeOf, matches, findFrom, runEndFrom, messageRows}
 use Rattle.lent.specs.Lent.{rowCount, rowsOf}
 use Rattle.message_rules.specs.Changes.{After, after, Cuttable, changedAt, judgedMap, fieldRow, fieldPlace, runPlace, runStop, oneRow, runLast, putAt, Ready}
 use Rattle.message_rules.specs.LayoutLaws.{joined-assoc, laid-joined, values-joined, count-joined, sizes-append, sizes-laid}
@@ -37,7 +37,7 @@ pub record Frame (words values : List ℕ) (span : Span) (own : Map) (whole : Ma
   pub from : span .from ≡ length before
   pub to : span .to ≡ length before + length (laid 1 own)
   pub count : span .count ≡ length before + length (laid 1 own) + length behind
-  pub few : (x : Map) → total x ≤ 1024 → length (laid 0 (whole x)) ≤ 2051
+  pub few : (x : Map) → total x ≤ 1024 → length (laid 0 (whole x)) ≤ messageRows
 
 -- a cut that leaves a map: it can be made, and is judged as that map is
 pub record Leaves (words values : List ℕ) (cut : Cut) (rows : List ℕ) (added : ℕ) (bytes : List ℕ) (fields : ℕ) (map : Map) : Type 0 where
@@ -45,7 +45,7 @@ pub record Leaves (words values : List ℕ) (cut : Cut) (rows : List ℕ) (added
   pub done : (whole : Bool) → changedAt cut rows added bytes whole fields words values ≡ judgedMap words values whole fields map
 
 leaves : (words values : List ℕ) (cut : Cut) (a b c d e : List Row) (va vb vc vd ve : List ℕ) (map : Map) (fields : ℕ) (x : List Row) (bytes : List ℕ)
-    → Cutting words values cut a b c d e va vb vc vd ve → (fields ≤ 1024 → length (laid 0 map) ≤ 2051)
+    → Cutting words values cut a b c d e va vb vc vd ve → (fields ≤ 1024 → length (laid 0 map) ≤ messageRows)
     → laid 0 map ≡ a ++ (d ++ (x ++ (c ++ e))) → valuesIn map ≡ va ++ (vd ++ (bytes ++ (vc ++ ve)))
     → Leaves words values cut (flat x) (length x) bytes fields map
 leaves words values cut a b c d e va vb vc vd ve map fields x bytes k few rows texts =
@@ -85,7 +85,7 @@ module _ (words values : List ℕ) (span : Span) (own : Map) (whole : Map → Ma
       i .count
       ∙ sym (sym (rows-length (rowCount words) 0 words) ∙ ap length rows-all ∙ simp length-append (omega arith))
 
-  pub span-grows : (span .from ≤ span .to) × (span .to ≤ span .count) × (span .count ≤ 2051)
+  pub span-grows : (span .from ≤ span .to) × (span .to ≤ span .count) × (span .count ≤ messageRows)
   span-grows = (omega (arith, i .from, i .to), omega (arith, i .to, i .count), omega (arith, count-is, i .sized .counted))
 
   module _ (tag at : ℕ) (found : at ≡ findFrom 1 1 tag (span .from) (rowsFrom (span .to - span .from) (span .from) words)) where

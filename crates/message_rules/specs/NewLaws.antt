@@ -10,7 +10,7 @@ use lib.Dec.{leb, ltb, eqb}
 use borrow.Author.Tests.{le-leb, lt-leb, eq-eqb, ne-eqb}
 use Rattle.tagvalue.specs.Choice.{pick}
 use Rattle.maps.specs.Map.{Map, end, field, entry, joined, holds, replaced, withoutRun, runOn, stored, fieldCount, holdsAny, valuesIn}
-use Rattle.maps.specs.Rows.{Row, row, laid, flat, padded, rowAt, rowsFrom, sizes, sizeOf, levelOf, matches}
+use Rattle.maps.specs.Rows.{Row, row, laid, flat, padded, rowAt, rowsFrom, sizes, sizeOf, levelOf, matches, messageWords, messageRows}
 use Rattle.maps.specs.RowsLaws.{padded-length}
 use Rattle.lent.specs.Lent.{heldBefore, deepest, fieldAllowed, headAllowed, rowAllowed, rowsAllowed, delimiterIs, isPart, nextPart, partsFrom, isOwn, ownBelow, weight, fieldsIn, rowCount, rowsOf, isLaid, isMessage}
 use Rattle.lent.specs.Meaning.{Message, parts, wordsOf, valuesOf, opened, withField, withEntry, withRow, openIn, outermost, thirdOf, secondOf, partsIn, messageIn}
@@ -40,9 +40,9 @@ module _ (beginString : List ℕ) (small : length beginString ≤ 8192) where
   begun-held : isMessage (wordsOf (begun beginString)) (valuesOf (begun beginString)) ≡ true
   unfolding isMessage isLaid
   begun-held =
-      let w : length (wordsOf (begun beginString)) ≡ 8205 = unfold wordsOf padded begun parts laid flat in refl in
+      let w : length (wordsOf (begun beginString)) ≡ messageWords = unfold wordsOf padded begun parts laid flat in refl in
       let v : length (valuesOf (begun beginString)) ≡ 8192 = unfold valuesOf in padded-length 8192 _ (unfold begun parts valuesIn in simp append-nil (omega arith)) in
-      let c : leb (rowCount (wordsOf (begun beginString))) 2051 ≡ true = unfold rowCount wordsOf padded begun parts laid flat in refl in
+      let c : leb (rowCount (wordsOf (begun beginString))) messageRows ≡ true = unfold rowCount wordsOf padded begun parts laid flat in refl in
       let n : sizes (row 2 0 1 0 ∷ row 1 1 8 (length beginString) ∷ row 2 0 2 0 ∷ row 2 0 3 0 ∷ []) ≤ 8192 = unfold sizes sizeOf in omega arith in
       rw (eq-eqb _ _ w, eq-eqb _ _ v, begun-rows, c, le-leb _ _ n)
       (unfold rowsAllowed rowAllowed headAllowed fieldAllowed heldBefore deepest delimiterIs isPart nextPart partsFrom isOwn ownBelow weight fieldsIn levelOf matches in refl)
@@ -70,25 +70,25 @@ module _ (beginString messageType : List ℕ) where
   new-fields = refl
 
   module _ (words values : List ℕ) where
-    pub new-short : (length words ≡ 8205 → ⊥) → making beginString messageType words values ≡ after NoMessage words values
+    pub new-short : (length words ≡ messageWords → ⊥) → making beginString messageType words values ≡ after NoMessage words values
     unfolding making ofStore
     new-short h = rw (ne-eqb _ _ h)
 
-    pub new-store : length words ≡ 8205 → (length values ≡ 8192 → ⊥) → making beginString messageType words values ≡ after NoMessage words values
+    pub new-store : length words ≡ messageWords → (length values ≡ 8192 → ⊥) → making beginString messageType words values ≡ after NoMessage words values
     unfolding making ofStore
     new-store h k = rw (eq-eqb _ _ h, ne-eqb _ _ k)
 
-    pub new-large : length words ≡ 8205 → length values ≡ 8192 → leb (length beginString + length messageType) 8192 ≡ false → making beginString messageType words values ≡ after NotStorable words values
+    pub new-large : length words ≡ messageWords → length values ≡ 8192 → leb (length beginString + length messageType) 8192 ≡ false → making beginString messageType words values ≡ after NotStorable words values
     unfolding making ofStore judged
     new-large h k l = rw (eq-eqb _ _ h, eq-eqb _ _ k, new-values, l)
 
-    new-made : length words ≡ 8205 → length values ≡ 8192 → length beginString + length messageType ≤ 8192
+    new-made : length words ≡ messageWords → length values ≡ 8192 → length beginString + length messageType ≤ 8192
         → making beginString messageType words values ≡ after Made (wordsOf (newMessage beginString messageType)) (valuesOf (newMessage beginString messageType))
     unfolding making ofStore
     new-made h k l =
         rw (eq-eqb _ _ h, eq-eqb _ _ k) (judged-made words values (newMessage beginString messageType) (omega (arith, new-values)) (omega (arith, new-fields)))
 
-    module _ (whole : length words ≡ 8205) (store : length values ≡ 8192) (room : length beginString + length messageType ≤ 8192) where
+    module _ (whole : length words ≡ messageWords) (store : length values ≡ 8192) (room : length beginString + length messageType ≤ 8192) where
       new-begun : storing Header 8 beginString (wordsOf noFields) (valuesOf noFields) ≡ after Made (wordsOf (begun beginString)) (valuesOf (begun beginString))
       new-begun =
           let e : withPart Header (stored 8 beginString (partOf Header noFields)) noFields ≡ begun beginString = unfold withPart partOf noFields stored holds joined withoutRun runOn begun in refl in

@@ -10,7 +10,7 @@ use lib.Dec.{leb, ltb, eqb}
 use borrow.Author.Tests.{lt-leb, ltb-true, ltb-false}
 use Rattle.tagvalue.specs.Choice.{pick}
 use Rattle.maps.specs.Map.{Map, end, field, entry, joined, holds, replaced, withoutField, runOn, withoutRun, stored, fieldCount, valuesIn}
-use Rattle.maps.specs.Rows.{Row, laid, rowsFrom, sizes, findFrom}
+use Rattle.maps.specs.Rows.{Row, laid, rowsFrom, sizes, findFrom, messageRows}
 use Rattle.lent.specs.Lent.{rowCount, rowsOf, isMessage, fieldsIn}
 use Rattle.lent.specs.LaidLaws.{rows-parts}
 use Rattle.lent.specs.LentLaws.{message-held}
@@ -105,7 +105,7 @@ pub leaves-message : (words values : List ℕ) (cut : Cut) (rows : List ℕ) (ad
 leaves-message words values cut rows added bytes m l = record { able = l .able; done = λ whole. l .done whole ∙ judged-parts words values whole m }
 
 module _ (words values : List ℕ) (part : Part) (m : Message) (i : In words values part m) where
-  pub few-rows : (x : Map) → fieldTotal (withPart part x m) ≤ 1024 → length (laid 0 (parts (withPart part x m))) ≤ 2051
+  pub few-rows : (x : Map) → fieldTotal (withPart part x m) ≤ 1024 → length (laid 0 (parts (withPart part x m))) ≤ messageRows
   unfolding fieldTotal
   few-rows x h = omega (arith, rows-parts (withPart part x m))
 
@@ -141,7 +141,7 @@ module _ (words values : List ℕ) (part : Part) (m : Message) (i : In words val
   pub count-is : spanOf part m .count ≡ rowCount words
   count-is = frame.count-is _ _ _ _ _ _ part-frame
 
-  pub span-grows : (spanOf part m .from ≤ spanOf part m .to) × (spanOf part m .to ≤ spanOf part m .count) × (spanOf part m .count ≤ 2051)
+  pub span-grows : (spanOf part m .from ≤ spanOf part m .to) × (spanOf part m .to ≤ spanOf part m .count) × (spanOf part m .count ≤ messageRows)
   span-grows = frame.span-grows _ _ _ _ _ _ part-frame
 
   pub fields-now : fieldsIn 1 (rowsFrom (spanOf part m .count - 0) 0 words) ≡ fieldTotal m

@@ -15,7 +15,7 @@ use Rattle.tagvalue.specs.declared.Cause.{Cause}
 use Rattle.tagvalue.specs.declared.Field.{Field}
 use Rattle.tagvalue.specs.declared.FieldRead.{FieldRead}
 use Rattle.tagvalue.specs.declared.FieldRead.the-variants.{Read, Unreadable}
-use Rattle.records.specs.Records.{recordsOf, onRecords, blank, between, heldFrom, storedBetween, stored}
+use Rattle.records.specs.Records.{recordsOf, onRecords, blank, between, heldFrom, storedBetween, stored, stride}
 use Rattle.records.specs.WordLaws.{records-length, records-on}
 use Rattle.records.specs.RecordLaws.{between-end, between-parts, stored-held, stored-new, stored-parts-held, stored-parts-new}
 use Rattle.records.specs.declared.Record.{Record}
@@ -53,7 +53,7 @@ module _ (entry exit : List ℕ) (from count after : ℕ) (r : Record) (before m
     by-one = one;
   }
 
-module _ (words : List ℕ) (from count : ℕ) (r : Record) (rises : from ≤ count) (fits : count < length words / 6) where
+module _ (words : List ℕ) (from count : ℕ) (r : Record) (rises : from ≤ count) (fits : count < length words / stride) where
   before-length : length (take from (recordsOf words)) ≡ from
   before-length = length-take-le from (recordsOf words) (omega (arith, records-length words))
 

@@ -8,7 +8,7 @@ use Rattle.tagvalue.specs.declared.Mode.{Mode}
 use Rattle.tagvalue.specs.declared.Field.{Field}
 use Rattle.tagvalue.specs.declared.FieldRead.{FieldRead}
 use Rattle.tagvalue.specs.declared.FieldRead.the-variants.{Read, Unreadable}
-use Rattle.records.specs.Records.{recordsOf, between, stored}
+use Rattle.records.specs.Records.{recordsOf, between, stored, stride}
 use Rattle.records.specs.declared.Record.{Record}
 use Rattle.build_answers.specs.declared.Answer.{Answer}
 use Rattle.build_answers.specs.declared.Answer.the-variants.{Malformed, TooManyFields}
@@ -51,7 +51,7 @@ partTold mode message from (Refused answer) words = refused answer
 
 -- where a part ended: there are words for its records, for the field that was read and for all that may still be; the room has fallen
 pub record Ends (message entry : List ℕ) (from room : ℕ) (f : Field) (p : Progress) : Type 0 where
-  pub fits : p .records + p .room < length entry / 6
+  pub fits : p .records + p .room < length entry / stride
   pub inside : Inside message f
   pub starts : from ≤ p .records
   pub falls : p .room < room

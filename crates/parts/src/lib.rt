@@ -10,6 +10,7 @@ use tagvalue::FieldRead;
 ghost use mathlib.Core.Path.{_≡_};
 ghost use Prim.Native.Nat.{_+_, _≤_, _<_, _/_, _^_};
 ghost use lib.ListN.{length};
+ghost use Rattle.records.specs.Records.{stride};
 ghost use Rattle.tagvalue.specs.Fields.{field, fieldsFrom, Inside};
 ghost use Rattle.tagvalue.specs.Field.{fieldAt};
 ghost use Rattle.parts.specs.Parts.{recordOf, partOf, Kept, nextOf, partTold, Stays};
@@ -60,7 +61,7 @@ pub fn record_of(part: u32, field: Field) -> Record
 
 // Stores a record in the last map, whose records start at an index; answers how many records there are then.
 pub fn keep(words: &mut [u32], from: usize, records: usize, stored: Record) -> usize
-    requires { ⌜ (from ≤ records) × (records < length (now words) / 6) ⌝ }
+    requires { ⌜ (from ≤ records) × (records < length (now words) / stride) ⌝ }
     ensures { λ r. ⌜ Kept (now (words .entry)) (now (words .exit)) from records stored r ⌝ }
 {
     match records::store(words, records, from, records, stored) {
@@ -93,7 +94,7 @@ pub fn read_header(
     words: &mut [u32],
     progress: Progress,
 ) -> PartRead
-    requires { ⌜ (length (now message) < 2 ^ 32) × (progress .records + progress .room ≤ length (now words) / 6) ⌝ }
+    requires { ⌜ (length (now message) < 2 ^ 32) × (progress .records + progress .room ≤ length (now words) / stride) ⌝ }
     ensures { λ r. ⌜ partTold (config .mode) (now (message .entry)) 0 r (now (words .exit)) ≡ headerFrom (now («header_tags» .entry)) (fieldsFrom (config .mode) (now (message .entry)) cursor) (progress .room) (partOf 0 (progress .records) (now (words .entry))) ⌝ }
     ensures { λ r. ⌜ Stays (now (message .entry)) (now (words .entry)) (now (words .exit)) 0 (progress .room) r ⌝ }
 {
@@ -126,7 +127,7 @@ pub fn read_trailer(
     from: usize,
     progress: Progress,
 ) -> TrailerRead
-    requires { ⌜ (length (now message) < 2 ^ 32) × (Inside (now message) first) × (from ≤ progress .records) × (progress .records + progress .room ≤ length (now words) / 6) ⌝ }
+    requires { ⌜ (length (now message) < 2 ^ 32) × (Inside (now message) first) × (from ≤ progress .records) × (progress .records + progress .room ≤ length (now words) / stride) ⌝ }
     ensures { λ r. ⌜ trailerTold r from (now (words .exit)) ≡ trailerFrom (field first (fieldsFrom (config .mode) (now (message .entry)) (first .next))) (progress .room + 1) (partOf from (progress .records) (now (words .entry))) ⌝ }
     ensures { λ r. ⌜ (from ≤ trailerCounts from r) × (trailerCounts from r ≤ progress .records + progress .room) ⌝ }
     ensures { λ r. ⌜ partOf 0 from (now (words .exit)) ≡ partOf 0 from (now (words .entry)) ⌝ }

@@ -1,8 +1,8 @@
 -- Worked examples of this crate's definitions, one table to a definition, each under one statement that antt computes.
 use mathlib.Core.Path.{_≡_, refl}
 use mathlib.Core.List.{List, [], _∷_, map}
-use Prim.Native.Nat.{ℕ, _-_}
-use Rattle.records.specs.Records.{laid, recordsOf, leftover, onRecords, blank, recordAt, replaced, pushed, inserted, pulled, removed, between, heldFrom, storedAt, storedBetween, stored}
+use Prim.Native.Nat.{ℕ, _-_, _*_}
+use Rattle.records.specs.Records.{laid, recordsOf, leftover, onRecords, blank, recordAt, replaced, pushed, inserted, pulled, removed, between, heldFrom, storedAt, storedBetween, stored, stride, recordRoom, recordWords}
 use Rattle.records.specs.declared.Record.{Record}
 use Rattle.records.specs.declared.Standing.{Standing}
 use Rattle.records.specs.declared.Standing.the-variants.{At, Nowhere}
@@ -45,3 +45,7 @@ stores = refl
 holdings : map {B = Standing} (λ (row : ℕ × ℕ × ℕ × ℕ). heldFrom (row .0) (row .2) (row .3) (between (row .0) (row .1) order)) ((0, 3, 0, 58) ∷ (2, 3, 0, 58) ∷ (0, 1, 0, 58) ∷ (0, 3, 1, 58) ∷ (1, 9, 0, 44) ∷ []) ≡ At 1 ∷ Nowhere ∷ Nowhere ∷ Nowhere ∷ At 2 ∷ []
 unfolding heldFrom between
 holdings = refl
+
+-- as many words as the records take
+sizes : recordWords ≡ stride * recordRoom
+sizes = refl

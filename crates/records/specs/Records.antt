@@ -9,6 +9,18 @@ use Rattle.records.specs.declared.Record.{Record}
 use Rattle.records.specs.declared.Standing.{Standing}
 use Rattle.records.specs.declared.Standing.the-variants.{At, Nowhere}
 
+-- words to a record
+abbrev pub stride : ℕ
+stride = 6
+
+-- the most records that reading may make: 1,024 fields, and the field that is one too many
+abbrev pub recordRoom : ℕ
+recordRoom = 1025
+
+-- words for all of them
+abbrev pub recordWords : ℕ
+recordWords = 6150
+
 -- "a record holds part (1 header, 2 body, 3 trailer), depth, entry number .., tag, and place and length of the value"
 unfoldable pub laid : List Record → List ℕ
 laid [] = []

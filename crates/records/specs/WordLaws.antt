@@ -6,7 +6,7 @@ use Prim.Native.Nat.{ℕ, zero, suc, _+_, _-_, _*_, _/_, _≤_, _<_}
 use native.Mathlib.Omega.{arith}
 use lib.ListN.{length, getD, set, length-append, List·getD-eq-default}
 use lib.Seq.{set-out}
-use Rattle.records.specs.Records.{laid, recordsOf, leftover, onRecords, blank, recordAt, replaced}
+use Rattle.records.specs.Records.{laid, recordsOf, leftover, onRecords, blank, recordAt, replaced, stride}
 use Rattle.records.specs.declared.Record.{Record}
 
 -- nothing is lost
@@ -56,7 +56,7 @@ unfolding laid
 laid-append [] ss = refl
 laid-append (r ∷ rs) ss = ap (λ (l : List ℕ). r .part ∷ r .depth ∷ r .number ∷ r .tag ∷ r .place ∷ r .length ∷ l) (laid-append rs ss)
 
-pub laid-length : (rs : List Record) → length (laid rs) ≡ 6 * length rs
+pub laid-length : (rs : List Record) → length (laid rs) ≡ stride * length rs
 unfolding laid
 laid-length [] = refl
 laid-length (r ∷ rs) = omega (arith, laid-length rs)
@@ -72,7 +72,7 @@ leftover-length (a ∷ []) = omega arith
 leftover-length [] = omega arith
 
 -- six words to a record
-pub records-length : (ws : List ℕ) → length (recordsOf ws) ≡ length ws / 6
+pub records-length : (ws : List ℕ) → length (recordsOf ws) ≡ length ws / stride
 records-length ws =
     omega (arith, ap length (words-whole ws), length-append (laid (recordsOf ws)) (leftover ws), laid-length (recordsOf ws), leftover-length ws)
 
@@ -113,18 +113,18 @@ length-on change ws e =
 abbrev behind : ℕ → ℕ
 behind n = suc (suc (suc (suc (suc (suc n)))))
 
-words-at : (i : ℕ) (ws : List ℕ) (a b c d e f : ℕ) → i < length (recordsOf ws) → a ≡ 6 * i → b ≡ 6 * i + 1 → c ≡ 6 * i + 2 → d ≡ 6 * i + 3 → e ≡ 6 * i + 4 → f ≡ 6 * i + 5 →
+words-at : (i : ℕ) (ws : List ℕ) (a b c d e f : ℕ) → i < length (recordsOf ws) → a ≡ stride * i → b ≡ stride * i + 1 → c ≡ stride * i + 2 → d ≡ stride * i + 3 → e ≡ stride * i + 4 → f ≡ stride * i + 5 →
     recordAt i (recordsOf ws) ≡ record { part = getD ws a 0; depth = getD ws b 0; number = getD ws c 0; tag = getD ws d 0; place = getD ws e 0; length = getD ws f 0 }
 unfolding recordAt recordsOf
 words-at zero (x ∷ y ∷ z ∷ u ∷ v ∷ w ∷ ws) a b c d e f h p q r s t o = rw (p, q, r, s, t, o)
 words-at (suc i) (x ∷ y ∷ z ∷ u ∷ v ∷ w ∷ ws) a b c d e f h p q r s t o =
-    let p₁ : a ≡ behind (6 * i) = omega arith in
-    let q₁ : b ≡ behind (6 * i + 1) = omega arith in
-    let r₁ : c ≡ behind (6 * i + 2) = omega arith in
-    let s₁ : d ≡ behind (6 * i + 3) = omega arith in
-    let t₁ : e ≡ behind (6 * i + 4) = omega arith in
-    let o₁ : f ≡ behind (6 * i + 5) = omega arith in
-    rw (p₁, q₁, r₁, s₁, t₁, o₁) (words-at i ws (6 * i) (6 * i + 1) (6 * i + 2) (6 * i + 3) (6 * i + 4) (6 * i + 5) (omega arith) refl refl refl refl refl refl)
+    let p₁ : a ≡ behind (stride * i) = omega arith in
+    let q₁ : b ≡ behind (stride * i + 1) = omega arith in
+    let r₁ : c ≡ behind (stride * i + 2) = omega arith in
+    let s₁ : d ≡ behind (stride * i + 3) = omega arith in
+    let t₁ : e ≡ behind (stride * i + 4) = omega arith in
+    let o₁ : f ≡ behind (stride * i + 5) = omega arith in
+    rw (p₁, q₁, r₁, s₁, t₁, o₁) (words-at i ws (stride * i) (stride * i + 1) (stride * i + 2) (stride * i + 3) (stride * i + 4) (stride * i + 5) (omega arith) refl refl refl refl refl refl)
 words-at i (x ∷ y ∷ z ∷ u ∷ v ∷ []) a b c d e f h p q r s t o = absurd (omega arith)
 words-at i (x ∷ y ∷ z ∷ u ∷ []) a b c d e f h p q r s t o = absurd (omega arith)
 words-at i (x ∷ y ∷ z ∷ []) a b c d e f h p q r s t o = absurd (omega arith)
@@ -133,27 +133,27 @@ words-at i (x ∷ []) a b c d e f h p q r s t o = absurd (omega arith)
 words-at i [] a b c d e f h p q r s t o = absurd (omega arith)
 
 -- a record's words stand where its index says
-pub record-words : (i : ℕ) (ws : List ℕ) → i < length ws / 6 →
-    recordAt i (recordsOf ws) ≡ record { part = getD ws (6 * i) 0; depth = getD ws (6 * i + 1) 0; number = getD ws (6 * i + 2) 0; tag = getD ws (6 * i + 3) 0; place = getD ws (6 * i + 4) 0; length = getD ws (6 * i + 5) 0 }
-record-words i ws h = words-at i ws (6 * i) (6 * i + 1) (6 * i + 2) (6 * i + 3) (6 * i + 4) (6 * i + 5) (omega (arith, records-length ws)) refl refl refl refl refl refl
+pub record-words : (i : ℕ) (ws : List ℕ) → i < length ws / stride →
+    recordAt i (recordsOf ws) ≡ record { part = getD ws (stride * i) 0; depth = getD ws (stride * i + 1) 0; number = getD ws (stride * i + 2) 0; tag = getD ws (stride * i + 3) 0; place = getD ws (stride * i + 4) 0; length = getD ws (stride * i + 5) 0 }
+record-words i ws h = words-at i ws (stride * i) (stride * i + 1) (stride * i + 2) (stride * i + 3) (stride * i + 4) (stride * i + 5) (omega (arith, records-length ws)) refl refl refl refl refl refl
 
-pub record-past : (i : ℕ) (ws : List ℕ) → length ws / 6 ≤ i → recordAt i (recordsOf ws) ≡ blank
+pub record-past : (i : ℕ) (ws : List ℕ) → length ws / stride ≤ i → recordAt i (recordsOf ws) ≡ blank
 unfolding recordAt
 record-past i ws h = List·getD-eq-default (recordsOf ws) blank (omega (arith, records-length ws))
 
-sets-at : (i : ℕ) (ws : List ℕ) (x : Record) (a b c d e f : ℕ) → i < length (recordsOf ws) → a ≡ 6 * i → b ≡ 6 * i + 1 → c ≡ 6 * i + 2 → d ≡ 6 * i + 3 → e ≡ 6 * i + 4 → f ≡ 6 * i + 5 →
+sets-at : (i : ℕ) (ws : List ℕ) (x : Record) (a b c d e f : ℕ) → i < length (recordsOf ws) → a ≡ stride * i → b ≡ stride * i + 1 → c ≡ stride * i + 2 → d ≡ stride * i + 3 → e ≡ stride * i + 4 → f ≡ stride * i + 5 →
     set (set (set (set (set (set ws a (x .part)) b (x .depth)) c (x .number)) d (x .tag)) e (x .place)) f (x .length) ≡ onRecords (replaced i x) ws
 unfolding onRecords replaced recordsOf laid leftover
 sets-at zero (g ∷ y ∷ z ∷ u ∷ v ∷ w ∷ ws) x a b c d e f h p q r s t o =
     rw (p, q, r, s, t, o) (ap (λ (l : List ℕ). x .part ∷ x .depth ∷ x .number ∷ x .tag ∷ x .place ∷ x .length ∷ l) (sym (words-whole ws)))
 sets-at (suc i) (g ∷ y ∷ z ∷ u ∷ v ∷ w ∷ ws) x a b c d e f h p q r s t o =
-    let p₁ : a ≡ behind (6 * i) = omega arith in
-    let q₁ : b ≡ behind (6 * i + 1) = omega arith in
-    let r₁ : c ≡ behind (6 * i + 2) = omega arith in
-    let s₁ : d ≡ behind (6 * i + 3) = omega arith in
-    let t₁ : e ≡ behind (6 * i + 4) = omega arith in
-    let o₁ : f ≡ behind (6 * i + 5) = omega arith in
-    rw (p₁, q₁, r₁, s₁, t₁, o₁) (ap (λ (l : List ℕ). g ∷ y ∷ z ∷ u ∷ v ∷ w ∷ l) (sets-at i ws x (6 * i) (6 * i + 1) (6 * i + 2) (6 * i + 3) (6 * i + 4) (6 * i + 5) (omega arith) refl refl refl refl refl refl))
+    let p₁ : a ≡ behind (stride * i) = omega arith in
+    let q₁ : b ≡ behind (stride * i + 1) = omega arith in
+    let r₁ : c ≡ behind (stride * i + 2) = omega arith in
+    let s₁ : d ≡ behind (stride * i + 3) = omega arith in
+    let t₁ : e ≡ behind (stride * i + 4) = omega arith in
+    let o₁ : f ≡ behind (stride * i + 5) = omega arith in
+    rw (p₁, q₁, r₁, s₁, t₁, o₁) (ap (λ (l : List ℕ). g ∷ y ∷ z ∷ u ∷ v ∷ w ∷ l) (sets-at i ws x (stride * i) (stride * i + 1) (stride * i + 2) (stride * i + 3) (stride * i + 4) (stride * i + 5) (omega arith) refl refl refl refl refl refl))
 sets-at i (g ∷ y ∷ z ∷ u ∷ v ∷ []) x a b c d e f h p q r s t o = absurd (omega arith)
 sets-at i (g ∷ y ∷ z ∷ u ∷ []) x a b c d e f h p q r s t o = absurd (omega arith)
 sets-at i (g ∷ y ∷ z ∷ []) x a b c d e f h p q r s t o = absurd (omega arith)
@@ -162,9 +162,9 @@ sets-at i (g ∷ []) x a b c d e f h p q r s t o = absurd (omega arith)
 sets-at i [] x a b c d e f h p q r s t o = absurd (omega arith)
 
 -- storing a record's words replaces it
-pub replaced-words : (i : ℕ) (ws : List ℕ) (x : Record) → i < length ws / 6 →
-    set (set (set (set (set (set ws (6 * i) (x .part)) (6 * i + 1) (x .depth)) (6 * i + 2) (x .number)) (6 * i + 3) (x .tag)) (6 * i + 4) (x .place)) (6 * i + 5) (x .length) ≡ onRecords (replaced i x) ws
-replaced-words i ws x h = sets-at i ws x (6 * i) (6 * i + 1) (6 * i + 2) (6 * i + 3) (6 * i + 4) (6 * i + 5) (omega (arith, records-length ws)) refl refl refl refl refl refl
+pub replaced-words : (i : ℕ) (ws : List ℕ) (x : Record) → i < length ws / stride →
+    set (set (set (set (set (set ws (stride * i) (x .part)) (stride * i + 1) (x .depth)) (stride * i + 2) (x .number)) (stride * i + 3) (x .tag)) (stride * i + 4) (x .place)) (stride * i + 5) (x .length) ≡ onRecords (replaced i x) ws
+replaced-words i ws x h = sets-at i ws x (stride * i) (stride * i + 1) (stride * i + 2) (stride * i + 3) (stride * i + 4) (stride * i + 5) (omega (arith, records-length ws)) refl refl refl refl refl refl
 
-pub replaced-past : (i : ℕ) (ws : List ℕ) (x : Record) → length ws / 6 ≤ i → onRecords (replaced i x) ws ≡ ws
+pub replaced-past : (i : ℕ) (ws : List ℕ) (x : Record) → length ws / stride ≤ i → onRecords (replaced i x) ws ≡ ws
 replaced-past i ws x h = on-nothing (replaced i x) ws (unfold replaced in set-out (recordsOf ws) i x (omega (arith, records-length ws)))

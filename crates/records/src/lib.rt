@@ -4,7 +4,13 @@ ghost use mathlib.Core.Path.{_≡_};
 ghost use Rattle.records.specs.Records.{recordsOf, onRecords, recordAt, replaced, inserted, removed, between, heldFrom, storedBetween};
 
 // Words to a record.
-const STRIDE: usize = 6;
+pub const STRIDE: usize = 6;
+
+// The most records that reading may make: 1,024 fields, and the field that is one too many.
+pub const ROOM: usize = 1025;
+
+// Words for all of them.
+pub const WORDS: usize = STRIDE * ROOM;
 
 // The parts of a message.
 pub const HEADER: u32 = 1;

@@ -12,7 +12,7 @@ use Rattle.dictionary_layout_rules.specs.Table.{groupWithin}
 use Rattle.dictionary_layout_rules.specs.declared.Level.{Level}
 use Rattle.dictionary_layout_rules.specs.declared.Nested.{Nested}
 use Rattle.dictionary_layout_rules.specs.declared.Nested.the-variants.{Within, NoGroup}
-use Rattle.records.specs.Records.{recordsOf, recordAt, between}
+use Rattle.records.specs.Records.{recordsOf, recordAt, between, stride}
 use Rattle.records.specs.WordLaws.{records-length}
 use Rattle.records.specs.declared.Record.{Record}
 use Rattle.groups.specs.Groups.{none, opened}
@@ -120,6 +120,6 @@ module _ (table : List ℕ) (group : Group) where
           entries-open (startsAt table group) at to rs (lackOfEntry table group) h l (ap (startsAt table group) (sym f) ∙ sym o ∙ y) ∙ rw (q, e)
 
 -- the first of a kind stands within the words
-pub end-fits : (test : Record → Bool) (at to end : ℕ) (words : List ℕ) → at < to → to ≤ length words / 6 → end ≡ endFrom test (at + 1) (between (at + 1) to (recordsOf words)) → end ≤ length words / 6
+pub end-fits : (test : Record → Bool) (at to end : ℕ) (words : List ℕ) → at < to → to ≤ length words / stride → end ≡ endFrom test (at + 1) (between (at + 1) to (recordsOf words)) → end ≤ length words / stride
 end-fits test at to end words h l e =
     omega (arith, end-within test (at + 1) to (recordsOf words) (omega arith) (omega (arith, records-length words)) .1)

@@ -9,7 +9,7 @@ use records::Standing;
 ghost use mathlib.Core.Path.{_≡_};
 ghost use Prim.Native.Nat.{_/_, _≤_, _-_};
 ghost use lib.ListN.{length};
-ghost use Rattle.records.specs.Records.{recordsOf, between};
+ghost use Rattle.records.specs.Records.{recordsOf, between, stride};
 ghost use Rattle.required.specs.Required.{shallow};
 ghost use Rattle.required.specs.Checking.{startsAt, countAt, endFrom, lackOfFields, lackOfEntry, lackOfRun};
 
@@ -44,7 +44,7 @@ fn count_at(table: &[u32], group: Group, found: Record) -> Nested
 
 // Where the next entry of the group starts.
 fn entry_end(words: &[u32], table: &[u32], group: Group, from: usize, to: usize) -> usize
-    requires { ⌜ to ≤ length (now words) / 6 ⌝ }
+    requires { ⌜ to ≤ length (now words) / stride ⌝ }
     ensures { λ r. ⌜ r ≡ endFrom (startsAt (now (table .entry)) group) from (between from to (recordsOf (now (words .entry)))) ⌝ }
 {
     let mut at = from;
@@ -59,7 +59,7 @@ fn entry_end(words: &[u32], table: &[u32], group: Group, from: usize, to: usize)
 
 // Where the records of the run end that hangs on the record before.
 fn run_end(words: &[u32], depth: u32, from: usize, to: usize) -> usize
-    requires { ⌜ to ≤ length (now words) / 6 ⌝ }
+    requires { ⌜ to ≤ length (now words) / stride ⌝ }
     ensures { λ r. ⌜ r ≡ endFrom (shallow depth) from (between from to (recordsOf (now (words .entry)))) ⌝ }
 {
     let mut at = from;
@@ -91,7 +91,7 @@ fn check_fields(words: &[u32], table: &[u32], group: Group, from: usize, to: usi
 
 // "For each entry": the run's records stand from one index to another.
 pub fn check_run(words: &[u32], table: &[u32], group: Group, from: usize, to: usize) -> Lack
-    requires { ⌜ to ≤ length (now words) / 6 ⌝ }
+    requires { ⌜ to ≤ length (now words) / stride ⌝ }
     ensures { λ r. ⌜ r ≡ lackOfRun (now (table .entry)) group (between from to (recordsOf (now (words .entry)))) ⌝ }
 {
     if LEVELS < group.depth {
@@ -114,7 +114,7 @@ pub fn check_run(words: &[u32], table: &[u32], group: Group, from: usize, to: us
 
 // "Its required fields in layout order, then its nested runs."
 pub fn check_entry(words: &[u32], table: &[u32], group: Group, from: usize, to: usize) -> Lack
-    requires { ⌜ (to ≤ length (now words) / 6) × (group .depth ≤ 4) ⌝ }
+    requires { ⌜ (to ≤ length (now words) / stride) × (group .depth ≤ 4) ⌝ }
     ensures { λ r. ⌜ r ≡ lackOfEntry (now (table .entry)) group (between from to (recordsOf (now (words .entry)))) ⌝ }
 {
     let own = check_fields(words, table, group, from, to);

@@ -8,6 +8,7 @@ use native.Mathlib.Nat.{lt-of-not-le}
 use native.Mathlib.Decide.{decLe}
 use native.Mathlib.Omega.{arith}
 use lib.ListN.{length, drop}
+use Rattle.maps.specs.Rows.{messageWords}
 use Rattle.build_config.specs.declared.Config.{Config}
 use Rattle.dictionary_meaning_rules.specs.Meaning.{dictionaryOf}
 use Rattle.lent.specs.Meaning.{Message, wordsOf, valuesOf}
@@ -72,7 +73,7 @@ module _ (message : List ℕ) (config : Config) (dictionary : List ℕ) (lent : 
         }
 
   -- "Encoded and, if within 8,192 bytes, built again with the same separator, setting and dictionary, it gives 0 and the same"
-  pub repeat-free-again : (first words values output second : List ℕ) → length words ≡ 8205 → length values ≡ 8192 → 8192 ≤ length output → buildOf message config dictionary lent first .answer ≡ Valid
+  pub repeat-free-again : (first words values output second : List ℕ) → length words ≡ messageWords → length values ≡ 8192 → 8192 ≤ length output → buildOf message config dictionary lent first .answer ≡ Valid
       → RepeatFree (dictionaryOf dictionary) config message → RoundTrip first words values output second
   repeat-free-again first words values output second whole store room a free =
       let s = build-shown message config dictionary lent first a in

@@ -6,6 +6,7 @@ use mathlib.Core.List.{List, [], _∷_, _++_}
 use Prim.Native.Nat.{ℕ, _-_, _≤_}
 use native.Mathlib.Omega.{arith}
 use lib.ListN.{length, drop}
+use Rattle.maps.specs.Rows.{messageWords}
 use Rattle.tagvalue.specs.Field.{startAt}
 use Rattle.tagvalue.specs.Fields.{Fields, field, fieldsFrom}
 use Rattle.dictionary_layout_rules.specs.Tree.{Dictionary}
@@ -98,7 +99,7 @@ pub record Back (separator : ℕ) (message words values output : List ℕ) (rs :
 
 -- "A clean valid message encodes back to its own bytes"
 pub clean-comes-back : (dictionary : Dictionary) (config : Config) (message words values output : List ℕ) → Clean dictionary config message → isRefusedSeparator (config .mode .separator) ≡ false
-    → length message ≤ 8192 → length words ≡ 8205 → length values ≡ 8192 → length message ≤ length output → Back (config .mode .separator) message words values output (messageRead dictionary config message .records)
+    → length message ≤ 8192 → length words ≡ messageWords → length values ≡ 8192 → length message ≤ length output → Back (config .mode .separator) message words values output (messageRead dictionary config message .records)
 clean-comes-back dictionary config message words values output c separates short whole store room =
     let r = c .repeat-free in
     let t = build-taken dictionary config message words values short whole store (r .valid) in
@@ -125,7 +126,7 @@ pub record ComesBack (message : List ℕ) (config : Config) (built : BuildOutcom
 
 -- CLEAN: "For every message, dictionary, separator and setting: if the build answers 0 and the message is clean, taking over what was built and
 -- encoding it answers with the message's own bytes."
-pub clean-message-comes-back : (message : List ℕ) (config : Config) (dictionary : List ℕ) (lent : ℕ) (before words values output : List ℕ) → length words ≡ 8205 → length values ≡ 8192 → length message ≤ length output
+pub clean-message-comes-back : (message : List ℕ) (config : Config) (dictionary : List ℕ) (lent : ℕ) (before words values output : List ℕ) → length words ≡ messageWords → length values ≡ 8192 → length message ≤ length output
     → buildOf message config dictionary lent before .answer ≡ Valid → Clean (dictionaryOf dictionary) config message
     → ComesBack message config (buildOf message config dictionary lent before) words values output
 clean-message-comes-back message config dictionary lent before words values output whole store room a c =

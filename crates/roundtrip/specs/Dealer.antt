@@ -6,6 +6,7 @@ use mathlib.Core.List.{List}
 use Prim.Native.Nat.{ℕ, _≤_, _<_}
 use native.Mathlib.Omega.{arith}
 use lib.ListN.{length}
+use Rattle.maps.specs.Rows.{messageWords}
 use Rattle.build_config.specs.declared.Config.{Config}
 use Rattle.dictionary_meaning_rules.specs.Meaning.{dictionaryOf}
 use Rattle.dictionary_layout_rules.specs.Tree.{Dictionary}
@@ -44,7 +45,7 @@ module _ (dictionary : Dictionary) (config : Config) (message : List ℕ) where
 
   -- "If a tag was stored twice in one map, the encoding holds fewer fields than were read"
   pub stored-twice-lost : (words values : List ℕ) → messageRead dictionary config message .answer ≡ Valid → storedTwice dictionary config message ≡ true
-      → length message ≤ 8192 → length words ≡ 8205 → length values ≡ 8192 → Lost words values
+      → length message ≤ 8192 → length words ≡ messageWords → length values ≡ 8192 → Lost words values
   stored-twice-lost words values a twice short whole store =
       let t = build-taken dictionary config message words values short whole store a in
       record { taken = t; fewer = omega (arith, a-field-each a (t .takes), twice-fewer dictionary config message a twice) }
@@ -62,7 +63,7 @@ pub record Loses (message : List ℕ) (config : Config) (dictionary : List ℕ) 
       → fieldTotal (messageIn left-words left-values) < fieldsCounted (config .mode) message (messageRead (dictionaryOf dictionary) config message .stop)
 
 -- THE DEALER'S CASE, for every message, dictionary, separator and setting, through the operations
-pub message-loses : (message : List ℕ) (config : Config) (dictionary : List ℕ) (lent : ℕ) (before words values : List ℕ) → length words ≡ 8205 → length values ≡ 8192
+pub message-loses : (message : List ℕ) (config : Config) (dictionary : List ℕ) (lent : ℕ) (before words values : List ℕ) → length words ≡ messageWords → length values ≡ 8192
     → buildOf message config dictionary lent before .answer ≡ Valid → storedTwice (dictionaryOf dictionary) config message ≡ true
     → Loses message config dictionary (buildOf message config dictionary lent before) words values
 message-loses message config dictionary lent before words values whole store a twice =

@@ -7,6 +7,7 @@ use Prim.Native.Nat.{ℕ, _≤_}
 use native.Mathlib.Omega.{arith}
 use lib.ListN.{length, drop}
 use lib.Dec.{eqb}
+use Rattle.maps.specs.Rows.{messageWords}
 use Rattle.build_config.specs.Settings.{validating}
 use Rattle.tagvalue.specs.Computing.{reading-fields}
 use Rattle.tagvalue.specs.Choice.{pick}
@@ -147,7 +148,7 @@ pub record DealersOrder (words values output : List ℕ) : Type 0 where
   pub writes : encodingOf 1 (wordsOf (lost .taken .takes .meant)) (valuesOf (lost .taken .takes .meant)) output ≡ left (Written 39) left-words left-values (resent ++ drop 39 output)
 
 -- "for P5 the field that is lost is 38=600"
-pub dealers-order : (words values output : List ℕ) → length words ≡ 8205 → length values ≡ 8192 → 39 ≤ length output → DealersOrder words values output
+pub dealers-order : (words values output : List ℕ) → length words ≡ messageWords → length values ≡ 8192 → 39 ≤ length output → DealersOrder words values output
 dealers-order words values output whole store room =
     let c = order-read in
     let l = stored-twice-lost dictionary (validating true) sent words values (c .valid) (c .twice) (omega (arith, sent-short)) whole store in

@@ -10,7 +10,7 @@ use lib.Dec.{leb, eqb}
 use borrow.Author.Tests.{leb-true, eq-eqb, ne-eqb, lt-leb}
 use Rattle.tagvalue.specs.Choice.{pick}
 use Rattle.maps.specs.Map.{Map, end, field, entry, joined, holds, holdsAny, replaced, withoutRun, runOn, stored, fieldCount, valuesIn}
-use Rattle.maps.specs.Rows.{Row, row, laid, flat, part, padded, spliced, rowsFrom, sizes, sizeOf}
+use Rattle.maps.specs.Rows.{Row, row, laid, flat, part, padded, spliced, rowsFrom, sizes, sizeOf, messageWords, messageRows}
 use Rattle.lent.specs.Lent.{rowCount, rowsOf, fieldsIn, isLaid}
 use Rattle.lent.specs.LentLaws.{both, Laid, laid-out}
 use Rattle.lent.specs.LaidLaws.{fields-laid, rows-few, shallow}
@@ -62,7 +62,7 @@ module _ (words values : List ℕ) (refused : After) (then : Map → After) wher
   draft-yes h = rw h
 
 -- a run without any entry takes the place of what was there
-pub empty-words : (words left : List ℕ) → length words ≡ 8205 → left ≡ padded 8205 (spliced 1 1 1 1 1 [] words) → set left 0 0 ≡ mapWords end
+pub empty-words : (words left : List ℕ) → length words ≡ messageWords → left ≡ padded messageWords (spliced 1 1 1 1 1 [] words) → set left 0 0 ≡ mapWords end
 unfolding mapWords laid flat spliced part padded
 empty-words [] left h e = absurd (omega arith)
 empty-words (w ∷ words) left h e = ap (λ (l : List ℕ). set l 0 0) e
@@ -72,22 +72,22 @@ unfolding mapValues valuesIn spliced part padded
 empty-values values left e = e
 
 module _ (words values : List ℕ) where
-  pub start-short : (length words ≡ 8205 → ⊥) → starting words values ≡ after NoMessage words values
+  pub start-short : (length words ≡ messageWords → ⊥) → starting words values ≡ after NoMessage words values
   unfolding starting ofStore
   start-short h = rw (ne-eqb _ _ h)
 
-  pub start-store : length words ≡ 8205 → (length values ≡ 8192 → ⊥) → starting words values ≡ after NoMessage words values
+  pub start-store : length words ≡ messageWords → (length values ≡ 8192 → ⊥) → starting words values ≡ after NoMessage words values
   unfolding starting ofStore
   start-store h k = rw (eq-eqb _ _ h, ne-eqb _ _ k)
 
-  pub start-made : length words ≡ 8205 → length values ≡ 8192 → starting words values ≡ after Made (mapWords end) (mapValues end)
+  pub start-made : length words ≡ messageWords → length values ≡ 8192 → starting words values ≡ after Made (mapWords end) (mapValues end)
   unfolding starting ofStore
   start-made h k = rw (eq-eqb _ _ h, eq-eqb _ _ k)
 
-pub few-rows : (m : Map) → fieldCount m ≤ 1024 → length (laid 0 m) ≤ 2051
+pub few-rows : (m : Map) → fieldCount m ≤ 1024 → length (laid 0 m) ≤ messageRows
 few-rows m h = by-any (holdsAny m) (rows-few 0 m)
   where
-    by-any : (b : Bool) → length (laid 0 m) + pick b 1 0 ≤ 2 * fieldCount m → length (laid 0 m) ≤ 2051
+    by-any : (b : Bool) → length (laid 0 m) + pick b 1 0 ≤ 2 * fieldCount m → length (laid 0 m) ≤ messageRows
     by-any true k = omega arith
     by-any false k = omega arith
 

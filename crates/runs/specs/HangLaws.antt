@@ -10,7 +10,7 @@ use lib.Dec.{leb, eqb}
 use borrow.Author.Tests.{eq-eqb, ne-eqb, eqb-true}
 use Rattle.tagvalue.specs.Choice.{pick}
 use Rattle.maps.specs.Map.{Map, end, field, entry, joined, holds, holdsAny, pastLeading, hungOnCount, hungAlone, hung, fieldCount, valuesIn}
-use Rattle.maps.specs.Rows.{Row, row, laid, flat, rowAt, rowsFrom, sizes}
+use Rattle.maps.specs.Rows.{Row, row, laid, flat, rowAt, rowsFrom, sizes, messageRows}
 use Rattle.lent.specs.Lent.{rowCount, rowsOf, fieldsIn}
 use Rattle.lent.specs.Formed.{isRun}
 use Rattle.message_rules.specs.Changes.{After, after, Cuttable, changedAt, judgedMap}
@@ -81,7 +81,7 @@ draft-lent runWords runValues run d =
       store = d .sized .store;
       counted = d .sized .counted;
       sized = d .sized .within;
-      near = rw (d .rows) (within-laid 2051 0 run (omega (arith, count-rows runWords runValues run d, d .sized .counted)));
+      near = rw (d .rows) (within-laid messageRows 0 run (omega (arith, count-rows runWords runValues run d, d .sized .counted)));
       fields = omega (arith, ap (fieldsIn 0) (d .rows), fields-run run, d .few);
     }
 

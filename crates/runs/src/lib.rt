@@ -3,7 +3,7 @@
 ghost use mathlib.Core.Path.{_≡_};
 ghost use Prim.Native.Nat.{_+_, _-_, _*_, _≤_, _<_};
 ghost use lib.ListN.{length};
-ghost use Rattle.maps.specs.Rows.{rowsFrom};
+ghost use Rattle.maps.specs.Rows.{rowsFrom, messageWords, messageRows};
 ghost use Rattle.message_rules.specs.Changes.{after};
 ghost use Rattle.message_rules.specs.Runs.{isDraft, lastFrom, starting, entering, storingLast, hangingLast, hanging};
 
@@ -19,7 +19,7 @@ fn is_draft(words: &[u32], values: &[u8]) -> bool
 
 // Where the own rows of the last entry start, or 0 where there is none.
 fn last_start(words: &[u32], count: usize) -> usize
-    requires { ⌜ (count ≤ 2051) × (length (now words) ≡ 8205) ⌝ }
+    requires { ⌜ (count ≤ messageRows) × (length (now words) ≡ messageWords) ⌝ }
     ensures { λ r. ⌜ r ≡ lastFrom 0 0 (rowsFrom (count - 0) 0 (now (words .entry))) ⌝ }
 {
     let mut start: usize = 0;
@@ -37,7 +37,7 @@ fn last_start(words: &[u32], count: usize) -> usize
 pub fn empty(words: &mut [u32], values: &mut [u8]) -> message_rules::Change
     ensures { λ r. ⌜ after r (now (words .exit)) (now (values .exit)) ≡ starting (now (words .entry)) (now (values .entry)) ⌝ }
 {
-    if words.len() != 8205 {
+    if words.len() != maps::WORDS {
         return message_rules::Change::NoMessage;
     }
     if values.len() != 8192 {

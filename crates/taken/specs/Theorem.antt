@@ -10,6 +10,7 @@ use lib.ListN.{length, replicate, length-append}
 use lib.Seq.{take-at}
 use lib.Dec.{eqb, ltb}
 use borrow.Author.Tests.{ltb-false, le-ltb}
+use Rattle.maps.specs.Rows.{messageWords}
 use Rattle.tagvalue.specs.Choice.{pick}
 use Rattle.tagvalue.specs.Separator.{isRefusedSeparator}
 use Rattle.tagvalue.specs.Fields.{Fields, field, fieldsFrom}
@@ -22,7 +23,7 @@ use Rattle.integrity.specs.declared.Verified.{Verified}
 use Rattle.dictionary_rules.specs.Check.{checkOf, numberOf}
 use Rattle.dictionary_meaning_rules.specs.Meaning.{dictionaryOf}
 use Rattle.dictionary_layout_rules.specs.Tree.{Dictionary, knows, headerTags, trailerTags, Choice, noMessage, laidOut, layoutOf}
-use Rattle.records.specs.Records.{laid, recordsOf, between}
+use Rattle.records.specs.Records.{laid, recordsOf, between, recordWords, stride}
 use Rattle.records.specs.WordLaws.{records-laid, laid-length}
 use Rattle.records.specs.declared.Record.{Record}
 use Rattle.lent.specs.Meaning.{wordsOf, valuesOf}
@@ -92,11 +93,11 @@ module _ (dictionary : Dictionary) (config : Config) (message : List ℕ) (short
 -- the words that the build leaves hold its records
 words-hold : (rs : List Record) → between 0 (length rs) (recordsOf (wordsWith rs)) ≡ rs
 unfolding wordsWith between
-words-hold rs = rw (sub-zero (length rs), records-laid rs (replicate (6150 - length (laid rs)) 0)) (take-at rs _ (length rs) refl)
+words-hold rs = rw (sub-zero (length rs), records-laid rs (replicate (recordWords - length (laid rs)) 0)) (take-at rs _ (length rs) refl)
 
-words-many : (rs : List Record) → length rs ≤ length (wordsWith rs) / 6
+words-many : (rs : List Record) → length rs ≤ length (wordsWith rs) / stride
 unfolding wordsWith
-words-many rs = omega (arith, length-append (laid rs) (replicate (6150 - length (laid rs)) 0), laid-length rs)
+words-many rs = omega (arith, length-append (laid rs) (replicate (recordWords - length (laid rs)) 0), laid-length rs)
 
 -- what is left is a message that has the records of the build
 pub record TakenOver (message : List ℕ) (rs : List Record) (words values : List ℕ) : Type 0 where
@@ -106,7 +107,7 @@ pub record TakenOver (message : List ℕ) (rs : List Record) (words values : Lis
   pub same : derived (takes .meant) ≡ given message rs
 
 -- "what a build answered with 0 is never refused at take-over, and keeps its records"
-pub build-taken : (dictionary : Dictionary) (config : Config) (message words values : List ℕ) → length message ≤ 8192 → length words ≡ 8205 → length values ≡ 8192 → messageRead dictionary config message .answer ≡ Valid
+pub build-taken : (dictionary : Dictionary) (config : Config) (message words values : List ℕ) → length message ≤ 8192 → length words ≡ messageWords → length values ≡ 8192 → messageRead dictionary config message .answer ≡ Valid
     → TakenOver message (messageRead dictionary config message .records) words values
 build-taken dictionary config message words values short whole store a =
     let rs = messageRead dictionary config message .records in
@@ -161,7 +162,7 @@ module _ (message : List ℕ) (config : Config) (dictionary : List ℕ) (lent : 
   shown-build separates enough short checked = rw (separates, enough, le-ltb 8192 (length message) short, checked) refl
 
 -- for every message, dictionary, separator, setting and number of lent records: what the build leaves is taken over
-pub build-of-taken : (message : List ℕ) (config : Config) (dictionary : List ℕ) (lent : ℕ) (before words values : List ℕ) → length words ≡ 8205 → length values ≡ 8192 → (a : buildOf message config dictionary lent before .answer ≡ Valid)
+pub build-of-taken : (message : List ℕ) (config : Config) (dictionary : List ℕ) (lent : ℕ) (before words values : List ℕ) → length words ≡ messageWords → length values ≡ 8192 → (a : buildOf message config dictionary lent before .answer ≡ Valid)
     → let built = buildOf message config dictionary lent before in
     let rs = messageRead (dictionaryOf dictionary) config message .records in
     (t : TakenOver message rs words values) × (takingOver (built .words) (built .records) message words values ≡ after Made (wordsOf (t .takes .meant)) (valuesOf (t .takes .meant)))

@@ -9,7 +9,7 @@ use Rattle.tagvalue.specs.Choice.{pick}
 use Rattle.records.specs.Records.{recordAt, between}
 use Rattle.records.specs.RecordLaws.{between-on, between-end}
 use Rattle.records.specs.declared.Record.{Record}
-use Rattle.maps.specs.Rows.{Row, row, flat, padded}
+use Rattle.maps.specs.Rows.{Row, row, flat, padded, messageWords, messageRows}
 use Rattle.maps.specs.RowsLaws.{padded-none, padded-length}
 use Rattle.lent.specs.MeaningLaws.{flat-length}
 use Rattle.taking.specs.declared.Laying.{Laying}
@@ -29,17 +29,17 @@ unfolding reach
 reach-behind r before n h = h
 
 -- rows and their number
-rows-counted : (rows : List Row) (n : ℕ) → n ≡ length rows → set (rowed rows) 0 n ≡ padded 8205 (length rows ∷ flat rows)
+rows-counted : (rows : List Row) (n : ℕ) → n ≡ length rows → set (rowed rows) 0 n ≡ padded messageWords (length rows ∷ flat rows)
 unfolding rowed padded
 rows-counted rows n e = rw e
 
-layout-is : (bytes : List ℕ) (rs : List Record) (words values : List ℕ) → areNext (length bytes) 1 0 [] rs ≡ true → words ≡ padded 8205 (length (rowsOf rs) ∷ flat (rowsOf rs)) → values ≡ padded 8192 (valuesAt bytes rs)
+layout-is : (bytes : List ℕ) (rs : List Record) (words values : List ℕ) → areNext (length bytes) 1 0 [] rs ≡ true → words ≡ padded messageWords (length (rowsOf rs) ∷ flat (rowsOf rs)) → values ≡ padded 8192 (valuesAt bytes rs)
     → laidOut words values ≡ layoutFrom bytes rs
 unfolding layoutFrom
 layout-is bytes rs words values h w v = rw (h, w, v)
 
 -- words of zeros hold no row
-pub none-rowed : rowed [] ≡ replicate 8205 0
+pub none-rowed : rowed [] ≡ replicate messageWords 0
 unfolding rowed padded flat
 none-rowed = refl
 
@@ -61,7 +61,7 @@ module _ (bytes : List ℕ) (rs : List Record) (count : ℕ) where
     pub here : i ≤ count
 
   -- the header's head, and no record yet
-  pub going-start : (entry words values : List ℕ) (rows : ℕ) → entry ≡ replicate 8205 0 → values ≡ replicate 8192 0 → Adds entry words 0 rows (row 2 0 1 0 ∷ []) → Going 0 words values (record { part = 1; rows = rows; used = 0 })
+  pub going-start : (entry words values : List ℕ) (rows : ℕ) → entry ≡ replicate messageWords 0 → values ≡ replicate 8192 0 → Adds entry words 0 rows (row 2 0 1 0 ∷ []) → Going 0 words values (record { part = 1; rows = rows; used = 0 })
   going-start entry words values rows e v a =
       record {
         laid = row 2 0 1 0 ∷ [];
@@ -81,11 +81,11 @@ module _ (bytes : List ℕ) (rs : List Record) (count : ℕ) where
       }
 
   module _ {i : ℕ} {words values : List ℕ} {laying : Laying} (g : Going i words values laying) where
-    rowed-length : (rows : List Row) → length rows ≤ 2051 → length (rowed rows) ≡ 8205
+    rowed-length : (rows : List Row) → length rows ≤ messageRows → length (rowed rows) ≡ messageWords
     unfolding rowed
-    rowed-length rows h = padded-length 8205 (0 ∷ flat rows) (omega (arith, flat-length rows))
+    rowed-length rows h = padded-length messageWords (0 ∷ flat rows) (omega (arith, flat-length rows))
 
-    pub going-whole : count ≤ 1024 → (length words ≡ 8205) × (length values ≡ 8192)
+    pub going-whole : count ≤ 1024 → (length words ≡ messageWords) × (length values ≡ 8192)
     going-whole k = (
       ap length (g .in-words) ∙ rowed-length (g .laid) (omega (arith, g .counted, g .few, g .last, g .here)),
       ap length (g .in-values) ∙ padded-length 8192 (g .stored) (omega (arith, g .sized, g .within)),

@@ -6,7 +6,7 @@ use mathlib.Core.List.{List, [], _∷_, _++_}
 use lib.ListN.{length}
 use Rattle.tagvalue.specs.Choice.{pick}
 use Rattle.records.specs.declared.Record.{Record}
-use Rattle.maps.specs.Rows.{Row, flat, padded}
+use Rattle.maps.specs.Rows.{Row, flat, padded, messageWords, messageRows}
 use Rattle.taking.specs.declared.Laying.{Laying}
 use Rattle.taking.specs.declared.Step.{Step}
 use Rattle.taking.specs.declared.Step.the-variants.{On, Refused}
@@ -14,7 +14,7 @@ use Rattle.taking.specs.Taking.{joinsOf, isNext, recordRows, valueAt, La
 
 -- rows in words, before they are counted, and values in their store
 unfoldable pub rowed : List Row → List ℕ
-rowed rows = padded 8205 (0 ∷ flat rows)
+rowed rows = padded messageWords (0 ∷ flat rows)
 
 -- rows were added to so many
 pub record Adds (entry exit : List ℕ) (rows next : ℕ) (new : List Row) : Type 0 where
@@ -29,9 +29,9 @@ reach (r ∷ before) = r .depth + 1
 
 -- there is room for a record's rows
 pub record Ready (before : List Record) (words values : List ℕ) (laying : Laying) : Type 0 where
-  pub whole : length words ≡ 8205
+  pub whole : length words ≡ messageWords
   pub store : length values ≡ 8192
-  pub few : laying .rows + (3 - laying .part) + 2 ≤ 2051
+  pub few : laying .rows + (3 - laying .part) + 2 ≤ messageRows
   pub within : laying .used ≤ 8192
   pub shallow : reach before ≤ 1023
 

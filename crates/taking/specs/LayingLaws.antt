@@ -6,25 +6,25 @@ use native.Mathlib.Omega.{arith}
 use lib.ListN.{length, length-append}
 use Rattle.tagvalue.specs.Decimal.{writtenAt}
 use Rattle.tagvalue.specs.DecimalLaws.{written-length}
-use Rattle.maps.specs.Rows.{Row, row, flat, padded}
+use Rattle.maps.specs.Rows.{Row, row, flat, padded, messageWords, messageRows}
 use Rattle.maps.specs.Rows.{part as partOf}
 use Rattle.maps.specs.RowsLaws.{written-next, part-all}
 use Rattle.lent.specs.MeaningLaws.{flat-length, flat-append}
 use Rattle.taking.specs.Taking.{partHeads}
 use Rattle.taking.specs.Laying.{rowed, Adds}
 
-pub row-added : (entry exit : List ℕ) (rows k l t x : ℕ) → rows < 2051 → exit ≡ writtenAt (4 * rows + 1) (partOf 0 4 (k ∷ l ∷ t ∷ x ∷ [])) entry → Adds entry exit rows (rows + 1) (row k l t x ∷ [])
+pub row-added : (entry exit : List ℕ) (rows k l t x : ℕ) → rows < messageRows → exit ≡ writtenAt (4 * rows + 1) (partOf 0 4 (k ∷ l ∷ t ∷ x ∷ [])) entry → Adds entry exit rows (rows + 1) (row k l t x ∷ [])
 unfolding rowed
 row-added entry exit rows k l t x few e =
     let four : partOf 0 4 (k ∷ l ∷ t ∷ x ∷ []) ≡ k ∷ l ∷ t ∷ x ∷ [] = part-all (k ∷ l ∷ t ∷ x ∷ []) in
     record { counts = refl; whole = ap length e ∙ written-length _ _ _; adds = behind (e ∙ ap (λ (s : List ℕ). writtenAt (4 * rows + 1) s entry) four) }
   where
-    behind : exit ≡ writtenAt (4 * rows + 1) (k ∷ l ∷ t ∷ x ∷ []) entry → (laid : List Row) → length laid ≡ rows → entry ≡ padded 8205 (0 ∷ flat laid) → exit ≡ padded 8205 (0 ∷ flat (laid ++ (row k l t x ∷ [])))
+    behind : exit ≡ writtenAt (4 * rows + 1) (k ∷ l ∷ t ∷ x ∷ []) entry → (laid : List Row) → length laid ≡ rows → entry ≡ padded messageWords (0 ∷ flat laid) → exit ≡ padded messageWords (0 ∷ flat (laid ++ (row k l t x ∷ [])))
     behind e laid n q =
         let size : length (flat laid) ≡ 4 * rows = flat-length laid ∙ ap (λ (m : ℕ). 4 * m) n in
         e ∙ ap (writtenAt (4 * rows + 1) (k ∷ l ∷ t ∷ x ∷ [])) q
-        ∙ written-next 8205 (4 * rows + 1) (0 ∷ flat laid) (k ∷ l ∷ t ∷ x ∷ []) (omega arith) (omega arith)
-        ∙ ap (λ (s : List ℕ). padded 8205 (0 ∷ s)) (sym (flat-append laid (row k l t x ∷ []) ∙ (unfold flat in refl)))
+        ∙ written-next messageWords (4 * rows + 1) (0 ∷ flat laid) (k ∷ l ∷ t ∷ x ∷ []) (omega arith) (omega arith)
+        ∙ ap (λ (s : List ℕ). padded messageWords (0 ∷ s)) (sym (flat-append laid (row k l t x ∷ []) ∙ (unfold flat in refl)))
 
 pub adds-none : (words : List ℕ) (rows : ℕ) → Adds words words rows rows []
 adds-none words rows = record { counts = omega arith; whole = refl; adds = λ laid n e. e ∙ ap rowed (sym (append-nil laid)) }

@@ -10,9 +10,9 @@ use borrow.Author.Tests.{le-leb, lt-leb, eq-eqb, ne-eqb}
 use Rattle.tagvalue.specs.Choice.{pick, pick-same}
 use Rattle.tagvalue.specs.Decimal.{writtenAt}
 use Rattle.tagvalue.specs.DecimalLaws.{written-fits}
-use Rattle.records.specs.Records.{recordsOf, between}
+use Rattle.records.specs.Records.{recordsOf, between, stride}
 use Rattle.records.specs.WordLaws.{records-length}
-use Rattle.maps.specs.Rows.{part}
+use Rattle.maps.specs.Rows.{part, messageWords}
 use Rattle.maps.specs.RowsLaws.{part-all}
 use Rattle.lent.specs.Lent.{isMessage}
 use Rattle.lent.specs.LentLaws.{message-held}
@@ -21,26 +21,26 @@ use Rattle.taking.specs.Taking.{layoutFrom, after, judged, takingOver}
 use Rattle.taking.specs.Laying.{layoutTold}
 
 module _ (records : List ℕ) (count : ℕ) (bytes words values : List ℕ) where
-  pub take-short : (length words ≡ 8205 → ⊥) → takingOver records count bytes words values ≡ after NoMessage words values
+  pub take-short : (length words ≡ messageWords → ⊥) → takingOver records count bytes words values ≡ after NoMessage words values
   unfolding takingOver
   take-short h = rw (ne-eqb _ _ h)
 
   pub take-store : (length values ≡ 8192 → ⊥) → takingOver records count bytes words values ≡ after NoMessage words values
   unfolding takingOver
-  take-store h = rw (ne-eqb _ _ h) (pick-same (eqb (length words) 8205) _)
+  take-store h = rw (ne-eqb _ _ h) (pick-same (eqb (length words) messageWords) _)
 
-  pub take-past : length records / 6 < count → takingOver records count bytes words values ≡ after NoMessage words values
+  pub take-past : length records / stride < count → takingOver records count bytes words values ≡ after NoMessage words values
   unfolding takingOver
   take-past h =
-      rw (lt-leb count (length (recordsOf records)) (omega (arith, records-length records)), pick-same (eqb (length values) 8192) (after NoMessage words values)) (pick-same (eqb (length words) 8205) _)
+      rw (lt-leb count (length (recordsOf records)) (omega (arith, records-length records)), pick-same (eqb (length values) 8192) (after NoMessage words values)) (pick-same (eqb (length words) messageWords) _)
 
   pub take-many : 1024 < count → takingOver records count bytes words values ≡ after NoMessage words values
   unfolding takingOver
   take-many h =
       rw (lt-leb count 1024 h, pick-same (leb count (length (recordsOf records))) (after NoMessage words values), pick-same (eqb (length values) 8192) (after NoMessage words values))
-      (pick-same (eqb (length words) 8205) _)
+      (pick-same (eqb (length words) messageWords) _)
 
-  module _ (whole : length words ≡ 8205) (store : length values ≡ 8192) (held : count ≤ length records / 6) (few : count ≤ 1024) where
+  module _ (whole : length words ≡ messageWords) (store : length values ≡ 8192) (held : count ≤ length records / stride) (few : count ≤ 1024) where
     pub take-judged : takingOver records count bytes words values ≡ judged words values (layoutFrom bytes (between 0 count (recordsOf records)))
     unfolding takingOver
     take-judged = rw (eq-eqb _ _ whole, eq-eqb _ _ store, le-leb count (length (recordsOf records)) (omega (arith, records-length records)), le-leb _ _ few)
@@ -63,9 +63,9 @@ module _ (records : List ℕ) (count : ℕ) (bytes words values : List ℕ) wher
           rw all (written-fits 0 new old (omega arith) ∙ rw (drop-of-length-le old {i = 0 + length new} (omega arith)) (append-nil new))
 
       pub take-made : done ≡ true → isMessage newWords newValues ≡ true → (wordsAfter valuesAfter : List ℕ)
-          → wordsAfter ≡ writtenAt 0 (part 0 8205 newWords) words → valuesAfter ≡ writtenAt 0 (part 0 8192 newValues) values
+          → wordsAfter ≡ writtenAt 0 (part 0 messageWords newWords) words → valuesAfter ≡ writtenAt 0 (part 0 8192 newValues) values
           → takingOver records count bytes words values ≡ after Made wordsAfter valuesAfter
       take-made d m wordsAfter valuesAfter w v =
           let l = message-held newWords newValues m .laid in
           laid d ∙ ap (λ (b : Bool). pick b (after Made newWords newValues) (after NoMessage words values)) m
-          ∙ rw (w, v, written-whole 8205 newWords words (l .whole) whole, written-whole 8192 newValues values (l .store) store)
+          ∙ rw (w, v, written-whole messageWords newWords words (l .whole) whole, written-whole 8192 newValues values (l .store) store)

@@ -6,10 +6,10 @@ use Prim.Native.Nat.{ℕ, suc, _+_, _-_, _/_, _≤_, _<_}
 use native.Mathlib.Omega.{arith}
 use lib.ListN.{length, length-append}
 use borrow.Author.Tests.{eq-eqb, le-leb}
-use Rattle.records.specs.Records.{recordsOf, between}
+use Rattle.records.specs.Records.{recordsOf, between, stride}
 use Rattle.records.specs.declared.Record.{Record}
 use Rattle.maps.specs.Map.{Map, field, entry, valuesIn}
-use Rattle.maps.specs.Rows.{Row, row, laid}
+use Rattle.maps.specs.Rows.{Row, row, laid, messageWords}
 use Rattle.lent.specs.Meaning.{Message, parts, wordsOf, valuesOf}
 use Rattle.lent.specs.Formed.{Formed, Within}
 use Rattle.lent.specs.FormedLaws.{layout-lends}
@@ -145,7 +145,7 @@ stand-layout bytes m rs s w =
     rw (s .all, next, stand-rows bytes m h b t (w .formed) (s .header) (s .body) (s .trailer), values)
 
 -- what stands for a message within the limits is never refused, and the message is left
-pub stand-taken : (records : List ℕ) (count : ℕ) (bytes words values : List ℕ) (m : Message) → length words ≡ 8205 → length values ≡ 8192 → count ≤ length records / 6 → count ≤ 1024
+pub stand-taken : (records : List ℕ) (count : ℕ) (bytes words values : List ℕ) (m : Message) → length words ≡ messageWords → length values ≡ 8192 → count ≤ length records / stride → count ≤ 1024
     → StandFor bytes m (between 0 count (recordsOf records)) → Within m → takingOver records count bytes words values ≡ after Made (wordsOf m) (valuesOf m)
 stand-taken records count bytes words values m whole store held few s w =
     take-judged records count bytes words values whole store held few

@@ -9,7 +9,7 @@ use lib.Dec.{eqb, leb}
 use Rattle.tagvalue.specs.Choice.{pick}
 use Rattle.records.specs.Records.{recordsOf, recordAt, between}
 use Rattle.records.specs.declared.Record.{Record}
-use Rattle.maps.specs.Rows.{Row, row, flat, padded}
+use Rattle.maps.specs.Rows.{Row, row, flat, padded, messageWords}
 use Rattle.lent.specs.Lent.{isMessage}
 use Rattle.taking.specs.declared.Taken.{Taken}
 use Rattle.taking.specs.declared.Taken.the-variants.{Made, NoMessage}
@@ -116,7 +116,7 @@ pub data Layout : Type 0 where
 unfoldable pub layoutFrom : List ℕ → List Record → Layout
 layoutFrom bytes rs =
     pick (areNext (length bytes) 1 0 [] rs)
-    (laidOut (padded 8205 (length (rowsOf rs) ∷ flat (rowsOf rs))) (padded 8192 (valuesAt bytes rs)))
+    (laidOut (padded messageWords (length (rowsOf rs) ∷ flat (rowsOf rs))) (padded 8192 (valuesAt bytes rs)))
     noRecords
 
 -- what the call answers, and what it leaves of words and values
@@ -131,7 +131,7 @@ judged words values (laidOut newWords newValues) = pick (isMessage newWords newV
 -- no more records than there are, and no more than 1,024 fields
 unfoldable pub takingOver : List ℕ → ℕ → List ℕ → List ℕ → List ℕ → After
 takingOver records count bytes words values =
-    pick (eqb (length words) 8205)
+    pick (eqb (length words) messageWords)
     (pick (eqb (length values) 8192)
     (pick (leb count (length (recordsOf records)))
     (pick (leb count 1024) (judged words values (layoutFrom bytes (between 0 count (recordsOf records)))) (after NoMessage words values))

@@ -12,7 +12,7 @@ use lib.Dec.{eqb, leb}
 use Rattle.tagvalue.specs.Choice.{pick}
 use Rattle.records.specs.Records.{recordsOf, between}
 use Rattle.records.specs.declared.Record.{Record}
-use Rattle.maps.specs.Rows.{Row, flat, padded, sizeOf, sizes}
+use Rattle.maps.specs.Rows.{Row, flat, padded, sizeOf, sizes, messageWords}
 use Rattle.lent.specs.Lent.{isMessage, rowCount}
 use Rattle.lent.specs.Lent.{rowsOf as rowsIn}
 use Rattle.lent.specs.LentLaws.{both, message-held}
@@ -69,14 +69,14 @@ sizes-behind bytes part used before (r ∷ rs) ok =
         omega (arith, a, b, c, z, e, o, v, t)
 
 -- the layout's words hold its rows
-words-rows : (rows : List Row) → rowsIn (padded 8205 (length rows ∷ flat rows)) ≡ rows
+words-rows : (rows : List Row) → rowsIn (padded messageWords (length rows ∷ flat rows)) ≡ rows
 unfolding rowsIn rowCount padded
-words-rows rows = rw (sub-zero (length rows)) (rows-back rows 0 (length rows ∷ (flat rows ++ replicate (8205 - suc (length (flat rows))) 0)) (replicate (8205 - suc (length (flat rows))) 0) refl)
+words-rows rows = rw (sub-zero (length rows)) (rows-back rows 0 (length rows ∷ (flat rows ++ replicate (messageWords - suc (length (flat rows))) 0)) (replicate (messageWords - suc (length (flat rows))) 0) refl)
 
 -- a layout that is a message means what the records stand for
 module _ (bytes : List ℕ) (rs : List Record) (ok : areNext (length bytes) 1 0 [] rs ≡ true) where
   abbrev words : List ℕ
-  words = padded 8205 (length (rowsOf rs) ∷ flat (rowsOf rs))
+  words = padded messageWords (length (rowsOf rs) ∷ flat (rowsOf rs))
 
   abbrev values : List ℕ
   values = padded 8192 (valuesAt bytes rs)
@@ -103,7 +103,7 @@ keeps : (bytes : List ℕ) (rs : List Record) (words values w v : List ℕ) → 
 keeps bytes rs words values w v e = by-next (areNext (length bytes) 1 0 [] rs) refl (unfold layoutFrom in e)
   where
     newWords : List ℕ
-    newWords = padded 8205 (length (rowsOf rs) ∷ flat (rowsOf rs))
+    newWords = padded messageWords (length (rowsOf rs) ∷ flat (rowsOf rs))
 
     newValues : List ℕ
     newValues = padded 8192 (valuesAt bytes rs)
@@ -123,7 +123,7 @@ keeps bytes rs words values w v e = by-next (areNext (length bytes) 1 0 [] rs) r
 -- "reading, changing and writing": where 0 is answered, what is left is a message with the records that were given
 pub taken-keeps : (records : List ℕ) (count : ℕ) (bytes words values w v : List ℕ) → takingOver records count bytes words values ≡ after Made w v → Keeps bytes (between 0 count (recordsOf records)) w v
 unfolding takingOver
-taken-keeps records count bytes words values w v e = by-tests (eqb (length words) 8205) (eqb (length values) 8192) (leb count (length (recordsOf records))) (leb count 1024) e
+taken-keeps records count bytes words values w v e = by-tests (eqb (length words) messageWords) (eqb (length values) 8192) (leb count (length (recordsOf records))) (leb count 1024) e
   where
     by-tests : (a b c d : Bool) → pick a (pick b (pick c (pick d (judged words values (layoutFrom bytes (between 0 count (recordsOf records)))) (after NoMessage words values)) (after NoMessage words values)) (after NoMessage words values)) (after NoMessage words values) ≡ after Made w v
         → Keeps bytes (between 0 count (recordsOf records)) w v

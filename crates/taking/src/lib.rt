@@ -7,8 +7,8 @@ ghost use mathlib.Core.Bool.{true, false};
 ghost use mathlib.Core.List.{[], _∷_};
 ghost use Prim.Native.Nat.{_+_, _-_, _*_, _/_, _≤_, _<_};
 ghost use lib.ListN.{length, replicate};
-ghost use Rattle.maps.specs.Rows.{row};
-ghost use Rattle.records.specs.Records.{recordsOf, recordAt, between};
+ghost use Rattle.maps.specs.Rows.{row, messageWords, messageRows};
+ghost use Rattle.records.specs.Records.{recordsOf, recordAt, between, stride};
 ghost use Rattle.taking.specs.Taking.{recordsBefore, nearestIn, joinsInRun, joinsOf, isJoined, hasRoom, partHeads, recordRows, layoutFrom, after, takingOver};
 ghost use Rattle.taking.specs.Laying.{Adds, Ready, steppedBy, Steps, layoutTold};
 
@@ -113,7 +113,7 @@ fn has_room(size: usize, used: usize, taken: Record) -> bool
 }
 
 fn put_row(words: &mut [u32], rows: usize, kind: u32, level: u32, tag: u32, extra: u32) -> usize
-    requires { ⌜ (rows < 2051) × (length (now words) ≡ 8205) ⌝ }
+    requires { ⌜ (rows < messageRows) × (length (now words) ≡ messageWords) ⌝ }
     ensures { λ r. ⌜ Adds (now (words .entry)) (now (words .exit)) rows r (row kind level tag extra ∷ []) ⌝ }
 {
     let four = [kind, level, tag, extra];
@@ -123,7 +123,7 @@ fn put_row(words: &mut [u32], rows: usize, kind: u32, level: u32, tag: u32, extr
 
 // The heads of the parts behind one, up to another.
 fn open_parts(words: &mut [u32], rows: usize, part: u32, to: u32) -> usize
-    requires { ⌜ (part ≤ to) × (to ≤ 3) × (rows + (to - part) ≤ 2051) × (length (now words) ≡ 8205) ⌝ }
+    requires { ⌜ (part ≤ to) × (to ≤ 3) × (rows + (to - part) ≤ messageRows) × (length (now words) ≡ messageWords) ⌝ }
     ensures { λ r. ⌜ Adds (now (words .entry)) (now (words .exit)) rows r (partHeads (to - part) part) ⌝ }
     ensures { λ r. ⌜ r ≡ rows + (to - part) ⌝ }
 {
@@ -138,7 +138,7 @@ fn open_parts(words: &mut [u32], rows: usize, part: u32, to: u32) -> usize
 
 // The rows of a record: its part's head and its entry's, where they are new, and its own.
 fn lay_rows(words: &mut [u32], rows: usize, part: u32, joined: Joins, taken: Record) -> usize
-    requires { ⌜ (part ≤ taken .part) × (taken .part ≤ 3) × (rows + (taken .part - part) + 2 ≤ 2051) × (taken .depth ≤ 1024) × (length (now words) ≡ 8205) ⌝ }
+    requires { ⌜ (part ≤ taken .part) × (taken .part ≤ 3) × (rows + (taken .part - part) + 2 ≤ messageRows) × (taken .depth ≤ 1024) × (length (now words) ≡ messageWords) ⌝ }
     ensures { λ r. ⌜ Adds (now (words .entry)) (now (words .exit)) rows r (recordRows part joined taken) ⌝ }
 {
     let opened = open_parts(words, rows, part, taken.part);
@@ -218,7 +218,7 @@ fn lay_records(
     words: &mut [u32],
     values: &mut [u8],
 ) -> bool
-    requires { ⌜ (count ≤ length (now records) / 6) × (count ≤ 1024) × (now words ≡ replicate 8205 0) × (now values ≡ replicate 8192 0) ⌝ }
+    requires { ⌜ (count ≤ length (now records) / stride) × (count ≤ 1024) × (now words ≡ replicate messageWords 0) × (now values ≡ replicate 8192 0) ⌝ }
     ensures { λ r. ⌜ layoutTold r (now (words .exit)) (now (values .exit)) ≡ layoutFrom (now (bytes .entry)) (between 0 count (recordsOf (now (records .entry)))) ⌝ }
 {
     let rows = put_row(words, 0, 2, 0, records::HEADER, 0);
@@ -250,19 +250,19 @@ pub fn take_over(
 ) -> Taken
     ensures { λ r. ⌜ after r (now (words .exit)) (now (values .exit)) ≡ takingOver (now (records .entry)) count (now (bytes .entry)) (now (words .entry)) (now (values .entry)) ⌝ }
 {
-    if words.len() != 8205 {
+    if words.len() != maps::WORDS {
         return Taken::NoMessage;
     }
     if values.len() != 8192 {
         return Taken::NoMessage;
     }
-    if records.len() / 6 < count {
+    if records.len() / records::STRIDE < count {
         return Taken::NoMessage;
     }
     if 1024 < count {
         return Taken::NoMessage;
     }
-    let mut laid_words = [0u32; 8205];
+    let mut laid_words = [0u32; maps::WORDS];
     let mut laid_values = [0u8; 8192];
     let new_words = &mut laid_words[..];
     let new_values = &mut laid_values[..];
@@ -272,7 +272,7 @@ pub fn take_over(
     if !lent::is_message(new_words, new_values) {
         return Taken::NoMessage;
     }
-    maps::put_words(words, 0, new_words, 0, 8205);
+    maps::put_words(words, 0, new_words, 0, maps::WORDS);
     maps::put_bytes(values, 0, new_values, 0, 8192);
     Taken::Made
 }

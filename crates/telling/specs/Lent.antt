@@ -8,7 +8,7 @@ use lib.ListN.{drop, getD, replicate}
 use lib.Dec.{leb, ltb}
 use Rattle.tagvalue.specs.Choice.{pick}
 use Rattle.records.specs.declared.Record.{Record}
-use Rattle.records.specs.Records.{laid, recordsOf, recordAt, onRecords, replaced}
+use Rattle.records.specs.Records.{laid, recordsOf, recordAt, onRecords, replaced, recordWords}
 use Rattle.build_answers.specs.Answer.{numberOf, valuesOf}
 use Rattle.builder.specs.Build.{BuildOutcome, buildOf}
 use Rattle.telling.specs.declared.FieldRecord.{FieldRecord}
@@ -50,7 +50,7 @@ recordsLent built lent = filled (built .words) (built .records) (built .written)
 
 -- a build of what the caller gives, over so many lent records
 unfoldable pub builtFrom : List ℕ → ℕ → ℕ → List ℕ → ℕ → BuildOutcome
-builtFrom message separator settings dictionary lent = buildOf message (configOf settings separator) dictionary lent (replicate 6150 0)
+builtFrom message separator settings dictionary lent = buildOf message (configOf settings separator) dictionary lent (replicate recordWords 0)
 
 -- ===== lent records, taken over =====
 

@@ -11,7 +11,7 @@ use Rattle.tagvalue.specs.Choice.{pick}
 use Rattle.tagvalue.specs.Separator.{isRefusedSeparator}
 use Rattle.build_config.specs.declared.Config.{Config}
 use Rattle.records.specs.declared.Record.{Record}
-use Rattle.records.specs.Records.{recordsOf, recordAt}
+use Rattle.records.specs.Records.{recordsOf, recordAt, recordWords}
 use Rattle.builder.specs.Build.{BuildOutcome, untouched, shown, buildOf}
 use Rattle.telling.specs.declared.FieldRecord.{FieldRecord}
 use Rattle.telling.specs.declared.Shown.{Shown}
@@ -40,7 +40,7 @@ written-lent message config dictionary lent words =
     (pick-written (ltb lent 1024) _ _ lent (omega arith) (pick-written (ltb 8192 (length message)) _ _ lent (omega arith) (omega arith)))
 
 -- a build over blank words, as the core says it of its words, and as the caller reads it
-module _ (message : List ℕ) (separator settings : ℕ) (dictionary : List ℕ) (lent : ℕ) (words : List ℕ) (fresh : words ≡ replicate 6150 0) where
+module _ (message : List ℕ) (separator settings : ℕ) (dictionary : List ℕ) (lent : ℕ) (words : List ℕ) (fresh : words ≡ replicate recordWords 0) where
   abbrev over : List ℕ → BuildOutcome
   over cs = buildOf message (configOf settings separator) dictionary lent cs
 

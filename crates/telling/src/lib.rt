@@ -13,7 +13,7 @@ ghost use lib.ListN.{take, replicate};
 ghost use Rattle.message_rules.specs.Changes.{numberOfChange};
 ghost use Rattle.written_form.specs.Encode.{numberOfEncoding};
 ghost use Rattle.taking.specs.Taking.{numberOfTaken, takingOver};
-ghost use Rattle.records.specs.Records.{onRecords, replaced};
+ghost use Rattle.records.specs.Records.{onRecords, replaced, recordWords, stride};
 ghost use Rattle.message_rules.specs.LookUps.{numberOfValue, numberOfMap};
 ghost use Rattle.builder.specs.Build.{buildOf};
 ghost use Rattle.build_config.specs.Settings.{configOf};
@@ -69,7 +69,7 @@ pub fn tell(out: &mut [u32; 4], records: usize, first: usize, second: usize)
 }
 
 // Record i of the words, of which so many are shown; past them there are only blank ones.
-pub fn field_at(words: &[u32; 6150], shown: usize, i: usize) -> FieldRecord
+pub fn field_at(words: &[u32; records::WORDS], shown: usize, i: usize) -> FieldRecord
     ensures { λ r. ⌜ r ≡ fieldAt (now (words .entry)) shown i ⌝ }
 {
     if shown <= i {
@@ -94,10 +94,10 @@ pub fn field_at(words: &[u32; 6150], shown: usize, i: usize) -> FieldRecord
 }
 
 // Words for a build's records.
-pub fn blank_words() -> [u32; 6150]
-    ensures { λ r. ⌜ r ≡ replicate 6150 0 ⌝ }
+pub fn blank_words() -> [u32; records::WORDS]
+    ensures { λ r. ⌜ r ≡ replicate recordWords 0 ⌝ }
 {
-    [0; 6150]
+    [0; records::WORDS]
 }
 
 // Builds a message from its bytes, with its records in the words, and tells the answer. So many records are lent to be filled from them.
@@ -107,7 +107,7 @@ pub fn build(
     settings: u32,
     dictionary: &[u8],
     lent: usize,
-    words: &mut [u32; 6150],
+    words: &mut [u32; records::WORDS],
     out: &mut [u32; 4],
 ) -> Shown
     ensures { λ r. ⌜ (r ≡ shownOf (buildOf (now (message .entry)) (configOf settings separator) (now (dictionary .entry)) lent (now (words .entry))))
@@ -127,7 +127,7 @@ pub fn build(
 }
 
 // A lent record as record i of the words.
-pub fn put_field(words: &mut [u32; 6150], i: usize, field: FieldRecord)
+pub fn put_field(words: &mut [u32; records::WORDS], i: usize, field: FieldRecord)
     ensures { λ _. ⌜ now (words .exit) ≡ onRecords (replaced i (recordOf field)) (now (words .entry)) ⌝ }
 {
     let record = Record {
@@ -156,7 +156,7 @@ pub fn read_count(lent: usize, count: usize) -> usize
 
 // Takes the records that stand in the words over into a lent message, and tells the answer. So many records were read.
 pub fn take_over(
-    laid: &[u32; 6150],
+    laid: &[u32; records::WORDS],
     read: usize,
     count: usize,
     message: &[u8],
@@ -165,7 +165,7 @@ pub fn take_over(
     out: &mut [u32; 4],
 ) -> u32
     requires { ⌜ read ≤ 1024 ⌝ }
-    ensures { λ r. ⌜ (r ≡ takingNumber (takingOver (take (6 * read) (now (laid .entry))) count (now (message .entry)) (now (words .entry)) (now (values .entry))))
+    ensures { λ r. ⌜ (r ≡ takingNumber (takingOver (take (stride * read) (now (laid .entry))) count (now (message .entry)) (now (words .entry)) (now (values .entry))))
         × (now (words .exit) ≡ takenWords (takingOver (take (6 * read) (now (laid .entry))) count (now (message .entry)) (now (words .entry)) (now (values .entry))))
         × (now (values .exit) ≡ takenValues (takingOver (take (6 * read) (now (laid .entry))) count (now (message .entry)) (now (words .entry)) (now (values .entry))))
         × (now (out .exit) ≡ told 0 (0, 0)) ⌝ }

@@ -16,7 +16,7 @@ use Rattle.dictionary_rules.specs.Check.{checkOf, numberOf as numberOfCheck}
 use Rattle.dictionary_rules.specs.declared.Checked.{Checked}
 use Rattle.dictionary_meaning_rules.specs.Meaning.{dictionaryOf}
 use Rattle.records.specs.declared.Record.{Record}
-use Rattle.records.specs.Records.{blank, laid, recordsOf, recordAt}
+use Rattle.records.specs.Records.{blank, laid, recordsOf, recordAt, recordWords}
 use Rattle.records.specs.WordLaws.{records-laid}
 use Rattle.nesting.specs.Entries.{All, all-none, all-more}
 use Rattle.build_answers.specs.declared.Answer.the-variants.{InvalidSeparator, TooFewRecords, TooLong as MessageTooLong, BadDictionary}
@@ -58,7 +58,7 @@ all-at (r ∷ rs) (suc i) (all-more p a) h = all-at rs i a (le-of-suc-le-suc h)
 -- record i of the words that show the records
 record-shown : (rs : List Record) (i : ℕ) → i < length rs → recordAt i (recordsOf (wordsWith rs)) ≡ recordAt i rs
 unfolding wordsWith recordAt
-record-shown rs i h = ap (recordAt i) (records-laid rs (replicate (6150 - length (laid rs)) 0)) ∙ List·getD-append rs _ blank i h
+record-shown rs i h = ap (recordAt i) (records-laid rs (replicate (recordWords - length (laid rs)) 0)) ∙ List·getD-append rs _ blank i h
 
 module _ (message : List ℕ) (config : Config) (dictionary : List ℕ) where
   -- what is read, and shown where the build got so far
@@ -112,9 +112,9 @@ module _ (message : List ℕ) (separator settings : ℕ) (dictionary : List ℕ)
   pub shown-uncut : (i : ℕ) → i < builtFrom message separator settings dictionary lent .records
       → Uncut (recordAt i (checkedRead message (configOf settings separator) dictionary (checkOf dictionary) .records)) (fieldAt (builtFrom message separator settings dictionary lent .words) (builtFrom message separator settings dictionary lent .records) i)
   unfolding builtFrom
-  shown-uncut i h = build-uncut message (configOf settings separator) dictionary lent (replicate 6150 0) i h
+  shown-uncut i h = build-uncut message (configOf settings separator) dictionary lent (replicate recordWords 0) i h
 
   -- "record count": 1,024 at the most, so that all of them stand in the lent ones
   pub few-records : builtFrom message separator settings dictionary lent .records ≤ 1024
   unfolding builtFrom
-  few-records = build-few message (configOf settings separator) dictionary lent (replicate 6150 0)
+  few-records = build-few message (configOf settings separator) dictionary lent (replicate recordWords 0)

@@ -5,6 +5,7 @@ use Prim.Native.Nat.{ℕ, suc, _+_, _-_, _/_, _≤_, _<_, _^_}
 use native.Mathlib.Omega.{arith}
 use lib.ListN.{length}
 use borrow.Author.Needs.{needs}
+use Rattle.records.specs.Records.{stride}
 use Rattle.dictionary_rules.specs.Index.{tagAt}
 use Rattle.groups.specs.Reading.{tableRules}
 use Rattle.required.specs.Checking.{tableDemands}
@@ -60,7 +61,7 @@ ends c = c .before .before .before .loop .inv .1 .ends _ _ (c .before .reading .
 -- what the steps of the body ask
 record Asks (c : tie.After-known-told Inv-loop μ-loop) : Type 0 where
   short : length (c .before .before .before .before .before .before .before .before .args .message .now) < 2 ^ 32
-  fits : c .before .reading .given .0 .1 .0 .records + c .before .reading .given .0 .1 .0 .room < length (c .before .before .before .loop .words) / 6
+  fits : c .before .reading .given .0 .1 .0 .records + c .before .reading .given .0 .1 .0 .room < length (c .before .before .before .loop .words) / stride
   words-short : length (c .before .before .before .loop .words) < 2 ^ 32
 
 asks : (c : tie.After-known-told Inv-loop μ-loop) → Asks c

@@ -5,6 +5,7 @@ use mathlib.Core.List.{List}
 use Prim.Native.Nat.{ℕ, _+_, _-_, _/_, _≤_, _<_, _^_}
 use native.Mathlib.Omega.{arith}
 use lib.ListN.{length}
+use Rattle.records.specs.Records.{stride}
 use Rattle.groups.specs.Reading.{Fits}
 use Rattle.body.specs.GroupReading.{run-fits, answers-stopped, answers-lack, answers-complete}
 use borrow.Author.Needs.{needs}
@@ -23,7 +24,7 @@ fits c = let o = c .before .before .before in
     let e = o .open-run .ensures in
     record { short = omega arith; counted = omega (arith, e .by-one); placed = omega (arith, e .by-one, e .within) }
 
-words-left : (c : tie.After-read-run-arg) → let o = c .before .before .before in let a = o .before .before .before .before .before .before .args in o .open-run .result .records + a .progress .room ≤ length (o .open-run .last .0) / 6
+words-left : (c : tie.After-read-run-arg) → let o = c .before .before .before in let a = o .before .before .before .before .before .before .args in o .open-run .result .records + a .progress .room ≤ length (o .open-run .last .0) / stride
 words-left c = let o = c .before .before .before in
     omega (arith, o .open-run .ensures .by-one, o .open-run .kept .0)
 

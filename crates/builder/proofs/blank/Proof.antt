@@ -5,21 +5,22 @@ use Prim.Native.Nat.{ℕ, _+_, _-_, _*_, _≤_}
 use native.Mathlib.Omega.{arith}
 use borrow.Author.Needs.{needs}
 use lib.ListN.{length, length-set, take, drop, replicate, take-append-drop}
+use Rattle.records.specs.Records.{recordWords, stride}
 use Rattle.builder.specs.BuildLaws.{blank-step, blank-start, blank-end}
 use Rattle.builder.proofs.blank.Statement.{statement}
 use Rattle.builder.proofs.blank.Tie as tie
 
 abbrev Inv-loop : tie.InvT-loop
-Inv-loop words₀ records i₀ words i = (6 * records ≤ i) × (i ≤ 6150) × (length words ≡ 6150) × (words ≡ take (6 * records) words₀ ++ (replicate (i - 6 * records) 0 ++ drop i words₀))
+Inv-loop words₀ records i₀ words i = (stride * records ≤ i) × (i ≤ recordWords) × (length words ≡ recordWords) × (words ≡ take (stride * records) words₀ ++ (replicate (i - stride * records) 0 ++ drop i words₀))
 
 abbrev μ-loop : tie.MeasureT-loop
-μ-loop words₀ records i₀ words i = 6150 - i
+μ-loop words₀ records i₀ words i = recordWords - i
 
 mul-i : tie.Need-mul-i Inv-loop μ-loop
 mul-i c = search needs
 
 loop-holds : tie.Need-loop-holds Inv-loop μ-loop
-loop-holds c = (omega arith, omega arith, omega arith, blank-start (c .args .words .now) (6 * c .args .records))
+loop-holds c = (omega arith, omega arith, omega arith, blank-start (c .args .words .now) (stride * c .args .records))
 
 mul-words : tie.Need-mul-words Inv-loop μ-loop
 mul-words c = search needs
@@ -35,14 +36,14 @@ loop-less c = search needs
 
 loop-again : tie.Need-loop-again Inv-loop μ-loop
 loop-again c = let l = c .before in
-    (omega arith, omega arith, simp length-set (omega arith), rw (l .loop .inv .3) (blank-step (l .before .args .words .now) (6 * l .before .args .records) (l .loop .i) (omega arith) (omega arith)))
+    (omega arith, omega arith, simp length-set (omega arith), rw (l .loop .inv .3) (blank-step (l .before .args .words .now) (stride * l .before .args .records) (l .loop .i) (omega arith) (omega arith)))
 
 same-length : tie.Need-same-length Inv-loop μ-loop
 same-length c = search needs
 
 returns : tie.Need-returns Inv-loop μ-loop
 returns c = let l = c .before in
-    l .loop .inv .3 ∙ blank-end (l .before .args .words .now) (6 * l .before .args .records) (l .loop .i) (omega arith) (omega arith)
+    l .loop .inv .3 ∙ blank-end (l .before .args .words .now) (stride * l .before .args .records) (l .loop .i) (omega arith) (omega arith)
 
 pub blank-spec : {M : Type 1} → statement M
 blank-spec = tie.close (tie.spec Inv-loop μ-loop mul-i loop-holds mul-words slice-write-words add-i loop-less loop-again same-length returns)

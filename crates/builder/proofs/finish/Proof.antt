@@ -4,6 +4,7 @@ use mathlib.Core.List.{[]}
 use Prim.Native.Nat.{ℕ, suc, _+_, _-_, _/_, _≤_, _<_, _^_}
 use native.Mathlib.Omega.{arith}
 use lib.ListN.{length}
+use Rattle.records.specs.Records.{stride}
 use Rattle.parts.specs.Parts.{Ends}
 use Rattle.body.specs.Body.{bodyFrom}
 use Rattle.builder.specs.Reading.{finishCounts}
@@ -28,7 +29,7 @@ body-of c = c .before .before .before .before .before
 ends : (c : tie.After-known-told2) → let a = body-of c .before .before .before .before .before .before .before .before .before .args in Ends (a .message .now) (a .words .now) (a .headed .progress .records) (suc (a .headed .progress .room)) (c .before .field .given .0 .0) (c .before .field .given .0 .1 .0)
 ends c = body-of c .read-body .ensures .1 .ends _ _ (c .before .field .given .1)
 
-words-kept : (c : tie.After-known-told2) → c .before .field .given .0 .1 .0 .records + c .before .field .given .0 .1 .0 .room < length (body-of c .read-body .last .1 .1 .1 .1 .1 .1 .1 .0) / 6
+words-kept : (c : tie.After-known-told2) → c .before .field .given .0 .1 .0 .records + c .before .field .given .0 .1 .0 .room < length (body-of c .read-body .last .1 .1 .1 .1 .1 .1 .1 .0) / stride
 words-kept c = omega (arith, ends c .fits, body-of c .read-body .kept .1 .1 .1 .1 .1 .1 .1 .0)
 
 record-of-requires : tie.Need-record-of-requires

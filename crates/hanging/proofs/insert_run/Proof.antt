@@ -8,7 +8,7 @@ use native.Mathlib.Omega.{arith}
 use borrow.Author.Needs.{needs}
 use lib.ListN.{length, getD, take, drop, set, length-set}
 use lib.Seq.{length-take-le}
-use Rattle.maps.specs.Rows.{flat, rowsFrom, sizes}
+use Rattle.maps.specs.Rows.{flat, rowsFrom, sizes, messageRows}
 use Rattle.lent.specs.Lent.{rowCount, rowsOf}
 use Rattle.lent.specs.MeaningLaws.{flat-length}
 use Rattle.message_rules.specs.Changes.{after, Cuttable, cutWords, cutValues, changedAt}
@@ -75,7 +75,7 @@ made-at : (c : tie.After-enum-told) → (c .before .before .before .before .befo
     × (c .before .before .before .before .before .before .before .before .before .before .before .before .before .before .before .before .before .args .fields ≤ 1024)
 made-at c = made-others _ _ _ _ _ _ _ _ _ _ _ (rw (c .enum-told .given .1) at (cut-at (c .before .before .before .before .before .before)))
 
-few-at : (c : tie.After-enum-told) → c .before .before .before .before .before .before .before .before .before .before .before .before .before .before .before .before .before .args .cut .from + c .before .before .before .before .before .before .before .before .before .before .before .before .row-count .result ≤ 2051
+few-at : (c : tie.After-enum-told) → c .before .before .before .before .before .before .before .before .before .before .before .before .before .before .before .before .before .args .cut .from + c .before .before .before .before .before .before .before .before .before .before .before .before .row-count .result ≤ messageRows
 few-at c = let p = c .before .before .before .before .before .before .before .before .before .before .before .before .before .before .before .before .before .pre .3 in omega (arith, p .room (made-at c .2), c .before .before .before .before .before .before .before .before .before .before .before .before .row-count .ensures)
 
 add-raise-rows : tie.Need-add-raise-rows
@@ -87,7 +87,7 @@ raise-rows-requires c κs = let f = few-at (c .before) in
       omega arith,
       omega (arith, f),
       c .before .before .before .before .before .before .before .cut-rows .kept .0 ∙ c .before .before .before .before .before .before .before .before .before .before .before .before .before .before .before .before .before .before .pre .3 .whole,
-      λ j a b. rw (made-at (c .before) .0) (low-cut _ _ (c .before .before .before .before .before .before .before .before .before .before .before .before .before .before .before .before .before .before .pre .1) (c .before .before .before .before .before .before .before .before .before .before .before .before .before .before .before .before .before .before .pre .2) (rowsOf (c .before .before .before .before .before .before .before .before .before .before .before .before .before .before .before .before .before .before .args .run-words .now)) (c .before .before .before .before .before .before .before .before .before .before .before .before .before .before .before .before .before .before .pre .3 .whole) (omega (arith, f)) 2051 _ j (c .before .before .before .before .before .before .before .before .before .before .before .before .before .before .before .before .before .before .pre .0 .near) a (omega (arith, b, count-at (c .before .before .before .before .before .before .before .before .before .before .before .before .before)))),
+      λ j a b. rw (made-at (c .before) .0) (low-cut _ _ (c .before .before .before .before .before .before .before .before .before .before .before .before .before .before .before .before .before .before .pre .1) (c .before .before .before .before .before .before .before .before .before .before .before .before .before .before .before .before .before .before .pre .2) (rowsOf (c .before .before .before .before .before .before .before .before .before .before .before .before .before .before .before .before .before .before .args .run-words .now)) (c .before .before .before .before .before .before .before .before .before .before .before .before .before .before .before .before .before .before .pre .3 .whole) (omega (arith, f)) messageRows _ j (c .before .before .before .before .before .before .before .before .before .before .before .before .before .before .before .before .before .before .pre .0 .near) a (omega (arith, b, count-at (c .before .before .before .before .before .before .before .before .before .before .before .before .before)))),
     )
 
 same-length : tie.Need-same-length

@@ -8,14 +8,14 @@ use native.Mathlib.Omega.{arith}
 use borrow.Author.Needs.{needs}
 use lib.ListN.{length, getD, take, drop, set, length-set}
 use lib.Seq.{getD-set-other}
-use Rattle.maps.specs.Rows.{Row, row, rowAt, rowsFrom, levelOf}
+use Rattle.maps.specs.Rows.{Row, row, rowAt, rowsFrom, levelOf, messageWords, messageRows}
 use Rattle.hanging.specs.Hanging.{raisedFrom}
 use Rattle.hanging.specs.RowLaws.{raise-on, raise-end}
 use Rattle.hanging.proofs.raise_rows.Statement.{statement}
 use Rattle.hanging.proofs.raise_rows.Tie as tie
 
 abbrev Inv-loop : tie.InvT-loop
-Inv-loop words₀ from to i₀ words i = (from ≤ i) × (i ≤ to) × (length words ≡ 8205) × (raisedFrom (to - from) from words₀ ≡ raisedFrom (to - i) i words) × ((j : ℕ) → i ≤ j → j < to → getD words (4 * j + 2) 0 ≤ 2051)
+Inv-loop words₀ from to i₀ words i = (from ≤ i) × (i ≤ to) × (length words ≡ messageWords) × (raisedFrom (to - from) from words₀ ≡ raisedFrom (to - i) i words) × ((j : ℕ) → i ≤ j → j < to → getD words (4 * j + 2) 0 ≤ messageRows)
 
 abbrev μ-loop : tie.MeasureT-loop
 μ-loop words₀ from to i₀ words i = to - i
@@ -30,7 +30,7 @@ level-is : (c : tie.After-level-of Inv-loop μ-loop) → c .level-of .result ≡
 unfolding levelOf rowAt
 level-is c = c .level-of .ensures
 
-level-at : (c : tie.After-level-of Inv-loop μ-loop) → c .level-of .result ≤ 2051
+level-at : (c : tie.After-level-of Inv-loop μ-loop) → c .level-of .result ≤ messageRows
 level-at c = let l = c .before .before .before in omega (arith, level-is c, l .loop .inv .4 (l .loop .i) (omega arith) (c .before .before .loop-test .taken))
 
 add-words : tie.Need-add-words Inv-loop μ-loop

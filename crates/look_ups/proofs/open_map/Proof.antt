@@ -8,7 +8,7 @@ use native.Mathlib.Omega.{arith}
 use borrow.Author.Needs.{needs}
 use lib.ListN.{length, getD, take, drop, set, length-set}
 use borrow.Author.Tests.{not-true, not-false, eq-eqb, ne-eqb}
-use Rattle.maps.specs.Rows.{rowAt, rowsFrom, levelOf, endFrom}
+use Rattle.maps.specs.Rows.{rowAt, rowsFrom, levelOf, endFrom, messageRows}
 use Rattle.lent.specs.Lent.{isMessage, rowCount}
 use Rattle.lent.specs.Meaning.{parts, messageIn}
 use Rattle.look_ups.specs.Opening.{isHead, rowsBelow, openedAt}
@@ -57,7 +57,7 @@ add-from c = search needs
 end-of-requires : tie.Need-end-of-requires
 end-of-requires c κs = let s = sized-here _ _ (lent-at (c .before .before .before .before .before)) in (omega (arith, c .before .before .before .if2 .left), omega (arith, c .before .before .before .before .row-count .ensures, s .counted), s .whole)
 
-level-at : (c : tie.After-end-of) → c .before .level-of .result + 1 ≤ 2051
+level-at : (c : tie.After-end-of) → c .before .level-of .result + 1 ≤ messageRows
 level-at c =
     omega (arith, c .before .level-of .ensures, level-near _ _ _ (lent-at (c .before .before .before .before .before .before)) (below-at (c .before .before)) (head-at (c .before .before)))
 

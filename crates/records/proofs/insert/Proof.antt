@@ -5,14 +5,14 @@ use Prim.Native.Nat.{_-_, _/_, _≤_, _<_}
 use native.Mathlib.Omega.{arith}
 use lib.ListN.{length}
 use borrow.Author.Needs.{needs}
-use Rattle.records.specs.Records.{onRecords, inserted}
+use Rattle.records.specs.Records.{onRecords, inserted, stride}
 use Rattle.records.specs.RecordLaws.{pushing}
 use Rattle.records.proofs.Turns.{insert-past, insert-full, insert-starts, insert-turn, insert-ends}
 use Rattle.records.proofs.insert.Statement.{statement}
 use Rattle.records.proofs.insert.Tie as tie
 
 abbrev Inv-loop : tie.InvT-loop
-Inv-loop words₀ n i carried₀ at₀ words carried at = (at ≤ n) × (n < length words / 6) × (length words ≡ length words₀) × (onRecords (inserted n i carried₀) words₀ ≡ onRecords (pushing n at carried) words)
+Inv-loop words₀ n i carried₀ at₀ words carried at = (at ≤ n) × (n < length words / stride) × (length words ≡ length words₀) × (onRecords (inserted n i carried₀) words₀ ≡ onRecords (pushing n at carried) words)
 
 abbrev μ-loop : tie.MeasureT-loop
 μ-loop words₀ n i carried₀ at₀ words carried at = n - at

@@ -5,14 +5,14 @@ use Prim.Native.Nat.{_-_, _/_, _≤_}
 use native.Mathlib.Omega.{arith}
 use lib.ListN.{length}
 use borrow.Author.Needs.{needs}
-use Rattle.records.specs.Records.{onRecords, removed}
+use Rattle.records.specs.Records.{onRecords, removed, stride}
 use Rattle.records.specs.RecordLaws.{pulling}
 use Rattle.records.proofs.Turns.{remove-past, remove-many, remove-starts, remove-turn, remove-ends}
 use Rattle.records.proofs.remove.Statement.{statement}
 use Rattle.records.proofs.remove.Tie as tie
 
 abbrev Inv-loop : tie.InvT-loop
-Inv-loop words₀ n i k at₀ words at = (n ≤ length words / 6) × (k ≤ n) × (length words ≡ length words₀) × (onRecords (removed n i k) words₀ ≡ onRecords (pulling (n - k) k at) words)
+Inv-loop words₀ n i k at₀ words at = (n ≤ length words / stride) × (k ≤ n) × (length words ≡ length words₀) × (onRecords (removed n i k) words₀ ≡ onRecords (pulling (n - k) k at) words)
 
 abbrev μ-loop : tie.MeasureT-loop
 μ-loop words₀ n i k at₀ words at = n - k - at

@@ -8,6 +8,7 @@ use native.Mathlib.Omega.{arith}
 use borrow.Author.Needs.{needs}
 use lib.ListN.{length, getD, take, drop, set, length-set}
 use borrow.Author.Tests.{not-true, not-false}
+use Rattle.maps.specs.Rows.{messageRows}
 use Rattle.maps.specs.Map.{fieldCount}
 use Rattle.message_rules.specs.Runs.{isDraft, runIn, storingLast}
 use Rattle.runs.specs.RunLaws.{LastSplit}
@@ -63,7 +64,7 @@ told-at c = last-at _ _ _ (draft-at (c .before .before .before .before .before))
 entry-at : (c : tie.Else3) → HasEntry (runIn (c .before .before .before .before .before .before .before .before .before .before .before .before .before .args .words .now) (c .before .before .before .before .before .before .before .before .before .before .before .before .before .args .values .now)) (c .before .last-start .result)
 entry-at c = some-entry _ _ (told-at (c .before)) (c .if3 .left)
 
-grows-at : (c : tie.Else3) → (c .before .last-start .result ≤ c .before .before .before .row-count .result) × (c .before .before .before .row-count .result ≤ 2051)
+grows-at : (c : tie.Else3) → (c .before .last-start .result ≤ c .before .before .before .row-count .result) × (c .before .before .before .row-count .result ≤ messageRows)
 grows-at c =
     let e = entry-at c in
     let g = frame.span-grows _ _ _ _ _ _ (entry-frame _ _ _ (draft-at (c .before .before .before .before .before .before)) (e .split) _ _ (c .before .before .before .row-count .ensures) (e .starts)) in

@@ -4,6 +4,7 @@ use Prim.Native.Nat.{ℕ, _-_}
 use native.Mathlib.Omega.{arith}
 use borrow.Author.Needs.{needs}
 use lib.ListN.{length, length-set, length-replicate}
+use Rattle.maps.specs.Rows.{messageWords}
 use Rattle.records.specs.Records.{recordsOf}
 use Rattle.records.specs.WordLaws.{records-length}
 use Rattle.taking.specs.Laying.{layoutTold}
@@ -18,7 +19,7 @@ abbrev μ-loop : tie.MeasureT-loop
 μ-loop records count bytes words₀ values₀ rows laying₀ i₀ words values laying i = count - i
 
 put-row-requires : tie.Need-put-row-requires Inv-loop μ-loop
-put-row-requires c κs = (omega arith, ap length (c .before .before .before .before .before .pre .2) ∙ length-replicate {A = ℕ} 8205 0)
+put-row-requires c κs = (omega arith, ap length (c .before .before .before .before .before .pre .2) ∙ length-replicate {A = ℕ} messageWords 0)
 
 loop-holds : tie.Need-loop-holds Inv-loop μ-loop
 loop-holds c = let p = c .before .before in let start = p .before .before .before .before .before .before in going-start _ _ _ _ _ _ _ (start .pre .2) (start .pre .3) (p .put-row .ensures)
@@ -33,7 +34,7 @@ enum-told : tie.Need-enum-told Inv-loop μ-loop
 enum-told c = search needs
 
 same-length : tie.Need-same-length Inv-loop μ-loop
-same-length c = let l = c .before .before .before .before .before .before .before .before .before .before in let start = l .before .before .before .before .before .before .before .before .before in c .before .before .before .before .before .before .lay-record .kept .1 .1 .1 .0 ∙ going-whole _ _ _ (l .loop .inv) (start .pre .1) .0 ∙ sym (ap length (start .pre .2) ∙ length-replicate {A = ℕ} 8205 0)
+same-length c = let l = c .before .before .before .before .before .before .before .before .before .before in let start = l .before .before .before .before .before .before .before .before .before in c .before .before .before .before .before .before .lay-record .kept .1 .1 .1 .0 ∙ going-whole _ _ _ (l .loop .inv) (start .pre .1) .0 ∙ sym (ap length (start .pre .2) ∙ length-replicate {A = ℕ} messageWords 0)
 
 same-length-2 : tie.Need-same-length-2 Inv-loop μ-loop
 same-length-2 c = let l = c .before .before .before .before .before .before .before .before .before .before in let start = l .before .before .before .before .before .before .before .before .before in c .before .before .before .before .before .before .lay-record .kept .1 .1 .1 .1 .0 ∙ going-whole _ _ _ (l .loop .inv) (start .pre .1) .1 ∙ sym (ap length (start .pre .3) ∙ length-replicate {A = ℕ} 8192 0)
@@ -60,7 +61,7 @@ slice-write-words : tie.Need-slice-write-words Inv-loop μ-loop
 slice-write-words c = let l = c .before .before .before .before .before in let start = l .before .before .before .before .before .before .before .before .before in omega (arith, c .before .before .open-parts .ensures .0 .whole, going-whole _ _ _ (l .loop .inv) (start .pre .1) .0)
 
 same-length-3 : tie.Need-same-length-3 Inv-loop μ-loop
-same-length-3 c = let l = c .before .before .before .before .before in let start = l .before .before .before .before .before .before .before .before .before in simp length-set (c .before .before .open-parts .ensures .0 .whole ∙ going-whole _ _ _ (l .loop .inv) (start .pre .1) .0 ∙ sym (ap length (start .pre .2) ∙ length-replicate {A = ℕ} 8205 0))
+same-length-3 c = let l = c .before .before .before .before .before in let start = l .before .before .before .before .before .before .before .before .before in simp length-set (c .before .before .open-parts .ensures .0 .whole ∙ going-whole _ _ _ (l .loop .inv) (start .pre .1) .0 ∙ sym (ap length (start .pre .2) ∙ length-replicate {A = ℕ} messageWords 0))
 
 same-length-4 : tie.Need-same-length-4 Inv-loop μ-loop
 same-length-4 c = let l = c .before .before .before .before .before in let start = l .before .before .before .before .before .before .before .before .before in going-whole _ _ _ (l .loop .inv) (start .pre .1) .1 ∙ sym (ap length (start .pre .3) ∙ length-replicate {A = ℕ} 8192 0)

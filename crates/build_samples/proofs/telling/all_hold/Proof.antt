@@ -1,14 +1,15 @@
 -- `all_hold` is safe and ends: what is left of the words falls.
 use Prim.Native.Nat.{_-_, _≤_}
 use borrow.Author.Needs.{needs}
+use Rattle.records.specs.Records.{recordWords}
 use Rattle.build_samples.proofs.telling.all_hold.Statement.{statement}
 use Rattle.build_samples.proofs.telling.all_hold.Tie as tie
 
 abbrev Inv-loop : tie.InvT-loop
-Inv-loop words «record» n i₀ i = i ≤ 6150
+Inv-loop words «record» n i₀ i = i ≤ recordWords
 
 abbrev μ-loop : tie.MeasureT-loop
-μ-loop words «record» n i₀ i = 6150 - i
+μ-loop words «record» n i₀ i = recordWords - i
 
 loop-holds : tie.Need-loop-holds Inv-loop μ-loop
 loop-holds c = search needs

@@ -42,6 +42,7 @@ use denote.Triple.Spec.{Meets, tripleOf}
 use denote.Triple.Table.{entered, cited}
 use denote.Triple.Walked.{says, Stays, gave-ref, gave-slice, stay-none, stay-none-slice, walkOf, goes-gave-ref, goes-gave-slice, goes-none, goes-none-slice, Walks, ends-at, walked, walk-meets}
 use denote.Exit.{yes}
+use Rattle.records.specs.Records.{recordWords}
 use Rattle.builder.specs.Build.{BuildOutcome, buildOf}
 use Rattle.parts.specs.Answer.{numberOf, valuesOf}
 use Rattle.build_config.specs.Settings.{configOf}
@@ -127,8 +128,8 @@ module _ {M : Type 1} (𝓤 : URA M) (H : Heap 𝓤) (A : Atoms 𝓤) (W : Given
   abbrev to-blank : Blank 𝓤 H A at-mem run .Ghost
   to-blank = ((tt, tt, tt, tt, tt), tt)
 
-  blank-said : (cs : List ℕ) → ent 𝓤 (ensured 𝓤 H A blank.ended (blank.clauses 𝓤 H A at-mem run) tt tt tt cs) (fact 𝓤 (cs ≡ replicate 6150 0))
-  blank-said cs = exE 𝓤 _ (λ ws. snd∗ 𝓤 (sem 𝓤 H A (lasts blank.ended tt tt ws)) (fact 𝓤 (cs ≡ replicate 6150 0)))
+  blank-said : (cs : List ℕ) → ent 𝓤 (ensured 𝓤 H A blank.ended (blank.clauses 𝓤 H A at-mem run) tt tt tt cs) (fact 𝓤 (cs ≡ replicate recordWords 0))
+  blank-said cs = exE 𝓤 _ (λ ws. snd∗ 𝓤 (sem 𝓤 H A (lasts blank.ended tt tt ws)) (fact 𝓤 (cs ≡ replicate recordWords 0)))
 
   abbrev to-build : ℕ → ℕ → GName → List ℕ → Build 𝓤 H A at-mem run .Ghost
   to-build l ν δ cs = (((κ, (κ₁, (ν ∷ [], (κ₃, tt)))), (q, (q₁, (fullShare, (q₃, tt)))), tt, (s, (separator, (settings, (d, (len, (at l δ cs, (y, tt))))))), (w ∷ [], (vint w8 separator ∷ [], (vint w32 settings ∷ [], (w₁ ∷ [], (vint w64 len ∷ [], (vptr l 0 ∷ [], (p ∷ [], tt)))))))), tt)
@@ -151,7 +152,7 @@ module _ {M : Type 1} (𝓤 : URA M) (H : Heap 𝓤) (A : Atoms 𝓤) (W : Given
   end = builtFrom (now s) separator settings (now d) len
 
   -- what the entry says, of the three contracts
-  joined : (cs zs os : List ℕ) (r : Shown) (us : List FieldRecord) → cs ≡ replicate 6150 0 → Said cs r zs os → us ≡ filled zs (r .records) (r .written) (now x)
+  joined : (cs zs os : List ℕ) (r : Shown) (us : List FieldRecord) → cs ≡ replicate recordWords 0 → Said cs r zs os → us ≡ filled zs (r .records) (r .written) (now x)
       → (r .number ≡ numberOf (end .answer)) × (us ≡ recordsLent end (now x)) × (os ≡ told (end .records) (valuesOf (end .answer)))
   unfolding shownOf toldOf
   joined cs zs os r us e₁ e₂ e₃ = (
@@ -179,10 +180,10 @@ module _ {M : Type 1} (𝓤 : URA M) (H : Heap 𝓤) (A : Atoms 𝓤) (W : Given
         nothing ! $ nothing ! $ move ! (1 ∷ 0 ∷ []) $ use2 W (raw (Blank 𝓤 H A at-mem run .pre to-blank)) (qed W (‵ ftrue ∷ ‵ (owns [] tt tt) ∷ []) ∵ join ! $ frame ! $ done !) $
         calls-at ! fm (Blank 𝓤 H A at-mem run) known-blank to-blank (no-more !) (λ u.
         use1 W (later (some (λ (cs : List ℕ). (‵ ftrue ⊛ ‵ (Words .own cs (u ∷ []))) ⊛ raw (ensured 𝓤 H A blank.ended (blank.clauses 𝓤 H A at-mem run) tt tt tt cs)))) (id⊢ 𝓤 _) $ await ! tt $ pick ! (λ cs.
-        split ! $ move ! (1 ∷ []) $ use1 W (raw (fact 𝓤 (cs ≡ replicate 6150 0))) (blank-said cs) $ heard ! (cs ≡ replicate 6150 0) (λ e₁. split ! $ drop ! $
+        split ! $ move ! (1 ∷ []) $ use1 W (raw (fact 𝓤 (cs ≡ replicate recordWords 0))) (blank-said cs) $ heard ! (cs ≡ replicate recordWords 0) (λ e₁. split ! $ drop ! $
         peeks ! Words (Is Words) (shows 𝓤 H A Words) cs (u ∷ []) (λ is₁.
-        land ! (from ! (stop !)) (init ! 15 refl (array-lawful 𝓤 H A W u32 (uint-lawful 𝓤 H A W w32) 6150 .typed cs _ is₁ .0)) $
-        assigns ! (of-opd ! (load ! (from ! (stop !)) (look ! 15 refl))) (from ! (stop !)) (init ! 19 refl (array-lawful 𝓤 H A W u32 (uint-lawful 𝓤 H A W w32) 6150 .typed cs _ is₁ .0)) $
+        land ! (from ! (stop !)) (init ! 15 refl (array-lawful 𝓤 H A W u32 (uint-lawful 𝓤 H A W w32) recordWords .typed cs _ is₁ .0)) $
+        assigns ! (of-opd ! (load ! (from ! (stop !)) (look ! 15 refl))) (from ! (stop !)) (init ! 19 refl (array-lawful 𝓤 H A W u32 (uint-lawful 𝓤 H A W w32) recordWords .typed cs _ is₁ .0)) $
         assigns ! (of-opd ! (load ! (from ! (fld ! refl (stop !))) (look-in ! 23 (sub ! 1 refl (whole !))))) (from ! (stop !)) (init ! 13 refl (tt, record { fits = room .0 })) $
         assigns ! (addr ! (from ! (stop !))) (from ! (stop !)) (init ! 11 refl (tt, tt)) $
         assigns ! (addr ! (from ! (hop ! (look ! 21 refl) (stop !)))) (from ! (stop !)) (init ! 9 refl (tt, tt)) $

@@ -1,5 +1,6 @@
 -- `gateway_take_over` meets its contract: a walk of its MIR, by hand. Fresh words are put into a local, the local is lent by `&mut` to `lay` and by `&` to the core,
 -- each time for a lifetime that the walk makes, and the message is given up to the core. Of the callees only their contracts are known.
+use Rattle.records.specs.Records.{recordWords, stride}
 use Rattle.gateway.proofs.Walk.{_≡_, refl, sym, ap, _∙_, subst, ℕ, _*_, _<_, _≤_, _^_, [], _∷_, List, length, take, replicate, URA, fullShare, named, w32, w64, tyInt, Val, vptr, vint, SProp, ent, emp, via, fst∗, id⊢, Lft, Share, GName, Fml, ftrue, fat, froom, flft, flent, fres}
 use Rattle.gateway.proofs.Walk.{Memory, Routine, Heap, Calls, Loops, WpFn, Tables, Atoms, Fun, factI, givenOf, tables, tablesOf, Given, ‵, raw, _⊛_, ⋆, some, later, _$_, _∵_, !, qed, by, move, keep, drop, use1, use2, use3, split, join, pick, rewrite, fsplit, fjoin, feqL, suffices, frame, await, done, look, init, forget, stop, hop, fld, from, load, of-opd, addr, and-then, no-more, assigns, land, returns, enter, alloc1, alloc0, params1, pass1, pass0, free1, free0, agg, whole, sub, look-in, Body, lft-new, lft-end, lent-back, FmC, fmOf, WpFn-mono}
 use Rattle.gateway.proofs.Walk.{owns, Is, shows, mem, partAt, lone, uint-makes, uint-lawful, uint-vals, uint-tells, nothing-lawful, u8, u32, usize, unit, array-lawful, RefT, now, MutRef, ShrRef, ptr-vals, mut-tells, sliceVal, MutSlice, ShrSlice, Room, finally, slice-vals, mut-slice-tells, shr-slice-tells, shr-slice-copy, shr-slice-lawful, lends-ref, ref-back, lends-shr, plain, only, owned, peeks, heard, nothing, Contract, Triple, calls-at, onEntry, Meets, tripleOf, entered, cited, says, Stays, gave-ref, gave-slice, stay-none, stay-none-slice, walkOf, goes-gave-ref, goes-gave-slice, goes-none, goes-none-slice, Walks, ends-at, walked, walk-meets, yes}
@@ -105,7 +106,7 @@ module _ {M : Type 1} (𝓤 : URA M) (H : Heap 𝓤) (A : Atoms 𝓤) (W : Given
 
   -- what the core says where the words are zs and n records were read
   abbrev from-words : ℕ → List ℕ → After
-  from-words n zs = takingOver (take (6 * n) zs) count (now s) (now d) (now c)
+  from-words n zs = takingOver (take (stride * n) zs) count (now s) (now d) (now c)
 
   abbrev Said : ℕ → List ℕ → ℕ → List ℕ → List ℕ → List ℕ → Type 0
   Said n zs k us vs os = (k ≡ takingNumber (from-words n zs)) × (us ≡ takenWords (from-words n zs)) × (vs ≡ takenValues (from-words n zs)) × (os ≡ told 0 (0, 0))
@@ -123,7 +124,7 @@ module _ {M : Type 1} (𝓤 : URA M) (H : Heap 𝓤) (A : Atoms 𝓤) (W : Given
   Ends k us vs os = (k ≡ takingNumber end) × (us ≡ takenWords end) × (vs ≡ takenValues end) × (os ≡ told 0 (0, 0))
 
   -- what the entry says, of the four contracts
-  joined : (cs : List ℕ) (n : ℕ) (zs : List ℕ) (k : ℕ) (us vs os : List ℕ) → cs ≡ replicate 6150 0 → n ≡ readCount len count → zs ≡ putFields (now x) n cs → Said n zs k us vs os → Ends k us vs os
+  joined : (cs : List ℕ) (n : ℕ) (zs : List ℕ) (k : ℕ) (us vs os : List ℕ) → cs ≡ replicate recordWords 0 → n ≡ readCount len count → zs ≡ putFields (now x) n cs → Said n zs k us vs os → Ends k us vs os
   joined cs n zs k us vs os e₁ en e₂ e₃ =
       let e = taken-from (now x) count n zs (now s) (now d) (now c) en (e₂ ∙ ap (putFields (now x) n) e₁) in
       (e₃ .0 ∙ ap takingNumber e, e₃ .1 ∙ ap takenWords e, e₃ .2 ∙ ap takenValues e, e₃ .3)
@@ -146,10 +147,10 @@ module _ {M : Type 1} (𝓤 : URA M) (H : Heap 𝓤) (A : Atoms 𝓤) (W : Given
         -- fresh words
         nothing ! $ nothing ! $ move ! (1 ∷ 0 ∷ []) $ use2 W (raw (Blank 𝓤 H A at-mem run .pre to-blank)) (asked 𝓤 H A blank.ended (blank.clauses 𝓤 H A at-mem run) to-blank (id⊢ 𝓤 (emp 𝓤))) $
         calls-at ! fm (Blank 𝓤 H A at-mem run) known-blank to-blank (no-more !) (λ u.
-        answered 𝓤 H A blank.ended (blank.clauses 𝓤 H A at-mem run) to-blank ! tt u (λ cs _. heard ! (cs ≡ replicate 6150 0) (λ e₁. drop ! $ move ! (1 ∷ []) $ drop ! $
+        answered 𝓤 H A blank.ended (blank.clauses 𝓤 H A at-mem run) to-blank ! tt u (λ cs _. heard ! (cs ≡ replicate recordWords 0) (λ e₁. drop ! $ move ! (1 ∷ []) $ drop ! $
         peeks ! Words (Is Words) (shows 𝓤 H A Words) cs (u ∷ []) (λ is₁.
-        land ! (from ! (stop !)) (init ! 19 refl (array-lawful 𝓤 H A W u32 (uint-lawful 𝓤 H A W w32) 6150 .typed cs _ is₁ .0)) $
-        assigns ! (of-opd ! (load ! (from ! (stop !)) (look ! 19 refl))) (from ! (stop !)) (init ! 23 refl (array-lawful 𝓤 H A W u32 (uint-lawful 𝓤 H A W w32) 6150 .typed cs _ is₁ .0)) $
+        land ! (from ! (stop !)) (init ! 19 refl (array-lawful 𝓤 H A W u32 (uint-lawful 𝓤 H A W w32) recordWords .typed cs _ is₁ .0)) $
+        assigns ! (of-opd ! (load ! (from ! (stop !)) (look ! 19 refl))) (from ! (stop !)) (init ! 23 refl (array-lawful 𝓤 H A W u32 (uint-lawful 𝓤 H A W w32) recordWords .typed cs _ is₁ .0)) $
         assigns ! (of-opd ! (load ! (from ! (fld ! refl (stop !))) (look-in ! 35 (sub ! 1 refl (whole !))))) (from ! (stop !)) (init ! 17 refl (tt, record { fits = room .0 })) $
         -- how many records are read
         nothing ! $ owned ! usize (Is usize) (uint-makes 𝓤 H A W w64) count _ (refl, count-fits) $ fjoin ! $ owned ! usize (Is usize) (uint-makes 𝓤 H A W w64) len _ (refl, room .0) $ fjoin ! $ nothing ! $
