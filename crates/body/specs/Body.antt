@@ -12,7 +12,7 @@ use Rattle.records.specs.Records.{stored}
 use Rattle.records.specs.declared.Record.{Record}
 use Rattle.body.specs.declared.Opening.{Opening}
 use Rattle.build_answers.specs.declared.Answer.the-variants.{Malformed, TooManyFields, InvalidField}
-use Rattle.parts.specs.Parts.{Reading, ended, refused, recordOf, partOf}
+use Rattle.parts.specs.Parts.{Reading, ended, refused, partRecord, partOf}
 
 -- what a tag is to the body: a field of the layout or an accepted one, a count with the level of its entries, or neither
 pub data Kind (L : Type 0) : Type 0 where
@@ -78,8 +78,8 @@ module _ {L : Type 0} (body : Body L) where
   -- "The body takes fields of the message's layout and, with validation off, tags of 5000 and above that the dictionary lacks. The first
   -- other field must be a trailer tag, else 1."
   unfoldable pub takes : (Fields → ℕ → List Record → Reading) → Field → Fields → ℕ → List Record → Kind L → Reading
-  takes on f rest room records plain = andThen (nextFrom rest room (stored (recordOf 2 f) records)) on
-  takes on f rest room records (counts inner) = andThen (withRun (recordOf 2 f) records (body .run inner (f .tag) rest room)) on
+  takes on f rest room records plain = andThen (nextFrom rest room (stored (partRecord 2 f) records)) on
+  takes on f rest room records (counts inner) = andThen (withRun (partRecord 2 f) records (body .run inner (f .tag) rest room)) on
   takes on f rest room records other = pick (holdsTag (f .tag) (body .trailer)) (ended f rest room records) (refused (InvalidField (f .tag)))
 
   -- the body from a field on that is read already; so many turns, which is enough where it is more than the room

@@ -18,7 +18,7 @@ use Rattle.records.specs.declared.Record.{Record}
 use Rattle.build_answers.specs.declared.Answer.{Answer}
 use Rattle.build_answers.specs.declared.Answer.the-variants.{InvalidField}
 use Rattle.parts.specs.declared.Next.the-variants.{Got, Missing}
-use Rattle.parts.specs.Parts.{Reading, ended, refused, recordOf, nextOf}
+use Rattle.parts.specs.Parts.{Reading, ended, refused, partRecord, nextOf}
 use Rattle.parts.specs.PartLaws.{taken}
 use Rattle.body.specs.Body.{Body, Kind, plain, counts, other, andThen, nextFrom, withRun, takes, bodyWithin, bodyFrom}
 
@@ -57,9 +57,9 @@ module _ {L : Type 0} (body : Body L) (falls : (inner : L) (tag : ℕ) → Falls
     where
       by-kind : (t : Kind L) → ((fields : Fields) (left : ℕ) (records : List Record) → left ≤ room → bodyWithin body k fields left records ≡ bodyWithin body l fields left records) →
           takes body (bodyWithin body k) f rest room records t ≡ takes body (bodyWithin body l) f rest room records t
-      by-kind plain later = on-alike (nextFrom rest room (stored (recordOf 2 f) records)) room _ _ (next-less rest room (stored (recordOf 2 f) records)) later
+      by-kind plain later = on-alike (nextFrom rest room (stored (partRecord 2 f) records)) room _ _ (next-less rest room (stored (partRecord 2 f) records)) later
       by-kind (counts inner) later =
-          on-alike (withRun (recordOf 2 f) records (body .run inner (f .tag) rest room)) room _ _ (run-less (body .run inner (f .tag) rest room) (recordOf 2 f) records room (λ g after left run e. falls inner (f .tag) rest after room left g run e)) later
+          on-alike (withRun (partRecord 2 f) records (body .run inner (f .tag) rest room)) room _ _ (run-less (body .run inner (f .tag) rest room) (partRecord 2 f) records room (λ g after left run e. falls inner (f .tag) rest after room left g run e)) later
       by-kind other later = refl
 
   module _ (f : Field) (rest : Fields) (room : ℕ) (records : List Record) where
@@ -67,15 +67,15 @@ module _ {L : Type 0} (body : Body L) (falls : (inner : L) (tag : ℕ) → Falls
     unfolding bodyFrom bodyWithin
     turn t e = rw e
 
-    pub body-plain : body .kind (f .tag) ≡ plain → bodyFrom body (field f rest) (suc room) records ≡ andThen (nextFrom rest room (stored (recordOf 2 f) records)) (bodyFrom body)
+    pub body-plain : body .kind (f .tag) ≡ plain → bodyFrom body (field f rest) (suc room) records ≡ andThen (nextFrom rest room (stored (partRecord 2 f) records)) (bodyFrom body)
     unfolding takes bodyFrom
-    body-plain e = turn plain e ∙ on-alike (nextFrom rest room (stored (recordOf 2 f) records)) room _ _ (next-less rest room (stored (recordOf 2 f) records)) (λ fields left records h. enough (suc room) (suc left) fields left records (omega arith) (omega arith))
+    body-plain e = turn plain e ∙ on-alike (nextFrom rest room (stored (partRecord 2 f) records)) room _ _ (next-less rest room (stored (partRecord 2 f) records)) (λ fields left records h. enough (suc room) (suc left) fields left records (omega arith) (omega arith))
 
-    pub body-run : (inner : L) → body .kind (f .tag) ≡ counts inner → bodyFrom body (field f rest) (suc room) records ≡ andThen (withRun (recordOf 2 f) records (body .run inner (f .tag) rest room)) (bodyFrom body)
+    pub body-run : (inner : L) → body .kind (f .tag) ≡ counts inner → bodyFrom body (field f rest) (suc room) records ≡ andThen (withRun (partRecord 2 f) records (body .run inner (f .tag) rest room)) (bodyFrom body)
     unfolding takes bodyFrom
     body-run inner e =
         turn (counts inner) e
-        ∙ on-alike (withRun (recordOf 2 f) records (body .run inner (f .tag) rest room)) room _ _ (run-less (body .run inner (f .tag) rest room) (recordOf 2 f) records room (λ g after left run e. falls inner (f .tag) rest after room left g run e)) (λ fields left records h. enough (suc room) (suc left) fields left records (omega arith) (omega arith))
+        ∙ on-alike (withRun (partRecord 2 f) records (body .run inner (f .tag) rest room)) room _ _ (run-less (body .run inner (f .tag) rest room) (partRecord 2 f) records room (λ g after left run e. falls inner (f .tag) rest after room left g run e)) (λ fields left records h. enough (suc room) (suc left) fields left records (omega arith) (omega arith))
 
     pub body-ends : body .kind (f .tag) ≡ other → holdsTag (f .tag) (body .trailer) ≡ true → bodyFrom body (field f rest) (suc room) records ≡ ended f rest room records
     unfolding takes

@@ -11,7 +11,7 @@ use Rattle.tagvalue.specs.declared.Field.{Field}
 use Rattle.dictionary_layout_rules.specs.Tree.{holdsTag}
 use Rattle.records.specs.Records.{stored}
 use Rattle.records.specs.declared.Record.{Record}
-use Rattle.groups.specs.Groups.{Rules, run, Outcome, walk}
+use Rattle.groups.specs.Groups.{Rules, run, RunOutcome, walk}
 use Rattle.groups.specs.Groups.{ended as ran, refused as stops}
 use Rattle.groups.specs.GroupLaws.{keeps}
 use Rattle.groups.specs.Reading.{listStore}
@@ -23,7 +23,7 @@ use Rattle.build_answers.specs.declared.Answer.the-variants.{InvalidField}
 use Rattle.parts.specs.declared.Progress.{Progress}
 use Rattle.parts.specs.declared.PartRead.{PartRead}
 use Rattle.parts.specs.declared.PartRead.the-variants.{At, Refused}
-use Rattle.parts.specs.Parts.{Reading, ended, refused, recordOf, partOf, partTold, Stays}
+use Rattle.parts.specs.Parts.{Reading, ended, refused, partRecord, partOf, partTold, Stays}
 use Rattle.body.specs.Body.{plain, counts, other, andThen, nextFrom, withRun, bodyFrom}
 use Rattle.body.specs.BodyLaws.{Falls, body-plain, body-run, body-ends, body-invalid}
 use Rattle.body.specs.Kinds.{kindOf, checked, ranAs, runFrom, bodyOf}
@@ -47,7 +47,7 @@ module _ {L : Type 0} (rules : Rules L) (demands : Demands L) where
       by-lack g behind here entries Complete e = cc
       by-lack g behind here entries (Missing wanted group) e = let z : _≡_ {A = ℕ} 0 1 = cc in absurd (omega arith)
 
-      by-outcome : (o : Outcome (List Record) (List Record)) → walk rules listStore room (run inner tag 1 0 ∷ []) [] rest ≡ o → ranAs rules demands inner tag o ≡ ended f after left records → left < room
+      by-outcome : (o : RunOutcome (List Record) (List Record)) → walk rules listStore room (run inner tag 1 0 ∷ []) [] rest ≡ o → ranAs rules demands inner tag o ≡ ended f after left records → left < room
       by-outcome (stops refusal entries) w e = let z : _≡_ {A = ℕ} 0 1 = cc in absurd (omega arith)
       by-outcome (ran g behind here entries) w e =
           let k = keeps rules listStore (λ n s. n ≤ room) (λ (f : Field). f .tag ≡ f .tag) (λ n r s h. omega arith) (λ n start r s h. omega arith) room (run inner tag 1 0 ∷ []) [] rest (each-field-is rest) (omega arith) g behind here entries w in
@@ -70,14 +70,14 @@ module _ {L : Type 0} (rules : Rules L) (demands : Demands L) where
       unfolding partTold andThen
       left-here = rw e
 
-      pub left-plain : kindOf rules level (f .tag) ≡ plain → (next : PartRead) (later : List ℕ) → partTold mode message from next later ≡ nextFrom (fieldsFrom mode message (f .next)) (p .room) (stored (recordOf 2 f) (partOf from (p .records) words)) →
+      pub left-plain : kindOf rules level (f .tag) ≡ plain → (next : PartRead) (later : List ℕ) → partTold mode message from next later ≡ nextFrom (fieldsFrom mode message (f .next)) (p .room) (stored (partRecord 2 f) (partOf from (p .records) words)) →
           left ≡ andThen (partTold mode message from next later) (bodyFrom (bodyOf rules demands trailerTags level))
       unfolding bodyOf
       left-plain k next later told =
           left-here ∙ body-plain (bodyOf rules demands trailerTags level) run-falls f (fieldsFrom mode message (f .next)) (p .room) (partOf from (p .records) words) k
           ∙ ap (λ (r : Reading). andThen r (bodyFrom (bodyOf rules demands trailerTags level))) (sym told)
 
-      pub left-run : (inner : L) → kindOf rules level (f .tag) ≡ counts inner → (next : PartRead) (later : List ℕ) → partTold mode message from next later ≡ withRun (recordOf 2 f) (partOf from (p .records) words) (runFrom rules demands inner (f .tag) (fieldsFrom mode message (f .next)) (p .room)) →
+      pub left-run : (inner : L) → kindOf rules level (f .tag) ≡ counts inner → (next : PartRead) (later : List ℕ) → partTold mode message from next later ≡ withRun (partRecord 2 f) (partOf from (p .records) words) (runFrom rules demands inner (f .tag) (fieldsFrom mode message (f .next)) (p .room)) →
           left ≡ andThen (partTold mode message from next later) (bodyFrom (bodyOf rules demands trailerTags level))
       unfolding bodyOf
       left-run inner k next later told =

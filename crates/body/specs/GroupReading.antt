@@ -15,7 +15,7 @@ use Rattle.records.specs.Records.{recordsOf, between, stride}
 use Rattle.records.specs.WordLaws.{records-length}
 use Rattle.records.specs.RecordLaws.{between-parts}
 use Rattle.records.specs.declared.Record.{Record}
-use Rattle.groups.specs.Groups.{run, Outcome, ended, refused, walk}
+use Rattle.groups.specs.Groups.{run, RunOutcome, ended, refused, walk}
 use Rattle.groups.specs.Reading.{Memory, memory, listStore, tableRules, toldBy, runOf, Fits, answerOf}
 use Rattle.groups.specs.ReadingLaws.{roomOf, told-follows}
 use Rattle.groups.specs.declared.Reading.{Reading}
@@ -33,24 +33,24 @@ use Rattle.body.specs.Kinds.{checked, ranAs, runFrom}
 use Rattle.parts.specs.PartLaws.{parted, part-length, stays-refused, stays-at}
 use Rattle.body.specs.Body.{storedRun, withRun, Opened}
 use Rattle.body.specs.RunLaws.{between-split}
-use Rattle.body.specs.RunWords.{shifted, Stands, Agrees, both-end, both-refuse, walk-agrees}
+use Rattle.body.specs.RunWords.{shifted, WordsStand, Agrees, both-end, both-refuse, walk-agrees}
 
 module _ (before after : List Record) where
   -- what both readings come to, where one of them ended
-  record Ended (f : Field) (rest : Fields) (room : ℕ) (m : Memory) (o : Outcome (List Record) (List Record)) : Type 0 where
+  record Ended (f : Field) (rest : Fields) (room : ℕ) (m : Memory) (o : RunOutcome (List Record) (List Record)) : Type 0 where
     entries : List Record
     is : o ≡ ended f rest room entries
-    stands : Stands before after (suc room) m entries
+    stands : WordsStand before after (suc room) m entries
 
-  agrees-ended : {f : Field} {rest : Fields} {room : ℕ} {m : Memory} (o : Outcome (List Record) (List Record)) → Agrees before after (ended f rest room m) o → Ended f rest room m o
+  agrees-ended : {f : Field} {rest : Fields} {room : ℕ} {m : Memory} (o : RunOutcome (List Record) (List Record)) → Agrees before after (ended f rest room m) o → Ended f rest room m o
   agrees-ended (ended f rest room entries) (both-end s) = record { entries = entries; is = refl; stands = s }
 
-  record Stopped (refusal : Refusal) (words : List ℕ) (o : Outcome (List Record) (List Record)) : Type 0 where
+  record Stopped (refusal : Refusal) (words : List ℕ) (o : RunOutcome (List Record) (List Record)) : Type 0 where
     entries : List Record
     is : o ≡ refused refusal entries
     front : take (length before) (recordsOf words) ≡ before
 
-  agrees-refused : {refusal : Refusal} {words : List ℕ} (o : Outcome (List Record) (List Record)) → Agrees before after (refused refusal words) o → Stopped refusal words o
+  agrees-refused : {refusal : Refusal} {words : List ℕ} (o : RunOutcome (List Record) (List Record)) → Agrees before after (refused refusal words) o → Stopped refusal words o
   agrees-refused (refused refusal entries) (both-refuse front) = record { entries = entries; is = refl; front = front }
 
 pub front-is : (n : ℕ) (rs : List Record) → between 0 n rs ≡ take n rs
@@ -67,7 +67,7 @@ module _ (message : List ℕ) (config : Config) (table : List ℕ) (known : ℕ 
   abbrev pub start : Progress
   start = record { room = room; records = opening .records; place = opening .place }
 
-  abbrev pub alone : Outcome (List Record) (List Record)
+  abbrev pub alone : RunOutcome (List Record) (List Record)
   alone = walk (tableRules config table known) listStore room (run inner tag 1 0 ∷ []) [] (fieldsFrom (config .mode) message cursor)
 
   abbrev before : List Record
@@ -76,7 +76,7 @@ module _ (message : List ℕ) (config : Config) (table : List ℕ) (known : ℕ 
   abbrev after : List Record
   after = between (opening .place) (opening .records) (recordsOf mid)
 
-  stands : Stands before after room (memory start mid) []
+  stands : WordsStand before after room (memory start mid) []
   unfolding memory
   stands =
       let n = records-length mid in

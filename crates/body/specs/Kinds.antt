@@ -9,7 +9,7 @@ use Rattle.records.specs.declared.Record.{Record}
 use Rattle.dictionary_layout_rules.specs.declared.Level.{Level}
 use Rattle.dictionary_layout_rules.specs.declared.Position.{Position}
 use Rattle.dictionary_layout_rules.specs.declared.Position.the-variants.{At, Nowhere}
-use Rattle.groups.specs.Groups.{Opened, none, opened, Rules, run, Outcome, walk}
+use Rattle.groups.specs.Groups.{Opened, none, opened, Rules, run, RunOutcome, walk}
 use Rattle.groups.specs.Groups.{ended as ran, refused as stops}
 use Rattle.groups.specs.Reading.{listStore, answerOf}
 use Rattle.required.specs.Required.{Demands, runLack}
@@ -47,7 +47,7 @@ checked f rest room entries (Missing tag group) = refused (RequiredFieldMissing 
 
 module _ {L : Type 0} (rules : Rules L) (demands : Demands L) where
   -- "After a body group ends: for each entry its required fields in layout order, then its nested runs." Four levels may be open.
-  unfoldable pub ranAs : L → ℕ → Outcome (List Record) (List Record) → Reading
+  unfoldable pub ranAs : L → ℕ → RunOutcome (List Record) (List Record) → Reading
   ranAs inner tag (ran f rest room entries) = checked f rest room entries (runLack demands 4 inner tag 1 entries)
   ranAs inner tag (stops refusal entries) = refused (answerOf refusal)
 

@@ -16,13 +16,13 @@ use Rattle.dictionary_layout_rules.specs.declared.Position.the-variants.{At, No
 use Rattle.records.specs.Records.{stored}
 use Rattle.records.specs.declared.Record.{Record}
 use Rattle.groups.specs.Alike.{OpenedAlike, none-alike, opened-alike, RulesAlike}
-use Rattle.groups.specs.Groups.{Opened, Rules, Outcome}
+use Rattle.groups.specs.Groups.{Opened, Rules, RunOutcome}
 use Rattle.groups.specs.Groups.{ended as ran, refused as stops}
 use Rattle.groups.specs.Meaning.{rules-alike, table-reads}
 use Rattle.groups.specs.Reading.{accepted, tableRules, layoutRules, listStore}
 use Rattle.required.specs.Checking.{tableDemands, layoutDemands}
 use Rattle.required.specs.Meaning.{table-checks}
-use Rattle.parts.specs.Parts.{Reading, ended, refused, recordOf}
+use Rattle.parts.specs.Parts.{Reading, ended, refused, partRecord}
 use Rattle.body.specs.Body.{Kind, plain, counts, other, Body, andThen, nextFrom, withRun, takes, bodyWithin, bodyFrom}
 use Rattle.body.specs.Kinds.{groupKind, placedKind, kindOf, checked, ranAs, runFrom, bodyOf}
 
@@ -69,9 +69,9 @@ module _ {L M : Type 0} (Same : L → M → Type 0) where
     takes-same : (on off : Fields → ℕ → List Record → Reading) → ((fields : Fields) (room : ℕ) (records : List Record) → on fields room records ≡ off fields room records) →
         (f : Field) (rest : Fields) (room : ℕ) (records : List Record) {k : Kind L} {j : Kind M} → KindAlike k j → takes body on f rest room records k ≡ takes another off f rest room records j
     unfolding takes
-    takes-same on off same f rest room records plain-alike = then-same (nextFrom rest room (stored (recordOf 2 f) records)) on off same
+    takes-same on off same f rest room records plain-alike = then-same (nextFrom rest room (stored (partRecord 2 f) records)) on off same
     takes-same on off same f rest room records (counts-alike {l} {m} s) =
-        ap (λ (r : Reading). andThen (withRun (recordOf 2 f) records r) on) (alike .runs l m s (f .tag) rest room) ∙ then-same (withRun (recordOf 2 f) records (another .run m (f .tag) rest room)) on off same
+        ap (λ (r : Reading). andThen (withRun (partRecord 2 f) records r) on) (alike .runs l m s (f .tag) rest room) ∙ then-same (withRun (partRecord 2 f) records (another .run m (f .tag) rest room)) on off same
     takes-same on off same f rest room records other-alike = rw (alike .trailers)
 
     within-same : (turns : ℕ) (fields : Fields) (room : ℕ) (records : List Record) → bodyWithin body turns fields room records ≡ bodyWithin another turns fields room records
@@ -83,7 +83,7 @@ module _ {L M : Type 0} (Same : L → M → Type 0) where
 
 -- a run that was read from a table and checked with it is the run of the layout, checked with that
 module _ (config : Config) (table : List ℕ) (known has : ℕ → Bool) (same : (tag : ℕ) → known tag ≡ has tag) (level : Level) (layout : Layout) (t : Tabled table level layout) (tag : ℕ) where
-  checks-same : (o : Outcome (List Record) (List Record)) → ranAs (tableRules config table known) (tableDemands table) level tag o ≡ ranAs (layoutRules (accepted config has)) layoutDemands layout tag o
+  checks-same : (o : RunOutcome (List Record) (List Record)) → ranAs (tableRules config table known) (tableDemands table) level tag o ≡ ranAs (layoutRules (accepted config has)) layoutDemands layout tag o
   unfolding ranAs
   checks-same (ran f rest room entries) = ap (checked f rest room entries) (table-checks table 4 level layout t tag 1 entries)
   checks-same (stops refusal entries) = refl

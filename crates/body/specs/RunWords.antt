@@ -18,7 +18,7 @@ use Rattle.records.specs.RecordLaws.{inserted-parts, between-parts, between-end
 use Rattle.records.specs.declared.Record.{Record}
 use Rattle.records.specs.declared.Standing.{Standing}
 use Rattle.records.specs.declared.Standing.the-variants.{At, Nowhere}
-use Rattle.groups.specs.Groups.{Rules, opens, Kind, plain, count, joins, wrong, ends, kindOf, Frame, run, entry, Move, adds, joinsAt, disorders, leaves, inEntry, decide, recordOf, Outcome, ended, refused, moved, walk}
+use Rattle.groups.specs.Groups.{Rules, opens, Kind, plain, count, joins, wrong, ends, kindOf, Frame, run, entry, Move, adds, joinsAt, disorders, leaves, inEntry, decide, entryRecord, RunOutcome, ended, refused, moved, walk}
 use Rattle.groups.specs.Reading.{Memory, listStore, joinedList, wordStore, addedWords, joinedWords, makes, standingIn}
 use Rattle.groups.specs.declared.Refusal.{Refusal}
 
@@ -62,7 +62,7 @@ module _ {L : Type 0} (n : ℕ) where
 
 module _ (before after : List Record) where
   -- the entries stand between the records before the place and those from it on, and there are words for as many records as there is room
-  pub record Stands (room : ℕ) (m : Memory) (entries : List Record) : Type 0 where
+  pub record WordsStand (room : ℕ) (m : Memory) (entries : List Record) : Type 0 where
     pub slack : List Record
     pub whole : recordsOf (m .words) ≡ before ++ (entries ++ (after ++ slack))
     pub here : m .place ≡ length before + length entries
@@ -70,7 +70,7 @@ module _ (before after : List Record) where
     pub fits : room ≤ length slack
 
   added : (words : List ℕ) (place records room : ℕ) (entries : List Record) (r : Record) (slack : List Record) → recordsOf words ≡ before ++ (entries ++ (after ++ slack)) → place ≡ length before + length entries → records ≡ place + length after → suc room ≤ length slack →
-      Stands room (record { words = onRecords (inserted records place r) words; records = records + 1; place = place + 1 }) (entries ++ (r ∷ []))
+      WordsStand room (record { words = onRecords (inserted records place r) words; records = records + 1; place = place + 1 }) (entries ++ (r ∷ []))
   added words place records room entries r [] whole here counted fits = absurd (omega arith)
   added words place records room entries r (x ∷ slack) whole here counted fits =
       let size = length-append before entries in
@@ -86,13 +86,13 @@ module _ (before after : List Record) where
         fits = omega arith;
       }
 
-  stands-add : (room : ℕ) (m : Memory) (entries : List Record) (r : Record) → Stands (suc room) m entries → Stands room (addedWords r m) (entries ++ (r ∷ []))
+  stands-add : (room : ℕ) (m : Memory) (entries : List Record) (r : Record) → WordsStand (suc room) m entries → WordsStand room (addedWords r m) (entries ++ (r ∷ []))
   unfolding addedWords
   stands-add room m entries r s = added (m .words) (m .place) (m .records) room entries r (s .slack) (s .whole) (s .here) (s .counted) (s .fits)
 
   -- what joins an entry is stored in the entry's own map
   joins-held : (words : List ℕ) (place records room start i : ℕ) (kept map : List Record) (r : Record) (slack : List Record) → recordsOf words ≡ before ++ ((kept ++ map) ++ (after ++ slack)) → start ≡ length kept → place ≡ length before + length (kept ++ map) → records ≡ place + length after → suc room ≤ length slack →
-      heldFrom (length before + start) (r .depth) (r .tag) map ≡ At i → Stands room (record { words = onRecords (storedBetween records (length before + start) place r) words; records = records + 0; place = place + 0 }) (kept ++ stored r map)
+      heldFrom (length before + start) (r .depth) (r .tag) map ≡ At i → WordsStand room (record { words = onRecords (storedBetween records (length before + start) place r) words; records = records + 0; place = place + 0 }) (kept ++ stored r map)
   joins-held words place records room start i kept map r slack whole starts here counted fits e =
       let front = length-append before kept in
       let size = length-append kept map in
@@ -111,7 +111,7 @@ module _ (before after : List Record) where
       }
 
   joins-new : (words : List ℕ) (place records room start : ℕ) (kept map : List Record) (r : Record) (slack : List Record) → recordsOf words ≡ before ++ ((kept ++ map) ++ (after ++ slack)) → start ≡ length kept → place ≡ length before + length (kept ++ map) → records ≡ place + length after → suc room ≤ length slack →
-      heldFrom (length before + start) (r .depth) (r .tag) map ≡ Nowhere → Stands room (record { words = onRecords (storedBetween records (length before + start) place r) words; records = records + 1; place = place + 1 }) (kept ++ stored r map)
+      heldFrom (length before + start) (r .depth) (r .tag) map ≡ Nowhere → WordsStand room (record { words = onRecords (storedBetween records (length before + start) place r) words; records = records + 1; place = place + 1 }) (kept ++ stored r map)
   joins-new words place records room start kept map r [] whole starts here counted fits e = absurd (omega arith)
   joins-new words place records room start kept map r (x ∷ slack) whole starts here counted fits e =
       let front = length-append before kept in
@@ -130,9 +130,9 @@ module _ (before after : List Record) where
         fits = omega arith;
       }
 
-  module _ (room start : ℕ) (m : Memory) (entries : List Record) (r : Record) (s : Stands (suc room) m entries) where
+  module _ (room start : ℕ) (m : Memory) (entries : List Record) (r : Record) (s : WordsStand (suc room) m entries) where
     -- an entry that starts among those that are read
-    join-inside : start ≤ length entries → (standing : Standing) → standingIn (length before + start) (m .place) r (m .words) ≡ standing → Stands room (joinedWords (length before + start) r m) (joinedList start r entries)
+    join-inside : start ≤ length entries → (standing : Standing) → standingIn (length before + start) (m .place) r (m .words) ≡ standing → WordsStand room (joinedWords (length before + start) r m) (joinedList start r entries)
     unfolding joinedWords joinedList makes standingIn
     join-inside h standing e =
         let split : entries ≡ take start entries ++ drop start entries = sym (take-append-drop start entries) in
@@ -147,12 +147,12 @@ module _ (before after : List Record) where
         go standing e (sym (ap (heldFrom (length before + start) (r .depth) (r .tag)) map) ∙ e) whole starts here
       where
         go : (standing : Standing) → standingIn (length before + start) (m .place) r (m .words) ≡ standing → heldFrom (length before + start) (r .depth) (r .tag) (drop start entries) ≡ standing → recordsOf (m .words) ≡ before ++ ((take start entries ++ drop start entries) ++ (after ++ s .slack)) → start ≡ length (take start entries) → m .place ≡ length before + length (take start entries ++ drop start entries) →
-            Stands room (joinedWords (length before + start) r m) (joinedList start r entries)
+            WordsStand room (joinedWords (length before + start) r m) (joinedList start r entries)
         go (At i) e held whole starts here = rw e (joins-held (m .words) (m .place) (m .records) room start i (take start entries) (drop start entries) r (s .slack) whole starts here (s .counted) (s .fits) held)
         go Nowhere e held whole starts here = rw e (joins-new (m .words) (m .place) (m .records) room start (take start entries) (drop start entries) r (s .slack) whole starts here (s .counted) (s .fits) held)
 
     -- one that starts behind them is empty
-    join-behind : length entries < start → Stands room (joinedWords (length before + start) r m) (joinedList start r entries)
+    join-behind : length entries < start → WordsStand room (joinedWords (length before + start) r m) (joinedList start r entries)
     unfolding joinedWords joinedList makes standingIn stored heldFrom
     join-behind h =
         let none : between (length before + start) (m .place) (recordsOf (m .words)) ≡ [] = between-end (length before + start) (m .place) (recordsOf (m .words)) (omega (arith, s .here)) in
@@ -163,33 +163,33 @@ module _ (before after : List Record) where
         on-same (storedBetween (m .records) (length before + start) (m .place) r) (inserted (m .records) (m .place) r) (m .words) (between-new (m .records) (length before + start) (m .place) r (recordsOf (m .words)) nowhere) in
         rw (nowhere, same, kept, map) (added (m .words) (m .place) (m .records) room entries r (s .slack) (s .whole) (s .here) (s .counted) (s .fits))
 
-    stands-join : Stands room (joinedWords (length before + start) r m) (joinedList start r entries)
+    stands-join : WordsStand room (joinedWords (length before + start) r m) (joinedList start r entries)
     stands-join = go (leb start (length entries)) refl
       where
-        go : (b : Bool) → leb start (length entries) ≡ b → Stands room (joinedWords (length before + start) r m) (joinedList start r entries)
+        go : (b : Bool) → leb start (length entries) ≡ b → WordsStand room (joinedWords (length before + start) r m) (joinedList start r entries)
         go true e = join-inside (leb-true _ _ e) (standingIn (length before + start) (m .place) r (m .words)) refl
         go false e = join-behind (leb-false _ _ e)
 
-  front-stands : (room : ℕ) (m : Memory) (entries : List Record) → Stands room m entries → take (length before) (recordsOf (m .words)) ≡ before
+  front-stands : (room : ℕ) (m : Memory) (entries : List Record) → WordsStand room m entries → take (length before) (recordsOf (m .words)) ≡ before
   front-stands room m entries s = ap (take (length before)) (s .whole) ∙ take-append-seam before (entries ++ (after ++ s .slack))
 
   -- what a run comes to in the words, and on its own
-  pub data Agrees : Outcome Memory (List ℕ) → Outcome (List Record) (List Record) → Type 0 where
-    both-end : {f : Field} {rest : Fields} {room : ℕ} {m : Memory} {entries : List Record} → Stands (suc room) m entries → Agrees (ended f rest room m) (ended f rest room entries)
+  pub data Agrees : RunOutcome Memory (List ℕ) → RunOutcome (List Record) (List Record) → Type 0 where
+    both-end : {f : Field} {rest : Fields} {room : ℕ} {m : Memory} {entries : List Record} → WordsStand (suc room) m entries → Agrees (ended f rest room m) (ended f rest room entries)
     both-refuse : {refusal : Refusal} {words : List ℕ} {entries : List Record} → take (length before) (recordsOf words) ≡ before → Agrees (refused refusal words) (refused refusal entries)
 
   module _ {L : Type 0} (rules : Rules L) where
-    move-agrees : (room : ℕ) (m : Memory) (entries : List Record) (f : Field) (rest : Fields) → Stands (suc room) m entries →
-        ((stack : List (Frame L)) (m₁ : Memory) (entries₁ : List Record) → Stands room m₁ entries₁ → Agrees (walk rules wordStore room (shifted (length before) stack) m₁ rest) (walk rules listStore room stack entries₁ rest)) →
+    move-agrees : (room : ℕ) (m : Memory) (entries : List Record) (f : Field) (rest : Fields) → WordsStand (suc room) m entries →
+        ((stack : List (Frame L)) (m₁ : Memory) (entries₁ : List Record) → WordsStand room m₁ entries₁ → Agrees (walk rules wordStore room (shifted (length before) stack) m₁ rest) (walk rules listStore room stack entries₁ rest)) →
         (move : Move L) → Agrees (moved wordStore room m f rest (λ stack m₁. walk rules wordStore room stack m₁ rest) (shiftedMove (length before) move)) (moved listStore room entries f rest (λ stack entries₁. walk rules listStore room stack entries₁ rest) move)
     unfolding moved shiftedMove wordStore listStore
-    move-agrees room m entries f rest s later (adds stack depth number) = later stack _ _ (stands-add room m entries (recordOf depth number f) s)
-    move-agrees room m entries f rest s later (joinsAt stack start depth number) = later stack _ _ (stands-join room start m entries (recordOf depth number f) s)
+    move-agrees room m entries f rest s later (adds stack depth number) = later stack _ _ (stands-add room m entries (entryRecord depth number f) s)
+    move-agrees room m entries f rest s later (joinsAt stack start depth number) = later stack _ _ (stands-join room start m entries (entryRecord depth number f) s)
     move-agrees room m entries f rest s later (disorders group) = both-refuse (front-stands (suc room) m entries s)
     move-agrees room m entries f rest s later leaves = both-end s
 
     -- reading into the words is reading on its own
-    pub walk-agrees : (room : ℕ) (stack : List (Frame L)) (m : Memory) (entries : List Record) (fields : Fields) → Stands room m entries → Agrees (walk rules wordStore room (shifted (length before) stack) m fields) (walk rules listStore room stack entries fields)
+    pub walk-agrees : (room : ℕ) (stack : List (Frame L)) (m : Memory) (entries : List Record) (fields : Fields) → WordsStand room m entries → Agrees (walk rules wordStore room (shifted (length before) stack) m fields) (walk rules listStore room stack entries fields)
     unfolding walk wordStore listStore
     walk-agrees room stack m entries (unreadable cause place) s = both-refuse (front-stands room m entries s)
     walk-agrees zero stack m entries (field f rest) s = both-refuse (front-stands 0 m entries s)

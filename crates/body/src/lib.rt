@@ -23,7 +23,7 @@ ghost use Rattle.tagvalue.specs.Fields.{field, fieldsFrom, Inside};
 ghost use Rattle.records.specs.Records.{stored, stride};
 ghost use Rattle.groups.specs.Reading.{tableRules, answerOf};
 ghost use Rattle.required.specs.Checking.{tableDemands};
-ghost use Rattle.parts.specs.Parts.{recordOf, partOf, partTold, Stays};
+ghost use Rattle.parts.specs.Parts.{partRecord, partOf, partTold, Stays};
 ghost use Rattle.body.specs.Kinds.{meantBy, kindOf, runFrom, bodyOf};
 ghost use Rattle.body.specs.Body.{nextFrom, withRun, bodyFrom, RunEnd, Dropped, Opened};
 
@@ -66,7 +66,7 @@ fn read_plain(
     progress: Progress,
 ) -> PartRead
     requires { ⌜ (length (now message) < 2 ^ 32) × (Inside (now message) plain) × (from ≤ progress .records) × (progress .records + progress .room < length (now words) / stride) ⌝ }
-    ensures { λ r. ⌜ partTold (config .mode) (now (message .entry)) from r (now (words .exit)) ≡ nextFrom (fieldsFrom (config .mode) (now (message .entry)) (plain .next)) (progress .room) (stored (recordOf 2 plain) (partOf from (progress .records) (now (words .entry)))) ⌝ }
+    ensures { λ r. ⌜ partTold (config .mode) (now (message .entry)) from r (now (words .exit)) ≡ nextFrom (fieldsFrom (config .mode) (now (message .entry)) (plain .next)) (progress .room) (stored (partRecord 2 plain) (partOf from (progress .records) (now (words .entry)))) ⌝ }
     ensures { λ r. ⌜ Stays (now (message .entry)) (now (words .entry)) (now (words .exit)) from (progress .room) r ⌝ }
 {
     let records = parts::keep(
@@ -157,7 +157,7 @@ fn read_group(
     progress: Progress,
 ) -> PartRead
     requires { ⌜ (length (now message) < 2 ^ 32) × (Inside (now message) count) × (from ≤ progress .records) × (progress .records + progress .room < length (now words) / stride) × (length (now words) < 2 ^ 32) ⌝ }
-    ensures { λ r. ⌜ partTold (config .mode) (now (message .entry)) from r (now (words .exit)) ≡ withRun (recordOf 2 count) (partOf from (progress .records) (now (words .entry))) (runFrom (tableRules config (now (table .entry)) (tagAt (now (index .entry)))) (tableDemands (now (table .entry))) inner (count .tag) (fieldsFrom (config .mode) (now (message .entry)) (count .next)) (progress .room)) ⌝ }
+    ensures { λ r. ⌜ partTold (config .mode) (now (message .entry)) from r (now (words .exit)) ≡ withRun (partRecord 2 count) (partOf from (progress .records) (now (words .entry))) (runFrom (tableRules config (now (table .entry)) (tagAt (now (index .entry)))) (tableDemands (now (table .entry))) inner (count .tag) (fieldsFrom (config .mode) (now (message .entry)) (count .next)) (progress .room)) ⌝ }
     ensures { λ r. ⌜ Stays (now (message .entry)) (now (words .entry)) (now (words .exit)) from (progress .room) r ⌝ }
 {
     let opening = open_run(

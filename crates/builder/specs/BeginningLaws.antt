@@ -20,7 +20,7 @@ use Rattle.build_answers.specs.declared.Answer.the-variants.{Garbled as garbled
 use Rattle.parts.specs.declared.Progress.{Progress}
 use Rattle.parts.specs.declared.PartRead.{PartRead}
 use Rattle.parts.specs.declared.PartRead.the-variants.{At, Refused}
-use Rattle.parts.specs.Parts.{ended, recordOf, partOf, partTold, Kept}
+use Rattle.parts.specs.Parts.{ended, partRecord, partOf, partTold, Kept}
 use Rattle.tagvalue.specs.FieldsLaws.{step-inside}
 use Rattle.parts.specs.Header.{headerFrom}
 use Rattle.builder.specs.declared.Headed.{Headed}
@@ -43,7 +43,7 @@ verified-inside mode message v sound short =
     }
 
 -- stored one behind the other they are the header's first records
-pub verified-kept : (v : Verified) (begin body type : Record) → begin ≡ recordOf 1 (v .«begin_string») → body ≡ recordOf 1 (v .«body_length») → type ≡ recordOf 1 (v .«msg_type») →
+pub verified-kept : (v : Verified) (begin body type : Record) → begin ≡ partRecord 1 (v .«begin_string») → body ≡ partRecord 1 (v .«body_length») → type ≡ partRecord 1 (v .«msg_type») →
     (entry one two exit : List ℕ) (first second third : ℕ) → Kept entry one 0 0 begin first → Kept one two 0 first body second → Kept two exit 0 second type third →
     partOf 0 third exit ≡ verifiedRecords v
 unfolding verifiedRecords

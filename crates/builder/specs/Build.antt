@@ -7,7 +7,7 @@ use lib.Dec.{eqb, ltb}
 use Rattle.tagvalue.specs.Choice.{pick}
 use Rattle.tagvalue.specs.Separator.{isRefusedSeparator}
 use Rattle.build_config.specs.declared.Config.{Config}
-use Rattle.dictionary_rules.specs.Check.{checkOf, numberOf as numberOfCheck}
+use Rattle.dictionary_rules.specs.Check.{checkOf, numberOfCheck}
 use Rattle.dictionary_rules.specs.declared.Checked.{Checked}
 use Rattle.dictionary_meaning_rules.specs.Meaning.{dictionaryOf}
 use Rattle.records.specs.Records.{laid, recordWords}

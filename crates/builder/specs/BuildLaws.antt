@@ -7,7 +7,7 @@ use lib.ListN.{length, take, drop, set, getD, replicate, length-append, length-r
 use lib.Seq.{set-at, drop-cons, length-take-le, take-at}
 use borrow.Author.Tests.{eq-eqb, ne-eqb, le-leb, lt-leb}
 use Rattle.build_config.specs.declared.Config.{Config}
-use Rattle.dictionary_rules.specs.Check.{numberOf as numberOfCheck}
+use Rattle.dictionary_rules.specs.Check.{numberOfCheck}
 use Rattle.dictionary_rules.specs.declared.Checked.{Checked}
 use Rattle.dictionary_rules.specs.declared.Checked.the-variants.{Passes, TooLong, BadRecord, NoComponent, UnknownTag, EmptyGroup, TooDeep, Twice, TooManyItems}
 use Rattle.dictionary_meaning_rules.specs.Meaning.{dictionaryOf}

@@ -19,7 +19,7 @@ use Rattle.parts.specs.declared.TrailerRead.{TrailerRead}
 use Rattle.parts.specs.declared.TrailerRead.the-variants.{Stopped, Unstopped, TooManyFields as Crowded}
 use Rattle.reading.specs.declared.Stop.the-variants.{At as stops, Nowhere}
 use Rattle.builder.specs.declared.Finished.the-variants.{Whole, Refused as RefusedWhole}
-use Rattle.parts.specs.Parts.{Reading, recordOf, partOf, partTold, Kept}
+use Rattle.parts.specs.Parts.{Reading, partRecord, partOf, partTold, Kept}
 use Rattle.body.specs.RunLaws.{between-split}
 use Rattle.body.specs.GroupReading.{front-is, front-parts}
 use Rattle.parts.specs.Trailer.{trailerFrom, trailerTold, trailerCounts}
@@ -48,14 +48,14 @@ module _ (mode : Mode) (message : List ℕ) (header : ℕ) (checksum : Field) (b
       rw (b, before)
 
   module _ (reading : PartRead) (f : Field) (p : Progress) (e : reading ≡ At f p) (told : partTold mode message header reading read ≡ body) (starts : header ≤ p .records)
-      (r : Record) (is : r ≡ recordOf 3 checksum) (kept exit : List ℕ) (count : ℕ) (keeps : Kept read kept (p .records) (p .records) r count) (front : partOf 0 (p .records) exit ≡ partOf 0 (p .records) kept)
+      (r : Record) (is : r ≡ partRecord 3 checksum) (kept exit : List ℕ) (count : ℕ) (keeps : Kept read kept (p .records) (p .records) r count) (front : partOf 0 (p .records) exit ≡ partOf 0 (p .records) kept)
       (trailer : TrailerRead) (taken : trailerTold trailer (p .records) exit ≡ trailerFrom (field f (fieldsFrom mode message (f .next))) (p .room + 1) (partOf (p .records) count kept)) where
     left : afterBody (partOf 0 header entry) checksum body ≡ afterTrailer (partOf 0 header entry) (partOf header (p .records) read) (trailerTold trailer (p .records) exit)
     unfolding partTold afterBody stored
     left =
         let b : body ≡ _ = sym told ∙ ap (λ (q : PartRead). partTold mode message header q read) e in
         let one : p .room + 1 ≡ suc (p .room) = omega arith in
-        let first : partOf (p .records) count kept ≡ recordOf 3 checksum ∷ [] = keeps .part ∙ rw (part-empty (p .records) read, is) in
+        let first : partOf (p .records) count kept ≡ partRecord 3 checksum ∷ [] = keeps .part ∙ rw (part-empty (p .records) read, is) in
         rw (b, taken, one, first)
 
     -- the parts stand one behind the other

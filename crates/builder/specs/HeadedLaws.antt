@@ -10,7 +10,7 @@ use lib.ListN.{length, getD, take, drop, List·getD-eq-default}
 use Rattle.build_config.specs.declared.Config.{Config}
 use Rattle.tagvalue.specs.Fields.{Fields, field}
 use Rattle.tagvalue.specs.declared.Field.{Field}
-use Rattle.records.specs.Records.{recordAt, between, blank}
+use Rattle.records.specs.Records.{recordAt, between, blank, valueAt}
 use Rattle.records.specs.RecordLaws.{between-on, between-end}
 use Rattle.records.specs.declared.Record.{Record}
 use Rattle.dictionary_layout_rules.specs.Layout.{items}
@@ -31,7 +31,7 @@ use Rattle.body.specs.Kinds.{bodyOf}
 use Rattle.body.specs.Body.{bodyFrom}
 use Rattle.body.specs.Meaning.{body-means}
 use Rattle.builder.specs.declared.Finished.the-variants.{Refused}
-use Rattle.reading.specs.Beginning.{msgTypeRecord, valueAt}
+use Rattle.reading.specs.Beginning.{msgTypeRecord}
 use Rattle.reading.specs.Message.{afterBody, afterType}
 use Rattle.builder.specs.Reading.{finishTold}
 use Rattle.builder.specs.Reading.{Prepared}

@@ -19,7 +19,7 @@ use Rattle.integrity.specs.declared.Verified.{Verified}
 use Rattle.dictionary_layout_rules.specs.Tree.{holdsTag}
 use Rattle.records.specs.Records.{stored}
 use Rattle.records.specs.declared.Record.{Record}
-use Rattle.parts.specs.Parts.{ended, recordOf}
+use Rattle.parts.specs.Parts.{ended, partRecord}
 use Rattle.parts.specs.Header.{headerFrom}
 use Rattle.reading.specs.Beginning.{verifiedRecords, roomBehind, headerOf, msgTypeRecord}
 use Rattle.integrity.specs.VerifiedLaws.{VerifiedRead, verified-read}
@@ -44,9 +44,9 @@ module _ (message : List ℕ) where
       go false t later = one-more g later
 
   -- a field's record lies where the field does
-  field-in : (f : Field) → Inside message f → {rs : List Record} → RecordsIn message rs → RecordsIn message (stored (recordOf 1 f) rs)
-  unfolding recordOf
-  field-in f h {rs} i = stored-in (recordOf 1 f) (h .within) rs i
+  field-in : (f : Field) → Inside message f → {rs : List Record} → RecordsIn message rs → RecordsIn message (stored (partRecord 1 f) rs)
+  unfolding partRecord
+  field-in f h {rs} i = stored-in (partRecord 1 f) (h .within) rs i
 
   verified-records : (mode : Mode) (v : Verified) → VerifiedRead mode message v → RecordsIn message (verifiedRecords v)
   unfolding verifiedRecords
@@ -60,10 +60,10 @@ module _ (message : List ℕ) where
   header-in tags (unreadable cause place) each-end room records i f rest left header h = let z : _≡_ {A = ℕ} 0 1 = cc in absurd (omega arith)
   header-in tags (field g behind) (each-field lies more) zero records i f rest left header h = let z : _≡_ {A = ℕ} 0 1 = cc in absurd (omega arith)
   header-in tags (field g behind) (each-field lies more) (suc room) records i f rest left header h =
-      go (holdsTag (g .tag) tags) h (header-in tags behind more room (stored (recordOf 1 g) records) (field-in g lies i) f rest left header)
+      go (holdsTag (g .tag) tags) h (header-in tags behind more room (stored (partRecord 1 g) records) (field-in g lies i) f rest left header)
     where
-      go : (b : Bool) → pick b (headerFrom tags behind room (stored (recordOf 1 g) records)) (ended g behind room records) ≡ ended f rest left header →
-          (headerFrom tags behind room (stored (recordOf 1 g) records) ≡ ended f rest left header → RecordsIn message header) → RecordsIn message header
+      go : (b : Bool) → pick b (headerFrom tags behind room (stored (partRecord 1 g) records)) (ended g behind room records) ≡ ended f rest left header →
+          (headerFrom tags behind room (stored (partRecord 1 g) records) ≡ ended f rest left header → RecordsIn message header) → RecordsIn message header
       go true h later = later h
       go false h later = let same : records ≡ header = cc in rw (← same) i
 

@@ -8,12 +8,12 @@ use native.Mathlib.Omega.{arith}
 use lib.ListN.{length, take, replicate}
 use lib.Dec.{eqb, leb, ltb}
 use borrow.Author.Tests.{le-ltb, lt-ltb}
-use Rattle.records.specs.Records.{recordWords, recordRoom, stride}
+use Rattle.records.specs.Records.{recordWords, recordRoom, stride, valueAt}
 use Rattle.tagvalue.specs.Choice.{pick}
 use Rattle.tagvalue.specs.Separator.{isRefusedSeparator}
 use Rattle.tagvalue.specs.Fields.{fieldsFrom}
 use Rattle.build_config.specs.declared.Config.{Config}
-use Rattle.dictionary_rules.specs.Check.{outcome, checkOf, preparedOf, storeOf, numberOf as numberOfCheck}
+use Rattle.dictionary_rules.specs.Check.{outcome, checkOf, preparedOf, storeOf, numberOfCheck}
 use Rattle.dictionary_rules.specs.declared.Checked.{Checked}
 use Rattle.dictionary_meaning_rules.specs.Meaning.{dictionaryOf}
 use Rattle.dictionary_layout_rules.specs.Tree.{Dictionary, headerTags, layoutOf}
@@ -28,7 +28,7 @@ use Rattle.reading.specs.declared.Stop.{Stop}
 use Rattle.reading.specs.declared.Stop.the-variants.{Nowhere}
 use Rattle.builder.specs.declared.Finished.{Finished}
 use Rattle.builder.specs.declared.Finished.the-variants.{Whole, Refused as Stopped}
-use Rattle.reading.specs.Beginning.{startOf, msgTypeRecord, valueAt}
+use Rattle.reading.specs.Beginning.{startOf, msgTypeRecord}
 use Rattle.reading.specs.Message.{Outcome, shownWith, refusal, afterType, afterHeader, messageRead}
 use Rattle.builder.specs.Reading.{finishTold, finishCounts}
 use Rattle.builder.specs.Reading.{startTold, Prepared, shownCount, readTold}

@@ -95,23 +95,23 @@ fields-append {Pair} {gs = gs} {b = b} (standard.Fields.paired {l = l} {t = t} {
     subst-bytes : standard.Fields Pair (told l count ∷ (told t v ∷ (fs ++ gs))) (bytes ++ (rest ++ b)) → standard.Fields Pair (told l count ∷ (told t v ∷ (fs ++ gs))) ((bytes ++ rest) ++ b)
     subst-bytes x = rw (append-assoc bytes rest b) x
 
-pub members-append : {ts us : List ℕ} {fs gs : List Told} → standard.Stands (members ts) fs → standard.Stands (members us) gs → standard.Stands (members (ts ++ us)) (fs ++ gs)
-members-append standard.Stands.no-member q = q
-members-append (standard.Stands.field p) q = standard.Stands.field (members-append p q)
-members-append {gs = gs} (standard.Stands.group {ts = ts} {gs = es} {fs = fs} i e p) q = rw (append-assoc es fs gs) (standard.Stands.group i e (members-append p q))
+pub members-append : {ts us : List ℕ} {fs gs : List Told} → standard.Members (members ts) fs → standard.Members (members us) gs → standard.Members (members (ts ++ us)) (fs ++ gs)
+members-append standard.Members.no-member q = q
+members-append (standard.Members.field p) q = standard.Members.field (members-append p q)
+members-append {gs = gs} (standard.Members.group {ts = ts} {gs = es} {fs = fs} i e p) q = rw (append-assoc es fs gs) (standard.Members.group i e (members-append p q))
 
 -- what a map is written as
 pub record FieldsOf (m : Map) : Type 0 where
   pub all : List Told
   pub text-is : standard.Fields NoPair all (text 1 m)
-  pub members-are : standard.Stands (members (tagsOf m)) all
+  pub members-are : standard.Members (members (tagsOf m)) all
 
 pub record EntriesOf (d n : ℕ) (m : Map) : Type 0 where
   pub run : List Told
   pub others : List Told
   pub text-is : standard.Fields NoPair (run ++ others) (text 1 m)
-  pub entries-are : standard.Stands (standard.entries d n) run
-  pub members-are : standard.Stands (members (tagsOf m)) others
+  pub entries-are : standard.Members (standard.entries d n) run
+  pub members-are : standard.Members (members (tagsOf m)) others
 
 abbrev Written : Next → Map → Type 0
 Written fields m = FieldsOf m
@@ -119,14 +119,14 @@ Written (entries s d n) m = EntriesOf d n m
 
 written : (next : Next) (m : Map) → Conforms next m → isFormed m ≡ true → Written next m
 unfolding text tagsOf
-written _ _ no-more formed = record { all = []; text-is = standard.Fields.no-field; members-are = standard.Stands.no-member }
+written _ _ no-more formed = record { all = []; text-is = standard.Fields.no-field; members-are = standard.Members.no-member }
 written _ _ (alone {t = t} {v = v} {rest = rest} value more) formed =
     let f = field-formed t v rest formed in
     let r = written fields rest more (f .rest-formed) in
     record {
       all = told t v ∷ r .all;
       text-is = standard.Fields.plain (field-is t v (eqb-false t 0 (f .some)) value) (λ l x. x) (r .text-is);
-      members-are = standard.Stands.field (r .members-are);
+      members-are = standard.Members.field (r .members-are);
     }
 written _ _ (counted {t = t} {d = d} {n = n} {v = v} {rest = rest} i more) formed =
     let f = field-formed t v rest formed in
@@ -134,11 +134,11 @@ written _ _ (counted {t = t} {d = d} {n = n} {v = v} {rest = rest} i more) forme
     record {
       all = told t v ∷ (r .run ++ r .others);
       text-is = standard.Fields.plain (field-is t v (eqb-false t 0 (f .some)) (int-value v (suc n) i)) (λ l x. x) (r .text-is);
-      members-are = standard.Stands.group i (r .entries-are) (r .members-are);
+      members-are = standard.Members.group i (r .entries-are) (r .members-are);
     }
 written _ _ (no-entry {rest = rest} more) formed =
     let r = written fields rest more formed in
-    record { run = []; others = r .all; text-is = r .text-is; entries-are = standard.Stands.no-entry; members-are = r .members-are }
+    record { run = []; others = r .all; text-is = r .text-is; entries-are = standard.Members.no-entry; members-are = r .members-are }
 written _ _ (one-entry {s = s} {d = d} {n = n} {v = v} {inner = inner} {rest = rest} first more) formed =
     let f = entry-formed s d (field d v inner) rest formed in
     let o = written fields (field d v inner) first (f .own-formed) in
@@ -147,7 +147,7 @@ written _ _ (one-entry {s = s} {d = d} {n = n} {v = v} {inner = inner} {rest = r
       run = o .all ++ r .run;
       others = r .others;
       text-is = rw (append-assoc (o .all) (r .run) (r .others)) (fields-append (o .text-is) (r .text-is));
-      entries-are = standard.Stands.entry (o .members-are) (tags-distinct (field d v inner) (f .own-formed)) (r .entries-are);
+      entries-are = standard.Members.entry (o .members-are) (tags-distinct (field d v inner) (f .own-formed)) (r .entries-are);
       members-are = r .members-are;
     }
 

@@ -9,6 +9,7 @@ use lib.ListN.{length, take, drop, length-drop}
 use lib.Seq.{length-take-le}
 use lib.Dec.{eqb, leb}
 use borrow.Author.Tests.{eqb-true, eqb-false, eq-eqb, ne-eqb, le-leb, lt-leb}
+use Rattle.records.specs.Records.{valueAt}
 use Rattle.tagvalue.specs.Choice.{pick}
 use Rattle.tagvalue.specs.FindLaws.{Absent}
 use Rattle.tagvalue.specs.FindLaws as find
@@ -20,7 +21,6 @@ use Rattle.lent.specs.Formed.{goesOn, isFormed}
 use Rattle.lent.specs.StandLaws.{never, field-formed, entry-formed}
 use Rattle.nesting.specs.Entries.{All, all-none, all-more}
 use Rattle.standing.specs.ShapeLaws.{all-first, all-rest, all-left, all-right}
-use Rattle.taking.specs.Taking.{valueAt}
 use Rattle.taking.specs.Derived.{Stands, no-more as stands-none, own as stands-own, in-entry as stands-entry}
 use Rattle.rewriting.specs.ReadWritten.{Writable}
 use Rattle.conformance.specs.EncodedMaps.{fields, entries, Conforms, no-more, alone, counted, no-entry, one-entry}

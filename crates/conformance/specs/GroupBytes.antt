@@ -10,7 +10,7 @@ use Rattle.tagvalue.specs.Field.{startAt, fieldAt}
 use Rattle.tagvalue.specs.Fields.{Fields, field, fieldsFrom}
 use Rattle.tagvalue.specs.FieldsLaws.{fields-field}
 use Rattle.tagvalue.specs.Standard as standard
-use Rattle.tagvalue.specs.Standard.{Told, entries, Stands}
+use Rattle.tagvalue.specs.Standard.{Told, entries, Members}
 use Rattle.tagvalue.specs.declared.Cursor.{Cursor}
 use Rattle.tagvalue.specs.declared.Field.{Field}
 use Rattle.tagvalue.specs.declared.FieldRead.the-variants.{Read}
@@ -28,7 +28,7 @@ use Rattle.conformance.specs.Reading.{ReadsAs, Readable, fields-read}
 use Rattle.conformance.specs.Groups.{numbered, recordsAs, entriesOf, Leaves, Fits}
 use Rattle.conformance.specs.GroupReading.{group-read, layout-group-read}
 
-module _ {d n : ℕ} {gs : List Told} (s : Stands (entries d (suc n)) gs) (layout : Layout) (message : List ℕ) (left : ℕ) (x : Field) where
+module _ {d n : ℕ} {gs : List Told} (s : Members (entries d (suc n)) gs) (layout : Layout) (message : List ℕ) (left : ℕ) (x : Field) where
   -- the bytes of a group's entries, wherever they stand in a message
   pub group-bytes-read : {Pair : ℕ → ℕ → Type 0} (accepts : ℕ → Bool) (tag : ℕ) (before bytes after : List ℕ) → message ≡ before ++ (bytes ++ after) → standard.Fields Pair gs bytes → Readable gs → fieldAt standardMode message (startAt (length before + length bytes)) ≡ Read x
       → Fits (layoutRules accepts) (entriesOf layout 1) (x .tag) (entries d (suc n)) gs s → Leaves (layoutRules accepts) layout (x .tag)

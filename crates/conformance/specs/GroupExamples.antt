@@ -14,12 +14,12 @@ use Rattle.tagvalue.specs.Text.{bytes}
 use Rattle.tagvalue.specs.Number.{worth}
 use Rattle.tagvalue.specs.Field.{startAt}
 use Rattle.tagvalue.specs.Fields.{fieldsFrom}
-use Rattle.tagvalue.specs.Standard.{All, Told, told, Int, Distinct, entries, Stands}
+use Rattle.tagvalue.specs.Standard.{All, Told, told, Int, Distinct, entries, Members}
 use Rattle.dictionary_layout_rules.specs.Layout.{Layout, end, field, group, firstOf, positionFrom, positionIn, groupSince, groupOf, delimiterOf}
 use Rattle.records.specs.Records.{stored}
 use Rattle.records.specs.declared.Record.{Record}
 use Rattle.build_answers.specs.Answer.{numberOf}
-use Rattle.groups.specs.Groups.{isDelimiter, opens, counting, declared, kindOf, run, inEntry, decide, recordOf, Outcome, ended, refused, moved, walk}
+use Rattle.groups.specs.Groups.{isDelimiter, opens, counting, declared, kindOf, run, inEntry, decide, entryRecord, RunOutcome, ended, refused, moved, walk}
 use Rattle.groups.specs.Reading.{answerOf, openedAs, layoutRules, joinedList, listStore}
 use Rattle.conformance.specs.Groups.{numbered, tagBehind, entriesOf, Leaves, Rises, Fits}
 
@@ -53,13 +53,13 @@ two-tags a b n = Distinct.fresh (All.also n All.none) (one-tag b)
 three-tags : (a b c : ℕ) → b ≢ a → c ≢ a → c ≢ b → Distinct (a ∷ b ∷ c ∷ [])
 three-tags a b c m n o = Distinct.fresh (All.also m (All.also n All.none)) (two-tags b c o)
 
-abbrev parties : Stands (entries 524 2) (told 524 (112 ∷ []) ∷ told 525 (113 ∷ []) ∷ told 524 (114 ∷ []) ∷ [])
-parties = Stands.entry (Stands.field (Stands.field Stands.no-member)) (two-tags 524 525 (λ e. omega arith)) (Stands.entry (Stands.field Stands.no-member) (one-tag 524) Stands.no-entry)
+abbrev parties : Members (entries 524 2) (told 524 (112 ∷ []) ∷ told 525 (113 ∷ []) ∷ told 524 (114 ∷ []) ∷ [])
+parties = Members.entry (Members.field (Members.field Members.no-member)) (two-tags 524 525 (λ e. omega arith)) (Members.entry (Members.field Members.no-member) (one-tag 524) Members.no-entry)
 
-abbrev allocated : Stands (entries 79 2) fields
+abbrev allocated : Members (entries 79 2) fields
 allocated =
-    Stands.entry (Stands.field (Stands.field (Stands.group two parties Stands.no-member))) (three-tags 79 80 539 (λ e. omega arith) (λ e. omega arith) (λ e. omega arith))
-    (Stands.entry (Stands.field (Stands.field Stands.no-member)) (two-tags 79 80 (λ e. omega arith)) Stands.no-entry)
+    Members.entry (Members.field (Members.field (Members.group two parties Members.no-member))) (three-tags 79 80 539 (λ e. omega arith) (λ e. omega arith) (λ e. omega arith))
+    (Members.entry (Members.field (Members.field Members.no-member)) (two-tags 79 80 (λ e. omega arith)) Members.no-entry)
 
 quantity-rises : Rises (layoutRules strict) allocations 0 1 80
 unfolding layoutRules opens isDelimiter positionIn positionFrom firstOf delimiterOf
@@ -95,7 +95,7 @@ allocated-numbered = refl
 abbrev Reading : Type 0
 Reading = ℕ × ℕ × (List (ℕ × ℕ × ℕ))
 
-unfoldable shown : Outcome (List Record) (List Record) → Reading
+unfoldable shown : RunOutcome (List Record) (List Record) → Reading
 shown (ended f rest room rs) = (0, f .tag, map (λ (r : Record). (r .depth, r .number, r .tag)) rs)
 shown (refused refusal rs) = (numberOf (answerOf refusal), 0, [])
 
@@ -144,7 +144,7 @@ unfit =
     ∷ []
 
 unfit-read : map (λ row. reading strict (row .0 .0) (row .0 .1)) unfit ≡ map (λ row. row .1) unfit
-unfolding reading shown answerOf numberOf layoutRules openedAs joinedList listStore walk moved decide inEntry kindOf declared counting opens isDelimiter recordOf positionIn positionFrom firstOf groupOf groupSince delimiterOf stored reading-fields
+unfolding reading shown answerOf numberOf layoutRules openedAs joinedList listStore walk moved decide inEntry kindOf declared counting opens isDelimiter entryRecord positionIn positionFrom firstOf groupOf groupSince delimiterOf stored reading-fields
 unfit-read = refl
 
 -- validation off: an unknown user tag behind the group joins its entry, and behind a nested group that group's entry
@@ -155,5 +155,5 @@ user =
     ∷ []
 
 user-read : map (λ row. reading lenient (row .0 .0) (row .0 .1)) user ≡ map (λ row. row .1) user
-unfolding reading shown answerOf numberOf layoutRules openedAs joinedList listStore walk moved decide inEntry kindOf declared counting opens isDelimiter recordOf positionIn positionFrom firstOf groupOf groupSince delimiterOf stored reading-fields
+unfolding reading shown answerOf numberOf layoutRules openedAs joinedList listStore walk moved decide inEntry kindOf declared counting opens isDelimiter entryRecord positionIn positionFrom firstOf groupOf groupSince delimiterOf stored reading-fields
 user-read = refl

@@ -12,11 +12,11 @@ use lib.Dec.{eqb}
 use borrow.Author.Tests.{eqb-true}
 use Rattle.tagvalue.specs.Choice.{pick}
 use Rattle.tagvalue.specs.Fields.{Fields, unreadable, field}
-use Rattle.tagvalue.specs.Standard.{All, Told, Distinct, Stretch, Stands}
+use Rattle.tagvalue.specs.Standard.{All, Told, Distinct, Stretch, Members}
 use Rattle.tagvalue.specs.declared.Field.{Field}
 use Rattle.records.specs.Records.{stored}
 use Rattle.records.specs.declared.Record.{Record}
-use Rattle.groups.specs.Groups.{recordOf}
+use Rattle.groups.specs.Groups.{entryRecord}
 use Rattle.groups.specs.Reading.{joinedList}
 use Rattle.conformance.specs.Groups.{numbered, recordsAs}
 
@@ -75,19 +75,19 @@ deep-append : {depth : ℕ} {ns ms : List (ℕ × ℕ)} → Deep depth ns → De
 deep-append deep-none b = b
 deep-append (deep-more h a) b = deep-more h (deep-append a b)
 
-numbered-deep : {stretch : Stretch} {fs : List Told} (above depth number : ℕ) (s : Stands stretch fs) → above < depth → Deep above (numbered depth number s)
+numbered-deep : {stretch : Stretch} {fs : List Told} (above depth number : ℕ) (s : Members stretch fs) → above < depth → Deep above (numbered depth number s)
 unfolding numbered
-numbered-deep above depth number Stands.no-member h = deep-none
-numbered-deep above depth number (Stands.field s) h = deep-more {n = (depth, _)} h (numbered-deep above depth number s h)
-numbered-deep above depth number (Stands.group i g s) h = deep-more {n = (depth, _)} h (deep-append (numbered-deep above (depth + 1) 0 g (omega arith)) (numbered-deep above depth number s h))
-numbered-deep above depth number Stands.no-entry h = deep-none
-numbered-deep above depth number (Stands.entry m d g) h = deep-append (numbered-deep above depth (number + 1) m h) (numbered-deep above depth (number + 1) g h)
+numbered-deep above depth number Members.no-member h = deep-none
+numbered-deep above depth number (Members.field s) h = deep-more {n = (depth, _)} h (numbered-deep above depth number s h)
+numbered-deep above depth number (Members.group i g s) h = deep-more {n = (depth, _)} h (deep-append (numbered-deep above (depth + 1) 0 g (omega arith)) (numbered-deep above depth number s h))
+numbered-deep above depth number Members.no-entry h = deep-none
+numbered-deep above depth number (Members.entry m d g) h = deep-append (numbered-deep above depth (number + 1) m h) (numbered-deep above depth (number + 1) g h)
 
 deep-free : {depth tag : ℕ} {ns : List (ℕ × ℕ)} (fields : Fields) → Deep depth ns → Free depth tag (recordsAs ns fields)
-unfolding recordsAs recordOf
+unfolding recordsAs entryRecord
 deep-free fields deep-none = free-none
 deep-free (unreadable cause place) (deep-more h a) = free-none
-deep-free (field f rest) (deep-more {n = n} h a) = free-more {r = recordOf (n .0) (n .1) f} (λ e t. omega arith) (deep-free rest a)
+deep-free (field f rest) (deep-more {n = n} h a) = free-more {r = entryRecord (n .0) (n .1) f} (λ e t. omega arith) (deep-free rest a)
 
 -- the members that are still to come are none of the entry so far, whose records start at a place
 pub record Fresh (start depth : ℕ) (ts : List ℕ) (done : List Record) : Type 0 where
@@ -122,23 +122,23 @@ fresh-more start depth ts done more within d old new =
     }
 
 -- a member more, which is the first of them
-pub fresh-field : (start depth number t : ℕ) (ts : List ℕ) (done : List Record) (f : Field) → f .tag ≡ t → Fresh start depth (t ∷ ts) done → Fresh start depth ts (done ++ (recordOf depth number f ∷ []))
-unfolding recordOf
+pub fresh-field : (start depth number t : ℕ) (ts : List ℕ) (done : List Record) (f : Field) → f .tag ≡ t → Fresh start depth (t ∷ ts) done → Fresh start depth ts (done ++ (entryRecord depth number f ∷ []))
+unfolding entryRecord
 fresh-field start depth number t ts done f same fresh = by-distinct (fresh .distinct) (fresh .free)
   where
-    by-distinct : Distinct (t ∷ ts) → All (λ t. Free depth t (drop start done)) (t ∷ ts) → Fresh start depth ts (done ++ (recordOf depth number f ∷ []))
+    by-distinct : Distinct (t ∷ ts) → All (λ t. Free depth t (drop start done)) (t ∷ ts) → Fresh start depth ts (done ++ (entryRecord depth number f ∷ []))
     by-distinct (Distinct.fresh others d) (All.also p a) =
-        fresh-more start depth ts done (recordOf depth number f ∷ []) (fresh .within) d a (all-map (λ u n. free-more {r = recordOf depth number f} (λ e q. n (sym q ∙ same)) free-none) others)
+        fresh-more start depth ts done (entryRecord depth number f ∷ []) (fresh .within) d a (all-map (λ u n. free-more {r = entryRecord depth number f} (λ e q. n (sym q ∙ same)) free-none) others)
 
 -- a nested group more
-pub fresh-nested : {stretch : Stretch} {gs : List Told} (start depth : ℕ) (ts : List ℕ) (done : List Record) (g : Stands stretch gs) (fields : Fields) → Fresh start depth ts done → Fresh start depth ts (done ++ recordsAs (numbered (depth + 1) 0 g) fields)
+pub fresh-nested : {stretch : Stretch} {gs : List Told} (start depth : ℕ) (ts : List ℕ) (done : List Record) (g : Members stretch gs) (fields : Fields) → Fresh start depth ts done → Fresh start depth ts (done ++ recordsAs (numbered (depth + 1) 0 g) fields)
 fresh-nested start depth ts done g fields fresh =
     fresh-more start depth ts done _ (fresh .within) (fresh .distinct) (fresh .free) (all-map (λ t p. deep-free fields (numbered-deep depth (depth + 1) 0 g (omega arith))) (fresh .free))
 
 -- a user tag comes last
-pub fresh-joined : (start depth number t : ℕ) (ts : List ℕ) (done : List Record) (f : Field) → f .tag ≡ t → Fresh start depth (t ∷ ts) done → joinedList start (recordOf depth number f) done ≡ done ++ (recordOf depth number f ∷ [])
-unfolding recordOf
+pub fresh-joined : (start depth number t : ℕ) (ts : List ℕ) (done : List Record) (f : Field) → f .tag ≡ t → Fresh start depth (t ∷ ts) done → joinedList start (entryRecord depth number f) done ≡ done ++ (entryRecord depth number f ∷ [])
+unfolding entryRecord
 fresh-joined start depth number t ts done f same fresh = by-free (fresh .free)
   where
-    by-free : All (λ t. Free depth t (drop start done)) (t ∷ ts) → joinedList start (recordOf depth number f) done ≡ done ++ (recordOf depth number f ∷ [])
-    by-free (All.also p a) = joined-free start (recordOf depth number f) done (rw (← same) at p)
+    by-free : All (λ t. Free depth t (drop start done)) (t ∷ ts) → joinedList start (entryRecord depth number f) done ≡ done ++ (entryRecord depth number f ∷ [])
+    by-free (All.also p a) = joined-free start (entryRecord depth number f) done (rw (← same) at p)

@@ -10,10 +10,10 @@ use lib.ListN.{length, length-append}
 use borrow.Author.Tests.{ne-eqb, lt-leb, lt-ltb, le-ltb}
 use Rattle.tagvalue.specs.Field.{valueOf}
 use Rattle.tagvalue.specs.Fields.{Fields, field}
-use Rattle.tagvalue.specs.Standard.{Told, Stretch, Stands}
+use Rattle.tagvalue.specs.Standard.{Told, Stretch, Members}
 use Rattle.tagvalue.specs.declared.Field.{Field}
 use Rattle.records.specs.declared.Record.{Record}
-use Rattle.groups.specs.Groups.{Opened, none, opened, Rules, opens, plain, count, joins, ends, counting, declared, kindOf, Frame, run, entry, inEntry, decide, recordOf, ended, moved, walk, taking}
+use Rattle.groups.specs.Groups.{Opened, none, opened, Rules, opens, plain, count, joins, ends, counting, declared, kindOf, Frame, run, entry, inEntry, decide, entryRecord, ended, moved, walk, taking}
 use Rattle.groups.specs.Reading.{joinedList, listStore}
 use Rattle.conformance.specs.Reading.{ReadsAs, no-field, one-field}
 use Rattle.conformance.specs.Groups.{numbered, recordsAs, Tell, no-record, one-record, tagBehind, Leaves, Rises, Joins}
@@ -63,7 +63,7 @@ module _ {L : Type 0} (rules : Rules L) (done : List Record) (f : Field) (rest :
   module _ (below : List (Frame L)) (room : ℕ) (level : L) (group depth number : ℕ) where
     pub run-opens : opens rules level (f .tag) ≡ true →
         taking rules listStore room (run level group depth number ∷ below) done f rest
-        ≡ walk rules listStore room (entry level group depth (number + 1) 0 (length done) ∷ run level group depth (number + 1) ∷ below) (done ++ (recordOf depth (number + 1) f ∷ [])) rest
+        ≡ walk rules listStore room (entry level group depth (number + 1) 0 (length done) ∷ run level group depth (number + 1) ∷ below) (done ++ (entryRecord depth (number + 1) f ∷ [])) rest
     unfolding taking decide moved listStore
     run-opens o = rw o
 
@@ -75,19 +75,19 @@ module _ {L : Type 0} (rules : Rules L) (done : List Record) (f : Field) (rest :
     module _ (last start : ℕ) where
       pub entry-takes : (position : ℕ) → kindOf rules level depth last (f .tag) ≡ plain position →
           taking rules listStore room (entry level group depth number last start ∷ below) done f rest
-          ≡ walk rules listStore room (entry level group depth number position start ∷ below) (done ++ (recordOf depth number f ∷ [])) rest
+          ≡ walk rules listStore room (entry level group depth number position start ∷ below) (done ++ (entryRecord depth number f ∷ [])) rest
       unfolding taking decide inEntry moved listStore
       entry-takes position k = rw k
 
       pub entry-joined : kindOf rules level depth last (f .tag) ≡ joins →
           taking rules listStore room (entry level group depth number last start ∷ below) done f rest
-          ≡ walk rules listStore room (entry level group depth number last start ∷ below) (joinedList start (recordOf depth number f) done) rest
+          ≡ walk rules listStore room (entry level group depth number last start ∷ below) (joinedList start (entryRecord depth number f) done) rest
       unfolding taking decide inEntry moved listStore
       entry-joined k = rw k
 
       pub entry-counts : (inner : L) (position : ℕ) → kindOf rules level depth last (f .tag) ≡ count inner position →
           taking rules listStore room (entry level group depth number last start ∷ below) done f rest
-          ≡ walk rules listStore room (run inner (f .tag) (depth + 1) 0 ∷ entry level group depth number position start ∷ below) (done ++ (recordOf depth number f ∷ [])) rest
+          ≡ walk rules listStore room (run inner (f .tag) (depth + 1) 0 ∷ entry level group depth number position start ∷ below) (done ++ (entryRecord depth number f ∷ [])) rest
       unfolding taking decide inEntry moved listStore
       entry-counts inner position k = rw k
 
@@ -118,13 +118,13 @@ module _ (message : List ℕ) (last : Field) (behind : Fields) where
       record { next = s .next; rest = s .rest; reads-first = one-field tag value (s .reads-first); reads-second = s .reads-second; tag-is = s .tag-is }
 
 -- each field has its depth and number
-pub numbered-each : {stretch : Stretch} {fs : List Told} (depth number : ℕ) (s : Stands stretch fs) → length (numbered depth number s) ≡ length fs
+pub numbered-each : {stretch : Stretch} {fs : List Told} (depth number : ℕ) (s : Members stretch fs) → length (numbered depth number s) ≡ length fs
 unfolding numbered
-numbered-each depth number Stands.no-member = refl
-numbered-each depth number (Stands.field s) = omega (arith, numbered-each depth number s)
-numbered-each depth number (Stands.group {gs = gs} {fs = fs} i g s) = omega (arith, numbered-each (depth + 1) 0 g, numbered-each depth number s, length-append gs fs, length-append (numbered (depth + 1) 0 g) (numbered depth number s))
-numbered-each depth number Stands.no-entry = refl
-numbered-each depth number (Stands.entry {fs = fs} {gs = gs} m d g) =
+numbered-each depth number Members.no-member = refl
+numbered-each depth number (Members.field s) = omega (arith, numbered-each depth number s)
+numbered-each depth number (Members.group {gs = gs} {fs = fs} i g s) = omega (arith, numbered-each (depth + 1) 0 g, numbered-each depth number s, length-append gs fs, length-append (numbered (depth + 1) 0 g) (numbered depth number s))
+numbered-each depth number Members.no-entry = refl
+numbered-each depth number (Members.entry {fs = fs} {gs = gs} m d g) =
     omega (arith, numbered-each depth (number + 1) m, numbered-each depth (number + 1) g, length-append fs gs, length-append (numbered depth (number + 1) m) (numbered depth (number + 1) g))
 
 records-split : (message : List ℕ) (fields middle : Fields) (fs : List Told) (ns more : List (ℕ × ℕ)) → ReadsAs message fields fs middle → length ns ≡ length fs → recordsAs (ns ++ more) fields ≡ recordsAs ns fields ++ recordsAs more middle
@@ -132,7 +132,7 @@ unfolding recordsAs
 records-split message _ middle _ [] more no-field e = refl
 records-split message _ middle _ (n ∷ ns) more no-field e = absurd (omega arith)
 records-split message _ middle _ [] more (one-field tag value r) e = absurd (omega arith)
-records-split message _ middle _ (n ∷ ns) more (one-field {f = f} {rest = rest} tag value r) e = ap (λ (l : List Record). recordOf (n .0) (n .1) f ∷ l) (records-split message rest middle _ ns more r (omega arith))
+records-split message _ middle _ (n ∷ ns) more (one-field {f = f} {rest = rest} tag value r) e = ap (λ (l : List Record). entryRecord (n .0) (n .1) f ∷ l) (records-split message rest middle _ ns more r (omega arith))
 
 -- records so far, one more, those of a stretch, and those behind it
 pub records-behind : (message : List ℕ) (done : List Record) (r : Record) (fields middle : Fields) (fs : List Told) (ns more : List (ℕ × ℕ)) → ReadsAs message fields fs middle → length ns ≡ length fs
@@ -144,7 +144,7 @@ records-behind message done r fields middle fs ns more reads e =
 
 -- fields that were read as the standard tells them make records that tell the same
 pub records-tell : (message : List ℕ) (fields last : Fields) (fs : List Told) (ns : List (ℕ × ℕ)) → ReadsAs message fields fs last → length ns ≡ length fs → Tell message ns fs (recordsAs ns fields)
-unfolding recordsAs recordOf valueOf
+unfolding recordsAs entryRecord valueOf
 records-tell message _ last _ [] no-field e = no-record
 records-tell message _ last _ (n ∷ ns) no-field e = absurd (omega arith)
 records-tell message _ last _ [] (one-field tag value r) e = absurd (omega arith)

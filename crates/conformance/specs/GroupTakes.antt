@@ -16,7 +16,7 @@ use Rattle.tagvalue.specs.declared.Field.{Field}
 use Rattle.dictionary_layout_rules.specs.declared.Position.{Position}
 use Rattle.dictionary_layout_rules.specs.declared.Position.the-variants.{At, Nowhere}
 use Rattle.records.specs.declared.Record.{Record}
-use Rattle.groups.specs.Groups.{Opened, none, opened, Rules, opens, Kind, plain, count, joins, wrong, ends, counting, declared, kindOf, Frame, Move, adds, joinsAt, disorders, leaves, decide, recordOf, ended, moved, walk}
+use Rattle.groups.specs.Groups.{Opened, none, opened, Rules, opens, Kind, plain, count, joins, wrong, ends, counting, declared, kindOf, Frame, Move, adds, joinsAt, disorders, leaves, decide, entryRecord, ended, moved, walk}
 use Rattle.groups.specs.Reading.{joinedList, listStore}
 use Rattle.conformance.specs.Reading.{ReadsAs, no-field, one-field}
 use Rattle.conformance.specs.Groups.{recordsAs, Rises, Joins}
@@ -83,11 +83,11 @@ module _ {L : Type 0} (rules : Rules L) where
   grows-move : (room : ℕ) (done : List Record) (f : Field) (later : Fields) (x : Field) (rest : Fields) (left : ℕ) (rs : List Record) → ((stack : List (Frame L)) (done₁ : List Record) → walk rules listStore room stack done₁ later ≡ ended x rest left rs → length rs + suc left ≤ length done₁ + room) →
       (m : Move L) → moved listStore room done f later (λ stack s. walk rules listStore room stack s later) m ≡ ended x rest left rs → length rs + suc left ≤ length done + suc room
   unfolding moved listStore
-  grows-move room done f later x rest left rs on (adds stack depth number) e = omega (arith, on stack _ e, length-append done (recordOf depth number f ∷ []))
-  grows-move room done f later x rest left rs on (joinsAt stack at depth number) e = by-join (joined-either at (recordOf depth number f) done) (on stack _ e)
+  grows-move room done f later x rest left rs on (adds stack depth number) e = omega (arith, on stack _ e, length-append done (entryRecord depth number f ∷ []))
+  grows-move room done f later x rest left rs on (joinsAt stack at depth number) e = by-join (joined-either at (entryRecord depth number f) done) (on stack _ e)
     where
-      by-join : (joinedList at (recordOf depth number f) done ≡ done ++ (recordOf depth number f ∷ [])) ⊎ (length (joinedList at (recordOf depth number f) done) ≡ length done) → length rs + suc left ≤ length (joinedList at (recordOf depth number f) done) + room → length rs + suc left ≤ length done + suc room
-      by-join (inl q) h = omega (arith, ap length q, length-append done (recordOf depth number f ∷ []))
+      by-join : (joinedList at (entryRecord depth number f) done ≡ done ++ (entryRecord depth number f ∷ [])) ⊎ (length (joinedList at (entryRecord depth number f) done) ≡ length done) → length rs + suc left ≤ length (joinedList at (entryRecord depth number f) done) + room → length rs + suc left ≤ length done + suc room
+      by-join (inl q) h = omega (arith, ap length q, length-append done (entryRecord depth number f ∷ []))
       by-join (inr q) h = omega arith
   grows-move room done f later x rest left rs on (disorders group) e = let z : _≡_ {A = ℕ} 0 1 = cc in absurd (omega arith)
   grows-move room done f later x rest left rs on leaves e =
@@ -103,20 +103,20 @@ module _ {L : Type 0} (rules : Rules L) where
   walk-grows (suc room) frames done (field f later) x rest left rs e =
       grows-move room done f later x rest left rs (λ stack done₁ e₁. walk-grows room stack done₁ later x rest left rs e₁) (decide rules (length done) frames (f .tag)) e
 
-  takes-one : (frames stack : List (Frame L)) (done rs : List Record) (f : Field) (later : Fields) (x : Field) (rest : Fields) (depth number : ℕ) → given (decide rules (length done) frames (f .tag)) ≡ adds stack depth number → Taken stack (done ++ (recordOf depth number f ∷ [])) rs later x rest → Taken frames done rs (field f later) x rest
+  takes-one : (frames stack : List (Frame L)) (done rs : List Record) (f : Field) (later : Fields) (x : Field) (rest : Fields) (depth number : ℕ) → given (decide rules (length done) frames (f .tag)) ≡ adds stack depth number → Taken stack (done ++ (entryRecord depth number f ∷ [])) rs later x rest → Taken frames done rs (field f later) x rest
   unfolding recordsAs
   takes-one frames stack done rs f later x rest depth number d t =
-      record { numbers = (depth, number) ∷ t .numbers; taken = takes (length done) d (t .taken); records = t .records ∙ append-assoc done (recordOf depth number f ∷ []) (recordsAs (t .numbers) later) }
+      record { numbers = (depth, number) ∷ t .numbers; taken = takes (length done) d (t .taken); records = t .records ∙ append-assoc done (entryRecord depth number f ∷ []) (recordsAs (t .numbers) later) }
 
   takes-move : (room : ℕ) (frames : List (Frame L)) (done : List Record) (f : Field) (later : Fields) (x : Field) (rest : Fields) (left : ℕ) (rs : List Record) → length rs + suc left ≡ length done + suc room → ((stack : List (Frame L)) (done₁ : List Record) → length rs + suc left ≡ length done₁ + room → walk rules listStore room stack done₁ later ≡ ended x rest left rs → Taken stack done₁ rs later x rest) →
       (m : Move L) → decide rules (length done) frames (f .tag) ≡ m → moved listStore room done f later (λ stack s. walk rules listStore room stack s later) m ≡ ended x rest left rs → Taken frames done rs (field f later) x rest
   unfolding moved listStore recordsAs given
   takes-move room frames done f later x rest left rs whole on (adds stack depth number) d e =
-      takes-one frames stack done rs f later x rest depth number (ap given d) (on stack _ (omega (arith, length-append done (recordOf depth number f ∷ []))) e)
-  takes-move room frames done f later x rest left rs whole on (joinsAt stack at depth number) d e = by-join (joined-either at (recordOf depth number f) done)
+      takes-one frames stack done rs f later x rest depth number (ap given d) (on stack _ (omega (arith, length-append done (entryRecord depth number f ∷ []))) e)
+  takes-move room frames done f later x rest left rs whole on (joinsAt stack at depth number) d e = by-join (joined-either at (entryRecord depth number f) done)
     where
-      by-join : (joinedList at (recordOf depth number f) done ≡ done ++ (recordOf depth number f ∷ [])) ⊎ (length (joinedList at (recordOf depth number f) done) ≡ length done) → Taken frames done rs (field f later) x rest
-      by-join (inl q) = takes-one frames stack done rs f later x rest depth number (ap given d) (on stack _ (omega (arith, length-append done (recordOf depth number f ∷ []))) (rw q at e))
+      by-join : (joinedList at (entryRecord depth number f) done ≡ done ++ (entryRecord depth number f ∷ [])) ⊎ (length (joinedList at (entryRecord depth number f) done) ≡ length done) → Taken frames done rs (field f later) x rest
+      by-join (inl q) = takes-one frames stack done rs f later x rest depth number (ap given d) (on stack _ (omega (arith, length-append done (entryRecord depth number f ∷ []))) (rw q at e))
       by-join (inr q) = absurd (omega (arith, walk-grows room stack _ later x rest left rs e))
   takes-move room frames done f later x rest left rs whole on (disorders group) d e = let z : _≡_ {A = ℕ} 0 1 = cc in absurd (omega arith)
   takes-move room frames done f later x rest left rs whole on leaves d e =
@@ -136,14 +136,14 @@ module _ {L : Type 0} (rules : Rules L) where
 
   -- the records say how many were taken, and each depth and number
   pub same-numbers : {x : Field} {rest : Fields} {frames : List (Frame L)} {ms : List (ℕ × ℕ)} {fields : Fields} (message : List ℕ) (gs : List Told) (last : Fields) (ns : List (ℕ × ℕ)) → Takes rules x rest frames ms fields → ReadsAs message fields gs last → length ns ≡ length gs → recordsAs ms fields ≡ recordsAs ns fields → ms ≡ ns
-  unfolding recordsAs recordOf
+  unfolding recordsAs entryRecord
   same-numbers message _ last [] (over here e) r s q = refl
   same-numbers message _ last (n ∷ ns) (over here e) no-field s q = absurd (omega arith)
   same-numbers message _ last (n ∷ ns) (over here e) (one-field tag value r) s q = let z : _≡_ {A = ℕ} 0 1 = cc in absurd (omega arith)
   same-numbers message _ last [] (takes here e t) r s q = let z : _≡_ {A = ℕ} 0 1 = cc in absurd (omega arith)
   same-numbers message _ last (n ∷ ns) (takes here e t) no-field s q = absurd (omega arith)
   same-numbers message _ last (n ∷ ns) (takes here {n = m} {ns = ms} {f = f} {later = later} e t) (one-field tag value r) s q =
-      let one : recordOf (m .0) (m .1) f ≡ recordOf (n .0) (n .1) f = cc in
+      let one : entryRecord (m .0) (m .1) f ≡ entryRecord (n .0) (n .1) f = cc in
       let others : recordsAs ms later ≡ recordsAs ns later = cc in
       let depths : m .0 ≡ n .0 = ap (λ (r : Record). r .depth) one in
       let numbers : m .1 ≡ n .1 = ap (λ (r : Record). r .number) one in

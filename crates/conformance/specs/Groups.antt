@@ -7,26 +7,26 @@ use mathlib.Core.List.{List, [], _∷_, _++_}
 use Prim.Native.Nat.{ℕ, suc, _+_, _≤_, _<_}
 use lib.ListN.{take, drop}
 use Rattle.tagvalue.specs.Fields.{Fields, unreadable, field}
-use Rattle.tagvalue.specs.Standard.{Told, Int, Distinct, Stretch, members, entries, Stands}
+use Rattle.tagvalue.specs.Standard.{Told, Int, Distinct, Stretch, members, entries, Members}
 use Rattle.dictionary_layout_rules.specs.declared.Position.the-variants.{At, Nowhere}
 use Rattle.records.specs.declared.Record.{Record}
-use Rattle.groups.specs.Groups.{none, opened, Rules, opens, recordOf}
+use Rattle.groups.specs.Groups.{none, opened, Rules, opens, entryRecord}
 
 -- ===== what the entries are =====
 
 -- the depth of each field and the number of its entry: members stand in the entry of a number; of entries so many came before
-unfoldable pub numbered : {stretch : Stretch} {fs : List Told} → ℕ → ℕ → Stands stretch fs → List (ℕ × ℕ)
-numbered depth number Stands.no-member = []
-numbered depth number (Stands.field s) = (depth, number) ∷ numbered depth number s
-numbered depth number (Stands.group i g s) = (depth, number) ∷ (numbered (depth + 1) 0 g ++ numbered depth number s)
-numbered depth number Stands.no-entry = []
-numbered depth number (Stands.entry m d g) = numbered depth (number + 1) m ++ numbered depth (number + 1) g
+unfoldable pub numbered : {stretch : Stretch} {fs : List Told} → ℕ → ℕ → Members stretch fs → List (ℕ × ℕ)
+numbered depth number Members.no-member = []
+numbered depth number (Members.field s) = (depth, number) ∷ numbered depth number s
+numbered depth number (Members.group i g s) = (depth, number) ∷ (numbered (depth + 1) 0 g ++ numbered depth number s)
+numbered depth number Members.no-entry = []
+numbered depth number (Members.entry m d g) = numbered depth (number + 1) m ++ numbered depth (number + 1) g
 
 -- the records of fields that were read, each with its depth and entry number
 unfoldable pub recordsAs : List (ℕ × ℕ) → Fields → List Record
 recordsAs [] fields = []
 recordsAs (n ∷ ns) (unreadable cause place) = []
-recordsAs (n ∷ ns) (field f rest) = recordOf (n .0) (n .1) f ∷ recordsAs ns rest
+recordsAs (n ∷ ns) (field f rest) = entryRecord (n .0) (n .1) f ∷ recordsAs ns rest
 
 -- what records tell: depth and entry number, tag and value of each field, in order, in the body
 pub data Tell (message : List ℕ) : List (ℕ × ℕ) → List Told → List Record → Type 0 where
@@ -68,13 +68,13 @@ module _ {L : Type 0} (rules : Rules L) where
   -- A stretch fits where `next` is the tag behind it. An entry starts with the level's delimiter, which is a field and no group; the other
   -- members rise in position, or are unknown user tags. What is a group there is one of the layout, less than four levels are open, and the
   -- tag behind it is none that it would take; what is a declared field is no group of the layout, or four levels are open.
-  pub data Fits : Part L → ℕ → (stretch : Stretch) → (fs : List Told) → Stands stretch fs → Type 0 where
-    no-member : {level : L} {depth last next : ℕ} → Fits (membersOf level depth last) next _ _ Stands.no-member
-    plain : {level : L} {depth last next position t : ℕ} {v : List ℕ} {ts : List ℕ} {fs : List Told} {s : Stands (members ts) fs} → Rises level last position t → (rules .group level t ≡ none) ⊎ (4 ≤ depth)
-        → Fits (membersOf level depth position) next _ _ s → Fits (membersOf level depth last) next _ _ (Stands.field {t = t} {v = v} s)
-    user : {level : L} {depth last next t : ℕ} {v : List ℕ} {ts : List ℕ} {fs : List Told} {s : Stands (members ts) fs} → Joins level t → Fits (membersOf level depth last) next _ _ s → Fits (membersOf level depth last) next _ _ (Stands.field {t = t} {v = v} s)
-    nested : {level inner : L} {depth last next position t d n : ℕ} {count : List ℕ} {ts : List ℕ} {gs fs : List Told} {i : Int count (suc n)} {g : Stands (entries d (suc n)) gs} {s : Stands (members ts) fs} → Rises level last position t → rules .group level t ≡ opened inner → depth < 4
-        → Leaves inner (tagBehind next fs) → Fits (entriesOf inner (depth + 1)) (tagBehind next fs) _ _ g → Fits (membersOf level depth position) next _ _ s → Fits (membersOf level depth last) next _ _ (Stands.group {t = t} i g s)
-    no-entry : {level : L} {depth next d : ℕ} → Fits (entriesOf level depth) next _ _ (Stands.no-entry {d = d})
-    starts : {level : L} {depth next d n : ℕ} {v : List ℕ} {ts : List ℕ} {fs gs : List Told} {m : Stands (members ts) fs} {distinct : Distinct (d ∷ ts)} {g : Stands (entries d n) gs} → opens rules level d ≡ true
-        → Fits (membersOf level depth 0) (tagBehind next gs) _ _ m → Fits (entriesOf level depth) next _ _ g → Fits (entriesOf level depth) next _ _ (Stands.entry (Stands.field {t = d} {v = v} m) distinct g)
+  pub data Fits : Part L → ℕ → (stretch : Stretch) → (fs : List Told) → Members stretch fs → Type 0 where
+    no-member : {level : L} {depth last next : ℕ} → Fits (membersOf level depth last) next _ _ Members.no-member
+    plain : {level : L} {depth last next position t : ℕ} {v : List ℕ} {ts : List ℕ} {fs : List Told} {s : Members (members ts) fs} → Rises level last position t → (rules .group level t ≡ none) ⊎ (4 ≤ depth)
+        → Fits (membersOf level depth position) next _ _ s → Fits (membersOf level depth last) next _ _ (Members.field {t = t} {v = v} s)
+    user : {level : L} {depth last next t : ℕ} {v : List ℕ} {ts : List ℕ} {fs : List Told} {s : Members (members ts) fs} → Joins level t → Fits (membersOf level depth last) next _ _ s → Fits (membersOf level depth last) next _ _ (Members.field {t = t} {v = v} s)
+    nested : {level inner : L} {depth last next position t d n : ℕ} {count : List ℕ} {ts : List ℕ} {gs fs : List Told} {i : Int count (suc n)} {g : Members (entries d (suc n)) gs} {s : Members (members ts) fs} → Rises level last position t → rules .group level t ≡ opened inner → depth < 4
+        → Leaves inner (tagBehind next fs) → Fits (entriesOf inner (depth + 1)) (tagBehind next fs) _ _ g → Fits (membersOf level depth position) next _ _ s → Fits (membersOf level depth last) next _ _ (Members.group {t = t} i g s)
+    no-entry : {level : L} {depth next d : ℕ} → Fits (entriesOf level depth) next _ _ (Members.no-entry {d = d})
+    starts : {level : L} {depth next d n : ℕ} {v : List ℕ} {ts : List ℕ} {fs gs : List Told} {m : Members (members ts) fs} {distinct : Distinct (d ∷ ts)} {g : Members (entries d n) gs} → opens rules level d ≡ true
+        → Fits (membersOf level depth 0) (tagBehind next gs) _ _ m → Fits (entriesOf level depth) next _ _ g → Fits (entriesOf level depth) next _ _ (Members.entry (Members.field {t = d} {v = v} m) distinct g)

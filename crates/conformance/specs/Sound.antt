@@ -10,7 +10,7 @@ use lib.Seq.{take-at}
 use lib.Dec.{eqb}
 use borrow.Author.Tests.{eq-eqb}
 use Rattle.conformance.specs.Reading.{standardMode}
-use Rattle.tagvalue.specs.Number.{numberOf}
+use Rattle.tagvalue.specs.Number.{numberIn}
 use Rattle.tagvalue.specs.NumberLaws.{checksum-three}
 use Rattle.tagvalue.specs.CheckSum.{sumOf, checksumOf}
 use Rattle.tagvalue.specs.Field.{startAt, fieldAt, valueOf}
@@ -33,7 +33,7 @@ use Rattle.conformance.specs.Texts.{sum-same}
 use Rattle.conformance.specs.Reading.{ReadsAs, no-field, Readable, reads-one, reads-then, reads-append, fields-read, first-read}
 
 -- integrity, where each field was read and each test passes
-sound-steps : (message : List ℕ) (a b c t : Field) (n s : ℕ) → fieldAt standardMode message (startAt 0) ≡ Read a → a .tag ≡ 8 → fieldAt standardMode message (a .next) ≡ Read b → b .tag ≡ 9 → numberOf (valueOf message b) ≡ Worth n → length message ≡ b .next .at + n + 7
+sound-steps : (message : List ℕ) (a b c t : Field) (n s : ℕ) → fieldAt standardMode message (startAt 0) ≡ Read a → a .tag ≡ 8 → fieldAt standardMode message (a .next) ≡ Read b → b .tag ≡ 9 → numberIn (valueOf message b) ≡ Worth n → length message ≡ b .next .at + n + 7
     → fieldAt standardMode message (startAt (length message - 7)) ≡ Read c → c .tag ≡ 10 → checksumOf (valueOf message c) ≡ Worth s → s ≡ sumOf (take (c .first) message) % 256 → fieldAt standardMode message (b .next) ≡ Read t → t .tag ≡ 35
     → integrityOf standardMode message ≡ Sound (record { «begin_string» = a; «body_length» = b; checksum = c; «msg_type» = t })
 unfolding integrityOf begun counted summed typed lengthIs lengthAgrees sumIs sumAgrees
@@ -101,7 +101,7 @@ module _ {Pair : ℕ → ℕ → Type 0} (bytes : List ℕ) (m : Message Pair by
       let place : c ≡ length bytes - 7 = omega (arith, all-size) in
       let starts : k .0 .first ≡ c = step-lies standardMode bytes (startAt c) (k .0) (k .1) .starts in
       let front : take (k .0 .first) bytes ≡ summed-bytes = ap (λ (n : ℕ). take n bytes) starts ∙ ap (take c) at-last ∙ take-at summed-bytes (m .last ++ []) c (simp length-append (omega arith)) in
-      let length-read : numberOf (valueOf bytes (g .0)) ≡ Worth (length (m .counted)) = ap numberOf (g .3) ∙ int-read (m .body-length) (length (m .counted)) (m .length-is) (omega (arith, all-size)) in
+      let length-read : numberIn (valueOf bytes (g .0)) ≡ Worth (length (m .counted)) = ap numberIn (g .3) ∙ int-read (m .body-length) (length (m .counted)) (m .length-is) (omega (arith, all-size)) in
       let sum : ℕ = standard.total summed-bytes % 256 in
       let sum-read : checksumOf (valueOf bytes (k .0)) ≡ Worth sum = ap checksumOf (k .3) ∙ checksum-three (m .check-sum) (m .three-digits) ∙ int-read (m .check-sum) sum (m .sum-is) (omega arith) in
       let sum-same-as : sum ≡ sumOf (take (k .0 .first) bytes) % 256 = ap (λ (n : ℕ). n % 256) (sym (sum-same summed-bytes)) ∙ ap (λ (l : List ℕ). sumOf l % 256) (sym front) in

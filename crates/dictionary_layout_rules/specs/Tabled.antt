@@ -27,7 +27,7 @@ rows-length at (group tag required inner rest) =
     omega (arith, length-append (rowsFrom (at + 1) inner) (rowsFrom (at + 1 + items inner) rest), rows-length (at + 1) inner, rows-length (at + 1 + items inner) rest)
 
 -- the rows of a layout stand in a table from the row `at` on
-pub record Stands (table : List ℕ) (at : ℕ) (layout : Layout) : Type 0 where
+pub record RowsStand (table : List ℕ) (at : ℕ) (layout : Layout) : Type 0 where
   pub before : List ℕ
   pub after : List ℕ
   pub whole : table ≡ before ++ (rowsFrom at layout ++ after)
@@ -41,7 +41,7 @@ ownRows at (group tag required inner rest) = record { place = at; tag = tag; req
 
 -- the level is a stretch of the table that holds the layout
 pub record Tabled (table : List ℕ) (level : Level) (layout : Layout) : Type 0 where
-  pub stands : Stands table (level .first) layout
+  pub stands : RowsStand table (level .first) layout
   pub ends : level .end ≡ level .first + items layout
 
 mark-read : (b : Bool) → eqb (mark b) 1 ≡ b
@@ -68,19 +68,19 @@ row-read before more at tag required isGroup link stop start rises =
     read table t r g l = unfold rowAt in rw (sibling-link table at stop (omega (arith, l)), t, r, g, l, mark-read required, mark-read isGroup)
 
 -- what follows an item stands where it ends, and a group's entries right after its row
-field-rest : {table : List ℕ} {at tag : ℕ} {required : Bool} {rest : Layout} → Stands table at (field tag required rest) → Stands table (at + 1) rest
+field-rest : {table : List ℕ} {at tag : ℕ} {required : Bool} {rest : Layout} → RowsStand table at (field tag required rest) → RowsStand table (at + 1) rest
 unfolding rowsFrom
 field-rest {table} {at} {tag} {required} {rest} s =
     let words : List ℕ = tag ∷ mark required ∷ 0 ∷ (at + 1) ∷ [] in
     record { before = s .before ++ words; after = s .after; whole = s .whole ∙ sym (append-assoc (s .before) words _); start = length-append (s .before) words ∙ omega (arith, s .start) }
 
-group-inner : {table : List ℕ} {at tag : ℕ} {required : Bool} {inner rest : Layout} → Stands table at (group tag required inner rest) → Stands table (at + 1) inner
+group-inner : {table : List ℕ} {at tag : ℕ} {required : Bool} {inner rest : Layout} → RowsStand table at (group tag required inner rest) → RowsStand table (at + 1) inner
 unfolding rowsFrom
 group-inner {table} {at} {tag} {required} {inner} {rest} s =
     let words : List ℕ = tag ∷ mark required ∷ 1 ∷ (at + 1 + items inner) ∷ [] in
     record { before = s .before ++ words; after = rowsFrom (at + 1 + items inner) rest ++ s .after; whole = s .whole ∙ ap (λ (l : List ℕ). s .before ++ (words ++ l)) (append-assoc (rowsFrom (at + 1) inner) _ _) ∙ sym (append-assoc (s .before) words _); start = length-append (s .before) words ∙ omega (arith, s .start) }
 
-group-rest : {table : List ℕ} {at tag : ℕ} {required : Bool} {inner rest : Layout} → Stands table at (group tag required inner rest) → Stands table (at + 1 + items inner) rest
+group-rest : {table : List ℕ} {at tag : ℕ} {required : Bool} {inner rest : Layout} → RowsStand table at (group tag required inner rest) → RowsStand table (at + 1 + items inner) rest
 unfolding group-inner rowsFrom
 group-rest {table} {at} {tag} {required} {inner} {rest} s =
     let i = group-inner s in
@@ -99,7 +99,7 @@ walk-written table before more at tag required isGroup link stop whole start ris
     next = unfold rowAt in ap (λ (r : Row). r .next) e
 
 -- a level's rows are the layout's own items
-own-rows : (table : List ℕ) (at stop : ℕ) (layout : Layout) → Stands table at layout → stop ≡ at + items layout → siblingsFrom table at stop ≡ ownRows at layout
+own-rows : (table : List ℕ) (at stop : ℕ) (layout : Layout) → RowsStand table at layout → stop ≡ at + items layout → siblingsFrom table at stop ≡ ownRows at layout
 unfolding ownRows items
 own-rows table at stop end s e = walk-end table at stop (omega arith)
 own-rows table at stop (field tag required rest) s e =
@@ -110,7 +110,7 @@ own-rows table at stop (group tag required inner rest) s e =
     ∙ rw (own-rows table (at + 1 + items inner) stop rest (group-rest s) (omega arith))
 
 -- the level's stretch lies in the table
-stands-length : (table : List ℕ) (at : ℕ) (layout : Layout) → Stands table at layout → at + items layout ≤ length table / 4
+stands-length : (table : List ℕ) (at : ℕ) (layout : Layout) → RowsStand table at layout → at + items layout ≤ length table / 4
 stands-length table at layout s =
     omega (arith, ap length (s .whole), length-append (s .before) (rowsFrom at layout ++ s .after), length-append (rowsFrom at layout) (s .after), rows-length at layout, s .start)
 
@@ -141,7 +141,7 @@ opens-later : {table : List ℕ} {sofar : Nested} {was : Group} (b : Bool) (leve
 opens-later true level layout o t = both t
 opens-later false level layout o t = o
 
-own-group : (table : List ℕ) (sofar : Nested) (was : Group) (tag at : ℕ) (layout : Layout) → Stands table at layout → Opens table sofar was → Opens table (groupAmong sofar tag (ownRows at layout)) (groupSince was tag layout)
+own-group : (table : List ℕ) (sofar : Nested) (was : Group) (tag at : ℕ) (layout : Layout) → RowsStand table at layout → Opens table sofar was → Opens table (groupAmong sofar tag (ownRows at layout)) (groupSince was tag layout)
 unfolding groupAmong laterGroup ownRows groupSince
 own-group table sofar was tag at end s o = o
 own-group table sofar was tag at (field t required rest) s o = own-group table (pick (eqb t tag) sofar sofar) was tag (at + 1) rest (field-rest s) (rw pick-same o)

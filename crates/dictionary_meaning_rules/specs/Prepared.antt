@@ -10,7 +10,7 @@ use Rattle.tagvalue.specs.Choice.{pick}
 use Rattle.dictionary_layout_rules.specs.Layout.{Layout}
 use Rattle.dictionary_layout_rules.specs.Tree.{Choice, noMessage, laidOut}
 use Rattle.dictionary_rules.specs.Records.{recordsFrom}
-use Rattle.dictionary_rules.specs.Check.{Outcome, outcome, walked, tooLong, readOf, answerOf, storeOf, checkOf}
+use Rattle.dictionary_rules.specs.Check.{CheckOutcome, outcome, walked, tooLong, readOf, answerOf, storeOf, checkOf}
 use Rattle.dictionary_rules.specs.Names.{Names, looksIn, named, noNames, messageIn}
 use Rattle.dictionary_rules.specs.Index.{componentAt, messageAt}
 use Rattle.dictionary_rules.specs.Check.{preparedOf}
@@ -27,7 +27,7 @@ use Rattle.dictionary_meaning_rules.specs.Named.{Standard, standard}
 use Rattle.dictionary_meaning_rules.specs.Passing.{KnownAs}
 use Rattle.dictionary_meaning_rules.specs.Tables.{layoutNumbered, MessageAs, Meant, meant}
 
-whole-outcome : {S : Type 0} (x : Outcome S) (checked : Checked) → answerOf x ≡ checked → x ≡ outcome checked (storeOf x)
+whole-outcome : {S : Type 0} (x : CheckOutcome S) (checked : Checked) → answerOf x ≡ checked → x ≡ outcome checked (storeOf x)
 unfolding answerOf storeOf
 whole-outcome (outcome answer store) checked e = rw e
 

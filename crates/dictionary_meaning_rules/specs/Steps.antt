@@ -13,7 +13,7 @@ use Rattle.dictionary_rules.specs.declared.Record.{Record}
 use Rattle.dictionary_rules.specs.declared.Record.the-variants.{KnownTag, OpensComponent, OpensMessage, FieldItem, ComponentItem, OpensGroup, Closes}
 use Rattle.dictionary_rules.specs.Names.{Looks}
 use Rattle.dictionary_rules.specs.Step.{depthOf, opened, deeper, opens, grown, heldAlso, heldWith, standsFor, atTop, inside, closedBefore, knownBefore, notEmpty, notTooDeep, onceComponent, onceMessage, notTooMany, onTag, onComponent, onMessage, onField, onItem, onGroup, closesOwner, closesGroup, closesInnermost, onClose, stepOf, present, atEnd}
-use Rattle.dictionary_rules.specs.Check.{Outcome, outcome, onStep, walked}
+use Rattle.dictionary_rules.specs.Check.{CheckOutcome, outcome, onStep, walked}
 use Rattle.dictionary_rules.specs.Names.{Names, isKnown, componentIn, messageIn, looksIn, named}
 use Rattle.dictionary_rules.specs.declared.Checked.{Checked}
 use Rattle.dictionary_rules.specs.declared.Checked.the-variants.{Passes, BadRecord, NoComponent, UnknownTag, EmptyGroup, TooDeep, Twice, TooManyItems}
@@ -59,7 +59,7 @@ pub record TagGoes (final : Names) (rest : Records) (names : Names) (tag : ℕ) 
   pub passes : Passing final rest TopLevel later
 
 module _ (final : Names) (place : ℕ) (rest : Records) (names : Names) where
-  abbrev goesOn : State → Note → Outcome Names
+  abbrev goesOn : State → Note → CheckOutcome Names
   goesOn state note = walked looksIn named rest state (named names note)
 
   abbrev after : Step → Type 0

@@ -9,7 +9,7 @@ use lib.ListN.{length, set, take, drop, length-append, length-drop, take-append-
 use lib.Seq.{set-at, length-take-le}
 use Rattle.dictionary_layout_rules.specs.Layout.{Layout, end, field, group, followedBy, items}
 use Rattle.dictionary_layout_rules.specs.Table.{mark, rowsFrom}
-use Rattle.dictionary_layout_rules.specs.Tabled.{rows-length, Stands}
+use Rattle.dictionary_layout_rules.specs.Tabled.{rows-length, RowsStand}
 use Rattle.dictionary_meaning_rules.specs.Laying.{putRow}
 use Rattle.dictionary_meaning_rules.specs.LayingLaws.{put-length}
 
@@ -125,7 +125,7 @@ written-over row (group tag required inner rest) before old after e o =
         (λ words k. follows (before ++ words) (drop (4 * items inner) more) after (length-append before words ∙ omega arith) (length-drop (4 * items inner) more ∙ omega arith))
 
 -- so the layout stands in the table
-pub written-stands : (row : ℕ) (layout : Layout) (table : List ℕ) → 4 * (row + items layout) ≤ length table → Stands (written row layout table) row layout
+pub written-stands : (row : ℕ) (layout : Layout) (table : List ℕ) → 4 * (row + items layout) ≤ length table → RowsStand (written row layout table) row layout
 written-stands row layout table h =
     record {
       before = take (4 * row) table;

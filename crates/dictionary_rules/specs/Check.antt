@@ -18,15 +18,15 @@ use Rattle.dictionary_rules.specs.Names.{Looks, Names, looksIn, named, n
 use Rattle.dictionary_rules.specs.Index.{looksAt, noted}
 
 -- the answer, and what the records made known until then
-pub data Outcome (S : Type 0) : Type 0 where
-  outcome : Checked → S → Outcome S
+pub data CheckOutcome (S : Type 0) : Type 0 where
+  outcome : Checked → S → CheckOutcome S
 
-unfoldable pub onStep : {S : Type 0} → S → Step → (State → Note → Outcome S) → Outcome S
+unfoldable pub onStep : {S : Type 0} → S → Step → (State → Note → CheckOutcome S) → CheckOutcome S
 onStep store (Refuses checked) goes = outcome checked store
 onStep store (Goes state note) goes = goes state note
 
 -- record by record, with a store that takes notes and is looked up in
-unfoldable pub walked : {S : Type 0} → (S → Looks) → (S → Note → S) → Records → State → S → Outcome S
+unfoldable pub walked : {S : Type 0} → (S → Looks) → (S → Note → S) → Records → State → S → CheckOutcome S
 walked looks noted (ends size) state store = outcome (atEnd (looks store) state size) store
 walked looks noted (bad place) state store = outcome (BadRecord place) store
 walked looks noted (whole place r rest) state store =
@@ -37,44 +37,44 @@ unfoldable pub tooLong : List ℕ → Bool
 tooLong dictionary = ltb 60000 (length dictionary)
 
 -- the answer to a dictionary, and what it names
-unfoldable pub readOf : List ℕ → Outcome Names
+unfoldable pub readOf : List ℕ → CheckOutcome Names
 readOf dictionary =
     pick (tooLong dictionary) (outcome TooLong noNames) (walked looksIn named (recordsFrom dictionary 0) TopLevel noNames)
 
-unfoldable pub answerOf : {S : Type 0} → Outcome S → Checked
+unfoldable pub answerOf : {S : Type 0} → CheckOutcome S → Checked
 answerOf (outcome checked store) = checked
 
-unfoldable pub storeOf : {S : Type 0} → Outcome S → S
+unfoldable pub storeOf : {S : Type 0} → CheckOutcome S → S
 storeOf (outcome checked store) = store
 
 unfoldable pub checkOf : List ℕ → Checked
 checkOf dictionary = answerOf (readOf dictionary)
 
 -- the answer to a dictionary, and what the lent index holds then; it holds nothing before the first record
-unfoldable pub preparedOf : List ℕ → List ℕ → Outcome (List ℕ)
+unfoldable pub preparedOf : List ℕ → List ℕ → CheckOutcome (List ℕ)
 preparedOf dictionary index =
     pick (tooLong dictionary) (outcome TooLong index) (walked looksAt noted (recordsFrom dictionary 0) TopLevel (replicate 6144 0 ++ drop 6144 index))
 
 -- "Numbers returned"
-unfoldable pub numberOf : Checked → ℕ
-numberOf Passes = 0
-numberOf TooLong = 30
-numberOf (BadRecord place) = 31
-numberOf (NoComponent number) = 32
-numberOf (UnknownTag tag) = 33
-numberOf (EmptyGroup tag) = 34
-numberOf (TooDeep place) = 35
-numberOf (Twice place) = 36
-numberOf (TooManyItems place) = 37
+unfoldable pub numberOfCheck : Checked → ℕ
+numberOfCheck Passes = 0
+numberOfCheck TooLong = 30
+numberOfCheck (BadRecord place) = 31
+numberOfCheck (NoComponent number) = 32
+numberOfCheck (UnknownTag tag) = 33
+numberOfCheck (EmptyGroup tag) = 34
+numberOfCheck (TooDeep place) = 35
+numberOfCheck (Twice place) = 36
+numberOfCheck (TooManyItems place) = 37
 
 -- the value that an answer returns: none, "place 60,000", or what it holds
-unfoldable pub valuesOf : Checked → List ℕ
-valuesOf Passes = []
-valuesOf TooLong = 60000 ∷ []
-valuesOf (BadRecord place) = place ∷ []
-valuesOf (NoComponent number) = number ∷ []
-valuesOf (UnknownTag tag) = tag ∷ []
-valuesOf (EmptyGroup tag) = tag ∷ []
-valuesOf (TooDeep place) = place ∷ []
-valuesOf (Twice place) = place ∷ []
-valuesOf (TooManyItems place) = place ∷ []
+unfoldable pub valuesOfCheck : Checked → List ℕ
+valuesOfCheck Passes = []
+valuesOfCheck TooLong = 60000 ∷ []
+valuesOfCheck (BadRecord place) = place ∷ []
+valuesOfCheck (NoComponent number) = number ∷ []
+valuesOfCheck (UnknownTag tag) = tag ∷ []
+valuesOfCheck (EmptyGroup tag) = tag ∷ []
+valuesOfCheck (TooDeep place) = place ∷ []
+valuesOfCheck (Twice place) = place ∷ []
+valuesOfCheck (TooManyItems place) = place ∷ []

@@ -10,7 +10,7 @@ use Rattle.tagvalue.specs.Text.{bytes}
 use Rattle.dictionary_rules.specs.Record.{lowFirst, bodyLength, withTag, withMark, zeroFilled, knownTag, opensComponent, opensMessage, fieldItem, componentItem, opensGroup, bodyOf, withBody, withKind, recordFrom, recordAt}
 use Rattle.dictionary_rules.specs.Records.{followedBy, recordsWithin, recordsFrom}
 use Rattle.dictionary_rules.specs.Step.{depthOf, opened, opens, deeper, grown, heldAlso, heldWith, standsFor, atTop, inside, closedBefore, knownBefore, notEmpty, notTooDeep, onceComponent, onceMessage, notTooMany, onTag, onComponent, onMessage, onField, onItem, onGroup, closesOwner, closesGroup, closesInnermost, onClose, stepOf, present, atEnd}
-use Rattle.dictionary_rules.specs.Check.{onStep, walked, tooLong, readOf, answerOf, checkOf, numberOf, valuesOf}
+use Rattle.dictionary_rules.specs.Check.{onStep, walked, tooLong, readOf, answerOf, checkOf, numberOfCheck, valuesOfCheck}
 use Rattle.dictionary_rules.specs.Prepared.{check-long}
 use Rattle.dictionary_rules.specs.declared.Checked.the-variants.{TooLong}
 use Rattle.dictionary_rules.specs.Names.{isKnown, componentIn, messageIn, looksIn, named, noNames}
@@ -145,18 +145,18 @@ table =
     ∷ (joined (thousand ∷ message "D" ∷ item 10 ∷ []), 31, 142 ∷ [])
     ∷ []
 
-answers : map (λ (row : Row). numberOf (checkOf (row .0)) ∷ valuesOf (checkOf (row .0))) table ≡ map (λ (row : Row). row .1 ∷ row .2) table
-unfolding checkOf numberOf valuesOf readOf answerOf tooLong walked onStep isKnown componentIn messageIn looksIn named noNames stepOf onTag onComponent onMessage onField onItem onGroup onClose closesInnermost closesGroup closesOwner atTop inside closedBefore knownBefore notEmpty notTooDeep notTooMany onceComponent onceMessage standsFor heldWith heldAlso grown opens opened deeper depthOf present atEnd recordsFrom recordsWithin followedBy recordAt recordFrom withKind withBody bodyOf knownTag opensComponent opensMessage fieldItem componentItem opensGroup withTag withMark zeroFilled bodyLength lowFirst
+answers : map (λ (row : Row). numberOfCheck (checkOf (row .0)) ∷ valuesOfCheck (checkOf (row .0))) table ≡ map (λ (row : Row). row .1 ∷ row .2) table
+unfolding checkOf numberOfCheck valuesOfCheck readOf answerOf tooLong walked onStep isKnown componentIn messageIn looksIn named noNames stepOf onTag onComponent onMessage onField onItem onGroup onClose closesInnermost closesGroup closesOwner atTop inside closedBefore knownBefore notEmpty notTooDeep notTooMany onceComponent onceMessage standsFor heldWith heldAlso grown opens opened deeper depthOf present atEnd recordsFrom recordsWithin followedBy recordAt recordFrom withKind withBody bodyOf knownTag opensComponent opensMessage fieldItem componentItem opensGroup withTag withMark zeroFilled bodyLength lowFirst
 answers = refl
 
-pub examples-pass : numberOf (checkOf examples) ≡ 0
-unfolding checkOf numberOf readOf answerOf tooLong walked onStep isKnown componentIn messageIn looksIn named noNames stepOf onTag onComponent onMessage onField onItem onGroup onClose closesInnermost closesGroup closesOwner atTop inside closedBefore knownBefore notEmpty notTooDeep notTooMany onceComponent onceMessage standsFor heldWith heldAlso grown opens opened deeper depthOf present atEnd recordsFrom recordsWithin followedBy recordAt recordFrom withKind withBody bodyOf knownTag opensComponent opensMessage fieldItem componentItem opensGroup withTag withMark zeroFilled bodyLength lowFirst
+pub examples-pass : numberOfCheck (checkOf examples) ≡ 0
+unfolding checkOf numberOfCheck readOf answerOf tooLong walked onStep isKnown componentIn messageIn looksIn named noNames stepOf onTag onComponent onMessage onField onItem onGroup onClose closesInnermost closesGroup closesOwner atTop inside closedBefore knownBefore notEmpty notTooDeep notTooMany onceComponent onceMessage standsFor heldWith heldAlso grown opens opened deeper depthOf present atEnd recordsFrom recordsWithin followedBy recordAt recordFrom withKind withBody bodyOf knownTag opensComponent opensMessage fieldItem componentItem opensGroup withTag withMark zeroFilled bodyLength lowFirst
 examples-pass = refl
 
 -- 30: one byte over 60,000, whatever it holds
 over-long : checkOf (replicate 60001 0) ≡ TooLong
 over-long = check-long (replicate 60001 0) (rw (length-replicate {A = ℕ} 60001 0) (omega arith))
 
-too-long-returns : (numberOf TooLong ≡ 30) × (valuesOf TooLong ≡ 60000 ∷ [])
-unfolding numberOf valuesOf
+too-long-returns : (numberOfCheck TooLong ≡ 30) × (valuesOfCheck TooLong ≡ 60000 ∷ [])
+unfolding numberOfCheck valuesOfCheck
 too-long-returns = (refl, refl)

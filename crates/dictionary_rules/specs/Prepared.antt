@@ -14,7 +14,7 @@ use Rattle.dictionary_rules.specs.RecordsLaws.{sizeOf, Spaced, at-last, 
 use Rattle.dictionary_rules.specs.declared.Record.{Record}
 use Rattle.dictionary_rules.specs.declared.Record.the-variants.{KnownTag, OpensComponent, OpensMessage, FieldItem, ComponentItem, OpensGroup, Closes}
 use Rattle.dictionary_rules.specs.Step.{depthOf, opens, deeper, grown, heldWith, atTop, inside, closedBefore, knownBefore, notEmpty, notTooDeep, notTooMany, onceComponent, onceMessage, onTag, onComponent, onMessage, onField, onItem, onGroup, closesOwner, closesGroup, closesInnermost, onClose, stepOf, atEnd}
-use Rattle.dictionary_rules.specs.Check.{Outcome, outcome, onStep, walked, tooLong, readOf, answerOf, storeOf, checkOf}
+use Rattle.dictionary_rules.specs.Check.{CheckOutcome, outcome, onStep, walked, tooLong, readOf, answerOf, storeOf, checkOf}
 use Rattle.dictionary_rules.specs.Check.{preparedOf}
 use Rattle.dictionary_rules.specs.Index.{looksAt, noted}
 use Rattle.dictionary_rules.specs.Agreement.{Agrees, knows-tag, closes-component, names-message, clear-agrees}
@@ -163,14 +163,14 @@ note-agrees index names b a state (ClosesComponent c) next r = (numberAt (c .pla
 note-agrees index names b a state (NamesMessage place msgType) next r = (numberAt place, names-message index names b a place msgType (r .0) (r .1), r .2)
 
 -- the same answer, and stores that agree
-abbrev Same : Outcome (List ℕ) → Outcome Names → Type 0
+abbrev Same : CheckOutcome (List ℕ) → CheckOutcome Names → Type 0
 Same (outcome checked index) (outcome other names) = (checked ≡ other) × ((b : ℕ) × Agrees index names b)
 
-same-answer : (x : Outcome (List ℕ)) (y : Outcome Names) → Same x y → answerOf x ≡ answerOf y
+same-answer : (x : CheckOutcome (List ℕ)) (y : CheckOutcome Names) → Same x y → answerOf x ≡ answerOf y
 unfolding answerOf
 same-answer (outcome checked index) (outcome other names) same = same .0
 
-same-store : (x : Outcome (List ℕ)) (y : Outcome Names) → Same x y → (b : ℕ) × Agrees (storeOf x) (storeOf y) b
+same-store : (x : CheckOutcome (List ℕ)) (y : CheckOutcome Names) → Same x y → (b : ℕ) × Agrees (storeOf x) (storeOf y) b
 unfolding storeOf
 same-store (outcome checked index) (outcome other names) same = same .1
 

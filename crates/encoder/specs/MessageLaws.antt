@@ -25,7 +25,7 @@ use Rattle.message_rules.specs.StoreLaws.{In, lent-in, rows-all, own-rows, coun
 use Rattle.message_rules.specs.declared.Part.{Part}
 use Rattle.message_rules.specs.declared.Part.the-variants.{Header, Body, Trailer}
 use Rattle.written_form.specs.Encoding.{text, textUnder, isFirst, isRest, headerText, messageText, bytesOf, sumDigits, summed}
-use Rattle.encoder.specs.Writing.{chosen, rowsText, bytesIn, rowBytes, itemsAt, textAt, Spans, tailOf, Outcome, outcome, writing}
+use Rattle.encoder.specs.Writing.{chosen, rowsText, bytesIn, rowBytes, itemsAt, textAt, Spans, tailOf, WritingOutcome, outcome, writing}
 use Rattle.encoder.specs.WritingLaws.{text-laid, bytes-append, bytes-laid, text-length, written-twice}
 use Rattle.encoder.specs.declared.Encoded.the-variants.{Written, NoMessage, NoRoom}
 

@@ -75,11 +75,11 @@ unfoldable pub tailOf : ℕ → List ℕ → List ℕ
 tailOf separator before = 49 ∷ 48 ∷ 61 ∷ (sumDigits before ++ (separator ∷ []))
 
 -- what writing a message answers, and what it leaves of the output
-pub data Outcome : Type 0 where
-  outcome : Encoded → List ℕ → Outcome
+pub data WritingOutcome : Type 0 where
+  outcome : Encoded → List ℕ → WritingOutcome
 
 -- a message is written at the start of the output where it has room; the rest of the output stays
-unfoldable pub writing : ℕ → List ℕ → List ℕ → List ℕ → Outcome
+unfoldable pub writing : ℕ → List ℕ → List ℕ → List ℕ → WritingOutcome
 writing separator words values output =
     pick (isMessage words values)
     (pick (leb (length (summed separator (messageText separator (messageIn words values)))) (length output))

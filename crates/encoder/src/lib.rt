@@ -15,7 +15,7 @@ ghost use Rattle.tagvalue.specs.CheckSum.{sumOf};
 ghost use Rattle.tagvalue.specs.Field.{fieldBytes};
 ghost use Rattle.maps.specs.Rows.{rowAt, rowsFrom, rowsBefore, sizeOf, sizes, messageWords, messageRows};
 ghost use Rattle.message_rules.specs.Changes.{placeOf};
-ghost use Rattle.encoder.specs.Writing.{chosen, rowOn, rowText, rowsText, rowBytes, bytesIn, isUncounted, uncounted, itemsAt, textAt, Spans, tailOf, Outcome, outcome, writing};
+ghost use Rattle.encoder.specs.Writing.{chosen, rowOn, rowText, rowsText, rowBytes, bytesIn, isUncounted, uncounted, itemsAt, textAt, Spans, tailOf, WritingOutcome, outcome, writing};
 
 fn write_bytes(output: &mut [u8], at: usize, text: &[u8]) -> usize
     requires { ⌜ at + length (now text) ≤ length (now output) ⌝ }

@@ -20,7 +20,7 @@ use Rattle.message_rules.specs.SplitLaws.{field-split, field-absent}
 use Rattle.message_rules.specs.StoreLaws.{In, rows-all, own-rows, span-grows}
 use Rattle.message_rules.specs.declared.Part.{Part}
 use Rattle.encoder.specs.Writing.{rowBytes}
-use Rattle.encoding.specs.Judging.{Within, heldAt, hungAt, sizeAt}
+use Rattle.encoding.specs.Judging.{SpanWithin, heldAt, hungAt, sizeAt}
 use Rattle.encoding.specs.SizeLaws.{sizeUnder}
 
 -- whether a map itself has a run on a start tag
@@ -92,7 +92,7 @@ size-row tag l (entry s d own rest) h front behind words n at rows found =
     (found ∙ find-below l 1 tag own (l + 1) (length front + 1) (laid l rest) (omega arith) ∙ ap (λ (i : ℕ). findFrom 1 l tag i (laid l rest)) (sym place))
 
 module _ (words values : List ℕ) (part : Part) (m : Message) (i : In words values part m) where
-  pub span-within : Within words (spanOf part m)
+  pub span-within : SpanWithin words (spanOf part m)
   span-within = let g = span-grows words values part m i in record { whole = i .sized .whole; forwards = g .0; last = g .1; few = g .2 }
 
   ends : spanOf part m .to ≡ spanOf part m .from + length (laid 1 (partOf part m))

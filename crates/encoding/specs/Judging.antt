@@ -13,7 +13,7 @@ use Rattle.message_rules.specs.declared.Span.{Span}
 use Rattle.encoder.specs.Writing.{rowBytes, bytesIn, uncounted}
 
 -- a span of rows that are lent
-pub record Within (words : List ℕ) (span : Span) : Type 0 where
+pub record SpanWithin (words : List ℕ) (span : Span) : Type 0 where
   pub whole : length words ≡ messageWords
   pub forwards : span .from ≤ span .to
   pub last : span .to ≤ span .count

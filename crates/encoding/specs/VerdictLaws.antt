@@ -22,7 +22,7 @@ use Rattle.written_form.specs.Encoding.{bytesOf, dropped, bodyLength, encoding,
 use Rattle.encoder.specs.Writing.{uncounted}
 use Rattle.encoder.specs.MessageLaws.{message-length, size-is}
 use Rattle.written_form.specs.Encode.{hasUncounted, isIncomplete, judging, verdictOf, left, encoded, afterVerdict, encodingOf}
-use Rattle.encoding.specs.Judging.{Within, sizeAt, incompleteAt, allBytes, bodyAt, addedAt, fieldsAt}
+use Rattle.encoding.specs.Judging.{SpanWithin, sizeAt, incompleteAt, allBytes, bodyAt, addedAt, fieldsAt}
 use Rattle.encoding.specs.Leaving.{Encodable}
 use Rattle.encoding.specs.SizeLaws.{sizeUnder, body-bytes, encoding-length, encoded-fields}
 use Rattle.encoding.specs.FoundLaws.{span-within, held-is, hung-is, size-found}
@@ -32,10 +32,10 @@ use Rattle.written_form.specs.declared.Encoding.the-variants.{NoMessage, Invali
 use Rattle.written_form.specs.declared.Verdict.the-variants.{Measured, Refused}
 
 module _ (words values : List ℕ) (lent : isMessage words values ≡ true) where
-  head-within : Within words (spanOf Header (messageIn words values))
+  head-within : SpanWithin words (spanOf Header (messageIn words values))
   head-within = span-within words values Header (messageIn words values) (lent-in words values Header lent)
 
-  tail-within : Within words (spanOf Trailer (messageIn words values))
+  tail-within : SpanWithin words (spanOf Trailer (messageIn words values))
   tail-within = span-within words values Trailer (messageIn words values) (lent-in words values Trailer lent)
 
   begin-is : sizeAt words (spanOf Header (messageIn words values)) 8 ≡ sizeUnder 8 (messageIn words values .header)
@@ -123,7 +123,7 @@ pub record Parts (words values : List ℕ) (head tail : Span) : Type 0 where
   pub tail-is : tail ≡ spanOf Trailer (messageIn words values)
 
 module _ (words values : List ℕ) (head tail : Span) (p : Parts words values head tail) where
-  pub both-within : (Within words head) × (Within words tail)
+  pub both-within : (SpanWithin words head) × (SpanWithin words tail)
   both-within = (rw (p .head-is) (head-within words values (p .lent)), rw (p .tail-is) (tail-within words values (p .lent)))
 
   pub taken-fits : sizeAt words head 8 + sizeAt words head 9 + sizeAt words tail 10 ≤ allBytes words head

@@ -15,11 +15,11 @@ ghost use Rattle.lent.specs.Meaning.{messageIn};
 ghost use Rattle.message_rules.specs.declared.Part.the-variants.{Header};
 ghost use Rattle.message_rules.specs.Changes.{after, storing};
 ghost use Rattle.written_form.specs.Encode.{verdictOf, left, encoded, encodingOf};
-ghost use Rattle.encoding.specs.Judging.{Within, heldAt, hungAt, sizeAt, incompleteAt, allBytes, bodyAt, addedAt, fieldsAt};
+ghost use Rattle.encoding.specs.Judging.{SpanWithin, heldAt, hungAt, sizeAt, incompleteAt, allBytes, bodyAt, addedAt, fieldsAt};
 ghost use Rattle.encoding.specs.Leaving.{Encodable};
 
 fn holds(words: &[u32], span: Span, tag: u32) -> bool
-    requires { ⌜ Within (now words) span ⌝ }
+    requires { ⌜ SpanWithin (now words) span ⌝ }
     ensures { λ r. ⌜ r ≡ heldAt (now (words .entry)) span tag ⌝ }
 {
     let from = span.from;
@@ -28,7 +28,7 @@ fn holds(words: &[u32], span: Span, tag: u32) -> bool
 }
 
 fn has_run(words: &[u32], span: Span, start: u32) -> bool
-    requires { ⌜ Within (now words) span ⌝ }
+    requires { ⌜ SpanWithin (now words) span ⌝ }
     ensures { λ r. ⌜ r ≡ hungAt (now (words .entry)) span start ⌝ }
 {
     let from = span.from;
@@ -38,7 +38,7 @@ fn has_run(words: &[u32], span: Span, start: u32) -> bool
 
 // How many bytes a part's own field takes when it is written, 0 where the part lacks it.
 fn field_bytes(words: &[u32], span: Span, tag: u32) -> usize
-    requires { ⌜ Within (now words) span ⌝ }
+    requires { ⌜ SpanWithin (now words) span ⌝ }
     ensures { λ r. ⌜ r ≡ sizeAt (now (words .entry)) span tag ⌝ }
     ensures { λ r. ⌜ r < 8589934592 ⌝ }
 {
@@ -53,7 +53,7 @@ fn field_bytes(words: &[u32], span: Span, tag: u32) -> usize
 
 // A header without 8 or 35, or a run without its count; the trailer's 10 counts none, as it is dropped.
 fn is_incomplete(words: &[u32], head: Span, tail: Span) -> bool
-    requires { ⌜ (Within (now words) head) × (Within (now words) tail) ⌝ }
+    requires { ⌜ (SpanWithin (now words) head) × (SpanWithin (now words) tail) ⌝ }
     ensures { λ r. ⌜ r ≡ incompleteAt (now (words .entry)) head tail ⌝ }
 {
     if !holds(words, head, 8) {
@@ -71,7 +71,7 @@ fn is_incomplete(words: &[u32], head: Span, tail: Span) -> bool
 
 // The bytes of all fields and entries but the header's own 8 and 9 and the trailer's own 10.
 fn body_length(words: &[u32], head: Span, tail: Span) -> usize
-    requires { ⌜ (Within (now words) head) × (Within (now words) tail) ⌝ }
+    requires { ⌜ (SpanWithin (now words) head) × (SpanWithin (now words) tail) ⌝ }
     requires { ⌜ sizeAt (now words) head 8 + sizeAt (now words) head 9 + sizeAt (now words) tail 10 ≤ allBytes (now words) head ⌝ }
     ensures { λ r. ⌜ r ≡ bodyAt (now (words .entry)) head tail ⌝ }
 {
@@ -85,7 +85,7 @@ fn body_length(words: &[u32], head: Span, tail: Span) -> usize
 
 // How many fields come to a part where it gets a field: none where that field is held.
 fn added(words: &[u32], span: Span, tag: u32) -> usize
-    requires { ⌜ Within (now words) span ⌝ }
+    requires { ⌜ SpanWithin (now words) span ⌝ }
     ensures { λ r. ⌜ r ≡ addedAt (now (words .entry)) span tag ⌝ }
     ensures { λ r. ⌜ r ≤ 1 ⌝ }
 {
@@ -97,7 +97,7 @@ fn added(words: &[u32], span: Span, tag: u32) -> usize
 
 // The fields with the new 9 and 10.
 fn fields_with(words: &[u32], head: Span, tail: Span) -> usize
-    requires { ⌜ (Within (now words) head) × (Within (now words) tail) ⌝ }
+    requires { ⌜ (SpanWithin (now words) head) × (SpanWithin (now words) tail) ⌝ }
     ensures { λ r. ⌜ r ≡ fieldsAt (now (words .entry)) head tail ⌝ }
 {
     let count = head.count;

@@ -9,11 +9,11 @@ ghost use Prim.Native.Nat.{_≤_};
 ghost use lib.ListN.{length, getD};
 ghost use Rattle.dictionary_rules.specs.Records.{recordsFrom};
 ghost use Rattle.dictionary_rules.specs.Index.{looksAt, noted};
-ghost use Rattle.dictionary_rules.specs.Check.{outcome, walked, checkOf, preparedOf, numberOf, valuesOf};
+ghost use Rattle.dictionary_rules.specs.Check.{outcome, walked, checkOf, preparedOf, numberOfCheck, valuesOfCheck};
 
 // The number that an answer returns.
 pub fn number_of(checked: Checked) -> u32
-    ensures { λ r. ⌜ r ≡ numberOf checked ⌝ }
+    ensures { λ r. ⌜ r ≡ numberOfCheck checked ⌝ }
 {
     match checked {
         Checked::Passes => 0,
@@ -30,7 +30,7 @@ pub fn number_of(checked: Checked) -> u32
 
 // The value that an answer returns, and 0 where it returns none.
 pub fn value_of(checked: Checked) -> u32
-    ensures { λ r. ⌜ r ≡ getD (valuesOf checked) 0 0 ⌝ }
+    ensures { λ r. ⌜ r ≡ getD (valuesOfCheck checked) 0 0 ⌝ }
 {
     match checked {
         Checked::Passes => 0,

@@ -17,12 +17,12 @@ use Rattle.frame_hunter_rules.specs.declared.Reply.{Reply}
 use Rattle.frame_hunter_rules.specs.declared.Taken.{Taken}
 
 -- 01, "Numbers returned"
-unfoldable pub numberOf : Answer → ℕ
-numberOf Fine = 0
-numberOf OutputShort = 23
-numberOf StoreFull = 25
-numberOf AfterEnd = 26
-numberOf BadStore = 27
+unfoldable pub numberOfHunter : Answer → ℕ
+numberOfHunter Fine = 0
+numberOfHunter OutputShort = 23
+numberOfHunter StoreFull = 25
+numberOfHunter AfterEnd = 26
+numberOfHunter BadStore = 27
 
 -- ---- framers and bytes
 

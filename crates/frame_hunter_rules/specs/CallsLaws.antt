@@ -171,18 +171,18 @@ comes true stream frames f r = let i = ended-is verdictOf verdict-laws r in
     record { passed = i .passed; count = i .count; hunted = subst (λ (x : List ℕ). Hunt verdictOf true stream frames (i .passed) x) (sym (i .all-gone)) (i .hunted); flag = i .at-end }
 
 -- the same by the bytes of state and store
-pub record Outcome (over : Bool) (stream : List ℕ) (frames : List (List ℕ)) (s : State) (store : List ℕ) : Type 0 where
+pub record CallsOutcome (over : Bool) (stream : List ℕ) (frames : List (List ℕ)) (s : State) (store : List ℕ) : Type 0 where
   pub passed : ℕ
   pub count : s .dropped ≡ passed % countWrap
   pub hunted : Hunt verdictOf over stream frames passed (take (s .used) store)
   pub flag : s .ended ≡ over
   pub used-is : length (take (s .used) store) ≡ s .used
 
-held-by : (over : Bool) (stream : List ℕ) (frames : List (List ℕ)) (s : State) (store : List ℕ) → Fit s store → Comes over stream frames (framerOf s store) → Outcome over stream frames s store
+held-by : (over : Bool) (stream : List ℕ) (frames : List (List ℕ)) (s : State) (store : List ℕ) → Fit s store → Comes over stream frames (framerOf s store) → CallsOutcome over stream frames s store
 unfolding framerOf
 held-by over stream frames s store f c = record { passed = c .passed; count = c .count; hunted = c .hunted; flag = c .flag; used-is = held-length s store f }
 
-pub outcome : {over : Bool} {stream : List ℕ} {frames : List (List ℕ)} {s : State} {store : List ℕ} → Calls over stream frames s store → Outcome over stream frames s store
+pub outcome : {over : Bool} {stream : List ℕ} {frames : List (List ℕ)} {s : State} {store : List ℕ} → Calls over stream frames s store → CallsOutcome over stream frames s store
 outcome {over} {stream} {frames} {s} {store} calls =
     let i : IsRun over stream frames s store = is-run calls in
     held-by over stream frames s store (i .holds .fit) (subst (λ (f : Framer). Comes over stream frames f) (sym (i .holds .same)) (comes over stream frames (i .framed) (i .run)))

@@ -9,7 +9,7 @@ use lib.Seq.{drop-append-le}
 use Rattle.frame_verdict_rules.specs.Frame.{IsFrame, Starts}
 use Rattle.frame_verdict_rules.specs.Verdict.{verdictOf}
 use Rattle.frame_verdict_rules.specs.VerdictLaws.{verdict-laws, frame-is, frame-iff}
-use Rattle.frame_hunter_rules.specs.Hunt.{IsWhole, NoStraddle, Within, w-none, w-skip, w-cut, Each, each-none, each-more, joined}
+use Rattle.frame_hunter_rules.specs.Hunt.{IsWhole, NoStraddle, Contains, w-none, w-skip, w-cut, Each, each-none, each-more, joined}
 use Rattle.frame_hunter_rules.specs.Recovery.{Whole, Handed, recovered}
 use Rattle.frame_hunter_rules.specs.Calls.{Calls}
 use Rattle.frame_hunter_rules.specs.CallsLaws.{outcome}
@@ -19,7 +19,7 @@ use Rattle.frame_hunter_rules.specs.declared.State.{State}
 unfoldable pub NoneStraddles : List ℕ → List ℕ → Type 0
 NoneStraddles D S = (i n : ℕ) → i < length D → Starts (drop i S) n → i + n ≤ length D
 
-within-map : {P Q : List ℕ → Type 0} {s : List ℕ} {gs : List (List ℕ)} → ((g : List ℕ) → P g → Q g) → Within P s gs → Within Q s gs
+within-map : {P Q : List ℕ → Type 0} {s : List ℕ} {gs : List (List ℕ)} → ((g : List ℕ) → P g → Q g) → Contains P s gs → Contains Q s gs
 within-map f w-none = w-none
 within-map f (w-skip w) = w-skip (within-map f w)
 within-map f (w-cut p w) = w-cut (f _ p) (within-map f w)

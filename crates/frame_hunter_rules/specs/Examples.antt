@@ -9,7 +9,7 @@ use Rattle.frame_verdict_rules.specs.Readers.{_>>=_, literal, withHead, any, he
 use Rattle.frame_verdict_rules.specs.Verdict.{checksumFor, bodyReader, frameReader, stageOf, asVerdict, verdictOf}
 use Rattle.frame_verdict_rules.specs.Examples.{p1, p2}
 use Rattle.frame_hunter_rules.specs.declared.Answer.the-variants.{Fine, OutputShort, StoreFull, AfterEnd, BadStore}
-use Rattle.frame_hunter_rules.specs.Bytes.{numberOf}
+use Rattle.frame_hunter_rules.specs.Bytes.{numberOfHunter}
 use Rattle.frame_hunter_rules.specs.Hunt.{actOn, followed, framer, tookBy, huntFrom, takeOne}
 
 -- P12: 26 dropped, P1 handed out
@@ -18,6 +18,6 @@ unfolding takeOne tookBy huntFrom followed actOn verdictOf asVerdict stageOf fra
 examples = refl
 
 -- 01, "Numbers returned"
-numbers : map numberOf (Fine ∷ OutputShort ∷ StoreFull ∷ AfterEnd ∷ BadStore ∷ []) ≡ 0 ∷ 23 ∷ 25 ∷ 26 ∷ 27 ∷ []
-unfolding numberOf
+numbers : map numberOfHunter (Fine ∷ OutputShort ∷ StoreFull ∷ AfterEnd ∷ BadStore ∷ []) ≡ 0 ∷ 23 ∷ 25 ∷ 26 ∷ 27 ∷ []
+unfolding numberOfHunter
 numbers = refl

@@ -127,10 +127,10 @@ module _ (judge : List ℕ → Verdict) where
 -- ---- frames in a stream
 
 -- the lists `gs`, each with the property, lie in s, in this order and apart
-pub data Within (P : List ℕ → Type 0) : List ℕ → List (List ℕ) → Type 0 where
-  w-none : {s : List ℕ} → Within P s []
-  w-skip : {x : ℕ} {s : List ℕ} {gs : List (List ℕ)} → Within P s gs → Within P (x ∷ s) gs
-  w-cut : {s g : List ℕ} {gs : List (List ℕ)} → P g → Within P s gs → Within P (g ++ s) (g ∷ gs)
+pub data Contains (P : List ℕ → Type 0) : List ℕ → List (List ℕ) → Type 0 where
+  w-none : {s : List ℕ} → Contains P s []
+  w-skip : {x : ℕ} {s : List ℕ} {gs : List (List ℕ)} → Contains P s gs → Contains P (x ∷ s) gs
+  w-cut : {s g : List ℕ} {gs : List (List ℕ)} → P g → Contains P s gs → Contains P (g ++ s) (g ∷ gs)
 
 -- each list has the property
 pub data Each (P : List ℕ → Type 0) : List (List ℕ) → Type 0 where

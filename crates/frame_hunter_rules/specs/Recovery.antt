@@ -11,7 +11,7 @@ use native.Mathlib.Omega.{arith}
 use lib.ListN.{length, take, drop, length-append, length-drop, take-append-drop}
 use lib.Seq.{drop-drop, take-append-seam, drop-append-seam, take-append-le, drop-append-le, length-take-le}
 use Rattle.frame_verdict_rules.specs.Frame.{frameMost}
-use Rattle.frame_hunter_rules.specs.Hunt.{actOn, Hunt, h-empty, h-stop, h-hand, h-pass, IsWhole, NoStraddle, Within, w-none, w-skip, w-cut, Each, each-none, each-more, joined}
+use Rattle.frame_hunter_rules.specs.Hunt.{actOn, Hunt, h-empty, h-stop, h-hand, h-pass, IsWhole, NoStraddle, Contains, w-none, w-skip, w-cut, Each, each-none, each-more, joined}
 use Rattle.frame_verdict_rules.specs.VerdictLaws.{Laws}
 use Rattle.frame_hunter_rules.specs.TakeLaws.{act-hand, act-pass, frame-act}
 use Rattle.frame_hunter_rules.specs.RunLaws.{two-acts, held-small, none-left}
@@ -35,7 +35,7 @@ pub record Handed (P : List ℕ → Type 0) (over : Bool) (s D : List ℕ) (Fs f
   pub left : List (List ℕ)
   -- first frames that lie wholly in the damage, in order and apart, and then later frames: the first of them, in order
   pub whole : fs ≡ inside ++ out
-  pub within : Within P D inside
+  pub within : Contains P D inside
   pub parts : Fs ≡ out ++ left
   -- the later frame F, which stands behind the frames `As`, is among them "once 8,192 bytes from its start have arrived or the stream
   -- is ended"
@@ -61,7 +61,7 @@ module _ (judge : List ℕ → Verdict) (L : Laws judge) where
     left : List (List ℕ)
     whole : fs ≡ inside ++ out
     parts : Fs ≡ out ++ left
-    within : Within (IsWhole judge) D inside
+    within : Contains (IsWhole judge) D inside
     due : (left ≡ []) ⊎ ((e ≡ false) × (length P < length D + length (joined out) + frameMost))
 
   record Front (e : Bool) (P : List ℕ) (Fs fs : List (List ℕ)) : Type 0 where
@@ -162,7 +162,7 @@ module _ (judge : List ℕ → Verdict) (L : Laws judge) where
     left = i .left;
     whole = ap (λ (l : List (List ℕ)). take n P ∷ l) (i .whole);
     parts = i .parts;
-    within = subst (λ (l : List ℕ). Within (IsWhole judge) l (take n P ∷ i .inside)) (cc (g .same, take-append-drop n D)) (w-cut (g .isframe) (i .within));
+    within = subst (λ (l : List ℕ). Contains (IsWhole judge) l (take n P ∷ i .inside)) (cc (g .same, take-append-drop n D)) (w-cut (g .isframe) (i .within));
     due = ⊎-elim (λ x. inl x) (λ x. inr (x .0, omega (arith, g .inP, g .inD, length-drop n P, length-drop n D, x .1))) (i .due);
   }
 

@@ -20,14 +20,14 @@ use Rattle.frame_parser_rules.specs.declared.Ready.the-variants.{Length,
 -- ===== answers =====
 
 -- the number returned
-unfoldable pub numberOf : Answer → ℕ
-numberOf Accepted = 0
-numberOf (Message n) = 0
-numberOf OverLong = 20
-numberOf ShortOutput = 23
-numberOf StoreFull = 25
-numberOf AfterEnd = 26
-numberOf BadStore = 27
+unfoldable pub numberOfParser : Answer → ℕ
+numberOfParser Accepted = 0
+numberOfParser (Message n) = 0
+numberOfParser OverLong = 20
+numberOfParser ShortOutput = 23
+numberOfParser StoreFull = 25
+numberOfParser AfterEnd = 26
+numberOfParser BadStore = 27
 
 -- the value returned: a take's "length .., 0 if none is ready"; no other answer has one
 unfoldable pub valueOf : Answer → ℕ
@@ -41,7 +41,7 @@ valueOf BadStore = 0
 
 -- a refusal leaves things as they were (20 in a take apart, which keeps its mark)
 unfoldable pub whereAccepted {ℓ} : {A : Type ℓ} → Answer → A → A → A
-whereAccepted answer changed same = pick (eqb (numberOf answer) 0) changed same
+whereAccepted answer changed same = pick (eqb (numberOfParser answer) 0) changed same
 
 abbrev pub answersWith : State → Answer → Outcome
 answersWith state answer = record { state = state; answer = answer }

@@ -12,7 +12,7 @@ use borrow.Author.Tests.{eq-eqb, ne-eqb, eqb-true, le-leb, lt-leb, leb-true, lt-
 use Rattle.tagvalue.specs.Choice.{pick}
 use Rattle.tagvalue.specs.Decimal.{writtenAt}
 use Rattle.frame_parser_rules.specs.Announced.{announcedIn}
-use Rattle.frame_parser_rules.specs.Framer.{numberOf, valueOf, whereAccepted, answersWith, onlyMark, held, unusable, pushAnswer, withChunk, pushed, pushedStore, endAnswer, withEnd, finished, readyOf, readyAnswer, takeAnswer, takeState, taken, movedToFront, takenStore, takenOutput}
+use Rattle.frame_parser_rules.specs.Framer.{numberOfParser, valueOf, whereAccepted, answersWith, onlyMark, held, unusable, pushAnswer, withChunk, pushed, pushedStore, endAnswer, withEnd, finished, readyOf, readyAnswer, takeAnswer, takeState, taken, movedToFront, takenStore, takenOutput}
 use Rattle.frame_parser_rules.specs.declared.Announced.{Announced}
 use Rattle.frame_parser_rules.specs.declared.Announced.the-variants.{Ends, Over, Unknown}
 use Rattle.frame_parser_rules.specs.declared.State.{State}
@@ -51,46 +51,46 @@ module _ (state : State) (store chunk : List ℕ) where
   PushGives outcome after = (outcome ≡ pushed state store chunk) × (after ≡ pushedStore state store chunk)
 
   pub push-bad : unusable (state .used) store ≡ true → PushGives (answersWith state BadStore) store
-  unfolding pushed pushedStore pushAnswer whereAccepted numberOf
+  unfolding pushed pushedStore pushAnswer whereAccepted numberOfParser
   push-bad u = (rw u, rw u)
 
   module _ (u : unusable (state .used) store ≡ false) where
     pub push-ended : state .ended ≡ true → PushGives (answersWith state AfterEnd) store
-    unfolding pushed pushedStore pushAnswer whereAccepted numberOf
+    unfolding pushed pushedStore pushAnswer whereAccepted numberOfParser
     push-ended e = (rw (u, e), rw (u, e))
 
     module _ (e : state .ended ≡ false) where
       pub push-over : state .over ≡ true → PushGives (answersWith state OverLong) store
-      unfolding pushed pushedStore pushAnswer whereAccepted numberOf
+      unfolding pushed pushedStore pushAnswer whereAccepted numberOfParser
       push-over o = (rw (u, e, o), rw (u, e, o))
 
       module _ (o : state .over ≡ false) where
         pub push-full : 16384 < state .used + length chunk → PushGives (answersWith state StoreFull) store
-        unfolding pushed pushedStore pushAnswer whereAccepted numberOf
+        unfolding pushed pushedStore pushAnswer whereAccepted numberOfParser
         push-full l = (rw (u, e, o, lt-leb _ _ l), rw (u, e, o, lt-leb _ _ l))
 
         pub push-accepted : state .used + length chunk ≤ 16384 → PushGives (answersWith (withChunk state chunk) Accepted) (writtenAt (state .used) chunk store)
-        unfolding pushed pushedStore pushAnswer whereAccepted numberOf
+        unfolding pushed pushedStore pushAnswer whereAccepted numberOfParser
         push-accepted l = (rw (u, e, o, le-leb _ _ l), rw (u, e, o, le-leb _ _ l))
 
 -- ===== the end =====
 
 module _ (state : State) (store : List ℕ) where
   pub end-bad : unusable (state .used) store ≡ true → answersWith state BadStore ≡ finished state store
-  unfolding finished endAnswer whereAccepted numberOf
+  unfolding finished endAnswer whereAccepted numberOfParser
   end-bad u = rw u
 
   module _ (u : unusable (state .used) store ≡ false) where
     pub end-ended : state .ended ≡ true → answersWith state AfterEnd ≡ finished state store
-    unfolding finished endAnswer whereAccepted numberOf
+    unfolding finished endAnswer whereAccepted numberOfParser
     end-ended e = rw (u, e)
 
     pub end-over : state .ended ≡ false → state .over ≡ true → answersWith state OverLong ≡ finished state store
-    unfolding finished endAnswer whereAccepted numberOf
+    unfolding finished endAnswer whereAccepted numberOfParser
     end-over e o = rw (u, e, o)
 
     pub end-accepted : state .ended ≡ false → state .over ≡ false → answersWith (withEnd state) Accepted ≡ finished state store
-    unfolding finished endAnswer whereAccepted numberOf
+    unfolding finished endAnswer whereAccepted numberOfParser
     end-accepted e o = rw (u, e, o)
 
 -- ===== what is ready =====
@@ -149,17 +149,17 @@ module _ (state : State) (store output : List ℕ) where
   take-gives answer e = (rw e, rw e, rw e)
 
   pub take-bad : unusable (state .used) store ≡ true → TakeGives (answersWith state BadStore) store output
-  unfolding takeAnswer takeState whereAccepted numberOf
+  unfolding takeAnswer takeState whereAccepted numberOfParser
   take-bad u = take-gives BadStore (rw u)
 
   module _ (u : unusable (state .used) store ≡ false) where
     pub take-short : length output < 8192 → TakeGives (answersWith state ShortOutput) store output
-    unfolding takeAnswer takeState whereAccepted numberOf
+    unfolding takeAnswer takeState whereAccepted numberOfParser
     take-short l = take-gives ShortOutput (rw (u, lt-ltb _ _ l))
 
     module _ (l : 8192 ≤ length output) where
       pub take-marked : state .over ≡ true → TakeGives (answersWith onlyMark OverLong) store output
-      unfolding takeAnswer takeState whereAccepted numberOf
+      unfolding takeAnswer takeState whereAccepted numberOfParser
       take-marked o = take-gives OverLong (rw (u, le-ltb _ _ l, o))
 
       module _ (o : state .over ≡ false) where
@@ -168,11 +168,11 @@ module _ (state : State) (store output : List ℕ) where
         take-judges = rw (u, le-ltb _ _ l, o)
 
         pub take-over : readyOf (state .used) (announcedIn (held state store)) ≡ Refused → TakeGives (answersWith onlyMark OverLong) store output
-        unfolding takeState whereAccepted numberOf readyAnswer
+        unfolding takeState whereAccepted numberOfParser readyAnswer
         take-over r = take-gives OverLong (take-judges ∙ ap readyAnswer r)
 
         pub take-message : (n : ℕ) → readyOf (state .used) (announcedIn (held state store)) ≡ Length n → TakeGives (answersWith (takeState state (Message n)) (Message n)) (movedToFront (drop n (held state store)) store) (movedToFront (take n (held state store)) output)
-        unfolding whereAccepted numberOf valueOf readyAnswer
+        unfolding whereAccepted numberOfParser valueOf readyAnswer
         take-message n r = take-gives (Message n) (take-judges ∙ ap readyAnswer r)
 
         -- no message is ready: state, store and output stay

@@ -13,7 +13,7 @@ use Rattle.tagvalue.specs.Choice.{pick}
 use Rattle.tagvalue.specs.Text.{bytes}
 use Rattle.tagvalue.specs.Number.{isDigit, allDigits}
 use Rattle.tagvalue.specs.DecimalLaws.{all-digits-first}
-use Rattle.tagvalue.specs.Standard.{All, Digit, Int, Field, Fields, Distinct, Stands}
+use Rattle.tagvalue.specs.Standard.{All, Digit, Int, Field, Fields, Distinct, Members}
 use Rattle.tagvalue.specs.Standard as standard
 use Rattle.frame_parser_rules.specs.Stream.{Fits, begins}
 use Rattle.frame_parser_rules.specs.Stream as stream
@@ -79,7 +79,7 @@ sample-fits =
         length-is = int (bytes "5") 5 (omega arith) refl refl;
         sum-is = int (bytes "163") 163 (omega arith) refl refl;
         three-digits = refl;
-        members-are = Stands.no-member;
+        members-are = Members.no-member;
         no-tag-twice = Distinct.fresh (apart 8 (9 ∷ (35 ∷ (10 ∷ []))) refl) (Distinct.fresh (apart 9 (35 ∷ (10 ∷ [])) refl) (Distinct.fresh (apart 35 (10 ∷ []) refl) (Distinct.fresh All.none Distinct.empty)));
       };
       size = omega arith;

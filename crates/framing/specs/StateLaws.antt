@@ -6,10 +6,10 @@ use borrow.Author.Tests.{eq-eqb, ne-eqb}
 use Rattle.tagvalue.specs.Choice.{pick}
 use Rattle.frame_parser_rules.specs.declared.State.{State}
 use Rattle.frame_parser_rules.specs.declared.Answer.{Answer}
-use Rattle.frame_parser_rules.specs.Framer.{numberOf}
+use Rattle.frame_parser_rules.specs.Framer.{numberOfParser}
 use Rattle.frame_hunter_rules.specs.declared.State.{State as Hunter}
 use Rattle.frame_hunter_rules.specs.declared.Answer.{Answer as Hunted}
-use Rattle.frame_hunter_rules.specs.Bytes.{numberOf as numberOfHunter}
+use Rattle.frame_hunter_rules.specs.Bytes.{numberOfHunter}
 use Rattle.framing.specs.declared.PortedState.{PortedState}
 use Rattle.framing.specs.declared.PortedReply.{PortedReply}
 use Rattle.framing.specs.declared.HunterState.{HunterState}
@@ -32,7 +32,7 @@ pub hunter-read : (s : HunterState) (b : Bool) → b ≡ isSet (s .ended) → _�
 unfolding hunterIn
 hunter-read s b eb = rw eb refl
 
-pub ported-reply : (s : State) (answer : Answer) (b c n : ℕ) → b ≡ pick (s .ended) 1 0 → c ≡ pick (s .over) 1 0 → n ≡ numberOf answer
+pub ported-reply : (s : State) (answer : Answer) (b c n : ℕ) → b ≡ pick (s .ended) 1 0 → c ≡ pick (s .over) 1 0 → n ≡ numberOfParser answer
     → _≡_ {A = PortedReply} (record { state = record { used = s .used; ended = b; over = c }; number = n }) (portedTold s answer)
 unfolding portedOut
 ported-reply s answer b c n eb ec en = rw (eb, ec, en) refl

@@ -6,10 +6,10 @@ use lib.Dec.{eqb}
 use Rattle.tagvalue.specs.Choice.{pick}
 use Rattle.frame_parser_rules.specs.declared.State.{State}
 use Rattle.frame_parser_rules.specs.declared.Answer.{Answer}
-use Rattle.frame_parser_rules.specs.Framer.{numberOf, fresh}
+use Rattle.frame_parser_rules.specs.Framer.{numberOfParser, fresh}
 use Rattle.frame_hunter_rules.specs.declared.State.{State as Hunter}
 use Rattle.frame_hunter_rules.specs.declared.Answer.{Answer as Hunted}
-use Rattle.frame_hunter_rules.specs.Bytes.{numberOf as numberOfHunter, freshState}
+use Rattle.frame_hunter_rules.specs.Bytes.{numberOfHunter, freshState}
 use Rattle.framing.specs.declared.PortedState.{PortedState}
 use Rattle.framing.specs.declared.PortedReply.{PortedReply}
 use Rattle.framing.specs.declared.HunterState.{HunterState}
@@ -28,7 +28,7 @@ unfoldable pub portedOut : State → PortedState
 portedOut s = record { used = s .used; ended = pick (s .ended) 1 0; over = pick (s .over) 1 0 }
 
 abbrev pub portedTold : State → Answer → PortedReply
-portedTold s answer = record { state = portedOut s; number = numberOf answer }
+portedTold s answer = record { state = portedOut s; number = numberOfParser answer }
 
 -- "Reset gives a fresh, empty state."
 abbrev pub portedFresh : PortedReply

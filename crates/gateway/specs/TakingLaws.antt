@@ -15,19 +15,19 @@ use Rattle.records.specs.declared.Record.{Record}
 use Rattle.records.specs.Records.{laid, recordsOf, leftover, onRecords, replaced, between, recordWords, stride}
 use Rattle.records.specs.WordLaws.{words-whole, records-laid, records-on, records-length, laid-append, laid-length}
 use Rattle.taking.specs.declared.Taken.the-variants.{NoMessage}
-use Rattle.taking.specs.Taking.{After, after, takingOver}
+use Rattle.taking.specs.Taking.{AfterTaking, after, takingOver}
 use Rattle.telling.specs.declared.FieldRecord.{FieldRecord}
-use Rattle.telling.specs.Lent.{blankField, table, recordOf, recordsFrom, wordsLent, readCount, putFields}
+use Rattle.telling.specs.Lent.{blankField, table, recordOfLent, recordsFrom, wordsLent, readCount, putFields}
 use Rattle.telling.specs.TakeLaws.{read-past, read-over, read-all}
 use Rattle.gateway.specs.Sets.{sets, sets-part}
 
-pub put-next : (fs : List FieldRecord) (i : ℕ) (words : List ℕ) → onRecords (replaced i (recordOf (getD fs i blankField))) (putFields fs i words) ≡ putFields fs (suc i) words
+pub put-next : (fs : List FieldRecord) (i : ℕ) (words : List ℕ) → onRecords (replaced i (recordOfLent (getD fs i blankField))) (putFields fs i words) ≡ putFields fs (suc i) words
 unfolding putFields
 put-next fs i words = refl
 
 -- record i of those that are lent
 abbrev nth : List FieldRecord → ℕ → Record
-nth fs i = recordOf (getD fs i blankField)
+nth fs i = recordOfLent (getD fs i blankField)
 
 put-records : (fs : List FieldRecord) (n : ℕ) (words : List ℕ) → recordsOf (putFields fs n words) ≡ sets (nth fs) (recordsOf words) n
 unfolding putFields replaced
@@ -38,7 +38,7 @@ table-read : (fs : List FieldRecord) (n : ℕ) → n ≤ length fs → table (nt
 unfolding table recordsFrom
 table-read fs zero h = refl
 table-read [] (suc n) h = absurd (not-suc-le-zero h)
-table-read (f ∷ fs) (suc n) h = ap (λ (rs : List Record). recordOf f ∷ rs) (table-read fs n (le-of-suc-le-suc h))
+table-read (f ∷ fs) (suc n) h = ap (λ (rs : List Record). recordOfLent f ∷ rs) (table-read fs n (le-of-suc-le-suc h))
 
 length-from : (fs : List FieldRecord) → length (recordsFrom fs) ≡ length fs
 unfolding recordsFrom
@@ -49,7 +49,7 @@ take-from : (n : ℕ) (fs : List FieldRecord) → recordsFrom (take n fs) ≡ ta
 unfolding recordsFrom
 take-from zero fs = refl
 take-from (suc n) [] = refl
-take-from (suc n) (f ∷ fs) = ap (λ (rs : List Record). recordOf f ∷ rs) (take-from n fs)
+take-from (suc n) (f ∷ fs) = ap (λ (rs : List Record). recordOfLent f ∷ rs) (take-from n fs)
 
 -- what is put into blank words stands at their start
 pub put-words : (fs : List FieldRecord) (n : ℕ) → n ≤ length fs → n ≤ 1024 → take (stride * n) (putFields fs n (replicate recordWords 0)) ≡ wordsLent (take n fs)
@@ -94,14 +94,14 @@ same-answer records other count bytes words values e f = rw (e, f) refl
 none-there : (records : List ℕ) (count : ℕ) (bytes words values : List ℕ) → leb count (length (recordsOf records)) ≡ false → takingOver records count bytes words values ≡ after NoMessage words values
 unfolding takingOver
 none-there records count bytes words values e =
-    rw e (ap (λ (x : After). pick (eqb (length words) messageWords) x (after NoMessage words values)) (pick-same (eqb (length values) 8192) (after NoMessage words values)) ∙ pick-same (eqb (length words) messageWords) (after NoMessage words values))
+    rw e (ap (λ (x : AfterTaking). pick (eqb (length words) messageWords) x (after NoMessage words values)) (pick-same (eqb (length values) 8192) (after NoMessage words values)) ∙ pick-same (eqb (length words) messageWords) (after NoMessage words values))
 
 too-many : (records : List ℕ) (count : ℕ) (bytes words values : List ℕ) → leb count 1024 ≡ false → takingOver records count bytes words values ≡ after NoMessage words values
 unfolding takingOver
 too-many records count bytes words values e =
     rw e
-    (ap (λ (x : After). pick (eqb (length words) messageWords) (pick (eqb (length values) 8192) x (after NoMessage words values)) (after NoMessage words values)) (pick-same (leb count (length (recordsOf records))) (after NoMessage words values))
-    ∙ ap (λ (x : After). pick (eqb (length words) messageWords) x (after NoMessage words values)) (pick-same (eqb (length values) 8192) (after NoMessage words values))
+    (ap (λ (x : AfterTaking). pick (eqb (length words) messageWords) (pick (eqb (length values) 8192) x (after NoMessage words values)) (after NoMessage words values)) (pick-same (leb count (length (recordsOf records))) (after NoMessage words values))
+    ∙ ap (λ (x : AfterTaking). pick (eqb (length words) messageWords) x (after NoMessage words values)) (pick-same (eqb (length values) 8192) (after NoMessage words values))
     ∙ pick-same (eqb (length words) messageWords) (after NoMessage words values))
 
 -- how many records stand in words of lent ones
@@ -118,7 +118,7 @@ first-same fs count =
     ∙ ap (take count) (sym (lent-records fs)) ∙ sym (first-of count (recordsOf (wordsLent fs)))
 
 module _ (fs : List FieldRecord) (count : ℕ) (bytes words values : List ℕ) where
-  abbrev of : List FieldRecord → After
+  abbrev of : List FieldRecord → AfterTaking
   of gs = takingOver (wordsLent gs) count bytes words values
 
   -- all of them are read

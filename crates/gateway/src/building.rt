@@ -3,7 +3,7 @@ use telling::FieldRecord;
 ghost use mathlib.Core.Path.{_≡_};
 ghost use Prim.Native.Nat.{_≤_};
 ghost use lib.ListN.{length, getD};
-ghost use Rattle.dictionary_rules.specs.Check.{checkOf, numberOf as numberOfCheck, valuesOf as valuesOfCheck};
+ghost use Rattle.dictionary_rules.specs.Check.{checkOf, numberOfCheck, valuesOfCheck};
 ghost use Rattle.build_answers.specs.Answer.{numberOf, valuesOf};
 ghost use Rattle.telling.specs.Told.{told};
 ghost use Rattle.telling.specs.Lent.{filled, builtFrom, recordsLent};

@@ -2,8 +2,8 @@
 use framing::HunterState;
 use framing::PortedState;
 ghost use mathlib.Core.Path.{_≡_};
-ghost use Rattle.frame_parser_rules.specs.Framer.{numberOf, valueOf, fresh, pushed, pushedStore, finished, taken, takenStore, takenOutput};
-ghost use Rattle.frame_hunter_rules.specs.Bytes.{numberOf as numberOfHunter, freshState, pushed as hunterPushed, finished as hunterFinished, tookFrom};
+ghost use Rattle.frame_parser_rules.specs.Framer.{numberOfParser, valueOf, fresh, pushed, pushedStore, finished, taken, takenStore, takenOutput};
+ghost use Rattle.frame_hunter_rules.specs.Bytes.{numberOfHunter, freshState, pushed as hunterPushed, finished as hunterFinished, tookFrom};
 ghost use Rattle.telling.specs.Told.{told};
 ghost use Rattle.framing.specs.States.{portedIn, portedOut, hunterIn, hunterOut};
 
@@ -15,7 +15,7 @@ pub extern "C" fn gateway_ported_push(
     chunk: &[u8],
     out: &mut [u32; 4],
 ) -> u32
-    ensures { λ r. ⌜ (r ≡ numberOf (pushed (portedIn (now (state .entry))) (now (store .entry)) (now (chunk .entry)) .answer))
+    ensures { λ r. ⌜ (r ≡ numberOfParser (pushed (portedIn (now (state .entry))) (now (store .entry)) (now (chunk .entry)) .answer))
         × (now (state .exit) ≡ portedOut (pushed (portedIn (now (state .entry))) (now (store .entry)) (now (chunk .entry)) .state))
         × (now (store .exit) ≡ pushedStore (portedIn (now (state .entry))) (now (store .entry)) (now (chunk .entry)))
         × (now (out .exit) ≡ told 0 (0, 0)) ⌝ }
@@ -32,7 +32,7 @@ pub extern "C" fn gateway_ported_end(
     store: &[u8],
     out: &mut [u32; 4],
 ) -> u32
-    ensures { λ r. ⌜ (r ≡ numberOf (finished (portedIn (now (state .entry))) (now (store .entry)) .answer))
+    ensures { λ r. ⌜ (r ≡ numberOfParser (finished (portedIn (now (state .entry))) (now (store .entry)) .answer))
         × (now (state .exit) ≡ portedOut (finished (portedIn (now (state .entry))) (now (store .entry)) .state))
         × (now (out .exit) ≡ told 0 (0, 0)) ⌝ }
 {
@@ -49,7 +49,7 @@ pub extern "C" fn gateway_ported_take(
     output: &mut [u8],
     out: &mut [u32; 4],
 ) -> u32
-    ensures { λ r. ⌜ (r ≡ numberOf (taken (portedIn (now (state .entry))) (now (store .entry)) (now (output .entry)) .answer))
+    ensures { λ r. ⌜ (r ≡ numberOfParser (taken (portedIn (now (state .entry))) (now (store .entry)) (now (output .entry)) .answer))
         × (now (state .exit) ≡ portedOut (taken (portedIn (now (state .entry))) (now (store .entry)) (now (output .entry)) .state))
         × (now (store .exit) ≡ takenStore (portedIn (now (state .entry))) (now (store .entry)) (now (output .entry)))
         × (now (output .exit) ≡ takenOutput (portedIn (now (state .entry))) (now (store .entry)) (now (output .entry)))

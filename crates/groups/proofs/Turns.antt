@@ -19,7 +19,7 @@ use Rattle.dictionary_layout_rules.specs.declared.Position.{Position}
 use Rattle.dictionary_layout_rules.specs.declared.Position.the-variants.{At as position-at, Nowhere}
 use Rattle.records.specs.Records.{onRecords, inserted, storedBetween}
 use Rattle.records.specs.declared.Record.{Record}
-use Rattle.groups.specs.Groups.{Opened, none, opened, Rules, opens, plain, count, joins, wrong, ends, counting, declared, kindOf, Frame, run, entry, recordOf, Outcome, walk, taking}
+use Rattle.groups.specs.Groups.{Opened, none, opened, Rules, opens, plain, count, joins, wrong, ends, counting, declared, kindOf, Frame, run, entry, entryRecord, RunOutcome, walk, taking}
 use Rattle.groups.specs.GroupLaws.{run-entry, run-first, run-over, entry-plain, entry-count, entry-joins, entry-wrong, entry-ends}
 use Rattle.groups.specs.Reading.{tableRules, opensAt, meant, kindAt, Memory, memory, addedWords, makes, standingIn, joinedWords, wordStore, further, nextOf, toldBy, runOf, entryOf, Fits, FitsAt}
 use Rattle.groups.specs.ReadingLaws.{going, walk-next, going-on, Follows, roomOf, next-follows, told-follows}
@@ -73,10 +73,10 @@ left-refused message config table known stack reading words refusal e = rw e
 
 module _ (message : List ℕ) (config : Config) (table : List ℕ) (known : ℕ → Bool) (group : Group) where
   -- what is left of an entry, and of a run
-  abbrev pub entryLeft : ℕ → ℕ → ℕ → Reading → List ℕ → Outcome Memory (List ℕ)
+  abbrev pub entryLeft : ℕ → ℕ → ℕ → Reading → List ℕ → RunOutcome Memory (List ℕ)
   entryLeft number last start reading words = going (tableRules config table known) (config .mode) message (entry (group .level) (group .tag) (group .depth) number last start ∷ []) reading words
 
-  abbrev pub runLeft : ℕ → Reading → List ℕ → Outcome Memory (List ℕ)
+  abbrev pub runLeft : ℕ → Reading → List ℕ → RunOutcome Memory (List ℕ)
   runLeft number reading words = going (tableRules config table known) (config .mode) message (run (group .level) (group .tag) (group .depth) number ∷ []) reading words
 
   pub run-starts : (cursor : Cursor) (progress : Progress) (words : List ℕ) (reading : Reading) → reading ≡ nextOf (fieldAt (config .mode) message cursor) progress →
@@ -85,11 +85,11 @@ module _ (message : List ℕ) (config : Config) (table : List ℕ) (known : ℕ 
   run-starts cursor progress words reading e = rw e (walk-next _ _ _ _ progress words cursor)
 
   pub entry-starts : (number : ℕ) (delimiter : Field) (progress begun : Progress) (words words₁ : List ℕ) (r : Record) (reading : Reading) →
-      r ≡ recordOf (group .depth) number delimiter → begun ≡ further 1 progress → words₁ ≡ onRecords (inserted (progress .records) (progress .place) r) words → reading ≡ nextOf (fieldAt (config .mode) message (delimiter .next)) begun →
+      r ≡ entryRecord (group .depth) number delimiter → begun ≡ further 1 progress → words₁ ≡ onRecords (inserted (progress .records) (progress .place) r) words → reading ≡ nextOf (fieldAt (config .mode) message (delimiter .next)) begun →
       entryOf message config table known group number delimiter progress words ≡ entryLeft number 0 (progress .place) reading words₁
   unfolding entryOf addedWords memory further
   entry-starts number delimiter progress begun words words₁ r reading a b c d =
-      rw (d, c, b, a) (walk-next _ _ _ _ (further 1 progress) (onRecords (inserted (progress .records) (progress .place) (recordOf (group .depth) number delimiter)) words) (delimiter .next))
+      rw (d, c, b, a) (walk-next _ _ _ _ (further 1 progress) (onRecords (inserted (progress .records) (progress .place) (entryRecord (group .depth) number delimiter)) words) (delimiter .next))
 
   -- going on from a field is taking it
   at-field : (stack : List (Frame Level)) (reading : Reading) (words : List ℕ) (f : Field) (progress : Progress) → reading ≡ At f progress →
@@ -100,14 +100,14 @@ module _ (message : List ℕ) (config : Config) (table : List ℕ) (known : ℕ 
   module _ (number : ℕ) (reading : Reading) (words : List ℕ) (f : Field) (progress : Progress) (e : reading ≡ At f progress) where
     -- what is kept after a field is what the words hold then
     added-field : (stack : List (Frame Level)) →
-        walk (tableRules config table known) wordStore (progress .room) stack (wordStore .add (recordOf (group .depth) number f) (memory progress words)) (fieldsFrom (config .mode) message (f .next))
-        ≡ walk (tableRules config table known) wordStore (further 1 progress .room) stack (memory (further 1 progress) (onRecords (inserted (progress .records) (progress .place) (recordOf (group .depth) number f)) words)) (fieldsFrom (config .mode) message (f .next))
+        walk (tableRules config table known) wordStore (progress .room) stack (wordStore .add (entryRecord (group .depth) number f) (memory progress words)) (fieldsFrom (config .mode) message (f .next))
+        ≡ walk (tableRules config table known) wordStore (further 1 progress .room) stack (memory (further 1 progress) (onRecords (inserted (progress .records) (progress .place) (entryRecord (group .depth) number f)) words)) (fieldsFrom (config .mode) message (f .next))
     unfolding wordStore addedWords memory further
     added-field stack = refl
 
-    joined-field : (stack : List (Frame Level)) (start : ℕ) → let k = makes (standingIn start (progress .place) (recordOf (group .depth) number f) words) in
-        walk (tableRules config table known) wordStore (progress .room) stack (wordStore .join start (recordOf (group .depth) number f) (memory progress words)) (fieldsFrom (config .mode) message (f .next))
-        ≡ walk (tableRules config table known) wordStore (further k progress .room) stack (memory (further k progress) (onRecords (storedBetween (progress .records) start (progress .place) (recordOf (group .depth) number f)) words)) (fieldsFrom (config .mode) message (f .next))
+    joined-field : (stack : List (Frame Level)) (start : ℕ) → let k = makes (standingIn start (progress .place) (entryRecord (group .depth) number f) words) in
+        walk (tableRules config table known) wordStore (progress .room) stack (wordStore .join start (entryRecord (group .depth) number f) (memory progress words)) (fieldsFrom (config .mode) message (f .next))
+        ≡ walk (tableRules config table known) wordStore (further k progress .room) stack (memory (further k progress) (onRecords (storedBetween (progress .records) start (progress .place) (entryRecord (group .depth) number f)) words)) (fieldsFrom (config .mode) message (f .next))
     unfolding wordStore joinedWords memory further
     joined-field stack start = refl
 
@@ -120,7 +120,7 @@ module _ (message : List ℕ) (config : Config) (table : List ℕ) (known : ℕ 
       unfolding going toldBy meant kindAt wordStore memory
       left-wrong q = rw e (sym (entry-wrong _ _ _ _ _ _ _ _ _ _ _ _ (sym k ∙ ap meant q)))
 
-      module _ (r : Record) (is : r ≡ recordOf (group .depth) number f) (stored : Progress) (words₁ : List ℕ) (reading₁ : Reading) where
+      module _ (r : Record) (is : r ≡ entryRecord (group .depth) number f) (stored : Progress) (words₁ : List ℕ) (reading₁ : Reading) where
         pub turn-joins : kind ≡ Joins → stored ≡ further (makes (standingIn start (progress .place) r words)) progress → words₁ ≡ onRecords (storedBetween (progress .records) start (progress .place) r) words →
             reading₁ ≡ nextOf (fieldAt (config .mode) message (f .next)) stored →
             entryLeft number last start reading words ≡ entryLeft number last start reading₁ words₁
@@ -128,7 +128,7 @@ module _ (message : List ℕ) (config : Config) (table : List ℕ) (known : ℕ 
         turn-joins q a b c =
             at-field _ reading words f progress e
             ∙ entry-joins _ _ _ _ _ _ _ _ _ _ _ _ (sym k ∙ ap meant q)
-            ∙ rw (c, b, a, is) (joined-field _ start ∙ walk-next _ _ _ _ (further (makes (standingIn start (progress .place) (recordOf (group .depth) number f) words)) progress) (onRecords (storedBetween (progress .records) start (progress .place) (recordOf (group .depth) number f)) words) (f .next))
+            ∙ rw (c, b, a, is) (joined-field _ start ∙ walk-next _ _ _ _ (further (makes (standingIn start (progress .place) (entryRecord (group .depth) number f) words)) progress) (onRecords (storedBetween (progress .records) start (progress .place) (entryRecord (group .depth) number f)) words) (f .next))
 
         module _ (a : stored ≡ further 1 progress) (b : words₁ ≡ onRecords (inserted (progress .records) (progress .place) r) words) where
           pub turn-plain : (position : ℕ) → kind ≡ Plain position → reading₁ ≡ nextOf (fieldAt (config .mode) message (f .next)) stored →
@@ -137,7 +137,7 @@ module _ (message : List ℕ) (config : Config) (table : List ℕ) (known : ℕ 
           turn-plain position q c =
               at-field _ reading words f progress e
               ∙ entry-plain _ _ _ _ _ _ _ _ _ _ _ _ position (sym k ∙ ap meant q)
-              ∙ rw (c, b, a, is) (added-field _ ∙ walk-next _ _ _ _ (further 1 progress) (onRecords (inserted (progress .records) (progress .place) (recordOf (group .depth) number f)) words) (f .next))
+              ∙ rw (c, b, a, is) (added-field _ ∙ walk-next _ _ _ _ (further 1 progress) (onRecords (inserted (progress .records) (progress .place) (entryRecord (group .depth) number f)) words) (f .next))
 
           pub turn-count : (inner : Level) (position : ℕ) → kind ≡ Count inner position → (words₂ : List ℕ) →
               toldBy (config .mode) message reading₁ words₂ ≡ runOf message config table known (record { level = inner; tag = f .tag; depth = group .depth + 1 }) (f .next) stored words₁ →

@@ -11,7 +11,7 @@ use Rattle.dictionary_layout_rules.specs.declared.Position.{Position}
 use Rattle.dictionary_layout_rules.specs.declared.Position.the-variants.{At, Nowhere}
 use Rattle.dictionary_layout_rules.specs.declared.FirstTag.{FirstTag}
 use Rattle.records.specs.declared.Record.{Record}
-use Rattle.groups.specs.Groups.{Opened, none, opened, Rules, isDelimiter, opens, Kind, plain, count, joins, wrong, ends, counting, declared, kindOf, Frame, run, entry, Move, adds, joinsAt, disorders, leaves, inEntry, decide, Store, Outcome, ended, refused, moved, walk}
+use Rattle.groups.specs.Groups.{Opened, none, opened, Rules, isDelimiter, opens, Kind, plain, count, joins, wrong, ends, counting, declared, kindOf, Frame, run, entry, Move, adds, joinsAt, disorders, leaves, inEntry, decide, Store, RunOutcome, ended, refused, moved, walk}
 use Rattle.groups.specs.declared.Refusal.{Refusal}
 
 module _ {L M : Type 0} (Same : L → M → Type 0) where
@@ -110,13 +110,13 @@ module _ {S W T X : Type 0} (Keeps : ℕ → S → T → Type 0) (Leaves : W →
     pub joining : (room : ℕ) (s : S) (t : T) (start : ℕ) (r : Record) → Keeps (suc room) s t → Keeps room (store .join start r s) (another .join start r t)
     pub leaving : (room : ℕ) (s : S) (t : T) → Keeps room s t → Leaves (store .left s) (another .left t)
 
-  pub data OutcomeAlike : Outcome S W → Outcome T X → Type 0 where
+  pub data OutcomeAlike : RunOutcome S W → RunOutcome T X → Type 0 where
     ended-alike : {f : Field} {rest : Fields} {room : ℕ} {s : S} {t : T} → Keeps (suc room) s t → OutcomeAlike (ended f rest room s) (ended f rest room t)
     refused-alike : {refusal : Refusal} {w : W} {x : X} → Leaves w x → OutcomeAlike (refused refusal w) (refused refusal x)
 
 module _ {L M S W T X : Type 0} (Same : L → M → Type 0) (Keeps : ℕ → S → T → Type 0) (Leaves : W → X → Type 0)
     (rules : Rules L) (others : Rules M) (rulesAlike : RulesAlike Same rules others) (store : Store S W) (another : Store T X) (storesAlike : StoresAlike Keeps Leaves store another) where
-  moved-alike : (room : ℕ) (s : S) (t : T) → Keeps (suc room) s t → (f : Field) (rest : Fields) (x : List (Frame L) → S → Outcome S W) (y : List (Frame M) → T → Outcome T X) →
+  moved-alike : (room : ℕ) (s : S) (t : T) → Keeps (suc room) s t → (f : Field) (rest : Fields) (x : List (Frame L) → S → RunOutcome S W) (y : List (Frame M) → T → RunOutcome T X) →
       ((stack : List (Frame L)) (other : List (Frame M)) (s₁ : S) (t₁ : T) → StackAlike Same stack other → Keeps room s₁ t₁ → OutcomeAlike Keeps Leaves (x stack s₁) (y other t₁)) →
       {m : Move L} {n : Move M} → MoveAlike Same m n → OutcomeAlike Keeps Leaves (moved store room s f rest x m) (moved another room t f rest y n)
   unfolding moved

@@ -15,7 +15,7 @@ use lib.Dec.{eqb}
 use Rattle.records.specs.Records.{stored}
 use Rattle.records.specs.declared.Record.{Record}
 use Rattle.build_answers.specs.Answer.{numberOf, valuesOf, listed}
-use Rattle.groups.specs.Groups.{isDelimiter, opens, counting, declared, kindOf, run, inEntry, decide, recordOf, Outcome, ended, refused, moved, walk}
+use Rattle.groups.specs.Groups.{isDelimiter, opens, counting, declared, kindOf, run, inEntry, decide, entryRecord, RunOutcome, ended, refused, moved, walk}
 use Rattle.groups.specs.Reading.{answerOf, accepted, openedAs, layoutRules, joinedList, listStore}
 
 -- what is told of a run: 0, the tag that ended it and the room left, and for each record its depth, entry number, tag and place; or the
@@ -23,7 +23,7 @@ use Rattle.groups.specs.Reading.{answerOf, accepted, openedAs, layoutRul
 abbrev Told : Type 0
 Told = ℕ × (List ℕ) × (List (ℕ × ℕ × ℕ × ℕ))
 
-unfoldable told : Outcome (List Record) (List Record) → Told
+unfoldable told : RunOutcome (List Record) (List Record) → Told
 told (ended f rest room rs) = (0, f .tag ∷ room ∷ [], map (λ (r : Record). (r .depth, r .number, r .tag, r .place)) rs)
 told (refused refusal rs) = (numberOf (answerOf refusal), listed (answerOf refusal), [])
 
@@ -54,7 +54,7 @@ strict =
     ∷ []
 
 groups-read : map (λ row. reading true allocations 100 (row .0)) strict ≡ map (λ row. row .1) strict
-unfolding reading told answerOf numberOf valuesOf listed layoutRules openedAs accepted joinedList listStore walk moved decide inEntry kindOf declared counting opens isDelimiter recordOf positionIn positionFrom firstOf groupOf groupSince delimiterOf stored reading-fields
+unfolding reading told answerOf numberOf valuesOf listed layoutRules openedAs accepted joinedList listStore walk moved decide inEntry kindOf declared counting opens isDelimiter entryRecord positionIn positionFrom firstOf groupOf groupSince delimiterOf stored reading-fields
 groups-read = refl
 
 -- validation off: a user tag joins the innermost open entry, twice it replaces the value and keeps the position; right after a count it
@@ -70,7 +70,7 @@ lenient =
     ∷ []
 
 user-tags : map (λ row. reading false allocations 100 (row .0)) lenient ≡ map (λ row. row .1) lenient
-unfolding reading told answerOf numberOf valuesOf listed layoutRules openedAs accepted joinedList listStore walk moved decide inEntry kindOf declared counting opens isDelimiter recordOf positionIn positionFrom firstOf groupOf groupSince delimiterOf stored reading-fields
+unfolding reading told answerOf numberOf valuesOf listed layoutRules openedAs accepted joinedList listStore walk moved decide inEntry kindOf declared counting opens isDelimiter entryRecord positionIn positionFrom firstOf groupOf groupSince delimiterOf stored reading-fields
 user-tags = refl
 
 -- 21 comes before any other verdict on a field, 10 before 21: a field that can't be read is none
@@ -85,7 +85,7 @@ narrow =
     ∷ []
 
 rooms : map (λ row. reading false allocations (row .0 .0) (row .0 .1)) narrow ≡ map (λ row. row .1) narrow
-unfolding reading told answerOf numberOf valuesOf listed layoutRules openedAs accepted joinedList listStore walk moved decide inEntry kindOf declared counting opens isDelimiter recordOf positionIn positionFrom firstOf groupOf groupSince delimiterOf stored reading-fields
+unfolding reading told answerOf numberOf valuesOf listed layoutRules openedAs accepted joinedList listStore walk moved decide inEntry kindOf declared counting opens isDelimiter entryRecord positionIn positionFrom firstOf groupOf groupSince delimiterOf stored reading-fields
 rooms = refl
 
 -- a delimiter that is itself a group tag is stored plain
@@ -112,5 +112,5 @@ odd =
     ∷ []
 
 odd-layouts : map (λ row. reading true (row .0 .0) 100 (row .0 .1)) odd ≡ map (λ row. row .1) odd
-unfolding reading told answerOf numberOf valuesOf listed layoutRules openedAs accepted joinedList listStore walk moved decide inEntry kindOf declared counting opens isDelimiter recordOf positionIn positionFrom firstOf groupOf groupSince delimiterOf stored reading-fields
+unfolding reading told answerOf numberOf valuesOf listed layoutRules openedAs accepted joinedList listStore walk moved decide inEntry kindOf declared counting opens isDelimiter entryRecord positionIn positionFrom firstOf groupOf groupSince delimiterOf stored reading-fields
 odd-layouts = refl

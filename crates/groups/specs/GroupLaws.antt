@@ -12,7 +12,7 @@ use Rattle.tagvalue.specs.Fields.{Fields, unreadable, field, Each, each-field}
 use Rattle.tagvalue.specs.declared.Cause.{Cause}
 use Rattle.tagvalue.specs.declared.Field.{Field}
 use Rattle.records.specs.declared.Record.{Record}
-use Rattle.groups.specs.Groups.{Rules, opens, Kind, plain, count, joins, wrong, ends, kindOf, Frame, run, entry, Move, adds, joinsAt, disorders, leaves, inEntry, decide, recordOf, Store, ended, refused, moved, walk, taking, andThen}
+use Rattle.groups.specs.Groups.{Rules, opens, Kind, plain, count, joins, wrong, ends, kindOf, Frame, run, entry, Move, adds, joinsAt, disorders, leaves, inEntry, decide, entryRecord, Store, ended, refused, moved, walk, taking, andThen}
 use Rattle.groups.specs.declared.Refusal.the-variants.{Malformed, TooManyFields, InvalidOrderInGroup}
 
 -- what a tag does to a stack with more below it
@@ -52,8 +52,8 @@ module _ {L S W : Type 0} (rules : Rules L) (store : Store S W) where
       ((stack : List (Frame L)) (s₁ : S) → walk rules store room (stack ++ below) s₁ rest ≡ andThen (walk rules store room stack s₁ rest) (λ room s f rest. taking rules store room below s f rest)) →
       (m : Move L) → moved store room s f rest (λ stack s₁. walk rules store room stack s₁ rest) (extended m below (decide rules (store .place s) below (f .tag))) ≡ andThen (moved store room s f rest (λ stack s₁. walk rules store room stack s₁ rest) m) (λ room s f rest. taking rules store room below s f rest)
   unfolding moved extended andThen taking
-  compose-move room s f rest below later (adds stack depth number) = later stack (store .add (recordOf depth number f) s)
-  compose-move room s f rest below later (joinsAt stack start depth number) = later stack (store .join start (recordOf depth number f) s)
+  compose-move room s f rest below later (adds stack depth number) = later stack (store .add (entryRecord depth number f) s)
+  compose-move room s f rest below later (joinsAt stack start depth number) = later stack (store .join start (entryRecord depth number f) s)
   compose-move room s f rest below later (disorders group) = refl
   compose-move room s f rest below later leaves = refl
 
@@ -82,9 +82,9 @@ module _ {L S W : Type 0} (rules : Rules L) (store : Store S W) where
   module _ (room : ℕ) (s : S) (f : Field) (rest : Fields) (level : L) (group depth entries : ℕ) where
     pub run-entry : opens rules level (f .tag) ≡ true →
         taking rules store room (run level group depth entries ∷ []) s f rest
-        ≡ andThen (walk rules store room (entry level group depth (entries + 1) 0 (store .place s) ∷ []) (store .add (recordOf depth (entries + 1) f) s) rest) (λ room s f rest. taking rules store room (run level group depth (entries + 1) ∷ []) s f rest)
+        ≡ andThen (walk rules store room (entry level group depth (entries + 1) 0 (store .place s) ∷ []) (store .add (entryRecord depth (entries + 1) f) s) rest) (λ room s f rest. taking rules store room (run level group depth (entries + 1) ∷ []) s f rest)
     unfolding taking decide moved
-    run-entry e = rw e (compose room (entry level group depth (entries + 1) 0 (store .place s) ∷ []) (run level group depth (entries + 1) ∷ []) (store .add (recordOf depth (entries + 1) f) s) rest)
+    run-entry e = rw e (compose room (entry level group depth (entries + 1) 0 (store .place s) ∷ []) (run level group depth (entries + 1) ∷ []) (store .add (entryRecord depth (entries + 1) f) s) rest)
 
     pub run-first : opens rules level (f .tag) ≡ false → entries ≡ 0 →
         taking rules store room (run level group depth entries ∷ []) s f rest ≡ refused (InvalidOrderInGroup (f .tag) group) (store .left s)
@@ -100,20 +100,20 @@ module _ {L S W : Type 0} (rules : Rules L) (store : Store S W) where
   module _ (room : ℕ) (s : S) (f : Field) (rest : Fields) (level : L) (group depth number last start : ℕ) where
     pub entry-plain : (position : ℕ) → kindOf rules level depth last (f .tag) ≡ plain position →
         taking rules store room (entry level group depth number last start ∷ []) s f rest
-        ≡ walk rules store room (entry level group depth number position start ∷ []) (store .add (recordOf depth number f) s) rest
+        ≡ walk rules store room (entry level group depth number position start ∷ []) (store .add (entryRecord depth number f) s) rest
     unfolding taking decide inEntry moved
     entry-plain position k = rw k
 
     pub entry-count : (inner : L) (position : ℕ) → kindOf rules level depth last (f .tag) ≡ count inner position →
         taking rules store room (entry level group depth number last start ∷ []) s f rest
-        ≡ andThen (walk rules store room (run inner (f .tag) (depth + 1) 0 ∷ []) (store .add (recordOf depth number f) s) rest) (λ room s f rest. taking rules store room (entry level group depth number position start ∷ []) s f rest)
+        ≡ andThen (walk rules store room (run inner (f .tag) (depth + 1) 0 ∷ []) (store .add (entryRecord depth number f) s) rest) (λ room s f rest. taking rules store room (entry level group depth number position start ∷ []) s f rest)
     unfolding taking decide inEntry moved
     entry-count inner position k =
-        rw k (compose room (run inner (f .tag) (depth + 1) 0 ∷ []) (entry level group depth number position start ∷ []) (store .add (recordOf depth number f) s) rest)
+        rw k (compose room (run inner (f .tag) (depth + 1) 0 ∷ []) (entry level group depth number position start ∷ []) (store .add (entryRecord depth number f) s) rest)
 
     pub entry-joins : kindOf rules level depth last (f .tag) ≡ joins →
         taking rules store room (entry level group depth number last start ∷ []) s f rest
-        ≡ walk rules store room (entry level group depth number last start ∷ []) (store .join start (recordOf depth number f) s) rest
+        ≡ walk rules store room (entry level group depth number last start ∷ []) (store .join start (entryRecord depth number f) s) rest
     unfolding taking decide inEntry moved
     entry-joins k = rw k
 

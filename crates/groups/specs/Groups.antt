@@ -94,8 +94,8 @@ module _ {L : Type 0} (rules : Rules L) (here : ℕ) where
       inEntry level group depth number last start below tag (decide below tag) (kindOf rules level depth last tag)
 
 -- the record of a field of the body that stands in an entry
-unfoldable pub recordOf : ℕ → ℕ → Field → Record
-recordOf depth number f = record { part = 2; depth = depth; number = number; tag = f .tag; place = f .place; length = f .length }
+unfoldable pub entryRecord : ℕ → ℕ → Field → Record
+entryRecord depth number f = record { part = 2; depth = depth; number = number; tag = f .tag; place = f .place; length = f .length }
 
 -- how records are kept: where the next one goes, a new one, one that joins what was kept from a place on, and what a refusal leaves
 pub record Store (S W : Type 0) : Type 0 where
@@ -105,32 +105,32 @@ pub record Store (S W : Type 0) : Type 0 where
   pub left : S → W
 
 -- reading ends at a field, with the fields behind it, the room that is left and what was kept; or it is refused
-pub data Outcome (S W : Type 0) : Type 0 where
-  ended : Field → Fields → ℕ → S → Outcome S W
-  refused : Refusal → W → Outcome S W
+pub data RunOutcome (S W : Type 0) : Type 0 where
+  ended : Field → Fields → ℕ → S → RunOutcome S W
+  refused : Refusal → W → RunOutcome S W
 
 module _ {L S W : Type 0} (store : Store S W) (room : ℕ) (s : S) (f : Field) (rest : Fields) where
   -- what is done with a field, and how reading goes on
-  unfoldable pub moved : (List (Frame L) → S → Outcome S W) → Move L → Outcome S W
-  moved on (adds stack depth number) = on stack (store .add (recordOf depth number f) s)
-  moved on (joinsAt stack start depth number) = on stack (store .join start (recordOf depth number f) s)
+  unfoldable pub moved : (List (Frame L) → S → RunOutcome S W) → Move L → RunOutcome S W
+  moved on (adds stack depth number) = on stack (store .add (entryRecord depth number f) s)
+  moved on (joinsAt stack start depth number) = on stack (store .join start (entryRecord depth number f) s)
   moved on (disorders group) = refused (InvalidOrderInGroup (f .tag) group) (store .left s)
   moved on leaves = ended f rest room s
 
 module _ {L S W : Type 0} (rules : Rules L) (store : Store S W) where
   -- "No field where .. a group needs one: 10." "21 comes before any other verdict on that field."
-  unfoldable pub walk : ℕ → List (Frame L) → S → Fields → Outcome S W
+  unfoldable pub walk : ℕ → List (Frame L) → S → Fields → RunOutcome S W
   walk room stack s (unreadable cause place) = refused (Malformed cause place) (store .left s)
   walk zero stack s (field f rest) = refused TooManyFields (store .left s)
   walk (suc room) stack s (field f rest) =
       moved store room s f rest (λ stack₁ s₁. walk room stack₁ s₁ rest) (decide rules (store .place s) stack (f .tag))
 
   -- the same from a field on that is read already
-  unfoldable pub taking : ℕ → List (Frame L) → S → Field → Fields → Outcome S W
+  unfoldable pub taking : ℕ → List (Frame L) → S → Field → Fields → RunOutcome S W
   taking room stack s f rest =
       moved store room s f rest (λ stack₁ s₁. walk room stack₁ s₁ rest) (decide rules (store .place s) stack (f .tag))
 
 -- reading goes on at the field where it ended, unless it was refused
-unfoldable pub andThen : {S W : Type 0} → Outcome S W → (ℕ → S → Field → Fields → Outcome S W) → Outcome S W
+unfoldable pub andThen : {S W : Type 0} → RunOutcome S W → (ℕ → S → Field → Fields → RunOutcome S W) → RunOutcome S W
 andThen (ended f rest room s) on = on room s f rest
 andThen (refused refusal w) on = refused refusal w

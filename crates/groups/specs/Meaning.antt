@@ -22,7 +22,7 @@ use Rattle.records.specs.RecordLaws.{HeldAs, inserted-parts, between-new, store
 use Rattle.records.specs.declared.Record.{Record}
 use Rattle.records.specs.declared.Standing.{Standing}
 use Rattle.records.specs.declared.Standing.the-variants.{At as held-at, Nowhere as not-held}
-use Rattle.groups.specs.Groups.{run, Store, Outcome, ended, refused, walk}
+use Rattle.groups.specs.Groups.{run, Store, RunOutcome, ended, refused, walk}
 use Rattle.groups.specs.Alike.{OpenedAlike, none-alike, opened-alike, RulesAlike, empty-alike, run-alike, StoresAlike, OutcomeAlike, ended-alike, refused-alike, walk-alike}
 use Rattle.groups.specs.Reading.{accepted, openedBy, tableRules, openedAs, layoutRules, joinedList, listStore, Memory, memory, addedWords, makes, standingIn, joinedWords, wordStore, runOf}
 use Rattle.groups.specs.declared.Group.{Group}
@@ -41,7 +41,7 @@ rules-alike config table known has same = record { delimiters = delimiter-means 
 same-store : {S W : Type 0} (store : Store S W) → StoresAlike (λ room s t. s ≡ t) (λ w x. w ≡ x) store store
 same-store store = record { places = λ room s t e. ap (store .place) e; adding = λ room s t r e. ap (store .add r) e; joining = λ room s t start r e. ap (store .join start r) e; leaving = λ room s t e. ap (store .left) e }
 
-outcome-same : {S W : Type 0} {o p : Outcome S W} → OutcomeAlike (λ room s t. s ≡ t) (λ w x. w ≡ x) o p → o ≡ p
+outcome-same : {S W : Type 0} {o p : RunOutcome S W} → OutcomeAlike (λ room s t. s ≡ t) (λ w x. w ≡ x) o p → o ≡ p
 outcome-same (ended-alike {f} {rest} {room} e) = ap (ended f rest room) e
 outcome-same (refused-alike {refusal} e) = ap (refused refusal) e
 

@@ -24,7 +24,7 @@ use Rattle.records.specs.Records.{recordsOf, onRecords, inserted, between, held
 use Rattle.records.specs.declared.Record.{Record}
 use Rattle.records.specs.declared.Standing.{Standing}
 use Rattle.records.specs.declared.Standing.the-variants.{At as held-at, Nowhere as not-held}
-use Rattle.groups.specs.Groups.{Opened, none, opened, Rules, isDelimiter, Kind, plain, count, joins, wrong, ends, kindOf, run, entry, recordOf, Store, Outcome, ended, refused, walk}
+use Rattle.groups.specs.Groups.{Opened, none, opened, Rules, isDelimiter, Kind, plain, count, joins, wrong, ends, kindOf, run, entry, entryRecord, Store, RunOutcome, ended, refused, walk}
 use Rattle.groups.specs.declared.Group.{Group}
 use Rattle.groups.specs.declared.Progress.{Progress}
 use Rattle.groups.specs.declared.Refusal.{Refusal}
@@ -136,17 +136,17 @@ nextOf (Read f) progress = roomFor f progress (progress .room)
 
 module _ (mode : Mode) (message : List ℕ) where
   -- what the code's answer says, with the words that it leaves
-  unfoldable pub toldBy : Reading → List ℕ → Outcome Memory (List ℕ)
+  unfoldable pub toldBy : Reading → List ℕ → RunOutcome Memory (List ℕ)
   toldBy (At f progress) words = ended f (fieldsFrom mode message (f .next)) (progress .room) (memory progress words)
   toldBy (Refused refusal) words = refused refusal words
 
 module _ (message : List ℕ) (config : Config) (table : List ℕ) (known : ℕ → Bool) where
   -- the entries of a group, from the field behind its count on
-  unfoldable pub runOf : Group → Cursor → Progress → List ℕ → Outcome Memory (List ℕ)
+  unfoldable pub runOf : Group → Cursor → Progress → List ℕ → RunOutcome Memory (List ℕ)
   runOf group cursor progress words =
       walk (tableRules config table known) wordStore (progress .room) (run (group .level) (group .tag) (group .depth) 0 ∷ []) (memory progress words) (fieldsFrom (config .mode) message cursor)
 
   -- an entry of a number, from its delimiter on
-  unfoldable pub entryOf : Group → ℕ → Field → Progress → List ℕ → Outcome Memory (List ℕ)
+  unfoldable pub entryOf : Group → ℕ → Field → Progress → List ℕ → RunOutcome Memory (List ℕ)
   entryOf group number delimiter progress words =
-      walk (tableRules config table known) wordStore (progress .room) (entry (group .level) (group .tag) (group .depth) number 0 (progress .place) ∷ []) (addedWords (recordOf (group .depth) number delimiter) (memory progress words)) (fieldsFrom (config .mode) message (delimiter .next))
+      walk (tableRules config table known) wordStore (progress .room) (entry (group .level) (group .tag) (group .depth) number 0 (progress .place) ∷ []) (addedWords (entryRecord (group .depth) number delimiter) (memory progress words)) (fieldsFrom (config .mode) message (delimiter .next))

@@ -19,7 +19,7 @@ use Rattle.dictionary_layout_rules.specs.declared.Level.{Level}
 use Rattle.records.specs.declared.Record.{Record}
 use Rattle.records.specs.declared.Standing.{Standing}
 use Rattle.records.specs.declared.Standing.the-variants.{At as held-at, Nowhere as not-held}
-use Rattle.groups.specs.Groups.{Rules, Frame, Outcome, refused, walk, taking, andThen}
+use Rattle.groups.specs.Groups.{Rules, Frame, RunOutcome, refused, walk, taking, andThen}
 use Rattle.groups.specs.GroupLaws.{walk-unreadable, walk-full, walk-field, keeps}
 use Rattle.groups.specs.Reading.{Memory, memory, addedWords, makes, standingIn, joinedWords, wordStore, further, Fits, FitsAt, roomFor, nextOf, toldBy}
 use Rattle.groups.specs.declared.Progress.{Progress}
@@ -70,7 +70,7 @@ pub record Follows (message : List ℕ) (room : ℕ) (reading : Reading) : Type 
 
 -- what is left to be read of a stack from where a reading stands
 module _ (rules : Rules Level) (mode : Mode) (message : List ℕ) where
-  unfoldable pub going : List (Frame Level) → Reading → List ℕ → Outcome Memory (List ℕ)
+  unfoldable pub going : List (Frame Level) → Reading → List ℕ → RunOutcome Memory (List ℕ)
   going stack (At f progress) words = taking rules wordStore (progress .room) stack (memory progress words) f (fieldsFrom mode message (f .next))
   going stack (Refused refusal) words = refused refusal words
 
@@ -96,7 +96,7 @@ module _ (rules : Rules Level) (mode : Mode) (message : List ℕ) where
   walk-next stack progress words c = by-field rules mode message stack progress words c (fieldAt mode message c) refl (progress .room) refl
 
   -- going on from where a reading ended
-  pub going-on : (stack : List (Frame Level)) (reading : Reading) (words : List ℕ) (outcome : Outcome Memory (List ℕ)) → toldBy mode message reading words ≡ outcome →
+  pub going-on : (stack : List (Frame Level)) (reading : Reading) (words : List ℕ) (outcome : RunOutcome Memory (List ℕ)) → toldBy mode message reading words ≡ outcome →
       andThen outcome (λ room s f rest. taking rules wordStore room stack s f rest) ≡ going rules mode message stack reading words
   unfolding going toldBy andThen
   going-on stack (At f progress) words outcome e = rw (← e)

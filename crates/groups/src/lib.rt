@@ -15,7 +15,7 @@ ghost use mathlib.Core.Path.{_≡_};
 ghost use Rattle.dictionary_rules.specs.Index.{tagAt};
 ghost use Prim.Native.Nat.{_<_, _^_};
 ghost use Rattle.tagvalue.specs.Field.{fieldAt};
-ghost use Rattle.groups.specs.Groups.{recordOf};
+ghost use Rattle.groups.specs.Groups.{entryRecord};
 ghost use Rattle.records.specs.Records.{onRecords, inserted, storedBetween};
 ghost use Rattle.groups.specs.Reading.{accepted, opensAt, kindAt, meant, nextOf, further, makes, standingIn, toldBy, runOf, entryOf, Fits, FitsAt};
 
@@ -143,7 +143,7 @@ pub fn next_field(message: &[u8], config: Config, cursor: Cursor, progress: Prog
 // The record of a field of the body that stands in an entry.
 fn record_of(depth: u32, number: u32, field: Field) -> Record
     requires { ⌜ (field .place < 2 ^ 32) × (field .length < 2 ^ 32) ⌝ }
-    ensures { λ r. ⌜ r ≡ recordOf depth number field ⌝ }
+    ensures { λ r. ⌜ r ≡ entryRecord depth number field ⌝ }
 {
     Record {
         part: records::BODY,

@@ -15,7 +15,7 @@ ghost use Prim.Native.Nat.{_-_, _≤_};
 ghost use lib.ListN.{length, take, drop};
 ghost use Rattle.frame_verdict_rules.specs.Verdict.{verdictOf};
 ghost use Rattle.frame_hunter_rules.specs.Hunt.{actOn, huntFrom};
-ghost use Rattle.frame_hunter_rules.specs.Bytes.{unfit, refusedTake, freshState, numberOf, Pushes, Finishes, Takes};
+ghost use Rattle.frame_hunter_rules.specs.Bytes.{unfit, refusedTake, freshState, numberOfHunter, Pushes, Finishes, Takes};
 
 const STORE_SIZE: usize = 16384;
 
@@ -207,7 +207,7 @@ pub fn reset() -> State
 
 // The answer's number in 01.
 pub fn number(answer: Answer) -> u32
-    ensures { λ r. ⌜ r ≡ numberOf answer ⌝ }
+    ensures { λ r. ⌜ r ≡ numberOfHunter answer ⌝ }
 {
     match answer {
         Answer::Fine => 0,

@@ -5,7 +5,7 @@ use mathlib.Core.Bool.{Bool, true, false}
 use lib.ListN.{length, take}
 use lib.Dec.{eqb}
 use Rattle.tagvalue.specs.Choice.{pick}
-use Rattle.tagvalue.specs.Number.{numberOf}
+use Rattle.tagvalue.specs.Number.{numberIn}
 use Rattle.tagvalue.specs.CheckSum.{sumOf, checksumOf}
 use Rattle.tagvalue.specs.Field.{startAt, fieldAt, valueOf}
 use Rattle.tagvalue.specs.declared.Mode.{Mode}
@@ -57,7 +57,7 @@ lengthIs message f NoNumber = false
 lengthIs message f (Worth n) = eqb (length message) (f .next .at + n + 7)
 
 unfoldable pub lengthAgrees : List ℕ → Field → Bool
-lengthAgrees message f = lengthIs message f (numberOf (valueOf message f))
+lengthAgrees message f = lengthIs message f (numberIn (valueOf message f))
 
 -- "field 2 has tag 9, else 12"
 unfoldable pub counted : Mode → List ℕ → Field → FieldRead → Integrity

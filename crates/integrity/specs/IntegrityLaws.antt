@@ -9,7 +9,7 @@ use lib.Dec.{eqb}
 use borrow.Author.Tests.{eq-eqb, ne-eqb, eqb-true}
 use Rattle.tagvalue.specs.declared.Mode.{Mode}
 use Rattle.tagvalue.specs.Choice.{pick-same}
-use Rattle.tagvalue.specs.Number.{numberOf}
+use Rattle.tagvalue.specs.Number.{numberIn}
 use Rattle.tagvalue.specs.CheckSum.{sumOf, checksumOf}
 use Rattle.tagvalue.specs.Field.{startAt, fieldAt, valueOf}
 use Rattle.tagvalue.specs.declared.Field.{Field}
@@ -83,22 +83,22 @@ module _ (r : FieldRead) (begin body check : Field) where
   typed-on f e h = rw (e, eq-eqb _ _ h)
 
 module _ (message : List ℕ) (f : Field) where
-  pub length-none : numberOf (valueOf message f) ≡ NoNumber → lengthAgrees message f ≡ false
+  pub length-none : numberIn (valueOf message f) ≡ NoNumber → lengthAgrees message f ≡ false
   unfolding lengthAgrees lengthIs
   length-none h = rw h
 
-  pub length-other : (n : ℕ) → numberOf (valueOf message f) ≡ Worth n → (length message ≡ f .next .at + n + 7 → ⊥) → lengthAgrees message f ≡ false
+  pub length-other : (n : ℕ) → numberIn (valueOf message f) ≡ Worth n → (length message ≡ f .next .at + n + 7 → ⊥) → lengthAgrees message f ≡ false
   unfolding lengthAgrees lengthIs
   length-other n h g = rw (h, ne-eqb _ _ g)
 
-  pub length-is : (n : ℕ) → numberOf (valueOf message f) ≡ Worth n → lengthAgrees message f ≡ eqb (length message) (f .next .at + n + 7)
+  pub length-is : (n : ℕ) → numberIn (valueOf message f) ≡ Worth n → lengthAgrees message f ≡ eqb (length message) (f .next .at + n + 7)
   unfolding lengthAgrees lengthIs
   length-is n h = rw h
 
   -- where the length agrees the CheckSum has its seven bytes
   pub length-room : lengthAgrees message f ≡ true → f .next .at + 7 ≤ length message
   unfolding lengthAgrees lengthIs
-  length-room h = by-number (numberOf (valueOf message f)) h
+  length-room h = by-number (numberIn (valueOf message f)) h
     where
       by-number : (n : Number) → lengthIs message f n ≡ true → f .next .at + 7 ≤ length message
       by-number NoNumber h = let z : _≡_ {A = ℕ} 0 1 = cc in absurd (omega arith)

@@ -160,5 +160,5 @@ module _ (n from to kept until used : ℕ) (new s : List ℕ) (a : from ≤ to) 
       e₆ ∙ rw (take-length five, drop-of-length-le s {i = length five} (omega arith), append-nil) (o₅ ∙ simp append-assoc)
 
 -- as many words as the rows take, and one that counts them
-sizes : messageWords ≡ 1 + 4 * messageRows
-sizes = refl
+row-words : messageWords ≡ 1 + 4 * messageRows
+row-words = refl

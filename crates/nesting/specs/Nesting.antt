@@ -16,16 +16,16 @@ use Rattle.dictionary_layout_rules.specs.declared.Position.{Position}
 use Rattle.dictionary_layout_rules.specs.declared.Position.the-variants.{At, Nowhere}
 use Rattle.records.specs.Records.{stored}
 use Rattle.records.specs.declared.Record.{Record}
-use Rattle.groups.specs.Groups.{Opened, none, opened, Rules, opens, Kind, plain, count, joins, wrong, ends, counting, declared, kindOf, Frame, run, entry, Move, adds, joinsAt, disorders, leaves, inEntry, decide, recordOf, ended, moved, walk}
+use Rattle.groups.specs.Groups.{Opened, none, opened, Rules, opens, Kind, plain, count, joins, wrong, ends, counting, declared, kindOf, Frame, run, entry, Move, adds, joinsAt, disorders, leaves, inEntry, decide, entryRecord, ended, moved, walk}
 use Rattle.groups.specs.Reading.{joinedList, listStore}
 use Rattle.nesting.specs.Formed.{entriesOf, fieldsOf, Own, Formed, no-entry, next-entry, starts, rises, hangs, user}
 
-own-record : (depth number : ℕ) (f : Field) → Own depth number (recordOf depth number f)
-unfolding recordOf
+own-record : (depth number : ℕ) (f : Field) → Own depth number (entryRecord depth number f)
+unfolding entryRecord
 own-record depth number f = record { deep = refl; numbered = refl }
 
-tag-record : (depth number : ℕ) (f : Field) → recordOf depth number f .tag ≡ f .tag
-unfolding recordOf
+tag-record : (depth number : ℕ) (f : Field) → entryRecord depth number f .tag ≡ f .tag
+unfolding entryRecord
 tag-record depth number f = refl
 
 -- what joins the last entry is stored in it
@@ -100,36 +100,36 @@ module _ {L : Type 0} (rules : Rules L) where
 
     -- what a move leaves open
     data Goes (rs : List Record) (f : Field) : Move L → Type 0 where
-      goes-adds : {stack : List (Frame L)} {depth number : ℕ} → Open stack (rs ++ (recordOf depth number f ∷ [])) → Goes rs f (adds stack depth number)
-      goes-joins : {stack : List (Frame L)} {start depth number : ℕ} → Open stack (joinedList start (recordOf depth number f) rs) → Goes rs f (joinsAt stack start depth number)
+      goes-adds : {stack : List (Frame L)} {depth number : ℕ} → Open stack (rs ++ (entryRecord depth number f ∷ [])) → Goes rs f (adds stack depth number)
+      goes-joins : {stack : List (Frame L)} {start depth number : ℕ} → Open stack (joinedList start (entryRecord depth number f) rs) → Goes rs f (joinsAt stack start depth number)
       goes-disorders : {group : ℕ} → Goes rs f (disorders group)
       goes-leaves : Goes rs f leaves
 
     module _ (f : Field) where
       opens-entry : {level : L} {group depth entries : ℕ} {stack : List (Frame L)} (rs : List Record) → Open (run level group depth entries ∷ stack) rs → (otherwise : Move L) → Goes rs f otherwise → (b c : Bool) → opens rules level (f .tag) ≡ b →
           Goes rs f (pick b (adds (entry level group depth (entries + 1) 0 (length rs) ∷ run level group depth (entries + 1) ∷ stack) depth (entries + 1)) (pick c (disorders group) otherwise))
-      unfolding recordOf
-      opens-entry {depth = depth} {entries = entries} rs o otherwise d true c e = goes-adds (in-entry rs (recordOf depth (entries + 1) f ∷ []) o (starts e (own-record depth (entries + 1) f)))
+      unfolding entryRecord
+      opens-entry {depth = depth} {entries = entries} rs o otherwise d true c e = goes-adds (in-entry rs (entryRecord depth (entries + 1) f ∷ []) o (starts e (own-record depth (entries + 1) f)))
       opens-entry rs o otherwise d false true e = goes-disorders
       opens-entry rs o otherwise d false false e = d
 
       module _ {level : L} {group depth number last : ℕ} {stack : List (Frame L)} (before own : List Record) (o : Open (run level group depth number ∷ stack) before) (fm : Formed rules (fieldsOf level depth (number + 1) last) own) where
         open-plain : (position : ℕ) → rules .position level (f .tag) ≡ At position → last < position →
-            Open (entry level group depth (number + 1) position (length before) ∷ run level group depth (number + 1) ∷ stack) ((before ++ own) ++ (recordOf depth (number + 1) f ∷ []))
-        unfolding recordOf
-        open-plain position p l = rw (append-assoc before own (recordOf depth (number + 1) f ∷ [])) (in-entry before (own ++ (recordOf depth (number + 1) f ∷ [])) o (rises position fm p l (own-record depth (number + 1) f)))
+            Open (entry level group depth (number + 1) position (length before) ∷ run level group depth (number + 1) ∷ stack) ((before ++ own) ++ (entryRecord depth (number + 1) f ∷ []))
+        unfolding entryRecord
+        open-plain position p l = rw (append-assoc before own (entryRecord depth (number + 1) f ∷ [])) (in-entry before (own ++ (entryRecord depth (number + 1) f ∷ [])) o (rises position fm p l (own-record depth (number + 1) f)))
 
         open-count : (inner : L) (position : ℕ) → rules .position level (f .tag) ≡ At position → last < position → rules .group level (f .tag) ≡ opened inner →
-            Open (run inner (f .tag) (depth + 1) 0 ∷ entry level group depth (number + 1) position (length before) ∷ run level group depth (number + 1) ∷ stack) ((before ++ own) ++ (recordOf depth (number + 1) f ∷ []))
-        unfolding recordOf
+            Open (run inner (f .tag) (depth + 1) 0 ∷ entry level group depth (number + 1) position (length before) ∷ run level group depth (number + 1) ∷ stack) ((before ++ own) ++ (entryRecord depth (number + 1) f ∷ []))
+        unfolding entryRecord
         open-count inner position p l g =
-            let counted = nested-run (recordOf depth (number + 1) f) before own [] o (record { entry-formed = fm; placed = p; rises-to = l; count-own = own-record depth (number + 1) f }) g no-entry in
-            rw (append-assoc before own (recordOf depth (number + 1) f ∷ [])) (rw (append-nil (before ++ (own ++ (recordOf depth (number + 1) f ∷ [])))) at counted)
+            let counted = nested-run (entryRecord depth (number + 1) f) before own [] o (record { entry-formed = fm; placed = p; rises-to = l; count-own = own-record depth (number + 1) f }) g no-entry in
+            rw (append-assoc before own (entryRecord depth (number + 1) f ∷ [])) (rw (append-nil (before ++ (own ++ (entryRecord depth (number + 1) f ∷ [])))) at counted)
 
         open-user : rules .position level (f .tag) ≡ Nowhere → rules .accepts (f .tag) ≡ true →
-            Open (entry level group depth (number + 1) last (length before) ∷ run level group depth (number + 1) ∷ stack) (joinedList (length before) (recordOf depth (number + 1) f) (before ++ own))
-        unfolding recordOf
-        open-user p a = rw (join-own before own (recordOf depth (number + 1) f)) (in-entry before (stored (recordOf depth (number + 1) f) own) o (user fm p a (own-record depth (number + 1) f)))
+            Open (entry level group depth (number + 1) last (length before) ∷ run level group depth (number + 1) ∷ stack) (joinedList (length before) (entryRecord depth (number + 1) f) (before ++ own))
+        unfolding entryRecord
+        open-user p a = rw (join-own before own (entryRecord depth (number + 1) f)) (in-entry before (stored (entryRecord depth (number + 1) f) own) o (user fm p a (own-record depth (number + 1) f)))
 
         takes-field : (otherwise : Move L) → Goes (before ++ own) f otherwise → {k : Kind L} → Says level last (f .tag) k →
             Goes (before ++ own) f (inEntry level group depth (number + 1) last (length before) (run level group depth (number + 1) ∷ stack) (f .tag) otherwise k)

@@ -11,7 +11,7 @@ ghost use mathlib.Core.Path.{_≡_};
 ghost use Prim.Native.Nat.{_*_, _%_, _^_, _≤_};
 ghost use lib.ListN.{length, take, drop};
 ghost use Rattle.frame_parser_rules.specs.Announced.{nominal, findFrom, valueFrom, announcedIn};
-ghost use Rattle.frame_parser_rules.specs.Framer.{unusable, fresh, onlyMark, numberOf, valueOf, answersWith, readyOf, movedToFront, pushed, pushedStore, finished, taken, takenStore, takenOutput};
+ghost use Rattle.frame_parser_rules.specs.Framer.{unusable, fresh, onlyMark, numberOfParser, valueOf, answersWith, readyOf, movedToFront, pushed, pushedStore, finished, taken, takenStore, takenOutput};
 
 const SEPARATOR: u8 = 1;
 
@@ -25,7 +25,7 @@ const CHECKSUM_SIZE: usize = 7;
 
 // The number that 01 gives an answer.
 pub fn number(answer: Answer) -> u32
-    ensures { λ r. ⌜ r ≡ numberOf answer ⌝ }
+    ensures { λ r. ⌜ r ≡ numberOfParser answer ⌝ }
 {
     match answer {
         Answer::Accepted => 0,

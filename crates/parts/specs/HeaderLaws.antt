@@ -15,7 +15,7 @@ use Rattle.tagvalue.specs.declared.FieldRead.the-variants.{Read, Unreadable}
 use Rattle.dictionary_layout_rules.specs.Tree.{holdsTag}
 use Rattle.records.specs.Records.{stored}
 use Rattle.records.specs.declared.Record.{Record}
-use Rattle.parts.specs.Parts.{ended, refused, recordOf, nextOf}
+use Rattle.parts.specs.Parts.{ended, refused, partRecord, nextOf}
 use Rattle.parts.specs.PartLaws.{taken}
 use Rattle.parts.specs.Header.{headerFrom}
 use Rattle.build_answers.specs.declared.Answer.{Answer}
@@ -36,7 +36,7 @@ module _ (tags : List ℕ) (mode : Mode) (message : List ℕ) (c : Cursor) (room
     header-field = let t = taken mode message c f room got in
         ap (λ (l : Fields). headerFrom tags l room records) (t .fields) ∙ ap (λ (n : ℕ). headerFrom tags (field f (fieldsFrom mode message (f .next))) n records) (t .one-less)
 
-    pub header-takes : holdsTag (f .tag) tags ≡ true → headerFrom tags (fieldsFrom mode message c) room records ≡ headerFrom tags (fieldsFrom mode message (f .next)) (room - 1) (stored (recordOf 1 f) records)
+    pub header-takes : holdsTag (f .tag) tags ≡ true → headerFrom tags (fieldsFrom mode message c) room records ≡ headerFrom tags (fieldsFrom mode message (f .next)) (room - 1) (stored (partRecord 1 f) records)
     unfolding headerFrom
     header-takes h = header-field ∙ rw h
 

@@ -19,8 +19,8 @@ use Rattle.parts.specs.declared.Next.{Next}
 use Rattle.parts.specs.declared.Next.the-variants.{Got, Missing}
 
 -- "A record holds part .., depth, entry number (both 0 outside groups ..), tag, and place and length of the value."
-unfoldable pub recordOf : ℕ → Field → Record
-recordOf part f = record { part = part; depth = 0; number = 0; tag = f .tag; place = f .place; length = f .length }
+unfoldable pub partRecord : ℕ → Field → Record
+partRecord part f = record { part = part; depth = 0; number = 0; tag = f .tag; place = f .place; length = f .length }
 
 -- the records that stand in the words from one index to another
 unfoldable pub partOf : ℕ → ℕ → List ℕ → List Record

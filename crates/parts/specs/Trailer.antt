@@ -10,7 +10,7 @@ use Rattle.records.specs.Records.{stored}
 use Rattle.records.specs.declared.Record.{Record}
 use Rattle.parts.specs.declared.TrailerRead.{TrailerRead}
 use Rattle.parts.specs.declared.TrailerRead.the-variants.{Stopped, Unstopped, TooManyFields}
-use Rattle.parts.specs.Parts.{recordOf, partOf}
+use Rattle.parts.specs.Parts.{partRecord, partOf}
 
 -- the CheckSum that stopped it, where one did, and the trailer's records
 pub data Trailer : Type 0 where
@@ -25,7 +25,7 @@ trailerFrom (unreadable cause place) zero records = crowded
 trailerFrom (unreadable cause place) (suc room) records = unstopped records
 trailerFrom (field f rest) zero records = crowded
 trailerFrom (field f rest) (suc room) records =
-    pick (eqb (f .tag) 10) (stopped f records) (trailerFrom rest room (stored (recordOf 3 f) records))
+    pick (eqb (f .tag) 10) (stopped f records) (trailerFrom rest room (stored (partRecord 3 f) records))
 
 -- what the code answers, with the words that it leaves
 unfoldable pub trailerTold : TrailerRead → ℕ → List ℕ → Trailer

@@ -15,7 +15,7 @@ use Rattle.tagvalue.specs.declared.Field.{Field}
 use Rattle.tagvalue.specs.declared.FieldRead.the-variants.{Read, Unreadable}
 use Rattle.records.specs.Records.{stored}
 use Rattle.records.specs.declared.Record.{Record}
-use Rattle.parts.specs.Parts.{recordOf}
+use Rattle.parts.specs.Parts.{partRecord}
 use Rattle.parts.specs.Trailer.{stopped, unstopped, crowded, trailerFrom}
 
 -- room for a field that is read already, and for those behind it
@@ -32,23 +32,23 @@ module _ (f : Field) (rest : Fields) (room : ℕ) (records : List Record) where
   unfolding trailerFrom
   trailer-stops h = rw (one-more room, eq-eqb _ _ h)
 
-  pub trailer-takes : (f .tag ≡ 10 → ⊥) → trailerFrom (field f rest) (room + 1) records ≡ trailerFrom rest room (stored (recordOf 3 f) records)
+  pub trailer-takes : (f .tag ≡ 10 → ⊥) → trailerFrom (field f rest) (room + 1) records ≡ trailerFrom rest room (stored (partRecord 3 f) records)
   unfolding trailerFrom
   trailer-takes h = rw (one-more room, ne-eqb _ _ h)
 
   pub trailer-crowded : (f .tag ≡ 10 → ⊥) → room ≡ 0 → trailerFrom (field f rest) (room + 1) records ≡ crowded
-  trailer-crowded h z = trailer-takes h ∙ rw z (crowds rest (stored (recordOf 3 f) records))
+  trailer-crowded h z = trailer-takes h ∙ rw z (crowds rest (stored (partRecord 3 f) records))
 
 module _ (mode : Mode) (message : List ℕ) (f : Field) (room : ℕ) (records : List Record) (other : f .tag ≡ 10 → ⊥) (some : 0 < room) where
-  left : trailerFrom (field f (fieldsFrom mode message (f .next))) (room + 1) records ≡ trailerFrom (fieldsFrom mode message (f .next)) (room - 1 + 1) (stored (recordOf 3 f) records)
+  left : trailerFrom (field f (fieldsFrom mode message (f .next))) (room + 1) records ≡ trailerFrom (fieldsFrom mode message (f .next)) (room - 1 + 1) (stored (partRecord 3 f) records)
   left =
       let one : room ≡ room - 1 + 1 = omega arith in
       trailer-takes f (fieldsFrom mode message (f .next)) room records other
-      ∙ ap (λ (n : ℕ). trailerFrom (fieldsFrom mode message (f .next)) n (stored (recordOf 3 f) records)) one
+      ∙ ap (λ (n : ℕ). trailerFrom (fieldsFrom mode message (f .next)) n (stored (partRecord 3 f) records)) one
 
-  pub trailer-ends : (cause : Cause) (place : ℕ) → fieldAt mode message (f .next) ≡ Unreadable cause place → trailerFrom (field f (fieldsFrom mode message (f .next))) (room + 1) records ≡ unstopped (stored (recordOf 3 f) records)
+  pub trailer-ends : (cause : Cause) (place : ℕ) → fieldAt mode message (f .next) ≡ Unreadable cause place → trailerFrom (field f (fieldsFrom mode message (f .next))) (room + 1) records ≡ unstopped (stored (partRecord 3 f) records)
   unfolding trailerFrom
   trailer-ends cause place e = left ∙ rw (fields-end mode message (f .next) cause place e, one-more (room - 1))
 
-  pub trailer-on : (g : Field) → fieldAt mode message (f .next) ≡ Read g → trailerFrom (field f (fieldsFrom mode message (f .next))) (room + 1) records ≡ trailerFrom (field g (fieldsFrom mode message (g .next))) (room - 1 + 1) (stored (recordOf 3 f) records)
-  trailer-on g e = left ∙ ap (λ (l : Fields). trailerFrom l (room - 1 + 1) (stored (recordOf 3 f) records)) (fields-field mode message (f .next) g e)
+  pub trailer-on : (g : Field) → fieldAt mode message (f .next) ≡ Read g → trailerFrom (field f (fieldsFrom mode message (f .next))) (room + 1) records ≡ trailerFrom (field g (fieldsFrom mode message (g .next))) (room - 1 + 1) (stored (partRecord 3 f) records)
+  trailer-on g e = left ∙ ap (λ (l : Fields). trailerFrom l (room - 1 + 1) (stored (partRecord 3 f) records)) (fields-field mode message (f .next) g e)

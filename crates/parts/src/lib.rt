@@ -13,7 +13,7 @@ ghost use lib.ListN.{length};
 ghost use Rattle.records.specs.Records.{stride};
 ghost use Rattle.tagvalue.specs.Fields.{field, fieldsFrom, Inside};
 ghost use Rattle.tagvalue.specs.Field.{fieldAt};
-ghost use Rattle.parts.specs.Parts.{recordOf, partOf, Kept, nextOf, partTold, Stays};
+ghost use Rattle.parts.specs.Parts.{partRecord, partOf, Kept, nextOf, partTold, Stays};
 ghost use Rattle.parts.specs.Header.{headerFrom};
 ghost use Rattle.parts.specs.Trailer.{trailerFrom, trailerTold, trailerCounts};
 
@@ -47,7 +47,7 @@ pub enum Next {
 // A field's record in one of the parts.
 pub fn record_of(part: u32, field: Field) -> Record
     requires { ⌜ (field .place < 2 ^ 32) × (field .length < 2 ^ 32) ⌝ }
-    ensures { λ r. ⌜ r ≡ recordOf part field ⌝ }
+    ensures { λ r. ⌜ r ≡ partRecord part field ⌝ }
 {
     Record {
         part,

@@ -16,12 +16,12 @@ use Rattle.records.specs.Records.{blank, stored}
 use Rattle.records.specs.declared.Record.{Record}
 use Rattle.build_answers.specs.declared.Answer.{Answer}
 use Rattle.build_answers.specs.declared.Answer.the-variants.{Garbled as garbled}
-use Rattle.parts.specs.Parts.{Reading, ended, refused, recordOf}
+use Rattle.parts.specs.Parts.{Reading, ended, refused, partRecord}
 use Rattle.parts.specs.Header.{headerFrom}
 
 -- the fields that were verified, in the order in which they were read
 unfoldable pub verifiedRecords : Verified → List Record
-verifiedRecords v = stored (recordOf 1 (v .«msg_type»)) (stored (recordOf 1 (v .«body_length»)) (stored (recordOf 1 (v .«begin_string»)) []))
+verifiedRecords v = stored (partRecord 1 (v .«msg_type»)) (stored (partRecord 1 (v .«body_length»)) (stored (partRecord 1 (v .«begin_string»)) []))
 
 -- "a 1,025th field read" is 21, and three are read by then
 abbrev pub roomBehind : ℕ
@@ -51,5 +51,3 @@ unfoldable pub msgTypeRecord : List Record → Record
 msgTypeRecord [] = blank
 msgTypeRecord (r ∷ rs) = pick (eqb (r .tag) 35) r (msgTypeRecord rs)
 
-unfoldable pub valueAt : List ℕ → Record → List ℕ
-valueAt message r = take (r .length) (drop (r .place) message)

@@ -14,17 +14,17 @@ use Rattle.tagvalue.specs.Decimal.{decimalWithin}
 use Rattle.integrity.specs.Integrity.{numberOfReason, integrityOf, begun, counted, summed, typed, lengthIs, lengthAgrees, sumIs, sumAgrees}
 use Rattle.dictionary_layout_rules.specs.Layout.{followedBy as layoutThen, firstOf, positionFrom, positionIn, groupSince, groupOf, delimiterOf, requiredTags}
 use Rattle.dictionary_layout_rules.specs.Tree.{Nodes, nothing, fieldItem, groupItem, Dictionary, holdsTag, knows, plainFields, headerTags, trailerTags, flattened, sameBytes, messageOf, layoutOf}
-use Rattle.records.specs.Records.{stored}
+use Rattle.records.specs.Records.{stored, valueAt}
 use Rattle.records.specs.declared.Record.{Record}
-use Rattle.groups.specs.Groups.{isDelimiter, counting, opens, declared, kindOf as entryKind, inEntry, decide, recordOf as entryRecord, moved, walk}
+use Rattle.groups.specs.Groups.{isDelimiter, counting, opens, declared, kindOf as entryKind, inEntry, decide, entryRecord, moved, walk}
 use Rattle.groups.specs.Reading.{accepted, openedAs, layoutRules, joinedList, listStore, answerOf}
 use Rattle.required.specs.Required.{orElse, has, fieldsLack, before, shallow, runLacks, nestedLack, entriesLack, opensEntry, entryLack, runLack}
 use Rattle.required.specs.Checking.{layoutDemands}
 use Rattle.build_answers.specs.Answer.{numberOf, valuesOf}
-use Rattle.parts.specs.Parts.{recordOf}
+use Rattle.parts.specs.Parts.{partRecord}
 use Rattle.parts.specs.Header.{headerFrom}
 use Rattle.parts.specs.Trailer.{trailerFrom}
-use Rattle.reading.specs.Beginning.{verifiedRecords, headerOf, withChecksum, startedBy, startOf, msgTypeRecord, valueAt}
+use Rattle.reading.specs.Beginning.{verifiedRecords, headerOf, withChecksum, startedBy, startOf, msgTypeRecord}
 use Rattle.body.specs.Body.{behindRun, storedRun, andThen, nextFrom, withRun, takes, bodyWithin, bodyFrom}
 use Rattle.body.specs.Kinds.{groupKind, placedKind, kindOf, checked, ranAs, runFrom, bodyOf}
 use Rattle.reading.specs.Message.{Outcome, shownWith, refusal, afterTrailer, afterBody, afterType, afterHeader, messageRead}
@@ -101,5 +101,5 @@ marked = record {
 
 -- THE TABLE, and an order without 38 by that other dictionary
 pub all-read : (map (λ (row : Row). told (messageRead dictionary (validating (row .0)) (row .1))) table ≡ map {B = Told} (λ (row : Row). (row .2, row .3, row .4)) table) × (numberOf (messageRead marked (validating true) (order "58=x|") .answer) ≡ 0)
-unfolding messageRead numberOf startOf startedBy headerOf verifiedRecords withChecksum headerFrom afterHeader afterType afterBody afterTrailer refusal shownWith msgTypeRecord valueAt trailerFrom recordOf valuesOf bodyFrom bodyWithin takes withRun nextFrom andThen storedRun behindRun bodyOf runFrom ranAs checked kindOf placedKind groupKind answerOf numberOfReason integrityOf begun counted summed typed lengthIs lengthAgrees sumIs sumAgrees sumOf checksumOf checksumDigits decimalWithin layoutThen positionFrom firstOf positionIn groupSince groupOf delimiterOf requiredTags holdsTag knows plainFields headerTags trailerTags flattened sameBytes messageOf layoutOf stored isDelimiter counting opens declared entryKind inEntry decide entryRecord moved walk accepted openedAs layoutRules joinedList listStore orElse has fieldsLack before shallow runLacks nestedLack entriesLack opensEntry entryLack runLack layoutDemands reading-fields
+unfolding messageRead numberOf startOf startedBy headerOf verifiedRecords withChecksum headerFrom afterHeader afterType afterBody afterTrailer refusal shownWith msgTypeRecord valueAt trailerFrom partRecord valuesOf bodyFrom bodyWithin takes withRun nextFrom andThen storedRun behindRun bodyOf runFrom ranAs checked kindOf placedKind groupKind answerOf numberOfReason integrityOf begun counted summed typed lengthIs lengthAgrees sumIs sumAgrees sumOf checksumOf checksumDigits decimalWithin layoutThen positionFrom firstOf positionIn groupSince groupOf delimiterOf requiredTags holdsTag knows plainFields headerTags trailerTags flattened sameBytes messageOf layoutOf stored isDelimiter counting opens declared entryKind inEntry decide entryRecord moved walk accepted openedAs layoutRules joinedList listStore orElse has fieldsLack before shallow runLacks nestedLack entriesLack opensEntry entryLack runLack layoutDemands reading-fields
 all-read = (refl, refl)

@@ -3,6 +3,7 @@ use Prim.Native.Nat.{ℕ, suc}
 use mathlib.Core.List.{List, [], _∷_, _++_}
 use mathlib.Core.Bool.{Bool, true, false}
 use lib.Dec.{leb}
+use Rattle.records.specs.Records.{valueAt}
 use Rattle.build_config.specs.declared.Config.{Config}
 use Rattle.tagvalue.specs.Choice.{pick}
 use Rattle.tagvalue.specs.Fields.{Fields, field}
@@ -17,9 +18,9 @@ use Rattle.build_answers.specs.declared.Answer.the-variants.{Valid, InvalidMsgT
 use Rattle.reading.specs.declared.Stop.{Stop}
 use Rattle.reading.specs.declared.Stop.the-variants.{At, Nowhere}
 use Rattle.build_answers.specs.Answer.{numberOf}
-use Rattle.parts.specs.Parts.{Reading, ended, refused, recordOf}
+use Rattle.parts.specs.Parts.{Reading, ended, refused, partRecord}
 use Rattle.parts.specs.Trailer.{Trailer, stopped, unstopped, crowded, trailerFrom}
-use Rattle.reading.specs.Beginning.{Start, started, unsound, startOf, msgTypeRecord, valueAt}
+use Rattle.reading.specs.Beginning.{Start, started, unsound, startOf, msgTypeRecord}
 use Rattle.body.specs.Body.{bodyFrom}
 use Rattle.body.specs.Kinds.{bodyOf}
 
@@ -45,7 +46,7 @@ afterTrailer header body crowded = refusal TooManyFields header
 -- "The verified CheckSum stands first in the trailer."
 unfoldable pub afterBody : List Record → Field → Reading → Outcome
 afterBody header checksum (refused answer) = refusal answer header
-afterBody header checksum (ended f rest room body) = afterTrailer header body (trailerFrom (field f rest) (suc room) (recordOf 3 checksum ∷ []))
+afterBody header checksum (ended f rest room body) = afterTrailer header body (trailerFrom (field f rest) (suc room) (partRecord 3 checksum ∷ []))
 
 module _ (dictionary : Dictionary) (config : Config) where
   -- "and then MsgType must be in the dictionary, else 3"

@@ -103,3 +103,7 @@ storedBetween n from to r rs = storedAt n to r (heldFrom from (r .depth) (r .tag
 unfoldable pub stored : Record → List Record → List Record
 stored r [] = r ∷ []
 stored r (x ∷ rs) = pick (eqb (x .depth) (r .depth)) (pick (eqb (x .tag) (r .tag)) (r ∷ rs) (x ∷ stored r rs)) (x ∷ stored r rs)
+
+-- the bytes of a record's value
+unfoldable pub valueAt : List ℕ → Record → List ℕ
+valueAt bytes r = take (r .length) (drop (r .place) bytes)

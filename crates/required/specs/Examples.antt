@@ -14,7 +14,7 @@ use Rattle.dictionary_layout_rules.specs.Tree.{holdsTag}
 use Rattle.records.specs.Records.{stored}
 use Rattle.records.specs.declared.Record.{Record}
 use Rattle.build_answers.specs.Answer.{numberOf, valuesOf, listed}
-use Rattle.groups.specs.Groups.{isDelimiter, opens, counting, declared, kindOf, run, inEntry, decide, recordOf, Outcome, ended, refused, moved, walk}
+use Rattle.groups.specs.Groups.{isDelimiter, opens, counting, declared, kindOf, run, inEntry, decide, entryRecord, RunOutcome, ended, refused, moved, walk}
 use Rattle.groups.specs.Reading.{answerOf, accepted, openedAs, layoutRules, joinedList, listStore}
 use Rattle.required.specs.Required.{orElse, has, fieldsLack, before, shallow, runLacks, nestedLack, entriesLack, opensEntry, entryLack, runLack}
 use Rattle.required.specs.Checking.{answerOfLack, layoutDemands}
@@ -27,7 +27,7 @@ unfoldable answer : Lack → Told
 answer lack = (numberOf (answerOfLack lack), listed (answerOfLack lack))
 
 -- "After a body group ends": what was read is checked, a refusal stands
-unfoldable checked : Layout → Outcome (List Record) (List Record) → Told
+unfoldable checked : Layout → RunOutcome (List Record) (List Record) → Told
 checked layout (ended f rest room rs) = answer (runLack layoutDemands 4 layout 78 1 rs)
 checked layout (refused refusal rs) = (numberOf (answerOf refusal), listed (answerOf refusal))
 
@@ -62,5 +62,5 @@ table =
     ∷ []
 
 all-hold : map (λ row. verdict (row .0 .0) (row .0 .1)) table ≡ map (λ row. row .1) table
-unfolding verdict checked answer answerOfLack numberOf valuesOf listed answerOf layoutDemands runLack entryLack opensEntry entriesLack nestedLack runLacks shallow before fieldsLack has orElse requiredTags layoutRules openedAs accepted joinedList listStore walk moved decide inEntry kindOf declared counting opens isDelimiter recordOf positionIn positionFrom firstOf groupOf groupSince delimiterOf holdsTag stored reading-fields
+unfolding verdict checked answer answerOfLack numberOf valuesOf listed answerOf layoutDemands runLack entryLack opensEntry entriesLack nestedLack runLacks shallow before fieldsLack has orElse requiredTags layoutRules openedAs accepted joinedList listStore walk moved decide inEntry kindOf declared counting opens isDelimiter entryRecord positionIn positionFrom firstOf groupOf groupSince delimiterOf holdsTag stored reading-fields
 all-hold = refl

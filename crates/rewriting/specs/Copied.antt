@@ -9,6 +9,7 @@ use native.Mathlib.Omega.{arith}
 use lib.ListN.{length, drop, length-append}
 use lib.Seq.{drop-append-seam}
 use borrow.Author.Tests.{le-leb}
+use Rattle.records.specs.Records.{valueAt}
 use Rattle.tagvalue.specs.SpelledLaws.{text-value, text-fields}
 use Rattle.tagvalue.specs.declared.Mode.{Mode}
 use Rattle.tagvalue.specs.Decimal.{decimal}
@@ -19,7 +20,6 @@ use Rattle.tagvalue.specs.Fields.{Fields, field, fieldsFrom}
 use Rattle.tagvalue.specs.declared.Field.{Field}
 use Rattle.records.specs.declared.Record.{Record}
 use Rattle.nesting.specs.Entries.{All, all-none, all-more}
-use Rattle.taking.specs.Taking.{valueAt}
 use Rattle.rewriting.specs.ReadWritten.{Writable}
 use Rattle.rewriting.specs.Written.{written}
 

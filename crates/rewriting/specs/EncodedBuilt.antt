@@ -7,6 +7,7 @@ use Prim.Native.Nat.{ℕ, _+_}
 use native.Mathlib.Omega.{arith}
 use lib.ListN.{length, length-append}
 use lib.Dec.{eqb}
+use Rattle.records.specs.Records.{valueAt}
 use Rattle.tagvalue.specs.Decimal.{decimal}
 use Rattle.tagvalue.specs.Field.{fieldBytes}
 use Rattle.records.specs.declared.Record.{Record}
@@ -17,7 +18,6 @@ use Rattle.lent.specs.StandLaws.{nor, field-formed, behind-field}
 use Rattle.nesting.specs.Formed.{Own}
 use Rattle.nesting.specs.Entries.{All}
 use Rattle.standing.specs.ShapeLaws.{all-first, all-rest}
-use Rattle.taking.specs.Taking.{valueAt}
 use Rattle.taking.specs.Derived.{Stands, no-more as stands-none, own as stands-own, in-entry as stands-entry}
 use Rattle.written_form.specs.Encoding.{text, textUnder, isFirst, isRest, headerText, messageText, bytesOf, dropped, bodyLength, measured, summed, encoding}
 use Rattle.encoder.specs.WritingLaws.{text-length}

@@ -8,6 +8,7 @@ use native.Mathlib.Omega.{arith}
 use lib.ListN.{length, length-append}
 use lib.Dec.{eqb}
 use borrow.Author.Tests.{eqb-false, eq-eqb}
+use Rattle.records.specs.Records.{valueAt}
 use Rattle.tagvalue.specs.Choice.{pick}
 use Rattle.tagvalue.specs.Decimal.{decimal}
 use Rattle.tagvalue.specs.Field.{fieldBytes}
@@ -15,7 +16,6 @@ use Rattle.records.specs.declared.Record.{Record}
 use Rattle.maps.specs.Map.{Map, field, holds, holdsAny, fieldCount}
 use Rattle.lent.specs.Formed.{isFormed}
 use Rattle.lent.specs.StandLaws.{field-formed, entry-formed}
-use Rattle.taking.specs.Taking.{valueAt}
 use Rattle.taking.specs.Derived.{Stands, no-more, own, in-entry}
 use Rattle.written_form.specs.Encoding.{text, bytesOf}
 use Rattle.encoder.specs.WritingLaws.{text-length}

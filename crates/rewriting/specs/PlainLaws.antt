@@ -11,7 +11,7 @@ use lib.Seq.{getD-drop}
 use lib.Dec.{eqb, leb}
 use borrow.Author.Tests.{eqb-true, eqb-false, leb-true}
 use Rattle.tagvalue.specs.Choice.{pick}
-use Rattle.tagvalue.specs.Number.{allDigits, worth, numberOf, nonZero, tagOf}
+use Rattle.tagvalue.specs.Number.{allDigits, worth, numberIn, nonZero, tagOf}
 use Rattle.tagvalue.specs.Decimal.{decimal}
 use Rattle.tagvalue.specs.DecimalLaws.{all-digits-first, decimal-small, decimal-unique}
 use Rattle.tagvalue.specs.declared.Number.{Number}
@@ -25,8 +25,8 @@ pub record Digits (text : List ℕ) (n : ℕ) : Type 0 where
   pub worths : worth 0 text ≡ n
   pub most : n ≤ 4294967295
 
-pub number-digits : (text : List ℕ) (n : ℕ) → numberOf text ≡ Worth n → Digits text n
-unfolding numberOf
+pub number-digits : (text : List ℕ) (n : ℕ) → numberIn text ≡ Worth n → Digits text n
+unfolding numberIn
 number-digits text n e = by-tests (eqb (length text) 0) (allDigits text) (leb (worth 0 text) 4294967295) refl refl refl e
   where
     by-tests : (a b c : Bool) → eqb (length text) 0 ≡ a → allDigits text ≡ b → leb (worth 0 text) 4294967295 ≡ c
@@ -47,16 +47,16 @@ pub record TagText (text : List ℕ) (tag : ℕ) : Type 0 where
 
 pub tag-text : (text : List ℕ) (tag : ℕ) → tagOf text ≡ Worth tag → TagText text tag
 unfolding tagOf nonZero
-tag-text text tag e = by-number (numberOf text) refl e
+tag-text text tag e = by-number (numberIn text) refl e
   where
-    by-test : (n : ℕ) (b : Bool) → eqb n 0 ≡ b → numberOf text ≡ Worth n → pick b NoNumber (Worth n) ≡ Worth tag → TagText text tag
+    by-test : (n : ℕ) (b : Bool) → eqb n 0 ≡ b → numberIn text ≡ Worth n → pick b NoNumber (Worth n) ≡ Worth tag → TagText text tag
     by-test n true b-is number e = let z : _≡_ {A = ℕ} 0 1 = cc in absurd (omega arith)
     by-test n false b-is number e =
         let same : n ≡ tag = cc in
         let least : n ≡ 0 → ⊥ = eqb-false _ _ b-is in
         record { digits = number-digits text tag (number ∙ ap Worth same); least = omega (arith, least) }
 
-    by-number : (r : Number) → numberOf text ≡ r → nonZero r ≡ Worth tag → TagText text tag
+    by-number : (r : Number) → numberIn text ≡ r → nonZero r ≡ Worth tag → TagText text tag
     by-number NoNumber number e = let z : _≡_ {A = ℕ} 0 1 = cc in absurd (omega arith)
     by-number (Worth n) number e = by-test n (eqb n 0) refl number e
 

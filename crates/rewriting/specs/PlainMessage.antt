@@ -6,6 +6,7 @@ use mathlib.Core.List.{List, _∷_, _++_, append-assoc}
 use Prim.Native.Nat.{ℕ, _-_}
 use native.Mathlib.Omega.{arith}
 use lib.ListN.{length, drop}
+use Rattle.records.specs.Records.{valueAt}
 use Rattle.tagvalue.specs.declared.Mode.{Mode}
 use Rattle.tagvalue.specs.Decimal.{decimal}
 use Rattle.tagvalue.specs.Field.{startAt, fieldBytes, valueOf}
@@ -15,8 +16,7 @@ use Rattle.integrity.specs.Integrity.{integrityOf}
 use Rattle.integrity.specs.declared.Integrity.the-variants.{Sound}
 use Rattle.integrity.specs.declared.Verified.{Verified}
 use Rattle.records.specs.declared.Record.{Record}
-use Rattle.parts.specs.Parts.{recordOf}
-use Rattle.taking.specs.Taking.{valueAt}
+use Rattle.parts.specs.Parts.{partRecord}
 use Rattle.written_form.specs.Encoding.{summed}
 use Rattle.sequence.specs.VerifiedTags.{verified-checked}
 use Rattle.rewriting.specs.EncodedText.{written-append}
@@ -47,29 +47,29 @@ followed-written mode message header body trailer stop more followed plain =
 
 -- the header's 8 and 9 come first
 opened : (separator : ℕ) (message : List ℕ) (begin size : Field) (others : List Record) (rest : List ℕ) → begin .tag ≡ 8 → size .tag ≡ 9
-    → written separator message (recordOf 1 begin ∷ recordOf 1 size ∷ others) ++ rest ≡ fieldBytes separator (decimal 8) (valueOf message begin) ++ (fieldBytes separator (decimal 9) (valueOf message size) ++ (written separator message others ++ rest))
-unfolding written recordOf valueAt valueOf
+    → written separator message (partRecord 1 begin ∷ partRecord 1 size ∷ others) ++ rest ≡ fieldBytes separator (decimal 8) (valueOf message begin) ++ (fieldBytes separator (decimal 9) (valueOf message size) ++ (written separator message others ++ rest))
+unfolding written partRecord valueAt valueOf
 opened separator message begin size others rest eight nine = rw (eight, nine) (simp append-assoc)
 
 closed : (mode : Mode) (message : List ℕ) (begin : Field) (others : List Record) → begin .tag ≡ 8
-    → rewritten (mode .separator) message (recordOf 1 begin) others ≡ summed (mode .separator) (fieldBytes (mode .separator) (decimal 8) (valueOf message begin) ++ (fieldBytes (mode .separator) (decimal 9) (decimal (length (written (mode .separator) message others))) ++ written (mode .separator) message others))
-unfolding rewritten recordOf valueAt valueOf
+    → rewritten (mode .separator) message (partRecord 1 begin) others ≡ summed (mode .separator) (fieldBytes (mode .separator) (decimal 8) (valueOf message begin) ++ (fieldBytes (mode .separator) (decimal 9) (decimal (length (written (mode .separator) message others))) ++ written (mode .separator) message others))
+unfolding rewritten partRecord valueAt valueOf
 closed mode message begin others eight = rw eight
 
 -- "clean": then the message is what its records are rewritten to
 pub clean-message : (mode : Mode) (message : List ℕ) (v : Verified) → integrityOf mode message ≡ Sound v → (others body trailer : List Record) (stop : Field) (more : Fields)
-    → Followed mode message (recordOf 1 (v .«begin_string») ∷ recordOf 1 (v .«body_length») ∷ others) body trailer (field stop more) → stop .first ≡ length message - 7
+    → Followed mode message (partRecord 1 (v .«begin_string») ∷ partRecord 1 (v .«body_length») ∷ others) body trailer (field stop more) → stop .first ≡ length message - 7
     → plainTags message (stop .first) (fieldsFrom mode message (startAt 0)) ≡ true → plainLength message (fieldsFrom mode message (startAt 0)) ≡ true → threeDigits message stop ≡ true
-    → message ≡ rewritten (mode .separator) message (recordOf 1 (v .«begin_string»)) (others ++ (body ++ trailer))
+    → message ≡ rewritten (mode .separator) message (partRecord 1 (v .«begin_string»)) (others ++ (body ++ trailer))
 clean-message mode message v sound others body trailer stop more followed at-checksum tags-plain length-plain three =
     let checked = verified-checked mode message v sound in
     let first = follows-cursor mode message (followed .header-follows) (startAt 0) refl in
     let second = follows-cursor mode message (followed .body-follows) (first .cursor) (first .left) in
     let third = follows-cursor mode message (followed .trailer-follows) (second .cursor) (second .left) in
     let same : stop ≡ v .checksum = stop-verified mode message v sound (third .cursor) stop more (third .left) at-checksum in
-    let whole : message ≡ written (mode .separator) message (recordOf 1 (v .«begin_string») ∷ recordOf 1 (v .«body_length») ∷ (others ++ (body ++ trailer))) ++ drop (length message - 7) message =
-    followed-written mode message (recordOf 1 (v .«begin_string») ∷ recordOf 1 (v .«body_length») ∷ others) body trailer stop more followed tags-plain
-    ∙ ap (λ (n : ℕ). written (mode .separator) message (recordOf 1 (v .«begin_string») ∷ recordOf 1 (v .«body_length») ∷ (others ++ (body ++ trailer))) ++ drop n message) at-checksum in
+    let whole : message ≡ written (mode .separator) message (partRecord 1 (v .«begin_string») ∷ partRecord 1 (v .«body_length») ∷ (others ++ (body ++ trailer))) ++ drop (length message - 7) message =
+    followed-written mode message (partRecord 1 (v .«begin_string») ∷ partRecord 1 (v .«body_length») ∷ others) body trailer stop more followed tags-plain
+    ∙ ap (λ (n : ℕ). written (mode .separator) message (partRecord 1 (v .«begin_string») ∷ partRecord 1 (v .«body_length») ∷ (others ++ (body ++ trailer))) ++ drop n message) at-checksum in
     clean-rewritten mode message v sound (written (mode .separator) message (others ++ (body ++ trailer)))
     (whole ∙ opened (mode .separator) message (v .«begin_string») (v .«body_length») (others ++ (body ++ trailer)) (drop (length message - 7) message) (checked .tags .begins) (checked .tags .counts))
     length-plain (ap (threeDigits message) (sym same) ∙ three)

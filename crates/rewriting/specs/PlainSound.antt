@@ -8,7 +8,7 @@ use lib.ListN.{length}
 use lib.Dec.{eqb}
 use borrow.Author.Tests.{eqb-true}
 use Rattle.tagvalue.specs.declared.Mode.{Mode}
-use Rattle.tagvalue.specs.Number.{numberOf}
+use Rattle.tagvalue.specs.Number.{numberIn}
 use Rattle.tagvalue.specs.Decimal.{decimal}
 use Rattle.tagvalue.specs.Field.{startAt, fieldAt, valueOf}
 use Rattle.tagvalue.specs.FieldsLaws.{fields-field}
@@ -29,19 +29,19 @@ use Rattle.tagvalue.specs.SpelledLaws.{value-stands, value-size}
 -- a BodyLength that is right
 pub record RightLength (message : List ℕ) (f : Field) : Type 0 where
   pub number : ℕ
-  pub reads : numberOf (valueOf message f) ≡ Worth number
+  pub reads : numberIn (valueOf message f) ≡ Worth number
   pub right : length message ≡ f .next .at + number + 7
 
 pub right-length : (message : List ℕ) (f : Field) → lengthAgrees message f ≡ true → RightLength message f
 unfolding lengthAgrees lengthIs
-right-length message f e = by-number (numberOf (valueOf message f)) refl e
+right-length message f e = by-number (numberIn (valueOf message f)) refl e
   where
-    by-number : (r : Number) → numberOf (valueOf message f) ≡ r → lengthIs message f r ≡ true → RightLength message f
+    by-number : (r : Number) → numberIn (valueOf message f) ≡ r → lengthIs message f r ≡ true → RightLength message f
     by-number NoNumber is e = let z : _≡_ {A = ℕ} 0 1 = cc in absurd (omega arith)
     by-number (Worth n) is e = record { number = n; reads = is; right = eqb-true (length message) (f .next .at + n + 7) e }
 
 -- a plain BodyLength is the digits of its number
-pub plain-value : (mode : Mode) (message : List ℕ) (c : Cursor) (f : Field) → fieldAt mode message c ≡ Read f → (n : ℕ) → numberOf (valueOf message f) ≡ Worth n → isPlain message (f .place) (f .length) ≡ true → valueOf message f ≡ decimal n
+pub plain-value : (mode : Mode) (message : List ℕ) (c : Cursor) (f : Field) → fieldAt mode message c ≡ Read f → (n : ℕ) → numberIn (valueOf message f) ≡ Worth n → isPlain message (f .place) (f .length) ≡ true → valueOf message f ≡ decimal n
 plain-value mode message c f read n reads plain =
     let d = number-digits (valueOf message f) n reads in
     plain-digits (valueOf message f) n d

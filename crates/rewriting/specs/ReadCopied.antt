@@ -5,12 +5,12 @@ use mathlib.Core.List.{List, [], _∷_, _++_}
 use Prim.Native.Nat.{ℕ}
 use native.Mathlib.Omega.{arith}
 use lib.ListN.{length}
+use Rattle.records.specs.Records.{valueAt}
 use Rattle.tagvalue.specs.declared.Mode.{Mode}
 use Rattle.tagvalue.specs.Field.{valueOf}
 use Rattle.tagvalue.specs.Fields.{Fields, field}
 use Rattle.tagvalue.specs.declared.Field.{Field}
 use Rattle.records.specs.declared.Record.{Record}
-use Rattle.taking.specs.Taking.{valueAt}
 use Rattle.standing.specs.Counting.{Of}
 use Rattle.sequence.specs.Follows.{Follows, no-field, one-field}
 use Rattle.rewriting.specs.Copied.{onto, Copied, copied-none, copied-more}

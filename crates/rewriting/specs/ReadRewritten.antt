@@ -7,10 +7,11 @@ use Prim.Native.Nat.{ℕ, _+_, _-_, _/_, _%_, _≤_}
 use native.Mathlib.Omega.{arith}
 use lib.ListN.{length, length-append}
 use lib.Dec.{eqb}
+use Rattle.records.specs.Records.{valueAt}
 use Rattle.tagvalue.specs.declared.Mode.{Mode}
 use Rattle.tagvalue.specs.Choice.{pick}
 use Rattle.tagvalue.specs.CheckSum.{sumOf, checksumOf, checksumDigits}
-use Rattle.tagvalue.specs.Number.{isDigit, allDigits, numberOf}
+use Rattle.tagvalue.specs.Number.{isDigit, allDigits, numberIn}
 use Rattle.tagvalue.specs.Decimal.{decimal, decimalWithin}
 use Rattle.tagvalue.specs.DecimalLaws.{digit-byte, last-digit, decimal-digits, number-reads, checksum-reads}
 use Rattle.tagvalue.specs.Field.{startAt, valueOf}
@@ -22,7 +23,6 @@ use Rattle.integrity.specs.declared.Integrity.the-variants.{Sound}
 use Rattle.integrity.specs.declared.Verified.{Verified}
 use Rattle.records.specs.declared.Record.{Record}
 use Rattle.nesting.specs.Entries.{All}
-use Rattle.taking.specs.Taking.{valueAt}
 use Rattle.written_form.specs.Encoding.{summed, sumDigits}
 use Rattle.tagvalue.specs.Separator.{isRefusedSeparator}
 use Rattle.rewriting.specs.Copied.{onto, Copied, CopiedAt, copied-read}
@@ -98,7 +98,7 @@ counted-fits separator b n counted = simp length-append (omega arith)
 module _ (mode : Mode) (bytes copy n s : List ℕ) (begin type : Record) (others : List Record) (writable : All (Writable (mode .separator) bytes) others)
     (whole : copy ≡ framed (mode .separator) (valueAt bytes begin) n (tagged (mode .separator) 35 (valueAt bytes type) ++ written (mode .separator) bytes others) ++ (tagged (mode .separator) 10 s ++ []))
     (apart : Unseparated (mode .separator) (valueAt bytes begin) n (valueAt bytes type) s) (three : length s ≡ 3)
-    (right-length : numberOf n ≡ Worth (length (tagged (mode .separator) 35 (valueAt bytes type) ++ written (mode .separator) bytes others)))
+    (right-length : numberIn n ≡ Worth (length (tagged (mode .separator) 35 (valueAt bytes type) ++ written (mode .separator) bytes others)))
     (right-sum : checksumOf s ≡ Worth (sumOf (framed (mode .separator) (valueAt bytes begin) n (tagged (mode .separator) 35 (valueAt bytes type) ++ written (mode .separator) bytes others)) % 256)) where
   framed-like : CopiedAt mode bytes copy (length ((tagged (mode .separator) 8 (valueAt bytes begin) ++ tagged (mode .separator) 9 n) ++ tagged (mode .separator) 35 (valueAt bytes type))) others → ReadsLike mode bytes copy begin type others
   unfolding framedFields

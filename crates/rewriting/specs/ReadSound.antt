@@ -10,7 +10,7 @@ use lib.Seq.{take-append-seam}
 use borrow.Author.Tests.{eq-eqb}
 use Rattle.tagvalue.specs.declared.Mode.{Mode}
 use Rattle.tagvalue.specs.CheckSum.{sumOf, checksumOf}
-use Rattle.tagvalue.specs.Number.{numberOf}
+use Rattle.tagvalue.specs.Number.{numberIn}
 use Rattle.tagvalue.specs.Decimal.{decimal, decimalWithin}
 use Rattle.tagvalue.specs.DecimalLaws.{decimal-digits, decimal-reads}
 use Rattle.tagvalue.specs.FindLaws.{Absent}
@@ -131,7 +131,7 @@ module _ (mode : Mode) (copy b n t rest s : List ℕ) (whole : copy ≡ framed (
         let at : length copy - 7 ≡ length (framed (mode .separator) b n (tagged (mode .separator) 35 t ++ rest)) = omega (arith, framed-size) in
         rw at (placed-read mode 10 copy (framed (mode .separator) b n (tagged (mode .separator) 35 t ++ rest)) s [] whole (omega arith) (omega arith) (apart .sum))
 
-    module _ (right-length : numberOf n ≡ Worth (length (tagged (mode .separator) 35 t ++ rest))) (right-sum : checksumOf s ≡ Worth (sumOf (framed (mode .separator) b n (tagged (mode .separator) 35 t ++ rest)) % 256)) where
+    module _ (right-length : numberIn n ≡ Worth (length (tagged (mode .separator) 35 t ++ rest))) (right-sum : checksumOf s ≡ Worth (sumOf (framed (mode .separator) b n (tagged (mode .separator) 35 t ++ rest)) % 256)) where
       length-agrees : lengthAgrees copy (placed (length (tagged (mode .separator) 8 b)) 9 n) ≡ true
       unfolding framed
       length-agrees =
@@ -139,7 +139,7 @@ module _ (mode : Mode) (copy b n t rest s : List ℕ) (whole : copy ≡ framed (
           let next = ap (λ (c : Cursor). c .at) count-next in
           let right : length copy ≡ placed (length (tagged (mode .separator) 8 b)) 9 n .next .at + length (tagged (mode .separator) 35 t ++ rest) + 7 =
           omega (arith, framed-size, next, ap length (append-assoc (tagged (mode .separator) 8 b) (tagged (mode .separator) 9 n) (tagged (mode .separator) 35 t ++ rest)), length-append (tagged (mode .separator) 8 b ++ tagged (mode .separator) 9 n) (tagged (mode .separator) 35 t ++ rest)) in
-          length-is copy (placed (length (tagged (mode .separator) 8 b)) 9 n) _ (ap numberOf value ∙ right-length)
+          length-is copy (placed (length (tagged (mode .separator) 8 b)) 9 n) _ (ap numberIn value ∙ right-length)
           ∙ eq-eqb _ _ right
 
       sum-agrees : sumAgrees copy (placed (length (framed (mode .separator) b n (tagged (mode .separator) 35 t ++ rest))) 10 s) ≡ true

@@ -8,6 +8,7 @@ use native.Mathlib.Omega.{arith}
 use lib.ListN.{length, drop}
 use lib.Dec.{eqb}
 use borrow.Author.Tests.{eqb-true}
+use Rattle.records.specs.Records.{valueAt}
 use Rattle.tagvalue.specs.declared.Mode.{Mode}
 use Rattle.tagvalue.specs.Choice.{pick}
 use Rattle.tagvalue.specs.Decimal.{decimal}
@@ -20,7 +21,6 @@ use Rattle.tagvalue.specs.declared.Field.{Field}
 use Rattle.tagvalue.specs.declared.FieldRead.the-variants.{Read}
 use Rattle.records.specs.declared.Record.{Record}
 use Rattle.nesting.specs.Entries.{All, all-none, all-more}
-use Rattle.taking.specs.Taking.{valueAt}
 use Rattle.standing.specs.Counting.{Of}
 use Rattle.sequence.specs.Follows.{Follows, no-field, one-field}
 use Rattle.rewriting.specs.Plain.{isPlain, plainTags}

@@ -2,10 +2,10 @@
 use Prim.Native.Nat.{ℕ}
 use mathlib.Core.List.{List, [], _∷_, _++_}
 use lib.ListN.{length}
+use Rattle.records.specs.Records.{valueAt}
 use Rattle.tagvalue.specs.Decimal.{decimal}
 use Rattle.tagvalue.specs.Field.{fieldBytes}
 use Rattle.records.specs.declared.Record.{Record}
-use Rattle.taking.specs.Taking.{valueAt}
 use Rattle.written_form.specs.Encoding.{summed}
 
 unfoldable pub written : ℕ → List ℕ → List Record → List ℕ

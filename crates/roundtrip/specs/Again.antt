@@ -13,7 +13,7 @@ use Rattle.dictionary_layout_rules.specs.Tree.{Dictionary}
 use Rattle.records.specs.declared.Record.{Record}
 use Rattle.nesting.specs.Entries.{all-more}
 use Rattle.build_answers.specs.declared.Answer.the-variants.{Valid}
-use Rattle.parts.specs.Parts.{recordOf}
+use Rattle.parts.specs.Parts.{partRecord}
 use Rattle.reading.specs.Message.{Outcome, messageRead}
 use Rattle.taking.specs.Derived.{given}
 use Rattle.standing.specs.PartReading.{of-field}
@@ -35,20 +35,20 @@ use Rattle.roundtrip.specs.AgainValues.{similar-first, similar-rest, car
 
 -- the records of a message that was read in order, split; the header is told as it starts
 module _ {dictionary : Dictionary} {config : Config} {message : List ℕ} {outcome : Outcome} (parts : InParts dictionary config message outcome) {one two three last : Fields} {others trailer : List Record}
-    (header-starts : parts .header ≡ recordOf 1 (parts .verified .«begin_string») ∷ recordOf 1 (parts .verified .«body_length») ∷ recordOf 1 (parts .verified .«msg_type») ∷ others)
-    (trailer-starts : parts .whole-trailer ≡ recordOf 3 (parts .verified .checksum) ∷ trailer)
+    (header-starts : parts .header ≡ partRecord 1 (parts .verified .«begin_string») ∷ partRecord 1 (parts .verified .«body_length») ∷ partRecord 1 (parts .verified .«msg_type») ∷ others)
+    (trailer-starts : parts .whole-trailer ≡ partRecord 3 (parts .verified .checksum) ∷ trailer)
     (header-follows : Follows 1 one (parts .header) two) (body-follows : Follows 2 two (parts .body) three) (trailer-follows : Follows 3 three trailer last) where
   unfoldable pub split-parts : Split (outcome .records)
   split-parts =
       let v = parts .verified in
       let tags = verified-tags (config .mode) message v (parts .sound) in
       record {
-        begin = recordOf 1 (v .«begin_string»);
-        size = recordOf 1 (v .«body_length»);
-        type = recordOf 1 (v .«msg_type»);
+        begin = partRecord 1 (v .«begin_string»);
+        size = partRecord 1 (v .«body_length»);
+        type = partRecord 1 (v .«msg_type»);
         others = others;
         body = parts .body;
-        check = recordOf 3 (v .checksum);
+        check = partRecord 3 (v .checksum);
         trailer = trailer;
         is = parts .records ∙ rw (header-starts, trailer-starts) refl;
         begins = of-field 1 (v .«begin_string») .tagged ∙ tags .begins;
@@ -78,7 +78,7 @@ module _ (dictionary : Dictionary) (config : Config) (message : List ℕ) (order
   splitOf = split-parts (order .parts) (order .header-starts) (order .trailer-starts) (order .header-follows) (order .body-follows) (order .trailer-follows)
 
   module _ (copy : List ℕ)
-      (like : ReadsLike (config .mode) message copy (recordOf 1 (order .parts .verified .«begin_string»)) (recordOf 1 (order .parts .verified .«msg_type»)) (order .others ++ (order .parts .body ++ order .trailer))) where
+      (like : ReadsLike (config .mode) message copy (partRecord 1 (order .parts .verified .«begin_string»)) (partRecord 1 (order .parts .verified .«msg_type»)) (order .others ++ (order .parts .body ++ order .trailer))) where
     along : ReadAlong dictionary config message order copy like
     along = read-along dictionary config message order copy like
 
@@ -108,11 +108,11 @@ module _ (dictionary : Dictionary) (config : Config) (message : List ℕ) (order
         let o = counts .of-body .ordered (omega (arith, body-many)) in
         follows-as (sym (o .appended)) (o .follows)
 
-    trailer-ordered : Ordered 3 (field (q .g) (q .more)) (recordOf 3 (q .verified .checksum) ∷ []) (counts .of-trailer .last) (q .whole-trailer)
+    trailer-ordered : Ordered 3 (field (q .g) (q .more)) (partRecord 3 (q .verified .checksum) ∷ []) (counts .of-trailer .last) (q .whole-trailer)
     trailer-ordered = counts .of-trailer .stores .ordered (omega (arith, trailer-many))
 
     -- its fields in the order of reading
-    followed : Followed (config .mode) copy (recordOf 1 (q .verified .«begin_string») ∷ recordOf 1 (q .verified .«body_length») ∷ recordOf 1 (q .verified .«msg_type») ∷ along .others) (q .body) (trailer-ordered .new) (counts .of-trailer .last)
+    followed : Followed (config .mode) copy (partRecord 1 (q .verified .«begin_string») ∷ partRecord 1 (q .verified .«body_length») ∷ partRecord 1 (q .verified .«msg_type») ∷ along .others) (q .body) (trailer-ordered .new) (counts .of-trailer .last)
     followed =
         record {
           behind-header = field (q .f) (q .rest);
@@ -122,18 +122,18 @@ module _ (dictionary : Dictionary) (config : Config) (message : List ℕ) (order
           trailer-follows = trailer-ordered .follows;
         }
 
-    carried : CarriedAll message copy (recordOf 1 (order .parts .verified .«begin_string»)) (recordOf 1 (order .parts .verified .«msg_type»)) (order .others) (order .parts .body) (order .trailer) (recordOf 1 (q .verified .«begin_string»)) (recordOf 1 (q .verified .«msg_type»)) (along .others) (q .body) (trailer-ordered .new)
+    carried : CarriedAll message copy (partRecord 1 (order .parts .verified .«begin_string»)) (partRecord 1 (order .parts .verified .«msg_type»)) (order .others) (order .parts .body) (order .trailer) (partRecord 1 (q .verified .«begin_string»)) (partRecord 1 (q .verified .«msg_type»)) (along .others) (q .body) (trailer-ordered .new)
     carried =
-        read-again (config .mode) message copy _ _ (order .others) (order .parts .body) (order .trailer) _ (recordOf 1 (q .verified .«body_length»)) _ (along .others) (q .body) (trailer-ordered .new) (counts .of-trailer .last) like followed
+        read-again (config .mode) message copy _ _ (order .others) (order .parts .body) (order .trailer) _ (partRecord 1 (q .verified .«body_length»)) _ (along .others) (q .body) (trailer-ordered .new) (counts .of-trailer .last) like followed
         (omega (arith, similar-length (along .header-similar), ap length (order .header-starts), ap length (along .header-starts)))
         (omega (arith, similar-length (along .body-similar)))
         (omega (arith, similar-length (along .trailer-similar), ap length (trailer-ordered .appended)))
         .0
 
-    similar-headers : Similar (recordOf 1 (order .parts .verified .«begin_string») ∷ recordOf 1 (order .parts .verified .«body_length») ∷ recordOf 1 (order .parts .verified .«msg_type») ∷ order .others) (recordOf 1 (q .verified .«begin_string») ∷ recordOf 1 (q .verified .«body_length») ∷ recordOf 1 (q .verified .«msg_type») ∷ along .others)
+    similar-headers : Similar (partRecord 1 (order .parts .verified .«begin_string») ∷ partRecord 1 (order .parts .verified .«body_length») ∷ partRecord 1 (order .parts .verified .«msg_type») ∷ order .others) (partRecord 1 (q .verified .«begin_string») ∷ partRecord 1 (q .verified .«body_length») ∷ partRecord 1 (q .verified .«msg_type») ∷ along .others)
     similar-headers = similar-as (order .header-starts) (along .header-starts) (along .header-similar)
 
-    similar-trailers : Similar (recordOf 3 (order .parts .verified .checksum) ∷ order .trailer) (recordOf 3 (q .verified .checksum) ∷ trailer-ordered .new)
+    similar-trailers : Similar (partRecord 3 (order .parts .verified .checksum) ∷ order .trailer) (partRecord 3 (q .verified .checksum) ∷ trailer-ordered .new)
     similar-trailers = similar-as refl (trailer-ordered .appended) (along .trailer-similar)
 
     similar-all : Similar (messageRead dictionary config message .records) (along .outcome .records)

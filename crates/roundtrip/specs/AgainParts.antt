@@ -4,6 +4,7 @@ use mathlib.Core.Path.{_≡_, refl, sym, _∙_}
 use mathlib.Core.Bool.{Bool}
 use mathlib.Core.List.{List, [], _∷_, _++_}
 use Prim.Native.Nat.{ℕ, suc}
+use Rattle.records.specs.Records.{valueAt}
 use Rattle.build_config.specs.declared.Config.{Config}
 use Rattle.tagvalue.specs.Field.{valueOf}
 use Rattle.tagvalue.specs.Fields.{Fields, field}
@@ -16,12 +17,12 @@ use Rattle.records.specs.declared.Record.{Record}
 use Rattle.groups.specs.Reading.{accepted, layoutRules}
 use Rattle.required.specs.Checking.{layoutDemands}
 use Rattle.build_answers.specs.declared.Answer.the-variants.{Valid}
-use Rattle.parts.specs.Parts.{ended, recordOf}
+use Rattle.parts.specs.Parts.{ended, partRecord}
 use Rattle.parts.specs.Trailer.{stopped, trailerFrom}
 use Rattle.body.specs.Body.{bodyFrom}
 use Rattle.body.specs.Kinds.{bodyOf}
 use Rattle.reading.specs.declared.Stop.the-variants.{At}
-use Rattle.reading.specs.Beginning.{headerOf, verifiedRecords, withChecksum, startedBy, startOf, msgTypeRecord, valueAt}
+use Rattle.reading.specs.Beginning.{headerOf, verifiedRecords, withChecksum, startedBy, startOf, msgTypeRecord}
 use Rattle.reading.specs.Message.{afterTrailer, afterBody, afterType, afterHeader, messageRead}
 use Rattle.sequence.specs.VerifiedTags.{VerifiedTags}
 use Rattle.sequence.specs.InOrder.{verified-three}
@@ -30,7 +31,7 @@ use Rattle.tags_alone.specs.Agree.{Similar, none}
 use Rattle.tags_alone.specs.SimilarLaws.{similar-stored, alike-field}
 
 -- the verified fields stand side by side
-pub verified-first : (v : Verified) → VerifiedTags v → verifiedRecords v ≡ recordOf 1 (v .«begin_string») ∷ recordOf 1 (v .«body_length») ∷ recordOf 1 (v .«msg_type») ∷ []
+pub verified-first : (v : Verified) → VerifiedTags v → verifiedRecords v ≡ partRecord 1 (v .«begin_string») ∷ partRecord 1 (v .«body_length») ∷ partRecord 1 (v .«msg_type») ∷ []
 verified-first v t = verified-three v (three-verified v t)
 
 pub verified-similar : (v w : Verified) → VerifiedTags v → VerifiedTags w → Similar (verifiedRecords v) (verifiedRecords w)
@@ -41,9 +42,9 @@ verified-similar v w t u =
     (similar-stored (alike-field 1 (v .«begin_string») (w .«begin_string») (t .begins ∙ sym (u .begins))) none))
 
 -- MsgType is the third of the header's records
-pub msg-type-third : (message : List ℕ) (v : Verified) (header others : List Record) → VerifiedTags v → header ≡ recordOf 1 (v .«begin_string») ∷ recordOf 1 (v .«body_length») ∷ recordOf 1 (v .«msg_type») ∷ others
+pub msg-type-third : (message : List ℕ) (v : Verified) (header others : List Record) → VerifiedTags v → header ≡ partRecord 1 (v .«begin_string») ∷ partRecord 1 (v .«body_length») ∷ partRecord 1 (v .«msg_type») ∷ others
     → valueAt message (msgTypeRecord header) ≡ valueOf message (v .«msg_type»)
-unfolding msgTypeRecord recordOf valueAt valueOf
+unfolding msgTypeRecord partRecord valueAt valueOf
 msg-type-third message v header others t e = rw (e, t .begins, t .counts, t .types) refl
 
 -- a message that was read in parts, put together again
@@ -51,7 +52,7 @@ module _ (dictionary : Dictionary) (config : Config) (message : List ℕ) (v : V
   pub put-together : (layout : _) (f g : Field) (rest behind : Fields) (room room₂ : ℕ) (header body trailer : List Record) (stop : Field) → headerOf (headerTags dictionary) config message v ≡ ended f rest room header
       → layoutOf dictionary (valueAt message (msgTypeRecord header)) ≡ laidOut layout
       → bodyFrom (bodyOf (layoutRules (accepted config (knows dictionary))) layoutDemands (trailerTags dictionary) layout) (field f rest) (suc room) [] ≡ ended g behind room₂ body
-      → trailerFrom (field g behind) (suc room₂) (recordOf 3 (v .checksum) ∷ []) ≡ stopped stop trailer
+      → trailerFrom (field g behind) (suc room₂) (partRecord 3 (v .checksum) ∷ []) ≡ stopped stop trailer
       → messageRead dictionary config message ≡ record { answer = Valid; records = header ++ (body ++ trailer); stop = At stop }
   unfolding messageRead startOf startedBy withChecksum afterHeader afterType afterBody afterTrailer
   put-together layout f g rest behind room room₂ header body trailer stop h c b t = rw (sound, h, c, b, t) refl

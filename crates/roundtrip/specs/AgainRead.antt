@@ -6,6 +6,7 @@ use mathlib.Core.List.{List, [], _∷_, _++_, append-nil}
 use Prim.Native.Nat.{ℕ, suc, _+_, _≤_}
 use native.Mathlib.Omega.{arith}
 use lib.ListN.{length, length-append}
+use Rattle.records.specs.Records.{valueAt}
 use Rattle.build_config.specs.declared.Config.{Config}
 use Rattle.tagvalue.specs.Field.{startAt}
 use Rattle.tagvalue.specs.Fields.{Fields, field, fieldsFrom}
@@ -17,14 +18,14 @@ use Rattle.records.specs.declared.Record.{Record}
 use Rattle.groups.specs.Reading.{accepted, layoutRules}
 use Rattle.required.specs.Checking.{layoutDemands}
 use Rattle.build_answers.specs.declared.Answer.the-variants.{Valid}
-use Rattle.parts.specs.Parts.{ended, recordOf}
+use Rattle.parts.specs.Parts.{ended, partRecord}
 use Rattle.parts.specs.Header.{headerFrom}
 use Rattle.parts.specs.Trailer.{trailerFrom}
 use Rattle.body.specs.Body.{bodyFrom}
 use Rattle.body.specs.Kinds.{bodyOf}
 use Rattle.reading.specs.declared.Stop.{Stop}
 use Rattle.reading.specs.declared.Stop.the-variants.{At, Nowhere}
-use Rattle.reading.specs.Beginning.{headerOf, verifiedRecords, msgTypeRecord, valueAt}
+use Rattle.reading.specs.Beginning.{headerOf, verifiedRecords, msgTypeRecord}
 use Rattle.reading.specs.Message.{Outcome, messageRead}
 use Rattle.sequence.specs.Counted.{trailerFields}
 use Rattle.sequence.specs.Follows.{Reaches, Ordered, Stores}
@@ -50,7 +51,7 @@ use Rattle.roundtrip.specs.AgainFields.{copied-agree, copied-none-agree,
 use Rattle.roundtrip.specs.AgainParts.{verified-first, verified-similar, msg-type-third, put-together}
 
 module _ (dictionary : Dictionary) (config : Config) (message : List ℕ) (order : InOrder dictionary config message) (copy : List ℕ)
-    (like : ReadsLike (config .mode) message copy (recordOf 1 (order .parts .verified .«begin_string»)) (recordOf 1 (order .parts .verified .«msg_type»)) (order .others ++ (order .parts .body ++ order .trailer))) where
+    (like : ReadsLike (config .mode) message copy (partRecord 1 (order .parts .verified .«begin_string»)) (partRecord 1 (order .parts .verified .«msg_type»)) (order .others ++ (order .parts .body ++ order .trailer))) where
   abbrev p : InParts dictionary config message (messageRead dictionary config message)
   p = order .parts
 
@@ -105,7 +106,7 @@ module _ (dictionary : Dictionary) (config : Config) (message : List ℕ) (order
   -- the verified fields stand first in the copy's header too
   record HeaderAgain : Type 0 where
     others : List Record
-    starts : header-along .kept ≡ recordOf 1 (w .«begin_string») ∷ recordOf 1 (w .«body_length») ∷ recordOf 1 (w .«msg_type») ∷ others
+    starts : header-along .kept ≡ partRecord 1 (w .«begin_string») ∷ partRecord 1 (w .«body_length») ∷ partRecord 1 (w .«msg_type») ∷ others
 
   header-stored : Stores 1 fields 1021 (verifiedRecords w) (field (header-along .found) (header-along .behind)) (suc (p .room)) (header-along .kept)
   header-stored = header-stores (headerTags dictionary) fields 1021 (verifiedRecords w) (header-along .found) (header-along .behind) (p .room) (header-along .kept) (header-along .is)
@@ -121,7 +122,7 @@ module _ (dictionary : Dictionary) (config : Config) (message : List ℕ) (order
       ap (layoutOf dictionary)
       (msg-type-third copy w (header-along .kept) (header-again .others) tags-again (header-again .starts)
       ∙ like .type-value
-      ∙ of-value message (v .«msg_type») (recordOf 1 (v .«msg_type»)) (of-field 1 (v .«msg_type»))
+      ∙ of-value message (v .«msg_type») (partRecord 1 (v .«msg_type»)) (of-field 1 (v .«msg_type»))
       ∙ sym (msg-type-third message v (p .header) (order .others) tags (order .header-starts)))
       ∙ p .chosen
 
@@ -138,22 +139,22 @@ module _ (dictionary : Dictionary) (config : Config) (message : List ℕ) (order
       reaches-rest (reaches-then (header-stored .reaches) (b .reaches)) all
       (omega (arith, header-stored .room-is, b .room-is, order .others-room, order .body-room, copied-length (like .copied), length-append (order .others) (p .body ++ order .trailer), length-append (p .body) (order .trailer)))
 
-  trailer-along : Stops (trailerFrom (field (body-along .found) (body-along .behind)) (suc (p .room₂)) (recordOf 3 (w .checksum) ∷ [])) (recordOf 3 (v .checksum) ∷ order .trailer)
+  trailer-along : Stops (trailerFrom (field (body-along .found) (body-along .behind)) (suc (p .room₂)) (partRecord 3 (w .checksum) ∷ [])) (partRecord 3 (v .checksum) ∷ order .trailer)
   trailer-along = by-stop stop (order .trailer-read) (agree-less (omega (arith, some-trailer, order .others-room, order .body-room, header-along .counted, body-along .counted)) (same (body-along .tag) (body-along .agree)))
     where
-      checks : Similar (recordOf 3 (v .checksum) ∷ []) (recordOf 3 (w .checksum) ∷ [])
+      checks : Similar (partRecord 3 (v .checksum) ∷ []) (partRecord 3 (w .checksum) ∷ [])
       checks = more (alike-field 3 (v .checksum) (w .checksum) (tags .sums ∙ sym (tags-again .sums))) none
 
-      by-stop : (s : Stop) → trailerFrom (field (p .g) (p .more)) (suc (p .room₂)) (recordOf 3 (v .checksum) ∷ []) ≡ trailerAt s (recordOf 3 (v .checksum) ∷ order .trailer)
+      by-stop : (s : Stop) → trailerFrom (field (p .g) (p .more)) (suc (p .room₂)) (partRecord 3 (v .checksum) ∷ []) ≡ trailerAt s (partRecord 3 (v .checksum) ∷ order .trailer)
           → Agree (length (order .trailer) + stopFields s) (field (p .g) (p .more)) (field (body-along .found) (body-along .behind))
-          → Stops (trailerFrom (field (body-along .found) (body-along .behind)) (suc (p .room₂)) (recordOf 3 (w .checksum) ∷ [])) (recordOf 3 (v .checksum) ∷ order .trailer)
+          → Stops (trailerFrom (field (body-along .found) (body-along .behind)) (suc (p .room₂)) (partRecord 3 (w .checksum) ∷ [])) (partRecord 3 (v .checksum) ∷ order .trailer)
       by-stop (At f) e a =
           let l : suc (trailerFields (field (p .g) (p .more))) ≤ length (order .trailer) + stopFields (At f) = unfold stopFields in omega (arith, order .trailer-count) in
-          trailer-same (field (p .g) (p .more)) (field (body-along .found) (body-along .behind)) (suc (p .room₂)) (recordOf 3 (v .checksum) ∷ []) (recordOf 3 (w .checksum) ∷ []) f (recordOf 3 (v .checksum) ∷ order .trailer) (unfold trailerAt in e) checks
+          trailer-same (field (p .g) (p .more)) (field (body-along .found) (body-along .behind)) (suc (p .room₂)) (partRecord 3 (v .checksum) ∷ []) (partRecord 3 (w .checksum) ∷ []) f (partRecord 3 (v .checksum) ∷ order .trailer) (unfold trailerAt in e) checks
           (agree-less l a)
       by-stop Nowhere e a =
           let l : trailerFields (field (p .g) (p .more)) ≤ length (order .trailer) + stopFields Nowhere = omega (arith, order .trailer-count) in
-          let t = trailer-stopped (field (p .g) (p .more)) (field (body-along .found) (body-along .behind)) (suc (p .room₂)) (recordOf 3 (v .checksum) ∷ []) (recordOf 3 (w .checksum) ∷ []) (recordOf 3 (v .checksum) ∷ order .trailer) (w .checksum) (like .end) (unfold trailerAt in e) checks
+          let t = trailer-stopped (field (p .g) (p .more)) (field (body-along .found) (body-along .behind)) (suc (p .room₂)) (partRecord 3 (v .checksum) ∷ []) (partRecord 3 (w .checksum) ∷ []) (partRecord 3 (v .checksum) ∷ order .trailer) (w .checksum) (like .end) (unfold trailerAt in e) checks
           (agree-less l a) (rw (← order .trailer-count) checksum-reached) (like .sum-tag) in
           record { found = w .checksum; kept = t .kept; is = t .is; tag = like .sum-tag; similar = t .similar }
 
@@ -164,12 +165,12 @@ module _ (dictionary : Dictionary) (config : Config) (message : List ℕ) (order
     pub valid : outcome .answer ≡ Valid
     pub parts : InParts dictionary config copy outcome
     pub others : List Record
-    pub header-starts : parts .header ≡ recordOf 1 (parts .verified .«begin_string») ∷ recordOf 1 (parts .verified .«body_length») ∷ recordOf 1 (parts .verified .«msg_type») ∷ others
+    pub header-starts : parts .header ≡ partRecord 1 (parts .verified .«begin_string») ∷ partRecord 1 (parts .verified .«body_length») ∷ partRecord 1 (parts .verified .«msg_type») ∷ others
     pub header-similar : Similar (order .parts .header) (parts .header)
     pub header-room : parts .room ≡ order .parts .room
     pub body-similar : Similar (order .parts .body) (parts .body)
     pub body-room : parts .room₂ ≡ order .parts .room₂
-    pub trailer-similar : Similar (recordOf 3 (order .parts .verified .checksum) ∷ order .trailer) (parts .whole-trailer)
+    pub trailer-similar : Similar (partRecord 3 (order .parts .verified .checksum) ∷ order .trailer) (parts .whole-trailer)
     pub trailer-few : trailerFields (field (parts .g) (parts .more)) ≤ length (order .trailer)
 
   pub read-along : ReadAlong

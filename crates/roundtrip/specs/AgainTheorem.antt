@@ -11,7 +11,7 @@ use Rattle.records.specs.declared.Record.{Record}
 use Rattle.lent.specs.Meaning.{Message, wordsOf, valuesOf}
 use Rattle.nesting.specs.Formed.{Own}
 use Rattle.nesting.specs.Entries.{All, all-more}
-use Rattle.parts.specs.Parts.{recordOf}
+use Rattle.parts.specs.Parts.{partRecord}
 use Rattle.reading.specs.Message.{messageRead}
 use Rattle.standing.specs.PartReading.{of-field, own-field}
 use Rattle.standing.specs.Parted.{Takes}
@@ -50,16 +50,16 @@ module _ (dictionary : Dictionary) (config : Config) (message : List ℕ) (free 
 
   module _ (separates : isRefusedSeparator (config .mode .separator) ≡ false) (takes : Takes message (messageRead dictionary config message .records)) where
     abbrev begin : Record
-    begin = recordOf 1 (order .parts .verified .«begin_string»)
+    begin = partRecord 1 (order .parts .verified .«begin_string»)
 
     abbrev size : Record
-    size = recordOf 1 (order .parts .verified .«body_length»)
+    size = partRecord 1 (order .parts .verified .«body_length»)
 
     abbrev type : Record
-    type = recordOf 1 (order .parts .verified .«msg_type»)
+    type = partRecord 1 (order .parts .verified .«msg_type»)
 
     abbrev check : Record
-    check = recordOf 3 (order .parts .verified .checksum)
+    check = partRecord 3 (order .parts .verified .checksum)
 
     abbrev copy : List ℕ
     copy = rewritten (config .mode .separator) message begin (type ∷ (order .others ++ (order .parts .body ++ order .trailer)))

@@ -3,9 +3,9 @@
 use mathlib.Core.Path.{_≡_, refl}
 use mathlib.Core.List.{List, _∷_, _++_}
 use Prim.Native.Nat.{ℕ}
+use Rattle.records.specs.Records.{valueAt}
 use Rattle.records.specs.declared.Record.{Record}
 use Rattle.nesting.specs.Entries.{All}
-use Rattle.taking.specs.Taking.{valueAt}
 use Rattle.taking.specs.Derived.{valued, given}
 use Rattle.tags_alone.specs.Agree.{Alike, Similar, none, more}
 use Rattle.rewriting.specs.EncodedParts.{InPart}

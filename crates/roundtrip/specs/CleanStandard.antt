@@ -15,7 +15,7 @@ use Rattle.dictionary_layout_rules.specs.Tree.{Dictionary}
 use Rattle.dictionary_meaning_rules.specs.Meaning.{dictionaryOf}
 use Rattle.records.specs.declared.Record.{Record}
 use Rattle.nesting.specs.Entries.{All, all-append}
-use Rattle.parts.specs.Parts.{recordOf}
+use Rattle.parts.specs.Parts.{partRecord}
 use Rattle.build_answers.specs.declared.Answer.the-variants.{Valid}
 use Rattle.builder.specs.Build.{buildOf}
 use Rattle.reading.specs.Message.{messageRead}
@@ -36,7 +36,7 @@ use Rattle.roundtrip.specs.ComesBack.{repeat-free-order, order-built, cl
 
 module _ (dictionary : Dictionary) (config : Config) (message : List ℕ) (o : InOrder dictionary config message) where
   abbrev check : Record
-  check = recordOf 3 (o .parts .verified .checksum)
+  check = partRecord 3 (o .parts .verified .checksum)
 
   -- the CheckSum's record is that of the field that was verified
   check-writable : All (Writable (config .mode .separator) message) (check ∷ [])
@@ -64,9 +64,9 @@ clean-standard dictionary config message one c short given =
     let t = build-takes dictionary config message short (c .repeat-free .valid) in
     let built = order-built dictionary config message o (t .meant) t refl in
     let same : message ≡ encoding (config .mode .separator) (t .meant) = clean-text dictionary config message o c ∙ sym (encoding-rewritten (config .mode .separator) built) in
-    let starts = ap (λ (l : List Record). l ++ (o .parts .body ++ (recordOf 3 (o .parts .verified .checksum) ∷ o .trailer))) (o .header-starts) in
-    let writable : All (Writable 1 message) (o .parts .header ++ (o .parts .body ++ (recordOf 3 (o .parts .verified .checksum) ∷ o .trailer))) =
-    subst (λ (separator : ℕ). All (Writable separator message) (o .parts .header ++ (o .parts .body ++ (recordOf 3 (o .parts .verified .checksum) ∷ o .trailer)))) one (order-writable dictionary config message o) in
+    let starts = ap (λ (l : List Record). l ++ (o .parts .body ++ (partRecord 3 (o .parts .verified .checksum) ∷ o .trailer))) (o .header-starts) in
+    let writable : All (Writable 1 message) (o .parts .header ++ (o .parts .body ++ (partRecord 3 (o .parts .verified .checksum) ∷ o .trailer))) =
+    subst (λ (separator : ℕ). All (Writable separator message) (o .parts .header ++ (o .parts .body ++ (partRecord 3 (o .parts .verified .checksum) ∷ o .trailer)))) one (order-writable dictionary config message o) in
     built-standard built (subst (All (Writable 1 message)) starts writable) (subst (StandardRecords message) (o .records ∙ starts) given) (same ∙ ap (λ (separator : ℕ). encoding separator (t .meant)) one)
 
 -- and of the call: what build answers with 0 is within 8,192 bytes

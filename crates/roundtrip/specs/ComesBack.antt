@@ -12,7 +12,7 @@ use Rattle.tagvalue.specs.Fields.{Fields, field, fieldsFrom}
 use Rattle.dictionary_layout_rules.specs.Tree.{Dictionary}
 use Rattle.records.specs.declared.Record.{Record}
 use Rattle.nesting.specs.Entries.{all-more}
-use Rattle.parts.specs.Parts.{recordOf}
+use Rattle.parts.specs.Parts.{partRecord}
 use Rattle.reading.specs.Message.{messageRead}
 use Rattle.reading.specs.declared.Stop.{Stop}
 use Rattle.reading.specs.declared.Stop.the-variants.{At}
@@ -49,16 +49,16 @@ module _ (dictionary : Dictionary) (config : Config) (message : List ℕ) where
 
   module _ (o : InOrder dictionary config message) where
     abbrev begin : Record
-    begin = recordOf 1 (o .parts .verified .«begin_string»)
+    begin = partRecord 1 (o .parts .verified .«begin_string»)
 
     abbrev size : Record
-    size = recordOf 1 (o .parts .verified .«body_length»)
+    size = partRecord 1 (o .parts .verified .«body_length»)
 
     abbrev type : Record
-    type = recordOf 1 (o .parts .verified .«msg_type»)
+    type = partRecord 1 (o .parts .verified .«msg_type»)
 
     abbrev check : Record
-    check = recordOf 3 (o .parts .verified .checksum)
+    check = partRecord 3 (o .parts .verified .checksum)
 
     -- what the encoding of the records comes to
     abbrev pub encodingBack : List ℕ
@@ -69,7 +69,7 @@ module _ (dictionary : Dictionary) (config : Config) (message : List ℕ) where
 
     -- the records of a message that was taken over are those of a message that was built
     pub order-built : (m : Message) → (t : Takes message (messageRead dictionary config message .records)) → t .meant ≡ m → Built message m begin size type (o .others) (o .parts .body) check (o .trailer)
-    unfolding recordOf
+    unfolding partRecord
     order-built m t same =
         let tags = verified-tags (config .mode) message (o .parts .verified) (o .parts .sound) in
         let records = o .records ∙ ap (λ (l : List Record). l ++ (o .parts .body ++ (check ∷ o .trailer))) (o .header-starts) in

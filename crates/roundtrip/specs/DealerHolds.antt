@@ -17,7 +17,7 @@ use Rattle.integrity.specs.declared.Verified.{Verified}
 use Rattle.dictionary_layout_rules.specs.Tree.{Dictionary, headerTags, holdsTag}
 use Rattle.records.specs.Records.{stored}
 use Rattle.records.specs.declared.Record.{Record}
-use Rattle.parts.specs.Parts.{ended, recordOf}
+use Rattle.parts.specs.Parts.{ended, partRecord}
 use Rattle.parts.specs.Header.{headerFrom}
 use Rattle.parts.specs.Trailer.{stopped, trailerFrom}
 use Rattle.reading.specs.Beginning.{headerOf, verifiedRecords}
@@ -91,26 +91,26 @@ module _ {part tag : ℕ} where
       by-tests true false k = held-later k
       by-tests false t k = held-later k
 
-under-field : (part tag : ℕ) (f : Field) → f .tag ≡ tag → Under part tag (recordOf part f)
-unfolding recordOf
+under-field : (part tag : ℕ) (f : Field) → f .tag ≡ tag → Under part tag (partRecord part f)
+unfolding partRecord
 under-field part tag f e = record { of = refl; shallow = refl; tagged = e }
 
-of-part : (part : ℕ) (f : Field) → recordOf part f .part ≡ part
-unfolding recordOf
+of-part : (part : ℕ) (f : Field) → partRecord part f .part ≡ part
+unfolding partRecord
 of-part part f = refl
 
 -- the verified BodyLength is in the header, and stays there
 verified-held : (v : Verified) → VerifiedTags v → Held 1 9 (verifiedRecords v)
 unfolding verifiedRecords
-verified-held v t = held-stored (recordOf 1 (v .«msg_type»)) (of-part 1 (v .«msg_type»)) (held-new (recordOf 1 (v .«body_length»)) (under-field 1 9 (v .«body_length») (t .counts)) _)
+verified-held v t = held-stored (partRecord 1 (v .«msg_type»)) (of-part 1 (v .«msg_type»)) (held-new (partRecord 1 (v .«body_length»)) (under-field 1 9 (v .«body_length») (t .counts)) _)
 
 header-held : {tag : ℕ} (tags : List ℕ) (fields : Fields) (room : ℕ) (rs : List Record) (f : Field) (rest : Fields) (left : ℕ) (ss : List Record) → headerFrom tags fields room rs ≡ ended f rest left ss → Held 1 tag rs → Held 1 tag ss
 unfolding headerFrom
 header-held tags (unreadable cause place) room rs f rest left ss e h = let z : _≡_ {A = ℕ} 0 1 = cc in absurd (omega arith)
 header-held tags (field g more) zero rs f rest left ss e h = let z : _≡_ {A = ℕ} 0 1 = cc in absurd (omega arith)
-header-held {tag} tags (field g more) (suc room) rs f rest left ss e h = by-tag (holdsTag (g .tag) tags) e (λ q. header-held tags more room (stored (recordOf 1 g) rs) f rest left ss q (held-stored (recordOf 1 g) (of-part 1 g) h))
+header-held {tag} tags (field g more) (suc room) rs f rest left ss e h = by-tag (holdsTag (g .tag) tags) e (λ q. header-held tags more room (stored (partRecord 1 g) rs) f rest left ss q (held-stored (partRecord 1 g) (of-part 1 g) h))
   where
-    by-tag : (b : Bool) → pick b (headerFrom tags more room (stored (recordOf 1 g) rs)) (ended g more room rs) ≡ ended f rest left ss → (headerFrom tags more room (stored (recordOf 1 g) rs) ≡ ended f rest left ss → Held 1 tag ss) → Held 1 tag ss
+    by-tag : (b : Bool) → pick b (headerFrom tags more room (stored (partRecord 1 g) rs)) (ended g more room rs) ≡ ended f rest left ss → (headerFrom tags more room (stored (partRecord 1 g) rs) ≡ ended f rest left ss → Held 1 tag ss) → Held 1 tag ss
     by-tag true q later = later q
     by-tag false q later = let d : rs ≡ ss = cc in rw (← d) h
 
@@ -120,9 +120,9 @@ unfolding trailerFrom
 trailer-held (unreadable cause place) zero rs stop ts e h = absurd (not-crowded stop ts e)
 trailer-held (unreadable cause place) (suc room) rs stop ts e h = let d = unstopped-with rs ts stop e in rw (← d) h
 trailer-held (field g more) zero rs stop ts e h = absurd (not-crowded stop ts e)
-trailer-held {tag} (field g more) (suc room) rs stop ts e h = by-tag (eqb (g .tag) 10) e (λ q. trailer-held more room (stored (recordOf 3 g) rs) stop ts q (held-stored (recordOf 3 g) (of-part 3 g) h))
+trailer-held {tag} (field g more) (suc room) rs stop ts e h = by-tag (eqb (g .tag) 10) e (λ q. trailer-held more room (stored (partRecord 3 g) rs) stop ts q (held-stored (partRecord 3 g) (of-part 3 g) h))
   where
-    by-tag : (b : Bool) → pick b (stopped g rs) (trailerFrom more room (stored (recordOf 3 g) rs)) ≡ trailerAt stop ts → (trailerFrom more room (stored (recordOf 3 g) rs) ≡ trailerAt stop ts → Held 3 tag ts) → Held 3 tag ts
+    by-tag : (b : Bool) → pick b (stopped g rs) (trailerFrom more room (stored (partRecord 3 g) rs)) ≡ trailerAt stop ts → (trailerFrom more room (stored (partRecord 3 g) rs) ≡ trailerAt stop ts → Held 3 tag ts) → Held 3 tag ts
     by-tag true q later = let d = stopped-with rs ts g stop q in rw (← d) h
     by-tag false q later = later q
 
@@ -136,7 +136,7 @@ module _ (dictionary : Dictionary) (config : Config) (message : List ℕ) (outco
   pub checksum-held : Held 3 10 (outcome .records)
   checksum-held =
       let v = p .verified in
-      let t = trailer-held (field (p .g) (p .more)) (suc (p .room₂)) (recordOf 3 (v .checksum) ∷ []) (outcome .stop) (p .whole-trailer) (p .trailer-read) (held-first (under-field 3 10 (v .checksum) (verified-tags (config .mode) message v (p .sound) .sums))) in
+      let t = trailer-held (field (p .g) (p .more)) (suc (p .room₂)) (partRecord 3 (v .checksum) ∷ []) (outcome .stop) (p .whole-trailer) (p .trailer-read) (held-first (under-field 3 10 (v .checksum) (verified-tags (config .mode) message v (p .sound) .sums))) in
       rw (p .records) (held-right (p .header) (held-right (p .body) t))
 
 -- the records that stand for a map are of its part

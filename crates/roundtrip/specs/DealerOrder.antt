@@ -22,14 +22,14 @@ use Rattle.tagvalue.specs.Fields.{fieldsFrom}
 use Rattle.integrity.specs.Integrity.{integrityOf, begun, counted, summed, typed, lengthIs, lengthAgrees, sumIs, sumAgrees}
 use Rattle.dictionary_layout_rules.specs.Layout.{followedBy as layoutThen, firstOf, positionFrom, positionIn, groupSince, groupOf}
 use Rattle.dictionary_layout_rules.specs.Tree.{holdsTag, knows, plainFields, headerTags, trailerTags, flattened, sameBytes, messageOf, layoutOf}
-use Rattle.records.specs.Records.{stored}
+use Rattle.records.specs.Records.{stored, valueAt}
 use Rattle.groups.specs.Reading.{accepted, openedAs, layoutRules}
 use Rattle.required.specs.Required.{has}
 use Rattle.required.specs.Checking.{layoutDemands}
-use Rattle.parts.specs.Parts.{recordOf}
+use Rattle.parts.specs.Parts.{partRecord}
 use Rattle.parts.specs.Header.{headerFrom}
 use Rattle.parts.specs.Trailer.{trailerFrom}
-use Rattle.reading.specs.Beginning.{verifiedRecords, headerOf, withChecksum, startedBy, startOf, msgTypeRecord, valueAt}
+use Rattle.reading.specs.Beginning.{verifiedRecords, headerOf, withChecksum, startedBy, startOf, msgTypeRecord}
 use Rattle.body.specs.Body.{andThen, nextFrom, takes, bodyWithin, bodyFrom}
 use Rattle.body.specs.Kinds.{groupKind, placedKind, kindOf, bodyOf}
 use Rattle.reading.specs.Message.{afterTrailer, afterBody, afterType, afterHeader, messageRead}
@@ -39,7 +39,6 @@ use Rattle.reading.specs.Message.{Outcome}
 use Rattle.reading.specs.Examples.{dictionary, order, header, shows}
 use Rattle.nesting.specs.Entries.{all-none, all-more}
 use Rattle.lent.specs.Meaning.{wordsOf, valuesOf}
-use Rattle.taking.specs.Taking.{valueAt as valueIn}
 use Rattle.standing.specs.Parted.{Takes}
 use Rattle.written_form.specs.Encoding.{sumDigits, summed as withSum, encoding, encodedMessage}
 use Rattle.tagvalue.specs.Separator.{isRefusedSeparator}
@@ -100,7 +99,7 @@ pub record OrderRead : Type 0 where
   pub one-recorded : recordedUnder 38 sent (read .records) ≡ bytes "800" ∷ []
 
 order-read : OrderRead
-unfolding storedTwice twiceFromHeader twiceFromBody twiceInBody twiceWithin twiceTaking twiceBehind twiceInTrailer twiceInHeader fieldsCounted countedFields countedTo readUnder recordedUnder messageRead startOf startedBy headerOf verifiedRecords withChecksum headerFrom afterHeader afterType afterBody afterTrailer msgTypeRecord valueAt trailerFrom recordOf bodyFrom bodyWithin takes nextFrom andThen bodyOf kindOf placedKind groupKind integrityOf begun counted summed typed lengthIs lengthAgrees sumIs sumAgrees sumOf checksumOf checksumDigits decimalWithin layoutThen positionFrom firstOf positionIn groupSince groupOf holdsTag knows plainFields headerTags trailerTags flattened sameBytes messageOf layoutOf stored accepted layoutRules has layoutDemands openedAs reading-fields
+unfolding storedTwice twiceFromHeader twiceFromBody twiceInBody twiceWithin twiceTaking twiceBehind twiceInTrailer twiceInHeader fieldsCounted countedFields countedTo readUnder recordedUnder messageRead startOf startedBy headerOf verifiedRecords withChecksum headerFrom afterHeader afterType afterBody afterTrailer msgTypeRecord valueAt trailerFrom partRecord bodyFrom bodyWithin takes nextFrom andThen bodyOf kindOf placedKind groupKind integrityOf begun counted summed typed lengthIs lengthAgrees sumIs sumAgrees sumOf checksumOf checksumDigits decimalWithin layoutThen positionFrom firstOf positionIn groupSince groupOf holdsTag knows plainFields headerTags trailerTags flattened sameBytes messageOf layoutOf stored accepted layoutRules has layoutDemands openedAs reading-fields
 order-read = record { valid = refl; twice = refl; records = refl; fields-counted = refl; fields-recorded = refl; both-read = refl; one-recorded = refl }
 
 -- the records stand for a message of that shape, whichever take-over made of them
@@ -122,7 +121,7 @@ sent-built t =
     }
 
 sent-rewritten : rewritten 1 sent begin (type ∷ ([] ++ (ofBody ++ []))) ≡ resent
-unfolding rewritten written withSum sumDigits valueIn decimal decimalWithin sumOf checksumDigits
+unfolding rewritten written withSum sumDigits valueAt decimal decimalWithin sumOf checksumDigits
 sent-rewritten = refl
 
 resent-short : length resent ≡ 39

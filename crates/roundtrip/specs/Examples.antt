@@ -15,17 +15,17 @@ use Rattle.tagvalue.specs.Fields.{fieldsFrom}
 use Rattle.integrity.specs.Integrity.{integrityOf, begun, counted, summed, typed, lengthIs, lengthAgrees, sumIs, sumAgrees}
 use Rattle.dictionary_layout_rules.specs.Layout.{followedBy as layoutThen, firstOf, positionFrom, positionIn, groupSince, groupOf, delimiterOf, requiredTags}
 use Rattle.dictionary_layout_rules.specs.Tree.{holdsTag, knows, plainFields, headerTags, trailerTags, flattened, sameBytes, messageOf, layoutOf}
-use Rattle.records.specs.Records.{stored}
-use Rattle.groups.specs.Groups.{isDelimiter, counting, opens, declared, kindOf as entryKind, inEntry, decide, recordOf as entryRecord, moved, walk}
+use Rattle.records.specs.Records.{stored, valueAt}
+use Rattle.groups.specs.Groups.{isDelimiter, counting, opens, declared, kindOf as entryKind, inEntry, decide, entryRecord, moved, walk}
 use Rattle.groups.specs.Reading.{accepted, openedAs, layoutRules, joinedList, listStore}
 use Rattle.required.specs.Required.{orElse, has, fieldsLack, before, shallow, runLacks, nestedLack, entriesLack, opensEntry, entryLack, runLack}
 use Rattle.required.specs.Checking.{layoutDemands}
-use Rattle.parts.specs.Parts.{recordOf}
+use Rattle.parts.specs.Parts.{partRecord}
 use Rattle.parts.specs.Header.{headerFrom}
 use Rattle.parts.specs.Trailer.{trailerFrom}
 use Rattle.body.specs.Body.{behindRun, storedRun, andThen, nextFrom, withRun, takes, bodyWithin, bodyFrom}
 use Rattle.body.specs.Kinds.{groupKind, placedKind, kindOf, checked, ranAs, runFrom, bodyOf}
-use Rattle.reading.specs.Beginning.{verifiedRecords, headerOf, withChecksum, startedBy, startOf, msgTypeRecord, valueAt}
+use Rattle.reading.specs.Beginning.{verifiedRecords, headerOf, withChecksum, startedBy, startOf, msgTypeRecord}
 use Rattle.reading.specs.Message.{afterTrailer, afterBody, afterType, afterHeader, messageRead}
 use Rattle.reading.specs.declared.Stop.{Stop}
 use Rattle.reading.specs.declared.Stop.the-variants.{At, Nowhere}
@@ -67,12 +67,12 @@ table =
     ∷ []
 
 pub tests-hold : map (λ (row : Row). tests (row .0)) table ≡ map (λ (row : Row). row .1) table
-unfolding storedTwice twiceFromHeader twiceFromBody twiceInBody twiceWithin twiceTaking twiceBehind twiceInRun twiceMoved twiceInTrailer twiceInHeader isPlain plainTags plainLength threeDigits messageRead startOf startedBy headerOf verifiedRecords withChecksum headerFrom afterHeader afterType afterBody afterTrailer msgTypeRecord valueAt trailerFrom recordOf bodyFrom bodyWithin takes withRun nextFrom andThen storedRun behindRun bodyOf runFrom ranAs checked kindOf placedKind groupKind integrityOf begun counted summed typed lengthIs lengthAgrees sumIs sumAgrees sumOf checksumOf checksumDigits decimalWithin layoutThen positionFrom firstOf positionIn groupSince groupOf delimiterOf requiredTags holdsTag knows plainFields headerTags trailerTags flattened sameBytes messageOf layoutOf stored isDelimiter counting opens declared entryKind inEntry decide entryRecord moved walk accepted openedAs layoutRules joinedList listStore orElse has fieldsLack before shallow runLacks nestedLack entriesLack opensEntry entryLack runLack layoutDemands reading-fields
+unfolding storedTwice twiceFromHeader twiceFromBody twiceInBody twiceWithin twiceTaking twiceBehind twiceInRun twiceMoved twiceInTrailer twiceInHeader isPlain plainTags plainLength threeDigits messageRead startOf startedBy headerOf verifiedRecords withChecksum headerFrom afterHeader afterType afterBody afterTrailer msgTypeRecord valueAt trailerFrom partRecord bodyFrom bodyWithin takes withRun nextFrom andThen storedRun behindRun bodyOf runFrom ranAs checked kindOf placedKind groupKind integrityOf begun counted summed typed lengthIs lengthAgrees sumIs sumAgrees sumOf checksumOf checksumDigits decimalWithin layoutThen positionFrom firstOf positionIn groupSince groupOf delimiterOf requiredTags holdsTag knows plainFields headerTags trailerTags flattened sameBytes messageOf layoutOf stored isDelimiter counting opens declared entryKind inEntry decide entryRecord moved walk accepted openedAs layoutRules joinedList listStore orElse has fieldsLack before shallow runLacks nestedLack entriesLack opensEntry entryLack runLack layoutDemands reading-fields
 tests-hold = refl
 
 -- P1 is clean
 pub heartbeat-clean : Clean dictionary (validating true) heartbeat
-unfolding storedTwice twiceFromHeader twiceFromBody twiceInBody twiceWithin twiceTaking twiceBehind twiceInRun twiceMoved twiceInTrailer twiceInHeader isPlain plainTags plainLength threeDigits messageRead startOf startedBy headerOf verifiedRecords withChecksum headerFrom afterHeader afterType afterBody afterTrailer msgTypeRecord valueAt trailerFrom recordOf bodyFrom bodyWithin takes withRun nextFrom andThen storedRun behindRun bodyOf runFrom ranAs checked kindOf placedKind groupKind integrityOf begun counted summed typed lengthIs lengthAgrees sumIs sumAgrees sumOf checksumOf checksumDigits decimalWithin layoutThen positionFrom firstOf positionIn groupSince groupOf delimiterOf requiredTags holdsTag knows plainFields headerTags trailerTags flattened sameBytes messageOf layoutOf stored isDelimiter counting opens declared entryKind inEntry decide entryRecord moved walk accepted openedAs layoutRules joinedList listStore orElse has fieldsLack before shallow runLacks nestedLack entriesLack opensEntry entryLack runLack layoutDemands reading-fields
+unfolding storedTwice twiceFromHeader twiceFromBody twiceInBody twiceWithin twiceTaking twiceBehind twiceInRun twiceMoved twiceInTrailer twiceInHeader isPlain plainTags plainLength threeDigits messageRead startOf startedBy headerOf verifiedRecords withChecksum headerFrom afterHeader afterType afterBody afterTrailer msgTypeRecord valueAt trailerFrom partRecord bodyFrom bodyWithin takes withRun nextFrom andThen storedRun behindRun bodyOf runFrom ranAs checked kindOf placedKind groupKind integrityOf begun counted summed typed lengthIs lengthAgrees sumIs sumAgrees sumOf checksumOf checksumDigits decimalWithin layoutThen positionFrom firstOf positionIn groupSince groupOf delimiterOf requiredTags holdsTag knows plainFields headerTags trailerTags flattened sameBytes messageOf layoutOf stored isDelimiter counting opens declared entryKind inEntry decide entryRecord moved walk accepted openedAs layoutRules joinedList listStore orElse has fieldsLack before shallow runLacks nestedLack entriesLack opensEntry entryLack runLack layoutDemands reading-fields
 heartbeat-clean =
     record {
       repeat-free = record { valid = refl; holds-begin-string = refl; holds-body-length = refl; holds-msg-type = refl; none-twice = refl };

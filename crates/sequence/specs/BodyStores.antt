@@ -13,14 +13,14 @@ use Rattle.tagvalue.specs.declared.Field.{Field}
 use Rattle.dictionary_layout_rules.specs.Tree.{holdsTag}
 use Rattle.records.specs.Records.{stored}
 use Rattle.records.specs.declared.Record.{Record}
-use Rattle.groups.specs.Groups.{Rules, Frame, run, Move, adds, joinsAt, disorders, leaves, decide, moved, Outcome, walk}
-use Rattle.groups.specs.Groups.{ended as ran, refused as stops, recordOf as entryRecord}
+use Rattle.groups.specs.Groups.{Rules, Frame, run, Move, adds, joinsAt, disorders, leaves, decide, moved, RunOutcome, walk}
+use Rattle.groups.specs.Groups.{ended as ran, refused as stops, entryRecord}
 use Rattle.groups.specs.Reading.{listStore, joinedList}
 use Rattle.required.specs.Required.{Demands, runLack}
 use Rattle.required.specs.declared.Lack.{Lack}
 use Rattle.required.specs.declared.Lack.the-variants.{Missing, Complete}
 use Rattle.build_answers.specs.declared.Answer.the-variants.{InvalidField}
-use Rattle.parts.specs.Parts.{ended, refused, recordOf}
+use Rattle.parts.specs.Parts.{ended, refused, partRecord}
 use Rattle.body.specs.Body.{Kind, plain, counts, other, Body, behindRun, storedRun, andThen, nextFrom, withRun, takes, bodyWithin, bodyFrom}
 use Rattle.body.specs.Kinds.{checked, ranAs, runFrom, bodyOf}
 use Rattle.standing.specs.Counting.{Of}
@@ -52,7 +52,7 @@ walk-stores {L} rules (suc room) stack rs (field g more) f rest room₁ rs₁ e 
         stores-then (stores-kept r (of-entry depth number g) (keeps-joined start r rs)) (later stack₂ (joinedList start r rs) (unfold moved listStore in e))
     by-move (disorders group) e later = let z : _≡_ {A = ℕ} 0 1 = unfold moved in cc in absurd (omega arith)
     by-move leaves e later =
-        let q : _≡_ {A = Outcome (List Record) (List Record)} (ran g more room rs) (ran f rest room₁ rs₁) = unfold moved in e in
+        let q : _≡_ {A = RunOutcome (List Record) (List Record)} (ran g more room rs) (ran f rest room₁ rs₁) = unfold moved in e in
         stores-same (cc) (cc) (cc) (cc)
 
 -- a count with its run
@@ -82,9 +82,9 @@ keeps-run r es (x ∷ rs) = by-tests (eqb (x .depth) (r .depth)) (eqb (x .tag) (
     by-tests false t k = later k
 
 -- the count's field is read, then its run, and both go into the body
-stores-run : {f : Field} {rest last : Fields} {room left : ℕ} {es : List Record} (rs : List Record) → Stores 2 rest room [] last left es → Stores 2 (field f rest) (suc room) rs last left (storedRun (recordOf 2 f) es rs)
+stores-run : {f : Field} {rest last : Fields} {room left : ℕ} {es : List Record} (rs : List Record) → Stores 2 rest room [] last left es → Stores 2 (field f rest) (suc room) rs last left (storedRun (partRecord 2 f) es rs)
 stores-run {f} {rest} {last} {es = es} rs w =
-    let q = recordOf 2 f in
+    let q = partRecord 2 f in
     let k = keeps-run q es rs in
     record {
       read = suc (w .read);
@@ -94,8 +94,8 @@ stores-run {f} {rest} {last} {es = es} rs w =
       ordered = λ e. both (k .last (omega (arith, k .no-more, w .at-most))) (w .ordered (omega (arith, k .no-more, w .at-most)));
     }
   where
-    both : storedRun (recordOf 2 f) es rs ≡ rs ++ (recordOf 2 f ∷ es) → Ordered 2 rest [] last es → Ordered 2 (field f rest) rs last (storedRun (recordOf 2 f) es rs)
-    both p o = record { new = recordOf 2 f ∷ o .new; appended = p ∙ ap (λ (l : List Record). rs ++ (recordOf 2 f ∷ l)) (o .appended); follows = one-field (recordOf 2 f) (of-field 2 f) (o .follows) }
+    both : storedRun (partRecord 2 f) es rs ≡ rs ++ (partRecord 2 f ∷ es) → Ordered 2 rest [] last es → Ordered 2 (field f rest) rs last (storedRun (partRecord 2 f) es rs)
+    both p o = record { new = partRecord 2 f ∷ o .new; appended = p ∙ ap (λ (l : List Record). rs ++ (partRecord 2 f ∷ l)) (o .appended); follows = one-field (partRecord 2 f) (of-field 2 f) (o .follows) }
 
 module _ {L : Type 0} (rules : Rules L) (demands : Demands L) (tags : List ℕ) (level : L) where
   abbrev body : Body L
@@ -110,13 +110,13 @@ module _ {L : Type 0} (rules : Rules L) (demands : Demands L) (tags : List ℕ) 
     after-next (field g more) (suc room) rs e = later (field g more) (suc room) rs e
 
     module _ (g : Field) (more : Fields) (room : ℕ) (rs : List Record) where
-      after-lack : (h : Field) (last : Fields) (left : ℕ) (es : List Record) (lack : Lack) → Stores 2 more room [] (field h last) (suc left) es → andThen (withRun (recordOf 2 g) rs (checked h last left es lack)) (bodyWithin body turns) ≡ ended f rest room₁ rs₁
+      after-lack : (h : Field) (last : Fields) (left : ℕ) (es : List Record) (lack : Lack) → Stores 2 more room [] (field h last) (suc left) es → andThen (withRun (partRecord 2 g) rs (checked h last left es lack)) (bodyWithin body turns) ≡ ended f rest room₁ rs₁
           → Stores 2 (field g more) (suc room) rs (field f rest) (suc room₁) rs₁
       unfolding checked withRun andThen
-      after-lack h last left es Complete w e = stores-then (stores-run rs w) (later (field h last) (suc left) (storedRun (recordOf 2 g) es rs) e)
+      after-lack h last left es Complete w e = stores-then (stores-run rs w) (later (field h last) (suc left) (storedRun (partRecord 2 g) es rs) e)
       after-lack h last left es (Missing t u) w e = let z : _≡_ {A = ℕ} 0 1 = cc in absurd (omega arith)
 
-      after-run : (inner : L) (o : Outcome (List Record) (List Record)) → walk rules listStore room (run inner (g .tag) 1 0 ∷ []) [] more ≡ o → andThen (withRun (recordOf 2 g) rs (ranAs rules demands inner (g .tag) o)) (bodyWithin body turns) ≡ ended f rest room₁ rs₁
+      after-run : (inner : L) (o : RunOutcome (List Record) (List Record)) → walk rules listStore room (run inner (g .tag) 1 0 ∷ []) [] more ≡ o → andThen (withRun (partRecord 2 g) rs (ranAs rules demands inner (g .tag) o)) (bodyWithin body turns) ≡ ended f rest room₁ rs₁
           → Stores 2 (field g more) (suc room) rs (field f rest) (suc room₁) rs₁
       unfolding ranAs
       after-run inner (ran h last left es) w e =
@@ -129,7 +129,7 @@ module _ {L : Type 0} (rules : Rules L) (demands : Demands L) (tags : List ℕ) 
 
       after-kind : (k : Kind L) → takes body (bodyWithin body turns) g more room rs k ≡ ended f rest room₁ rs₁ → Stores 2 (field g more) (suc room) rs (field f rest) (suc room₁) rs₁
       unfolding takes
-      after-kind plain e = stores-then stores-field (after-next more room (stored (recordOf 2 g) rs) e)
+      after-kind plain e = stores-then stores-field (after-next more room (stored (partRecord 2 g) rs) e)
       after-kind (counts inner) e = after-run inner (walk rules listStore room (run inner (g .tag) 1 0 ∷ []) [] more) refl (unfold bodyOf runFrom in e)
       after-kind other e = after-other (holdsTag (g .tag) (body .trailer)) e
 

@@ -13,7 +13,7 @@ use Rattle.records.specs.Records.{stored}
 use Rattle.records.specs.declared.Record.{Record}
 use Rattle.nesting.specs.Entries.{All, all-stored}
 use Rattle.nesting.specs.Formed.{Own}
-use Rattle.parts.specs.Parts.{ended, recordOf}
+use Rattle.parts.specs.Parts.{ended, partRecord}
 use Rattle.parts.specs.Header.{headerFrom}
 use Rattle.standing.specs.PartReading.{own-field}
 use Rattle.sequence.specs.Follows.{Stores}
@@ -23,10 +23,10 @@ pub header-stores : (tags : List ℕ) (fields : Fields) (room : ℕ) (rs : List 
 unfolding headerFrom
 header-stores tags (unreadable cause place) room rs f rest room₁ rs₁ e = let z : _≡_ {A = ℕ} 0 1 = cc in absurd (omega arith)
 header-stores tags (field g more) zero rs f rest room₁ rs₁ e = let z : _≡_ {A = ℕ} 0 1 = cc in absurd (omega arith)
-header-stores tags (field g more) (suc room) rs f rest room₁ rs₁ e = by-tag (holdsTag (g .tag) tags) e (λ q. header-stores tags more room (stored (recordOf 1 g) rs) f rest room₁ rs₁ q)
+header-stores tags (field g more) (suc room) rs f rest room₁ rs₁ e = by-tag (holdsTag (g .tag) tags) e (λ q. header-stores tags more room (stored (partRecord 1 g) rs) f rest room₁ rs₁ q)
   where
-    by-tag : (b : Bool) → pick b (headerFrom tags more room (stored (recordOf 1 g) rs)) (ended g more room rs) ≡ ended f rest room₁ rs₁
-        → (headerFrom tags more room (stored (recordOf 1 g) rs) ≡ ended f rest room₁ rs₁ → Stores 1 more room (stored (recordOf 1 g) rs) (field f rest) (suc room₁) rs₁) → Stores 1 (field g more) (suc room) rs (field f rest) (suc room₁) rs₁
+    by-tag : (b : Bool) → pick b (headerFrom tags more room (stored (partRecord 1 g) rs)) (ended g more room rs) ≡ ended f rest room₁ rs₁
+        → (headerFrom tags more room (stored (partRecord 1 g) rs) ≡ ended f rest room₁ rs₁ → Stores 1 more room (stored (partRecord 1 g) rs) (field f rest) (suc room₁) rs₁) → Stores 1 (field g more) (suc room) rs (field f rest) (suc room₁) rs₁
     by-tag true e later = stores-then stores-field (later e)
     by-tag false e later = stores-same (cc) (cc) (cc) (cc)
 
@@ -36,9 +36,9 @@ unfolding headerFrom
 header-own tags (unreadable cause place) room rs f rest room₁ rs₁ e a = let z : _≡_ {A = ℕ} 0 1 = cc in absurd (omega arith)
 header-own tags (field g more) zero rs f rest room₁ rs₁ e a = let z : _≡_ {A = ℕ} 0 1 = cc in absurd (omega arith)
 header-own tags (field g more) (suc room) rs f rest room₁ rs₁ e a =
-    by-tag (holdsTag (g .tag) tags) e (λ q. header-own tags more room (stored (recordOf 1 g) rs) f rest room₁ rs₁ q (all-stored _ (recordOf 1 g) (own-field 1 g) a))
+    by-tag (holdsTag (g .tag) tags) e (λ q. header-own tags more room (stored (partRecord 1 g) rs) f rest room₁ rs₁ q (all-stored _ (partRecord 1 g) (own-field 1 g) a))
   where
-    by-tag : (b : Bool) → pick b (headerFrom tags more room (stored (recordOf 1 g) rs)) (ended g more room rs) ≡ ended f rest room₁ rs₁
-        → (headerFrom tags more room (stored (recordOf 1 g) rs) ≡ ended f rest room₁ rs₁ → All (Own 0 0) rs₁) → All (Own 0 0) rs₁
+    by-tag : (b : Bool) → pick b (headerFrom tags more room (stored (partRecord 1 g) rs)) (ended g more room rs) ≡ ended f rest room₁ rs₁
+        → (headerFrom tags more room (stored (partRecord 1 g) rs) ≡ ended f rest room₁ rs₁ → All (Own 0 0) rs₁) → All (Own 0 0) rs₁
     by-tag true e later = later e
     by-tag false e later = let d : rs ≡ rs₁ = cc in rw (← d) a

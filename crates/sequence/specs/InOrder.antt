@@ -19,7 +19,7 @@ use Rattle.required.specs.Checking.{layoutDemands}
 use Rattle.nesting.specs.Entries.{All, all-none, all-more, all-stored}
 use Rattle.nesting.specs.Formed.{Own}
 use Rattle.build_answers.specs.declared.Answer.the-variants.{Valid}
-use Rattle.parts.specs.Parts.{recordOf}
+use Rattle.parts.specs.Parts.{partRecord}
 use Rattle.parts.specs.Trailer.{trailerFrom}
 use Rattle.reading.specs.Beginning.{headerOf, verifiedRecords}
 use Rattle.reading.specs.Message.{Outcome, messageRead}
@@ -35,12 +35,12 @@ use Rattle.sequence.specs.CountedLaws.{counted-read}
 use Rattle.sequence.specs.InParts.{InParts, in-parts, verified-stores}
 
 -- the verified fields, where each has its record
-pub verified-three : (v : Verified) → length (verifiedRecords v) ≡ 3 → verifiedRecords v ≡ recordOf 1 (v .«begin_string») ∷ recordOf 1 (v .«body_length») ∷ recordOf 1 (v .«msg_type») ∷ []
+pub verified-three : (v : Verified) → length (verifiedRecords v) ≡ 3 → verifiedRecords v ≡ partRecord 1 (v .«begin_string») ∷ partRecord 1 (v .«body_length») ∷ partRecord 1 (v .«msg_type») ∷ []
 unfolding verifiedRecords
 verified-three v three =
-    let p = recordOf 1 (v .«begin_string») in
-    let q = recordOf 1 (v .«body_length») in
-    let r = recordOf 1 (v .«msg_type») in
+    let p = partRecord 1 (v .«begin_string») in
+    let q = partRecord 1 (v .«body_length») in
+    let r = partRecord 1 (v .«msg_type») in
     let a = keeps-stored p [] in
     let b = keeps-stored q (stored p []) in
     let c = keeps-stored r (stored q (stored p [])) in
@@ -60,7 +60,7 @@ module _ (dictionary : Dictionary) (config : Config) (message : List ℕ) where
     pub of-header : Stores 1 (fieldsFrom (config .mode) message (startAt 0)) 1024 [] (field (p .f) (p .rest)) (suc (p .room)) (p .header)
     verified-few : length (verifiedRecords (p .verified)) ≤ 3
     pub of-body : Stores 2 (field (p .f) (p .rest)) (suc (p .room)) [] (field (p .g) (p .more)) (suc (p .room₂)) (p .body)
-    pub of-trailer : TrailerStores (field (p .g) (p .more)) (suc (p .room₂)) (recordOf 3 (p .verified .checksum) ∷ []) (outcome .stop) (p .whole-trailer)
+    pub of-trailer : TrailerStores (field (p .g) (p .more)) (suc (p .room₂)) (partRecord 3 (p .verified .checksum) ∷ []) (outcome .stop) (p .whole-trailer)
     pub counted : fieldsCounted (config .mode) message (outcome .stop) ≡ suc (of-header .read + (of-body .read + of-trailer .stores .read))
     pub size : length (outcome .records) ≡ length (p .header) + (length (p .body) + length (p .whole-trailer))
 
@@ -71,7 +71,7 @@ module _ (dictionary : Dictionary) (config : Config) (message : List ℕ) where
       let h = header-stores (headerTags dictionary) (fieldsFrom (config .mode) message (v .«msg_type» .next)) 1021 (verifiedRecords v) (p .f) (p .rest) (p .room) (p .header) (unfold headerOf in p .header-read) in
       let a = stores-then w h in
       let b = body-stores (layoutRules (accepted config (knows dictionary))) layoutDemands (trailerTags dictionary) (p .layout) (field (p .f) (p .rest)) (suc (p .room)) [] (p .g) (p .more) (p .room₂) (p .body) (p .body-read) in
-      let c = trailer-stores (field (p .g) (p .more)) (suc (p .room₂)) (recordOf 3 (v .checksum) ∷ []) (outcome .stop) (p .whole-trailer) (p .trailer-read) in
+      let c = trailer-stores (field (p .g) (p .more)) (suc (p .room₂)) (partRecord 3 (v .checksum) ∷ []) (outcome .stop) (p .whole-trailer) (p .trailer-read) in
       record {
         from-verified = h;
         of-header = a;
@@ -95,10 +95,10 @@ module _ (dictionary : Dictionary) (config : Config) (message : List ℕ) where
     pub trailer : List Record
     pub last : Fields
     pub is-last : Last (messageRead dictionary config message .stop) last
-    pub header-starts : parts .header ≡ recordOf 1 (parts .verified .«begin_string») ∷ recordOf 1 (parts .verified .«body_length») ∷ recordOf 1 (parts .verified .«msg_type») ∷ others
-    pub trailer-starts : parts .whole-trailer ≡ recordOf 3 (parts .verified .checksum) ∷ trailer
-    pub trailer-read : trailerFrom (field (parts .g) (parts .more)) (suc (parts .room₂)) (recordOf 3 (parts .verified .checksum) ∷ []) ≡ trailerAt (messageRead dictionary config message .stop) (recordOf 3 (parts .verified .checksum) ∷ trailer)
-    pub records : messageRead dictionary config message .records ≡ parts .header ++ (parts .body ++ (recordOf 3 (parts .verified .checksum) ∷ trailer))
+    pub header-starts : parts .header ≡ partRecord 1 (parts .verified .«begin_string») ∷ partRecord 1 (parts .verified .«body_length») ∷ partRecord 1 (parts .verified .«msg_type») ∷ others
+    pub trailer-starts : parts .whole-trailer ≡ partRecord 3 (parts .verified .checksum) ∷ trailer
+    pub trailer-read : trailerFrom (field (parts .g) (parts .more)) (suc (parts .room₂)) (partRecord 3 (parts .verified .checksum) ∷ []) ≡ trailerAt (messageRead dictionary config message .stop) (partRecord 3 (parts .verified .checksum) ∷ trailer)
+    pub records : messageRead dictionary config message .records ≡ parts .header ++ (parts .body ++ (partRecord 3 (parts .verified .checksum) ∷ trailer))
     pub header-follows : Follows 1 (fieldsFrom (config .mode) message (startAt 0)) (parts .header) (field (parts .f) (parts .rest))
     pub others-follow : Follows 1 (fieldsFrom (config .mode) message (parts .verified .«msg_type» .next)) others (field (parts .f) (parts .rest))
     pub others-room : length others + suc (parts .room) ≡ 1021
@@ -139,7 +139,7 @@ module _ (dictionary : Dictionary) (config : Config) (message : List ℕ) where
   in-order-of : (p : InParts dictionary config message (messageRead dictionary config message)) (s : Sizes (messageRead dictionary config message) p) → Full (messageRead dictionary config message) p s → InOrder
   in-order-of p s e =
       let v = p .verified in
-      let check = recordOf 3 (v .checksum) in
+      let check = partRecord 3 (v .checksum) in
       let h = s .of-header .ordered (omega (arith, e .header)) in
       let o = s .from-verified .ordered (e .behind) in
       let b = s .of-body .ordered (omega (arith, e .body)) in

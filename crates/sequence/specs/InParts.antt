@@ -5,6 +5,7 @@ use mathlib.Core.Bool.{Bool}
 use mathlib.Core.List.{List, [], _∷_, _++_}
 use Prim.Native.Nat.{ℕ, suc}
 use native.Mathlib.Omega.{arith}
+use Rattle.records.specs.Records.{valueAt}
 use Rattle.tagvalue.specs.declared.Mode.{Mode}
 use Rattle.build_config.specs.declared.Config.{Config}
 use Rattle.tagvalue.specs.Field.{startAt}
@@ -22,11 +23,11 @@ use Rattle.records.specs.declared.Record.{Record}
 use Rattle.groups.specs.Reading.{accepted, layoutRules}
 use Rattle.required.specs.Checking.{layoutDemands}
 use Rattle.build_answers.specs.declared.Answer.the-variants.{Valid}
-use Rattle.parts.specs.Parts.{Reading, ended, refused, recordOf}
+use Rattle.parts.specs.Parts.{Reading, ended, refused, partRecord}
 use Rattle.parts.specs.Trailer.{Trailer, stopped, unstopped, crowded, trailerFrom}
 use Rattle.body.specs.Body.{bodyFrom}
 use Rattle.body.specs.Kinds.{bodyOf}
-use Rattle.reading.specs.Beginning.{headerOf, verifiedRecords, withChecksum, startedBy, startOf, msgTypeRecord, valueAt}
+use Rattle.reading.specs.Beginning.{headerOf, verifiedRecords, withChecksum, startedBy, startOf, msgTypeRecord}
 use Rattle.reading.specs.Message.{Outcome, refusal, afterTrailer, afterBody, afterType, afterHeader, messageRead}
 use Rattle.standing.specs.Refusals.{header-never, body-never}
 use Rattle.sequence.specs.Follows.{Stores}
@@ -51,13 +52,13 @@ module _ (dictionary : Dictionary) (config : Config) (message : List ℕ) where
     pub header-read : headerOf (headerTags dictionary) config message verified ≡ ended f rest room header
     pub chosen : layoutOf dictionary (valueAt message (msgTypeRecord header)) ≡ laidOut layout
     pub body-read : bodyFrom (bodyOf (layoutRules (accepted config (knows dictionary))) layoutDemands (trailerTags dictionary) layout) (field f rest) (suc room) [] ≡ ended g more room₂ body
-    pub trailer-read : trailerFrom (field g more) (suc room₂) (recordOf 3 (verified .checksum) ∷ []) ≡ trailerAt (outcome .stop) whole-trailer
+    pub trailer-read : trailerFrom (field g more) (suc room₂) (partRecord 3 (verified .checksum) ∷ []) ≡ trailerAt (outcome .stop) whole-trailer
     pub records : outcome .records ≡ header ++ (body ++ whole-trailer)
 
   module _ (v : Verified) (sound : integrityOf (config .mode) message ≡ Sound v) (f : Field) (rest : Fields) (room : ℕ) (h : List Record) (header : headerOf (headerTags dictionary) config message v ≡ ended f rest room h) where
     module _ (layout : Layout) (chosen : layoutOf dictionary (valueAt message (msgTypeRecord h)) ≡ laidOut layout) where
       trailer-parts : (g : Field) (more : Fields) (room₂ : ℕ) (b : List Record) → bodyFrom (bodyOf (layoutRules (accepted config (knows dictionary))) layoutDemands (trailerTags dictionary) layout) (field f rest) (suc room) [] ≡ ended g more room₂ b
-          → (t : Trailer) → trailerFrom (field g more) (suc room₂) (recordOf 3 (v .checksum) ∷ []) ≡ t → afterTrailer h b t .answer ≡ Valid → InParts (afterTrailer h b t)
+          → (t : Trailer) → trailerFrom (field g more) (suc room₂) (partRecord 3 (v .checksum) ∷ []) ≡ t → afterTrailer h b t .answer ≡ Valid → InParts (afterTrailer h b t)
       unfolding afterTrailer trailerAt
       trailer-parts g more room₂ b e (stopped s ts) q a =
           record { verified = v; sound = sound; layout = layout; f = f; rest = rest; room = room; header = h; g = g; more = more; room₂ = room₂; body = b; whole-trailer = ts; header-read = header; chosen = chosen; body-read = e; trailer-read = q; records = refl }
@@ -68,7 +69,7 @@ module _ (dictionary : Dictionary) (config : Config) (message : List ℕ) where
       body-parts : (r : Reading) → bodyFrom (bodyOf (layoutRules (accepted config (knows dictionary))) layoutDemands (trailerTags dictionary) layout) (field f rest) (suc room) [] ≡ r → afterBody h (v .checksum) r .answer ≡ Valid → InParts (afterBody h (v .checksum) r)
       unfolding afterBody
       body-parts (refused answer) e a = absurd (body-never (layoutRules (accepted config (knows dictionary))) layoutDemands (trailerTags dictionary) layout (suc (suc room)) (field f rest) (suc room) [] (unfold bodyFrom in (e ∙ ap refused (unfold refusal in a))))
-      body-parts (ended g more room₂ b) e a = trailer-parts g more room₂ b e (trailerFrom (field g more) (suc room₂) (recordOf 3 (v .checksum) ∷ [])) refl a
+      body-parts (ended g more room₂ b) e a = trailer-parts g more room₂ b e (trailerFrom (field g more) (suc room₂) (partRecord 3 (v .checksum) ∷ [])) refl a
 
     type-parts : (choice : Choice) → layoutOf dictionary (valueAt message (msgTypeRecord h)) ≡ choice → afterType dictionary config f rest room h (v .checksum) choice .answer ≡ Valid → InParts (afterType dictionary config f rest room h (v .checksum) choice)
     unfolding afterType

@@ -13,7 +13,7 @@ use Rattle.tagvalue.specs.declared.Field.{Field}
 use Rattle.records.specs.Records.{stored}
 use Rattle.records.specs.declared.Record.{Record}
 use Rattle.groups.specs.Reading.{joinedList}
-use Rattle.parts.specs.Parts.{recordOf}
+use Rattle.parts.specs.Parts.{partRecord}
 use Rattle.standing.specs.Counting.{Of}
 use Rattle.standing.specs.PartReading.{of-field}
 use Rattle.sequence.specs.Follows.{Follows, no-field, one-field, Reaches, here, further, Ordered, Stores}
@@ -94,5 +94,5 @@ stores-kept r o k =
     record { read = 1; reaches = further here; room-is = omega arith; at-most = omega (arith, k .no-more); ordered = λ e. record { new = r ∷ []; appended = k .last (omega arith); follows = one-field r o no-field } }
 
 -- a field was stored in a part's own map
-pub stores-field : {part : ℕ} {f : Field} {rest : Fields} {room : ℕ} {rs : List Record} → Stores part (field f rest) (suc room) rs rest room (stored (recordOf part f) rs)
-stores-field {part} {f} {rs = rs} = stores-kept (recordOf part f) (of-field part f) (keeps-stored (recordOf part f) rs)
+pub stores-field : {part : ℕ} {f : Field} {rest : Fields} {room : ℕ} {rs : List Record} → Stores part (field f rest) (suc room) rs rest room (stored (partRecord part f) rs)
+stores-field {part} {f} {rs = rs} = stores-kept (partRecord part f) (of-field part f) (keeps-stored (partRecord part f) rs)

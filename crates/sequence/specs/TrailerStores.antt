@@ -15,7 +15,7 @@ use Rattle.records.specs.Records.{stored}
 use Rattle.records.specs.declared.Record.{Record}
 use Rattle.nesting.specs.Entries.{All, all-stored}
 use Rattle.nesting.specs.Formed.{Own}
-use Rattle.parts.specs.Parts.{recordOf}
+use Rattle.parts.specs.Parts.{partRecord}
 use Rattle.parts.specs.Trailer.{Trailer, stopped, unstopped, crowded, trailerFrom}
 use Rattle.reading.specs.declared.Stop.{Stop}
 use Rattle.reading.specs.declared.Stop.the-variants.{At, Nowhere}
@@ -47,7 +47,7 @@ not-crowded (At f) ts e = let z : _≡_ {A = ℕ} 0 1 = cc in omega arith
 not-crowded Nowhere ts e = let z : _≡_ {A = ℕ} 0 1 = cc in omega arith
 
 -- a field more was read before
-one-before : {g : Field} {more : Fields} {room : ℕ} {rs : List Record} {stop : Stop} {ts : List Record} → eqb (g .tag) 10 ≡ false → TrailerStores more room (stored (recordOf 3 g) rs) stop ts → TrailerStores (field g more) (suc room) rs stop ts
+one-before : {g : Field} {more : Fields} {room : ℕ} {rs : List Record} {stop : Stop} {ts : List Record} → eqb (g .tag) 10 ≡ false → TrailerStores more room (stored (partRecord 3 g) rs) stop ts → TrailerStores (field g more) (suc room) rs stop ts
 unfolding trailerFields
 one-before {g} {more} {room} {rs} {stop} {ts} other t =
     let s : Stores 3 (field g more) (suc room) rs (t .last) (suc (t .left)) ts = stores-then stores-field (t .stores) in
@@ -75,10 +75,10 @@ unfolding trailerFrom
 trailer-stores (unreadable cause place) zero rs stop ts e = absurd (not-crowded stop ts e)
 trailer-stores (unreadable cause place) (suc room) rs stop ts e = ends-here stop e
 trailer-stores (field g more) zero rs stop ts e = absurd (not-crowded stop ts e)
-trailer-stores (field g more) (suc room) rs stop ts e = by-tag (eqb (g .tag) 10) refl e (λ q. trailer-stores more room (stored (recordOf 3 g) rs) stop ts q)
+trailer-stores (field g more) (suc room) rs stop ts e = by-tag (eqb (g .tag) 10) refl e (λ q. trailer-stores more room (stored (partRecord 3 g) rs) stop ts q)
   where
-    by-tag : (b : Bool) → eqb (g .tag) 10 ≡ b → pick b (stopped g rs) (trailerFrom more room (stored (recordOf 3 g) rs)) ≡ trailerAt stop ts
-        → (trailerFrom more room (stored (recordOf 3 g) rs) ≡ trailerAt stop ts → TrailerStores more room (stored (recordOf 3 g) rs) stop ts) → TrailerStores (field g more) (suc room) rs stop ts
+    by-tag : (b : Bool) → eqb (g .tag) 10 ≡ b → pick b (stopped g rs) (trailerFrom more room (stored (partRecord 3 g) rs)) ≡ trailerAt stop ts
+        → (trailerFrom more room (stored (partRecord 3 g) rs) ≡ trailerAt stop ts → TrailerStores more room (stored (partRecord 3 g) rs) stop ts) → TrailerStores (field g more) (suc room) rs stop ts
     by-tag true ten q later = stops-here stop ten q
     by-tag false other q later = one-before other (later q)
 
@@ -100,8 +100,8 @@ unfolding trailerFrom
 trailer-own (unreadable cause place) zero rs stop ts e a = absurd (not-crowded stop ts e)
 trailer-own (unreadable cause place) (suc room) rs stop ts e a = let d = unstopped-with rs ts stop e in rw (← d) a
 trailer-own (field g more) zero rs stop ts e a = absurd (not-crowded stop ts e)
-trailer-own (field g more) (suc room) rs stop ts e a = by-tag (eqb (g .tag) 10) e (λ q. trailer-own more room (stored (recordOf 3 g) rs) stop ts q (all-stored _ (recordOf 3 g) (own-field 3 g) a))
+trailer-own (field g more) (suc room) rs stop ts e a = by-tag (eqb (g .tag) 10) e (λ q. trailer-own more room (stored (partRecord 3 g) rs) stop ts q (all-stored _ (partRecord 3 g) (own-field 3 g) a))
   where
-    by-tag : (b : Bool) → pick b (stopped g rs) (trailerFrom more room (stored (recordOf 3 g) rs)) ≡ trailerAt stop ts → (trailerFrom more room (stored (recordOf 3 g) rs) ≡ trailerAt stop ts → All (Own 0 0) ts) → All (Own 0 0) ts
+    by-tag : (b : Bool) → pick b (stopped g rs) (trailerFrom more room (stored (partRecord 3 g) rs)) ≡ trailerAt stop ts → (trailerFrom more room (stored (partRecord 3 g) rs) ≡ trailerAt stop ts → All (Own 0 0) ts) → All (Own 0 0) ts
     by-tag true q later = let d = stopped-with rs ts g stop q in rw (← d) a
     by-tag false q later = later q

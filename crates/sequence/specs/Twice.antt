@@ -13,29 +13,29 @@ use Rattle.integrity.specs.Integrity.{integrityOf}
 use Rattle.integrity.specs.declared.Integrity.{Integrity}
 use Rattle.integrity.specs.declared.Integrity.the-variants.{Sound, Garbled}
 use Rattle.dictionary_layout_rules.specs.Tree.{Dictionary, knows, headerTags, trailerTags, holdsTag, Choice, noMessage, laidOut, layoutOf}
-use Rattle.records.specs.Records.{stored}
+use Rattle.records.specs.Records.{stored, valueAt}
 use Rattle.records.specs.declared.Record.{Record}
 use Rattle.groups.specs.Groups.{Rules, Frame, run, Move, adds, joinsAt, disorders, leaves, decide}
-use Rattle.groups.specs.Groups.{recordOf as entryRecord}
+use Rattle.groups.specs.Groups.{entryRecord}
 use Rattle.groups.specs.Reading.{accepted, layoutRules, joinedList}
 use Rattle.required.specs.Required.{Demands, has}
 use Rattle.required.specs.Checking.{layoutDemands}
-use Rattle.parts.specs.Parts.{Reading, ended, refused, recordOf}
+use Rattle.parts.specs.Parts.{Reading, ended, refused, partRecord}
 use Rattle.body.specs.Body.{Kind, plain, counts, other, Body, withRun, bodyFrom}
 use Rattle.body.specs.Kinds.{bodyOf}
-use Rattle.reading.specs.Beginning.{headerOf, verifiedRecords, msgTypeRecord, valueAt}
+use Rattle.reading.specs.Beginning.{headerOf, verifiedRecords, msgTypeRecord}
 
 -- "Header tags go to the header; the first other field ends it."
 unfoldable pub twiceInHeader : List ℕ → Fields → List Record → Bool
 twiceInHeader tags (unreadable cause place) records = false
 twiceInHeader tags (field f rest) records =
-    pick (holdsTag (f .tag) tags) (pick (has 0 (f .tag) records) true (twiceInHeader tags rest (stored (recordOf 1 f) records))) false
+    pick (holdsTag (f .tag) tags) (pick (has 0 (f .tag) records) true (twiceInHeader tags rest (stored (partRecord 1 f) records))) false
 
 -- "The trailer takes every field up to the first tag 10 or until none can be read."
 unfoldable pub twiceInTrailer : Fields → List Record → Bool
 twiceInTrailer (unreadable cause place) records = false
 twiceInTrailer (field f rest) records =
-    pick (eqb (f .tag) 10) false (pick (has 0 (f .tag) records) true (twiceInTrailer rest (stored (recordOf 3 f) records)))
+    pick (eqb (f .tag) 10) false (pick (has 0 (f .tag) records) true (twiceInTrailer rest (stored (partRecord 3 f) records)))
 
 -- "Each delimiter opens an entry. Declared tags must rise in position", so no entry stores one twice (`entry-other` of nesting); "unknown
 -- user tags join the open entry", whose map may hold them already
@@ -60,10 +60,10 @@ twiceBehind (refused answer) on = false
 module _ {L : Type 0} (rules : Rules L) (body : Body L) where
   -- "A group run hangs on its start tag; a second run replaces the first": a count that the body holds is a tag stored twice
   unfoldable pub twiceTaking : (Fields → ℕ → List Record → Bool) → Field → Fields → ℕ → List Record → Kind L → Bool
-  twiceTaking on f rest room records plain = pick (has 0 (f .tag) records) true (on rest room (stored (recordOf 2 f) records))
+  twiceTaking on f rest room records plain = pick (has 0 (f .tag) records) true (on rest room (stored (partRecord 2 f) records))
   twiceTaking on f rest room records (counts inner) =
       pick (has 0 (f .tag) records) true
-      (pick (twiceInRun rules (run inner (f .tag) 1 0 ∷ []) [] rest) true (twiceBehind (withRun (recordOf 2 f) records (body .run inner (f .tag) rest room)) on))
+      (pick (twiceInRun rules (run inner (f .tag) 1 0 ∷ []) [] rest) true (twiceBehind (withRun (partRecord 2 f) records (body .run inner (f .tag) rest room)) on))
   twiceTaking on f rest room records other = false
 
   -- so many turns, which is enough where it is more than the room
@@ -83,7 +83,7 @@ module _ (dictionary : Dictionary) (config : Config) (message : List ℕ) where
   twiceFromBody checksum fields room noMessage = false
   twiceFromBody checksum fields room (laidOut layout) =
       pick (twiceInBody (layoutRules (accepted config (knows dictionary))) layoutDemands (trailerTags dictionary) layout fields room []) true
-      (twiceBehind (bodyFrom (bodyOf (layoutRules (accepted config (knows dictionary))) layoutDemands (trailerTags dictionary) layout) fields room []) (λ behind left body. twiceInTrailer behind (recordOf 3 checksum ∷ [])))
+      (twiceBehind (bodyFrom (bodyOf (layoutRules (accepted config (knows dictionary))) layoutDemands (trailerTags dictionary) layout) fields room []) (λ behind left body. twiceInTrailer behind (partRecord 3 checksum ∷ [])))
 
   -- in the header, where the three verified fields stand first, each with a tag of its own; or behind it
   unfoldable pub twiceFromHeader : Integrity → Bool

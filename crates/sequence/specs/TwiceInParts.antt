@@ -13,14 +13,14 @@ use Rattle.tagvalue.specs.declared.Field.{Field}
 use Rattle.dictionary_layout_rules.specs.Tree.{holdsTag}
 use Rattle.records.specs.Records.{stored}
 use Rattle.records.specs.declared.Record.{Record}
-use Rattle.groups.specs.Groups.{Rules, Frame, run, Move, adds, joinsAt, disorders, leaves, decide, moved, Outcome, walk}
-use Rattle.groups.specs.Groups.{ended as ran, refused as stops, recordOf as entryRecord}
+use Rattle.groups.specs.Groups.{Rules, Frame, run, Move, adds, joinsAt, disorders, leaves, decide, moved, RunOutcome, walk}
+use Rattle.groups.specs.Groups.{ended as ran, refused as stops, entryRecord}
 use Rattle.groups.specs.Reading.{listStore, joinedList}
 use Rattle.required.specs.Required.{Demands, has, runLack}
 use Rattle.required.specs.declared.Lack.{Lack}
 use Rattle.required.specs.declared.Lack.the-variants.{Missing, Complete}
 use Rattle.build_answers.specs.declared.Answer.the-variants.{InvalidField}
-use Rattle.parts.specs.Parts.{ended, refused, recordOf}
+use Rattle.parts.specs.Parts.{ended, refused, partRecord}
 use Rattle.parts.specs.Header.{headerFrom}
 use Rattle.parts.specs.Trailer.{stopped, trailerFrom}
 use Rattle.body.specs.Body.{Kind, plain, counts, other, Body, storedRun, andThen, nextFrom, withRun, takes, bodyWithin, bodyFrom}
@@ -36,13 +36,13 @@ pub header-tells : (tags : List ℕ) (fields : Fields) (room : ℕ) (rs : List R
 unfolding headerFrom twiceInHeader
 header-tells tags (unreadable cause place) room rs f rest room₁ rs₁ e = let z : _≡_ {A = ℕ} 0 1 = cc in absurd (omega arith)
 header-tells tags (field g more) zero rs f rest room₁ rs₁ e = let z : _≡_ {A = ℕ} 0 1 = cc in absurd (omega arith)
-header-tells tags (field g more) (suc room) rs f rest room₁ rs₁ e = by-tag (holdsTag (g .tag) tags) e (λ q. header-tells tags more room (stored (recordOf 1 g) rs) f rest room₁ rs₁ q)
+header-tells tags (field g more) (suc room) rs f rest room₁ rs₁ e = by-tag (holdsTag (g .tag) tags) e (λ q. header-tells tags more room (stored (partRecord 1 g) rs) f rest room₁ rs₁ q)
   where
     twice : Bool
-    twice = twiceInHeader tags more (stored (recordOf 1 g) rs)
+    twice = twiceInHeader tags more (stored (partRecord 1 g) rs)
 
-    by-tag : (b : Bool) → pick b (headerFrom tags more room (stored (recordOf 1 g) rs)) (ended g more room rs) ≡ ended f rest room₁ rs₁
-        → (headerFrom tags more room (stored (recordOf 1 g) rs) ≡ ended f rest room₁ rs₁ → Tells twice (length (stored (recordOf 1 g) rs) + room) (length rs₁ + suc room₁))
+    by-tag : (b : Bool) → pick b (headerFrom tags more room (stored (partRecord 1 g) rs)) (ended g more room rs) ≡ ended f rest room₁ rs₁
+        → (headerFrom tags more room (stored (partRecord 1 g) rs) ≡ ended f rest room₁ rs₁ → Tells twice (length (stored (partRecord 1 g) rs) + room) (length rs₁ + suc room₁))
         → Tells (pick b (pick (has 0 (g .tag) rs) true twice) false) (length rs + suc room) (length rs₁ + suc room₁)
     by-tag true e later = tells-then (has 0 (g .tag) rs) twice (tells-field 1 g rs room) (later e)
     by-tag false e later = let a : room ≡ room₁ = cc in let d : rs ≡ rs₁ = cc in rw (← a, ← d) (tells-once refl)
@@ -52,13 +52,13 @@ unfolding trailerFrom twiceInTrailer trailerFields
 trailer-tells (unreadable cause place) zero rs stop ts e = absurd (not-crowded stop ts e)
 trailer-tells (unreadable cause place) (suc room) rs stop ts e = let q = unstopped-with rs ts stop e in rw (← q) (tells-once (omega arith))
 trailer-tells (field g more) zero rs stop ts e = absurd (not-crowded stop ts e)
-trailer-tells (field g more) (suc room) rs stop ts e = by-tag (eqb (g .tag) 10) e (λ q. trailer-tells more room (stored (recordOf 3 g) rs) stop ts q)
+trailer-tells (field g more) (suc room) rs stop ts e = by-tag (eqb (g .tag) 10) e (λ q. trailer-tells more room (stored (partRecord 3 g) rs) stop ts q)
   where
     twice : Bool
-    twice = twiceInTrailer more (stored (recordOf 3 g) rs)
+    twice = twiceInTrailer more (stored (partRecord 3 g) rs)
 
-    by-tag : (b : Bool) → pick b (stopped g rs) (trailerFrom more room (stored (recordOf 3 g) rs)) ≡ trailerAt stop ts
-        → (trailerFrom more room (stored (recordOf 3 g) rs) ≡ trailerAt stop ts → Tells twice (length (stored (recordOf 3 g) rs) + trailerFields more) (length ts))
+    by-tag : (b : Bool) → pick b (stopped g rs) (trailerFrom more room (stored (partRecord 3 g) rs)) ≡ trailerAt stop ts
+        → (trailerFrom more room (stored (partRecord 3 g) rs) ≡ trailerAt stop ts → Tells twice (length (stored (partRecord 3 g) rs) + trailerFields more) (length ts))
         → Tells (pick b false (pick (has 0 (g .tag) rs) true twice)) (length rs + pick b 0 (suc (trailerFields more))) (length ts)
     by-tag true e later = let q = stopped-with rs ts g stop e in rw (← q) (tells-once (omega arith))
     by-tag false e later = tells-then (has 0 (g .tag) rs) twice (tells-field 3 g rs (trailerFields more)) (later e)
@@ -85,7 +85,7 @@ walk-tells {L} rules (suc room) stack rs (field g more) f rest room₁ rs₁ e =
         tells-then (has depth (g .tag) (drop start rs)) (twiceInRun rules stack₂ ss more) (tells-joined start depth number g rs room) t
     by-move (disorders group) e later = let z : _≡_ {A = ℕ} 0 1 = unfold moved in cc in absurd (omega arith)
     by-move leaves e later =
-        let q : _≡_ {A = Outcome (List Record) (List Record)} (ran g more room rs) (ran f rest room₁ rs₁) = unfold moved in e in
+        let q : _≡_ {A = RunOutcome (List Record) (List Record)} (ran g more room rs) (ran f rest room₁ rs₁) = unfold moved in e in
         let a : room ≡ room₁ = cc in
         let d : rs ≡ rs₁ = cc in
         rw (← a, ← d) (tells-once refl)
@@ -105,11 +105,11 @@ module _ {L : Type 0} (rules : Rules L) (demands : Demands L) (tags : List ℕ) 
 
     module _ (g : Field) (more : Fields) (room : ℕ) (rs : List Record) where
       -- the count, its run, and what comes behind them
-      after-lack : (inRun : Bool) (h : Field) (last : Fields) (left : ℕ) (es : List Record) (lack : Lack) → Tells inRun room (length es + suc left) → andThen (withRun (recordOf 2 g) rs (checked h last left es lack)) (bodyWithin body turns) ≡ ended f rest room₁ rs₁
-          → Tells (pick (has 0 (g .tag) rs) true (pick inRun true (twiceBehind (withRun (recordOf 2 g) rs (checked h last left es lack)) (twiceWithin rules body turns)))) (length rs + suc room) (length rs₁ + suc room₁)
+      after-lack : (inRun : Bool) (h : Field) (last : Fields) (left : ℕ) (es : List Record) (lack : Lack) → Tells inRun room (length es + suc left) → andThen (withRun (partRecord 2 g) rs (checked h last left es lack)) (bodyWithin body turns) ≡ ended f rest room₁ rs₁
+          → Tells (pick (has 0 (g .tag) rs) true (pick inRun true (twiceBehind (withRun (partRecord 2 g) rs (checked h last left es lack)) (twiceWithin rules body turns)))) (length rs + suc room) (length rs₁ + suc room₁)
       unfolding checked withRun andThen twiceBehind
       after-lack inRun h last left es Complete w e =
-          let ss = storedRun (recordOf 2 g) es rs in
+          let ss = storedRun (partRecord 2 g) es rs in
           let held = has 0 (g .tag) rs in
           let behind = twiceWithin rules body turns (field h last) (suc left) ss in
           let a : Tells inRun (length rs + suc room) (length rs + suc (length es + suc left)) = tells-as inRun (omega arith) w in
@@ -117,8 +117,8 @@ module _ {L : Type 0} (rules : Rules L) (demands : Demands L) (tags : List ℕ) 
           tells-either inRun held behind (tells-then inRun (pick held true behind) a b)
       after-lack inRun h last left es (Missing t u) w e = let z : _≡_ {A = ℕ} 0 1 = cc in absurd (omega arith)
 
-      after-run : (inner : L) (o : Outcome (List Record) (List Record)) → walk rules listStore room (run inner (g .tag) 1 0 ∷ []) [] more ≡ o → andThen (withRun (recordOf 2 g) rs (ranAs rules demands inner (g .tag) o)) (bodyWithin body turns) ≡ ended f rest room₁ rs₁
-          → Tells (pick (has 0 (g .tag) rs) true (pick (twiceInRun rules (run inner (g .tag) 1 0 ∷ []) [] more) true (twiceBehind (withRun (recordOf 2 g) rs (ranAs rules demands inner (g .tag) o)) (twiceWithin rules body turns)))) (length rs + suc room) (length rs₁ + suc room₁)
+      after-run : (inner : L) (o : RunOutcome (List Record) (List Record)) → walk rules listStore room (run inner (g .tag) 1 0 ∷ []) [] more ≡ o → andThen (withRun (partRecord 2 g) rs (ranAs rules demands inner (g .tag) o)) (bodyWithin body turns) ≡ ended f rest room₁ rs₁
+          → Tells (pick (has 0 (g .tag) rs) true (pick (twiceInRun rules (run inner (g .tag) 1 0 ∷ []) [] more) true (twiceBehind (withRun (partRecord 2 g) rs (ranAs rules demands inner (g .tag) o)) (twiceWithin rules body turns)))) (length rs + suc room) (length rs₁ + suc room₁)
       unfolding ranAs
       after-run inner (ran h last left es) w e =
           let t = walk-tells rules room (run inner (g .tag) 1 0 ∷ []) [] more h last left es w in
@@ -131,7 +131,7 @@ module _ {L : Type 0} (rules : Rules L) (demands : Demands L) (tags : List ℕ) 
 
       after-kind : (k : Kind L) → takes body (bodyWithin body turns) g more room rs k ≡ ended f rest room₁ rs₁ → Tells (twiceTaking rules body (twiceWithin rules body turns) g more room rs k) (length rs + suc room) (length rs₁ + suc room₁)
       unfolding takes twiceTaking
-      after-kind plain e = tells-then (has 0 (g .tag) rs) _ (tells-field 2 g rs room) (after-next more room (stored (recordOf 2 g) rs) e)
+      after-kind plain e = tells-then (has 0 (g .tag) rs) _ (tells-field 2 g rs room) (after-next more room (stored (partRecord 2 g) rs) e)
       after-kind (counts inner) e = unfold bodyOf runFrom in after-run inner (walk rules listStore room (run inner (g .tag) 1 0 ∷ []) [] more) refl (unfold bodyOf runFrom in e)
       after-kind other e = after-other (holdsTag (g .tag) (body .trailer)) e
 

@@ -11,10 +11,10 @@ use Rattle.tagvalue.specs.Choice.{pick}
 use Rattle.tagvalue.specs.declared.Field.{Field}
 use Rattle.records.specs.Records.{stored}
 use Rattle.records.specs.declared.Record.{Record}
-use Rattle.groups.specs.Groups.{recordOf as entryRecord}
+use Rattle.groups.specs.Groups.{entryRecord}
 use Rattle.groups.specs.Reading.{joinedList}
 use Rattle.required.specs.Required.{has}
-use Rattle.parts.specs.Parts.{recordOf}
+use Rattle.parts.specs.Parts.{partRecord}
 use Rattle.body.specs.Body.{behindRun, storedRun}
 use Rattle.sequence.specs.BodyStores.{behind-fewer}
 
@@ -65,9 +65,9 @@ stored-tells r (x ∷ rs) = by-tests (eqb (x .depth) (r .depth)) (eqb (x .tag) (
     by-tests false t later = later
 
 -- a field was read and stored in a part's own map
-pub tells-field : (part : ℕ) (f : Field) (rs : List Record) (room : ℕ) → Tells (has 0 (f .tag) rs) (length rs + suc room) (length (stored (recordOf part f) rs) + room)
-unfolding recordOf
-tells-field part f rs room = tells-as (has 0 (f .tag) rs) (omega arith) (stored-tells (recordOf part f) rs)
+pub tells-field : (part : ℕ) (f : Field) (rs : List Record) (room : ℕ) → Tells (has 0 (f .tag) rs) (length rs + suc room) (length (stored (partRecord part f) rs) + room)
+unfolding partRecord
+tells-field part f rs room = tells-as (has 0 (f .tag) rs) (omega arith) (stored-tells (partRecord part f) rs)
 
 -- a field was read that opens an entry, or a declared one that rises in it
 pub tells-last : (r : Record) (rs : List Record) (room : ℕ) → Tells false (length rs + suc room) (length (rs ++ (r ∷ [])) + room)
@@ -96,6 +96,6 @@ run-tells r es (x ∷ rs) = by-tests (eqb (x .depth) (r .depth)) (eqb (x .tag) (
     by-tests false t later = later
 
 -- a count was read, and then its run; both are stored in the body
-pub tells-run : (f : Field) (es rs : List Record) (room : ℕ) → Tells (has 0 (f .tag) rs) (length rs + suc (length es + room)) (length (storedRun (recordOf 2 f) es rs) + room)
-unfolding recordOf
-tells-run f es rs room = tells-as (has 0 (f .tag) rs) (omega arith) (run-tells (recordOf 2 f) es rs)
+pub tells-run : (f : Field) (es rs : List Record) (room : ℕ) → Tells (has 0 (f .tag) rs) (length rs + suc (length es + room)) (length (storedRun (partRecord 2 f) es rs) + room)
+unfolding partRecord
+tells-run f es rs room = tells-as (has 0 (f .tag) rs) (omega arith) (run-tells (partRecord 2 f) es rs)

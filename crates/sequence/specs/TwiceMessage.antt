@@ -15,7 +15,7 @@ use Rattle.records.specs.Records.{stored}
 use Rattle.groups.specs.Reading.{accepted, layoutRules}
 use Rattle.required.specs.Checking.{layoutDemands}
 use Rattle.build_answers.specs.declared.Answer.the-variants.{Valid}
-use Rattle.parts.specs.Parts.{recordOf}
+use Rattle.parts.specs.Parts.{partRecord}
 use Rattle.reading.specs.Beginning.{headerOf, verifiedRecords}
 use Rattle.reading.specs.Message.{Outcome, messageRead}
 use Rattle.sequence.specs.Counted.{trailerFields, fieldsCounted}
@@ -28,7 +28,7 @@ use Rattle.sequence.specs.TwiceInParts.{header-tells, trailer-tells, bod
 
 -- 8, 9 and 35 are stored side by side
 pub three-verified : (v : Verified) → VerifiedTags v → length (verifiedRecords v) ≡ 3
-unfolding verifiedRecords stored recordOf
+unfolding verifiedRecords stored partRecord
 three-verified v t = rw (t .begins, t .counts, t .types) refl
 
 module _ (dictionary : Dictionary) (config : Config) (message : List ℕ) where
@@ -40,7 +40,7 @@ module _ (dictionary : Dictionary) (config : Config) (message : List ℕ) where
     inBody = twiceInBody (layoutRules (accepted config (knows dictionary))) layoutDemands (trailerTags dictionary) (p .layout) (field (p .f) (p .rest)) (suc (p .room)) []
 
     abbrev inTrailer : Bool
-    inTrailer = twiceInTrailer (field (p .g) (p .more)) (recordOf 3 (p .verified .checksum) ∷ [])
+    inTrailer = twiceInTrailer (field (p .g) (p .more)) (partRecord 3 (p .verified .checksum) ∷ [])
 
     -- the three parts in turn
     twice-in-parts : storedTwice dictionary config message ≡ pick inHeader true (pick inBody true inTrailer)
@@ -53,7 +53,7 @@ module _ (dictionary : Dictionary) (config : Config) (message : List ℕ) where
         let three = three-verified v (verified-tags (config .mode) message v (p .sound)) in
         let h = header-tells (headerTags dictionary) (fieldsFrom (config .mode) message (v .«msg_type» .next)) 1021 (verifiedRecords v) (p .f) (p .rest) (p .room) (p .header) (unfold headerOf in p .header-read) in
         let b = body-tells (layoutRules (accepted config (knows dictionary))) layoutDemands (trailerTags dictionary) (p .layout) (field (p .f) (p .rest)) (suc (p .room)) [] (p .g) (p .more) (p .room₂) (p .body) (p .body-read) in
-        let t = trailer-tells (field (p .g) (p .more)) (suc (p .room₂)) (recordOf 3 (v .checksum) ∷ []) (outcome .stop) (p .whole-trailer) (p .trailer-read) in
+        let t = trailer-tells (field (p .g) (p .more)) (suc (p .room₂)) (partRecord 3 (v .checksum) ∷ []) (outcome .stop) (p .whole-trailer) (p .trailer-read) in
         let in-trailer = trailerFields (field (p .g) (p .more)) in
         let x : Tells inHeader (fieldsCounted (config .mode) message (outcome .stop)) (length (p .header) + (s .of-body .read + suc in-trailer)) = tells-as inHeader (omega (arith, three, s .counted, s .of-header .room-is, s .of-trailer .counted)) h in
         let y : Tells inBody (length (p .header) + (s .of-body .read + suc in-trailer)) (length (p .header) + (length (p .body) + suc in-trailer)) = tells-as inBody (omega (arith, s .of-body .room-is)) b in

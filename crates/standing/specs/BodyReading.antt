@@ -11,9 +11,9 @@ use Rattle.tagvalue.specs.Fields.{Fields, unreadable, field}
 use Rattle.tagvalue.specs.declared.Field.{Field}
 use Rattle.dictionary_layout_rules.specs.Tree.{holdsTag}
 use Rattle.dictionary_layout_rules.specs.declared.Position.the-variants.{At}
-use Rattle.records.specs.Records.{stored}
+use Rattle.records.specs.Records.{stored, valueAt}
 use Rattle.records.specs.declared.Record.{Record}
-use Rattle.groups.specs.Groups.{Rules, opens, run, Outcome, walk}
+use Rattle.groups.specs.Groups.{Rules, opens, run, RunOutcome, walk}
 use Rattle.groups.specs.Groups.{ended as ran, refused as stops}
 use Rattle.groups.specs.Reading.{listStore}
 use Rattle.required.specs.Required.{Demands, runLack}
@@ -22,10 +22,9 @@ use Rattle.required.specs.declared.Lack.the-variants.{Missing, Complete}
 use Rattle.nesting.specs.Entries.{All, all-none, all-more, all-append}
 use Rattle.nesting.specs.Nesting.{run-formed}
 use Rattle.build_answers.specs.declared.Answer.the-variants.{InvalidField}
-use Rattle.parts.specs.Parts.{ended, refused, recordOf}
+use Rattle.parts.specs.Parts.{ended, refused, partRecord}
 use Rattle.body.specs.Body.{Kind, plain, counts, other, Body, behindRun, storedRun, andThen, nextFrom, withRun, takes, bodyWithin}
 use Rattle.body.specs.Kinds.{checked, ranAs, runFrom, bodyOf}
-use Rattle.taking.specs.Taking.{valueAt}
 use Rattle.standing.specs.Shapes.{Shapes, putRun}
 use Rattle.standing.specs.ShapeLaws.{all-first, all-rest, shapes-put-run, not-stands}
 use Rattle.standing.specs.PutLaws.{put-run-formed}
@@ -79,12 +78,12 @@ run-fewer r es (x ∷ rs) = by-tests (eqb (x .depth) (r .depth)) (eqb (x .tag) (
 module _ {L : Type 0} (rules : Rules L) (first : (level : L) (tag : ℕ) → opens rules level tag ≡ true → rules .position level tag ≡ At 0) where
   -- the count's field is read, then its run, and both go into the body
   reads-run : {message : List ℕ} {most bytes : ℕ} {f g : Field} {rest more : Fields} {room room₁ : ℕ} {rs : List Record} (inner : L) (run-records : List Record) → Reads message 2 most bytes (field f rest) (suc room) rs
-      → walk rules listStore room (run inner (f .tag) 1 0 ∷ []) [] rest ≡ ran g more room₁ run-records → Reads message 2 most bytes (field g more) (suc room₁) (storedRun (recordOf 2 f) run-records rs)
+      → walk rules listStore room (run inner (f .tag) 1 0 ∷ []) [] rest ≡ ran g more room₁ run-records → Reads message 2 most bytes (field g more) (suc room₁) (storedRun (partRecord 2 f) run-records rs)
   unfolding budget
   reads-run {message} {most} {bytes} {f} {g} {rest} {more} {room} {room₁} {rs} inner run-records r e =
       let c = r .counts in
       let o = of-field 2 f in
-      let q = recordOf 2 f in
+      let q = partRecord 2 f in
       let fine = first-fine (c .each) in
       let some : q .tag ≡ 0 → ⊥ = λ z. fine .some (sym (o .tagged) ∙ z) in
       let none : Counts message 2 room (budget rest) rest room [] = record { tagged = all-none; placed = all-none; few = omega arith; small = unfold total in omega arith; each = rest-fine (c .each) } in
@@ -133,15 +132,15 @@ module _ {L : Type 0} (rules : Rules L) (first : (level : L) (tag : ℕ) → ope
         after-next (field h last) zero rs₂ r₂ q later = let z : _≡_ {A = ℕ} 0 1 = unfold nextFrom andThen in cc in absurd (omega arith)
         after-next (field h last) (suc room₂) rs₂ r₂ q later = later (field h last) (suc room₂) rs₂ r₂ (unfold nextFrom andThen in q)
 
-        after-lack : (h : Field) (last : Fields) (room₂ : ℕ) (es : List Record) (lack : Lack) → Reads message 2 most bytes (field h last) (suc room₂) (storedRun (recordOf 2 g) es rs)
-            → andThen (withRun (recordOf 2 g) rs (checked h last room₂ es lack)) (bodyWithin body turns) ≡ ended f rest room₁ rs₁
+        after-lack : (h : Field) (last : Fields) (room₂ : ℕ) (es : List Record) (lack : Lack) → Reads message 2 most bytes (field h last) (suc room₂) (storedRun (partRecord 2 g) es rs)
+            → andThen (withRun (partRecord 2 g) rs (checked h last room₂ es lack)) (bodyWithin body turns) ≡ ended f rest room₁ rs₁
             → ((fields₃ : Fields) (room₃ : ℕ) (rs₃ : List Record) → Reads message 2 most bytes fields₃ room₃ rs₃ → bodyWithin body turns fields₃ room₃ rs₃ ≡ ended f rest room₁ rs₁ → Reads message 2 most bytes (field f rest) (suc room₁) rs₁)
             → Reads message 2 most bytes (field f rest) (suc room₁) rs₁
-        after-lack h last room₂ es Complete r₂ q later = later (field h last) (suc room₂) (storedRun (recordOf 2 g) es rs) r₂ (unfold checked withRun andThen in q)
+        after-lack h last room₂ es Complete r₂ q later = later (field h last) (suc room₂) (storedRun (partRecord 2 g) es rs) r₂ (unfold checked withRun andThen in q)
         after-lack h last room₂ es (Missing t u) r₂ q later = let z : _≡_ {A = ℕ} 0 1 = unfold checked withRun andThen in cc in absurd (omega arith)
 
-        after-run : (inner : L) (o : Outcome (List Record) (List Record)) → walk rules listStore room (run inner (g .tag) 1 0 ∷ []) [] more ≡ o
-            → andThen (withRun (recordOf 2 g) rs (ranAs rules demands inner (g .tag) o)) (bodyWithin body turns) ≡ ended f rest room₁ rs₁
+        after-run : (inner : L) (o : RunOutcome (List Record) (List Record)) → walk rules listStore room (run inner (g .tag) 1 0 ∷ []) [] more ≡ o
+            → andThen (withRun (partRecord 2 g) rs (ranAs rules demands inner (g .tag) o)) (bodyWithin body turns) ≡ ended f rest room₁ rs₁
             → ((fields₃ : Fields) (room₃ : ℕ) (rs₃ : List Record) → Reads message 2 most bytes fields₃ room₃ rs₃ → bodyWithin body turns fields₃ room₃ rs₃ ≡ ended f rest room₁ rs₁ → Reads message 2 most bytes (field f rest) (suc room₁) rs₁)
             → Reads message 2 most bytes (field f rest) (suc room₁) rs₁
         after-run inner (ran h last room₂ es) w q later = after-lack h last room₂ es (runLack demands 4 inner (g .tag) 1 es) (reads-run inner es r w) (unfold ranAs in q) later
@@ -159,6 +158,6 @@ module _ {L : Type 0} (rules : Rules L) (first : (level : L) (tag : ℕ) → ope
         by-kind : (k : Kind L) → takes body (bodyWithin body turns) g more room rs k ≡ ended f rest room₁ rs₁
             → ((fields₃ : Fields) (room₃ : ℕ) (rs₃ : List Record) → Reads message 2 most bytes fields₃ room₃ rs₃ → bodyWithin body turns fields₃ room₃ rs₃ ≡ ended f rest room₁ rs₁ → Reads message 2 most bytes (field f rest) (suc room₁) rs₁)
             → Reads message 2 most bytes (field f rest) (suc room₁) rs₁
-        by-kind plain q later = after-next more room (stored (recordOf 2 g) rs) (reads-on r) (unfold takes in q) later
+        by-kind plain q later = after-next more room (stored (partRecord 2 g) rs) (reads-on r) (unfold takes in q) later
         by-kind (counts inner) q later = after-run inner (walk rules listStore room (run inner (g .tag) 1 0 ∷ []) [] more) refl (unfold takes bodyOf runFrom in q) later
         by-kind other q later = by-tag (holdsTag (g .tag) (body .trailer)) (unfold takes in q)

@@ -11,7 +11,7 @@ use Rattle.tagvalue.specs.Choice.{pick}
 use Rattle.dictionary_layout_rules.specs.declared.Position.the-variants.{At}
 use Rattle.dictionary_layout_rules.specs.declared.FirstTag.{FirstTag}
 use Rattle.dictionary_layout_rules.specs.declared.FirstTag.the-variants.{First, NoTag}
-use Rattle.records.specs.Records.{stored}
+use Rattle.records.specs.Records.{stored, valueAt}
 use Rattle.records.specs.declared.Record.{Record}
 use Rattle.maps.specs.Map.{Map, end, field, entry, joined}
 use Rattle.lent.specs.Formed.{stands, isFormed, isRun}
@@ -20,7 +20,6 @@ use Rattle.message_rules.specs.LayoutLaws.{joined-assoc}
 use Rattle.groups.specs.Groups.{Rules, isDelimiter, opens}
 use Rattle.nesting.specs.Formed.{Part, entriesOf, fieldsOf, Own, Formed, no-entry, next-entry, starts, rises, hangs, user}
 use Rattle.nesting.specs.Entries.{All, all-none, all-more, entry-starts, Other, entry-other}
-use Rattle.taking.specs.Taking.{valueAt}
 use Rattle.standing.specs.Shapes.{Shapes, no-more, one-own, one-entry, Tagged, put}
 use Rattle.standing.specs.ShapeLaws.{all-first, all-rest, all-left, all-right, shapes-append, shapes-put, not-stands, not-held}
 use Rattle.standing.specs.PutLaws.{run-joined, AllFormed, formed-none, formed-more, all-joined, run-is-formed, new-formed, new-run-formed, put-formed}

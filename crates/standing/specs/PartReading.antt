@@ -13,12 +13,12 @@ use Rattle.tagvalue.specs.declared.Field.{Field}
 use Rattle.dictionary_layout_rules.specs.Tree.{holdsTag}
 use Rattle.records.specs.Records.{stored}
 use Rattle.records.specs.declared.Record.{Record}
-use Rattle.groups.specs.Groups.{Rules, Frame, Move, adds, joinsAt, disorders, leaves, decide, moved, Outcome, walk}
-use Rattle.groups.specs.Groups.{ended as ran, recordOf as entryRecord}
+use Rattle.groups.specs.Groups.{Rules, Frame, Move, adds, joinsAt, disorders, leaves, decide, moved, RunOutcome, walk}
+use Rattle.groups.specs.Groups.{ended as ran, entryRecord}
 use Rattle.groups.specs.Reading.{listStore, joinedList}
 use Rattle.nesting.specs.Entries.{All}
 use Rattle.nesting.specs.Formed.{Own}
-use Rattle.parts.specs.Parts.{ended, recordOf}
+use Rattle.parts.specs.Parts.{ended, partRecord}
 use Rattle.parts.specs.Header.{headerFrom}
 use Rattle.parts.specs.Trailer.{Trailer, stopped, unstopped, crowded, trailerFrom}
 use Rattle.standing.specs.Shapes.{Placed}
@@ -31,12 +31,12 @@ pub record Reads (message : List ℕ) (part most bytes : ℕ) (fields : Fields) 
   pub built : EntryBuilt message 0 0 rs
   pub counts : Counts message part most bytes fields room rs
 
-pub of-field : (part : ℕ) (f : Field) → Of part f (recordOf part f)
-unfolding recordOf
+pub of-field : (part : ℕ) (f : Field) → Of part f (partRecord part f)
+unfolding partRecord
 of-field part f = record { of = refl; tagged = refl; placed = refl; sized = refl }
 
-pub own-field : (part : ℕ) (f : Field) → Own 0 0 (recordOf part f)
-unfolding recordOf
+pub own-field : (part : ℕ) (f : Field) → Own 0 0 (partRecord part f)
+unfolding partRecord
 own-field part f = record { deep = refl; numbered = refl }
 
 of-entry : (depth number : ℕ) (f : Field) → Of 2 f (entryRecord depth number f)
@@ -44,12 +44,12 @@ unfolding entryRecord
 of-entry depth number f = record { of = refl; tagged = refl; placed = refl; sized = refl }
 
 -- a field is stored in the part's own map
-pub reads-on : {message : List ℕ} {part most bytes : ℕ} {f : Field} {rest : Fields} {room : ℕ} {rs : List Record} → Reads message part most bytes (field f rest) (suc room) rs → Reads message part most bytes rest room (stored (recordOf part f) rs)
+pub reads-on : {message : List ℕ} {part most bytes : ℕ} {f : Field} {rest : Fields} {room : ℕ} {rs : List Record} → Reads message part most bytes (field f rest) (suc room) rs → Reads message part most bytes rest room (stored (partRecord part f) rs)
 reads-on {message} {part} {f = f} {rs = rs} r =
     let o = of-field part f in
     record {
-      built = build-user message (recordOf part f) (r .built) (own-field part f) (λ z. first-fine (r .counts .each) .some (sym (o .tagged) ∙ z));
-      counts = counts-on (recordOf part f) (r .counts) o (grows-stored (recordOf part f) rs);
+      built = build-user message (partRecord part f) (r .built) (own-field part f) (λ z. first-fine (r .counts .each) .some (sym (o .tagged) ∙ z));
+      counts = counts-on (partRecord part f) (r .counts) o (grows-stored (partRecord part f) rs);
     }
 
 pub header-reads : {message : List ℕ} {most bytes : ℕ} (tags : List ℕ) (fields : Fields) (room : ℕ) (rs : List Record) → Reads message 1 most bytes fields room rs → (f : Field) (rest : Fields) (room₁ : ℕ) (rs₁ : List Record) → headerFrom tags fields room rs ≡ ended f rest room₁ rs₁
@@ -57,10 +57,10 @@ pub header-reads : {message : List ℕ} {most bytes : ℕ} (tags : List ℕ) (fi
 unfolding headerFrom
 header-reads tags (unreadable cause place) room rs r f rest room₁ rs₁ e = let z : _≡_ {A = ℕ} 0 1 = cc in absurd (omega arith)
 header-reads tags (field g more) zero rs r f rest room₁ rs₁ e = let z : _≡_ {A = ℕ} 0 1 = cc in absurd (omega arith)
-header-reads {message} {most} {bytes} tags (field g more) (suc room) rs r f rest room₁ rs₁ e = by-tag (holdsTag (g .tag) tags) e (λ q. header-reads tags more room (stored (recordOf 1 g) rs) (reads-on r) f rest room₁ rs₁ q)
+header-reads {message} {most} {bytes} tags (field g more) (suc room) rs r f rest room₁ rs₁ e = by-tag (holdsTag (g .tag) tags) e (λ q. header-reads tags more room (stored (partRecord 1 g) rs) (reads-on r) f rest room₁ rs₁ q)
   where
-    by-tag : (b : Bool) → pick b (headerFrom tags more room (stored (recordOf 1 g) rs)) (ended g more room rs) ≡ ended f rest room₁ rs₁
-        → (headerFrom tags more room (stored (recordOf 1 g) rs) ≡ ended f rest room₁ rs₁ → Reads message 1 most bytes (field f rest) (suc room₁) rs₁) → Reads message 1 most bytes (field f rest) (suc room₁) rs₁
+    by-tag : (b : Bool) → pick b (headerFrom tags more room (stored (partRecord 1 g) rs)) (ended g more room rs) ≡ ended f rest room₁ rs₁
+        → (headerFrom tags more room (stored (partRecord 1 g) rs) ≡ ended f rest room₁ rs₁ → Reads message 1 most bytes (field f rest) (suc room₁) rs₁) → Reads message 1 most bytes (field f rest) (suc room₁) rs₁
     by-tag true e later = later e
     by-tag false e later =
         let a : g ≡ f = cc in
@@ -102,9 +102,9 @@ trailer-reads (field g more) zero rs r t rs₁ e end = absurd (not-crowded e end
     not-crowded : {t : Trailer} → crowded ≡ t → Ended t rs₁ → ⊥
     not-crowded e at-checksum = let z : _≡_ {A = ℕ} 0 1 = cc in omega arith
     not-crowded e at-end = let z : _≡_ {A = ℕ} 0 1 = cc in omega arith
-trailer-reads {message} {most} {bytes} (field g more) (suc room) rs r t rs₁ e end = by-tag (eqb (g .tag) 10) e end (λ q. trailer-reads more room (stored (recordOf 3 g) rs) (reads-on r) t rs₁ q end)
+trailer-reads {message} {most} {bytes} (field g more) (suc room) rs r t rs₁ e end = by-tag (eqb (g .tag) 10) e end (λ q. trailer-reads more room (stored (partRecord 3 g) rs) (reads-on r) t rs₁ q end)
   where
-    by-tag : (b : Bool) {t : Trailer} → pick b (stopped g rs) (trailerFrom more room (stored (recordOf 3 g) rs)) ≡ t → Ended t rs₁ → (trailerFrom more room (stored (recordOf 3 g) rs) ≡ t → Whole message 3 most bytes rs₁) → Whole message 3 most bytes rs₁
+    by-tag : (b : Bool) {t : Trailer} → pick b (stopped g rs) (trailerFrom more room (stored (partRecord 3 g) rs)) ≡ t → Ended t rs₁ → (trailerFrom more room (stored (partRecord 3 g) rs) ≡ t → Whole message 3 most bytes rs₁) → Whole message 3 most bytes rs₁
     by-tag true e at-checksum later = let d : rs ≡ rs₁ = cc in rw (← d) (reads-whole r)
     by-tag true e at-end later = let z : _≡_ {A = ℕ} 0 1 = cc in absurd (omega arith)
     by-tag false e end later = later e
@@ -125,7 +125,7 @@ walk-counts {L} rules {message} {most} {bytes} (suc room) stack rs (field g more
     by-move (joinsAt stack₂ start depth number) e later = later stack₂ (joinedList start (entryRecord depth number g) rs) (counts-on (entryRecord depth number g) c (of-entry depth number g) (grows-joined start (entryRecord depth number g) rs)) (unfold moved listStore in e)
     by-move (disorders group) e later = let z : _≡_ {A = ℕ} 0 1 = unfold moved in cc in absurd (omega arith)
     by-move leaves e later =
-        let q : _≡_ {A = Outcome (List Record) (List Record)} (ran g more room rs) (ran f rest room₁ rs₁) = unfold moved in e in
+        let q : _≡_ {A = RunOutcome (List Record) (List Record)} (ran g more room rs) (ran f rest room₁ rs₁) = unfold moved in e in
         let a : g ≡ f = cc in
         let b : more ≡ rest = cc in
         let d : room ≡ room₁ = cc in

@@ -12,7 +12,7 @@ use Rattle.tagvalue.specs.FieldsLaws.{step-lies}
 use Rattle.tagvalue.specs.declared.Field.{Field}
 use Rattle.integrity.specs.declared.Verified.{Verified}
 use Rattle.dictionary_layout_rules.specs.declared.Position.the-variants.{At}
-use Rattle.records.specs.Records.{stored}
+use Rattle.records.specs.Records.{stored, valueAt}
 use Rattle.records.specs.declared.Record.{Record}
 use Rattle.maps.specs.Map.{Map, end, holdsAny, fieldCount}
 use Rattle.lent.specs.Meaning.{Message}
@@ -20,12 +20,12 @@ use Rattle.lent.specs.Formed.{isFormed, Formed, Within}
 use Rattle.groups.specs.Groups.{Rules, opens}
 use Rattle.required.specs.Required.{Demands}
 use Rattle.nesting.specs.Entries.{all-none, all-more}
-use Rattle.parts.specs.Parts.{ended, recordOf}
+use Rattle.parts.specs.Parts.{ended, partRecord}
 use Rattle.parts.specs.Header.{headerFrom}
 use Rattle.parts.specs.Trailer.{Trailer, trailerFrom}
 use Rattle.body.specs.Body.{bodyFrom}
 use Rattle.body.specs.Kinds.{bodyOf}
-use Rattle.taking.specs.Taking.{valueAt, valuesAt}
+use Rattle.taking.specs.Taking.{valuesAt}
 use Rattle.taking.specs.Derived.{StandFor}
 use Rattle.taking.specs.TakenLaws.{stand-values}
 use Rattle.standing.specs.Shapes.{Shapes, no-more, one-own, one-entry, Placed, Tagged}
@@ -61,14 +61,14 @@ values-small bytes (r ∷ rs) = omega (arith, length-append (valueAt bytes r) (v
 
 module _ (mode : Mode) (message : List ℕ) (v : Verified) (w : VerifiedRead mode message v) where
   -- the fields that were verified
-  verified-reads : Reads message 1 1024 (length message - 9) (fieldsFrom mode message (v .«msg_type» .next)) 1021 (stored (recordOf 1 (v .«msg_type»)) (stored (recordOf 1 (v .«body_length»)) (stored (recordOf 1 (v .«begin_string»)) [])))
+  verified-reads : Reads message 1 1024 (length message - 9) (fieldsFrom mode message (v .«msg_type» .next)) 1021 (stored (partRecord 1 (v .«msg_type»)) (stored (partRecord 1 (v .«body_length»)) (stored (partRecord 1 (v .«begin_string»)) [])))
   verified-reads =
       let a = v .«begin_string» in
       let b = v .«body_length» in
       let c = v .«msg_type» in
-      let p = recordOf 1 a in
-      let q = recordOf 1 b in
-      let r = recordOf 1 c in
+      let p = partRecord 1 a in
+      let q = partRecord 1 b in
+      let r = partRecord 1 c in
       let la = step-lies mode message (startAt 0) a (w .begins) in
       let lb = step-lies mode message (a .next) b (w .counts) in
       let lc = step-lies mode message (b .next) c (w .types) in
@@ -93,21 +93,21 @@ module _ (mode : Mode) (message : List ℕ) (v : Verified) (w : VerifiedRead mod
         };
       }
     where
-      fine-record : (f : Field) → Fine message f → Tagged (recordOf 1 f) × Placed message 1 (recordOf 1 f)
+      fine-record : (f : Field) → Fine message f → Tagged (partRecord 1 f) × Placed message 1 (partRecord 1 f)
       fine-record f fine = let o = of-field 1 f in (record { some = λ z. fine .some (sym (o .tagged) ∙ z) }, record { of = o .of; inside = omega (arith, fine .inside, o .placed, o .sized) })
 
   -- "The verified CheckSum stands first in the trailer"
-  trailer-begins : (f : Field) (rest : Fields) (room most bytes : ℕ) → Counts message 2 most bytes (field f rest) (suc room) [] → Reads message 3 (most + 1) (bytes + v .checksum .length) (field f rest) (suc room) (recordOf 3 (v .checksum) ∷ [])
+  trailer-begins : (f : Field) (rest : Fields) (room most bytes : ℕ) → Counts message 2 most bytes (field f rest) (suc room) [] → Reads message 3 (most + 1) (bytes + v .checksum .length) (field f rest) (suc room) (partRecord 3 (v .checksum) ∷ [])
   trailer-begins f rest room most bytes r =
       let k = v .checksum in
       let o = of-field 3 k in
       let fine = read-fine mode message (startAt (length message - 7)) k (w .sums) in
-      let some : recordOf 3 k .tag ≡ 0 → ⊥ = λ z. fine .some (sym (o .tagged) ∙ z) in
+      let some : partRecord 3 k .tag ≡ 0 → ⊥ = λ z. fine .some (sym (o .tagged) ∙ z) in
       record {
-        built = build-start message (recordOf 3 k) (own-field 3 k) some;
+        built = build-start message (partRecord 3 k) (own-field 3 k) some;
         counts = record {
-          tagged = all-more {r = recordOf 3 k} (record { some = some }) all-none;
-          placed = all-more {r = recordOf 3 k} (record { of = o .of; inside = omega (arith, fine .inside, o .placed, o .sized) }) all-none;
+          tagged = all-more {r = partRecord 3 k} (record { some = some }) all-none;
+          placed = all-more {r = partRecord 3 k} (record { of = o .of; inside = omega (arith, fine .inside, o .placed, o .sized) }) all-none;
           few = omega (arith, r .few);
           small = unfold total in omega (arith, r .small, o .sized);
           each = r .each;
@@ -124,15 +124,15 @@ module _ (mode : Mode) (message : List ℕ) (v : Verified) (w : VerifiedRead mod
 
   module _ {L : Type 0} (rules : Rules L) (first : (level : L) (tag : ℕ) → opens rules level tag ≡ true → rules .position level tag ≡ At 0) (demands : Demands L) (headerTags trailerTags : List ℕ) (level : L) where
     pub parts-take : (f g : Field) (rest more : Fields) (room room₂ : ℕ) (h b t : List Record) (trailer : Trailer) → length message ≤ 8192
-        → headerFrom headerTags (fieldsFrom mode message (v .«msg_type» .next)) 1021 (stored (recordOf 1 (v .«msg_type»)) (stored (recordOf 1 (v .«body_length»)) (stored (recordOf 1 (v .«begin_string»)) []))) ≡ ended f rest room h
+        → headerFrom headerTags (fieldsFrom mode message (v .«msg_type» .next)) 1021 (stored (partRecord 1 (v .«msg_type»)) (stored (partRecord 1 (v .«body_length»)) (stored (partRecord 1 (v .«begin_string»)) []))) ≡ ended f rest room h
         → bodyFrom (bodyOf rules demands trailerTags level) (field f rest) (suc room) [] ≡ ended g more room₂ b
-        → trailerFrom (field g more) (suc room₂) (recordOf 3 (v .checksum) ∷ []) ≡ trailer → Ended trailer t → Takes message (h ++ (b ++ t))
+        → trailerFrom (field g more) (suc room₂) (partRecord 3 (v .checksum) ∷ []) ≡ trailer → Ended trailer t → Takes message (h ++ (b ++ t))
     unfolding bodyFrom
     parts-take f g rest more room room₂ h b t trailer short eh eb et end-of-it =
         let rh = header-reads headerTags _ 1021 _ verified-reads f rest room h eh in
         let start : Reads message 2 (suc room) (budget (field f rest)) (field f rest) (suc room) [] = record { built = record { map = end; shapes = no-more; formed = unfold isFormed in refl }; counts = none-read (suc room) (budget (field f rest)) f rest room (omega arith) (omega arith) (rh .counts) } in
         let rb = body-reads rules first demands trailerTags level (suc (suc room)) (field f rest) (suc room) [] start g more room₂ b eb in
-        let rt = trailer-reads (field g more) (suc room₂) (recordOf 3 (v .checksum) ∷ []) (trailer-begins g more room₂ (suc room₂) (budget (field g more)) (none-read (suc room₂) (budget (field g more)) g more room₂ (omega arith) (omega arith) (rb .counts))) trailer t et end-of-it in
+        let rt = trailer-reads (field g more) (suc room₂) (partRecord 3 (v .checksum) ∷ []) (trailer-begins g more room₂ (suc room₂) (budget (field g more)) (none-read (suc room₂) (budget (field g more)) g more room₂ (omega arith) (omega arith) (rb .counts))) trailer t et end-of-it in
         let m : Message = record { header = rh .built .map; body = rb .built .map; trailer = rt .built .map } in
         let sh = shapes-stand message (rh .built .shapes) (rh .counts .placed) in
         let sb = shapes-stand message (rb .built .shapes) (rb .counts .placed) in

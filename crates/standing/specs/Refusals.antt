@@ -10,7 +10,7 @@ use Rattle.tagvalue.specs.declared.Field.{Field}
 use Rattle.dictionary_layout_rules.specs.Tree.{holdsTag}
 use Rattle.records.specs.Records.{stored}
 use Rattle.records.specs.declared.Record.{Record}
-use Rattle.groups.specs.Groups.{Rules, run, Outcome, walk}
+use Rattle.groups.specs.Groups.{Rules, run, RunOutcome, walk}
 use Rattle.groups.specs.Groups.{ended as ran, refused as stops}
 use Rattle.groups.specs.Reading.{listStore, answerOf}
 use Rattle.groups.specs.declared.Refusal.{Refusal}
@@ -19,7 +19,7 @@ use Rattle.required.specs.Required.{Demands, runLack}
 use Rattle.required.specs.declared.Lack.{Lack}
 use Rattle.required.specs.declared.Lack.the-variants.{Missing, Complete}
 use Rattle.build_answers.specs.declared.Answer.the-variants.{Valid, InvalidField}
-use Rattle.parts.specs.Parts.{Reading, ended, refused, recordOf}
+use Rattle.parts.specs.Parts.{Reading, ended, refused, partRecord}
 use Rattle.parts.specs.Header.{headerFrom}
 use Rattle.body.specs.Body.{Kind, plain, counts, other, Body, andThen, nextFrom, withRun, takes, bodyWithin}
 use Rattle.body.specs.Kinds.{checked, ranAs, runFrom, bodyOf}
@@ -28,9 +28,9 @@ pub header-never : (tags : List ℕ) (fields : Fields) (room : ℕ) (rs : List R
 unfolding headerFrom
 header-never tags (unreadable cause place) room rs e = let z : _≡_ {A = ℕ} 0 1 = cc in omega arith
 header-never tags (field f rest) zero rs e = let z : _≡_ {A = ℕ} 0 1 = cc in omega arith
-header-never tags (field f rest) (suc room) rs e = by-tag (holdsTag (f .tag) tags) e (header-never tags rest room (stored (recordOf 1 f) rs))
+header-never tags (field f rest) (suc room) rs e = by-tag (holdsTag (f .tag) tags) e (header-never tags rest room (stored (partRecord 1 f) rs))
   where
-    by-tag : (b : Bool) → pick b (headerFrom tags rest room (stored (recordOf 1 f) rs)) (ended f rest room rs) ≡ refused Valid → (headerFrom tags rest room (stored (recordOf 1 f) rs) ≡ refused Valid → ⊥) → ⊥
+    by-tag : (b : Bool) → pick b (headerFrom tags rest room (stored (partRecord 1 f) rs)) (ended f rest room rs) ≡ refused Valid → (headerFrom tags rest room (stored (partRecord 1 f) rs) ≡ refused Valid → ⊥) → ⊥
     by-tag true e later = later e
     by-tag false e later = let z : _≡_ {A = ℕ} 0 1 = cc in omega arith
 
@@ -54,7 +54,7 @@ module _ {L : Type 0} (rules : Rules L) (demands : Demands L) (tags : List ℕ) 
       next-never (field g more) zero rs q = let z : _≡_ {A = ℕ} 0 1 = unfold nextFrom in cc in omega arith
       next-never (field g more) (suc room) rs q = let z : _≡_ {A = ℕ} 0 1 = unfold nextFrom in cc in omega arith
 
-      lack-never : (g : Field) (more : Fields) (room : ℕ) (es : List Record) (lack : Lack) → withRun (recordOf 2 f) rs (checked g more room es lack) ≡ refused Valid → ⊥
+      lack-never : (g : Field) (more : Fields) (room : ℕ) (es : List Record) (lack : Lack) → withRun (partRecord 2 f) rs (checked g more room es lack) ≡ refused Valid → ⊥
       lack-never g more room es Complete q = let z : _≡_ {A = ℕ} 0 1 = unfold checked withRun in cc in omega arith
       lack-never g more room es (Missing t u) q = let z : _≡_ {A = ℕ} 0 1 = unfold checked withRun in cc in omega arith
 
@@ -63,7 +63,7 @@ module _ {L : Type 0} (rules : Rules L) (demands : Demands L) (tags : List ℕ) 
       refusal-never TooManyFields q = let z : _≡_ {A = ℕ} 0 1 = unfold answerOf in cc in omega arith
       refusal-never (InvalidOrderInGroup t g) q = let z : _≡_ {A = ℕ} 0 1 = unfold answerOf in cc in omega arith
 
-      run-never : (inner : L) (o : Outcome (List Record) (List Record)) → withRun (recordOf 2 f) rs (ranAs rules demands inner (f .tag) o) ≡ refused Valid → ⊥
+      run-never : (inner : L) (o : RunOutcome (List Record) (List Record)) → withRun (partRecord 2 f) rs (ranAs rules demands inner (f .tag) o) ≡ refused Valid → ⊥
       run-never inner (ran g more room₂ es) q = lack-never g more room₂ es (runLack demands 4 inner (f .tag) 1 es) (unfold ranAs in q)
       run-never inner (stops refusal es) q = refusal-never refusal (unfold ranAs withRun in q)
 
@@ -72,8 +72,8 @@ module _ {L : Type 0} (rules : Rules L) (demands : Demands L) (tags : List ℕ) 
       tag-never false q = let z : _≡_ {A = ℕ} 0 1 = cc in omega arith
 
       by-kind : (k : Kind L) → takes body (bodyWithin body turns) f rest room rs k ≡ refused Valid → ((fields₂ : Fields) (room₂ : ℕ) (rs₂ : List Record) → bodyWithin body turns fields₂ room₂ rs₂ ≡ refused Valid → ⊥) → ⊥
-      by-kind plain q later = by-reading (nextFrom rest room (stored (recordOf 2 f) rs)) (next-never rest room (stored (recordOf 2 f) rs)) (unfold takes in q) later
+      by-kind plain q later = by-reading (nextFrom rest room (stored (partRecord 2 f) rs)) (next-never rest room (stored (partRecord 2 f) rs)) (unfold takes in q) later
       by-kind (counts inner) q later =
-          by-reading (withRun (recordOf 2 f) rs (ranAs rules demands inner (f .tag) (walk rules listStore room (run inner (f .tag) 1 0 ∷ []) [] rest)))
+          by-reading (withRun (partRecord 2 f) rs (ranAs rules demands inner (f .tag) (walk rules listStore room (run inner (f .tag) 1 0 ∷ []) [] rest)))
           (run-never inner (walk rules listStore room (run inner (f .tag) 1 0 ∷ []) [] rest)) (unfold takes bodyOf runFrom in q) later
       by-kind other q later = tag-never (holdsTag (f .tag) (body .trailer)) (unfold takes in q)

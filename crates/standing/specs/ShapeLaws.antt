@@ -7,7 +7,7 @@ use native.Mathlib.Omega.{arith}
 use lib.Dec.{eqb}
 use borrow.Author.Tests.{eqb-true, eqb-false, eq-eqb, ne-eqb}
 use Rattle.tagvalue.specs.Choice.{pick}
-use Rattle.records.specs.Records.{stored}
+use Rattle.records.specs.Records.{stored, valueAt}
 use Rattle.records.specs.declared.Record.{Record}
 use Rattle.maps.specs.Map.{Map, field, entry, joined, holds, pastLeading}
 use Rattle.lent.specs.Formed.{stands}
@@ -15,7 +15,6 @@ use Rattle.lent.specs.StandLaws.{nor}
 use Rattle.nesting.specs.Formed.{Own}
 use Rattle.nesting.specs.Entries.{All, all-none, all-more, all-append, all-map, Deep, Other}
 use Rattle.body.specs.Body.{behindRun, storedRun}
-use Rattle.taking.specs.Taking.{valueAt}
 use Rattle.taking.specs.Derived.{Stands, no-more as stands-none, own as stands-own, in-entry as stands-entry}
 use Rattle.standing.specs.Shapes.{Shapes, no-more, one-own, one-entry, Loose, Placed, put, putRun}
 

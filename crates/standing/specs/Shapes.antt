@@ -4,11 +4,11 @@ use mathlib.Core.Path.{_≡_}
 use mathlib.Core.List.{List, [], _∷_, _++_}
 use lib.ListN.{length}
 use lib.Dec.{eqb}
+use Rattle.records.specs.Records.{valueAt}
 use Rattle.tagvalue.specs.Choice.{pick}
 use Rattle.records.specs.declared.Record.{Record}
 use Rattle.maps.specs.Map.{Map, end, field, entry, joined, pastLeading}
 use Rattle.nesting.specs.Formed.{Own}
-use Rattle.taking.specs.Taking.{valueAt}
 
 pub data Shapes (bytes : List ℕ) : ℕ → ℕ → ℕ → ℕ → Map → List Record → Type 0 where
   no-more : {depth number start entries : ℕ} → Shapes bytes depth number start entries end []

@@ -11,14 +11,14 @@ use Rattle.tagvalue.specs.declared.Field.{Field}
 use Rattle.dictionary_layout_rules.specs.Tree.{holdsTag}
 use Rattle.records.specs.Records.{stored}
 use Rattle.records.specs.declared.Record.{Record}
-use Rattle.groups.specs.Groups.{Rules, run, Outcome, walk}
+use Rattle.groups.specs.Groups.{Rules, run, RunOutcome, walk}
 use Rattle.groups.specs.Groups.{ended as ran, refused as stops}
 use Rattle.groups.specs.Reading.{listStore}
 use Rattle.required.specs.Required.{Demands, runLack}
 use Rattle.required.specs.declared.Lack.{Lack}
 use Rattle.required.specs.declared.Lack.the-variants.{Missing, Complete}
 use Rattle.build_answers.specs.declared.Answer.the-variants.{InvalidField}
-use Rattle.parts.specs.Parts.{Reading, ended, refused, recordOf}
+use Rattle.parts.specs.Parts.{Reading, ended, refused, partRecord}
 use Rattle.body.specs.Body.{Kind, plain, counts, other, Body, storedRun, andThen, nextFrom, withRun, takes, bodyWithin, bodyFrom}
 use Rattle.body.specs.Kinds.{checked, ranAs, runFrom, bodyOf}
 use Rattle.tags_alone.specs.Agree.{Agree, enough, same, Similar, none}
@@ -53,7 +53,7 @@ module _ {L : Type 0} (rules : Rules L) (demands : Demands L) where
         by-lack h last room₂ es w Complete c e = record { found = h; behind = last; room-left = room₂; entries = es; walked = w; complete = c; goes-on = (unfold checked withRun andThen in e) }
         by-lack h last room₂ es w (Missing t u) c e = let z : _≡_ {A = ℕ} 0 1 = unfold checked withRun andThen in cc in absurd (omega arith)
 
-        by-outcome : (o : Outcome (List Record) (List Record)) → walk rules listStore room (run inner tag 1 0 ∷ []) [] fields ≡ o → andThen (withRun count rs (ranAs rules demands inner tag o)) on ≡ ended f rest room₁ rs₁
+        by-outcome : (o : RunOutcome (List Record) (List Record)) → walk rules listStore room (run inner tag 1 0 ∷ []) [] fields ≡ o → andThen (withRun count rs (ranAs rules demands inner tag o)) on ≡ ended f rest room₁ rs₁
             → RunTaken inner tag room count rs fields on (ended f rest room₁ rs₁)
         by-outcome (ran h last room₂ es) w e = by-lack h last room₂ es w (runLack demands 4 inner tag 1 es) refl (unfold ranAs in e)
         by-outcome (stops refusal es) w e = let z : _≡_ {A = ℕ} 0 1 = unfold ranAs withRun andThen in cc in absurd (omega arith)
@@ -92,10 +92,10 @@ module _ {L : Type 0} (rules : Rules L) (demands : Demands L) where
 
         by-kind : (k : Kind L) → takes body (bodyWithin body turns) g last room rs k ≡ ended f rest room₁ rs₁
             → ((fields₂ : Fields) (room₂ : ℕ) (rs₂ : List Record) → bodyWithin body turns fields₂ room₂ rs₂ ≡ ended f rest room₁ rs₁ → room₁ < room₂) → room₁ < suc room
-        by-kind plain e later = let l = later last room (stored (recordOf 2 g) rs) (next-on turns last room (stored (recordOf 2 g) rs) f rest room₁ rs₁ (unfold takes in e)) in omega arith
+        by-kind plain e later = let l = later last room (stored (partRecord 2 g) rs) (next-on turns last room (stored (partRecord 2 g) rs) f rest room₁ rs₁ (unfold takes in e)) in omega arith
         by-kind (counts inner) e later =
-            let t = run-taken inner (g .tag) room (recordOf 2 g) rs last (bodyWithin body turns) f rest room₁ rs₁ (unfold takes bodyOf in e) in
-            let l = later (field (t .found) (t .behind)) (suc (t .room-left)) (storedRun (recordOf 2 g) (t .entries) rs) (t .goes-on) in
+            let t = run-taken inner (g .tag) room (partRecord 2 g) rs last (bodyWithin body turns) f rest room₁ rs₁ (unfold takes bodyOf in e) in
+            let l = later (field (t .found) (t .behind)) (suc (t .room-left)) (storedRun (partRecord 2 g) (t .entries) rs) (t .goes-on) in
             let w = walk-falls rules room (run inner (g .tag) 1 0 ∷ []) [] last (t .found) (t .behind) (t .room-left) (t .entries) (t .walked) in
             omega arith
         by-kind other e later = by-tag (holdsTag (g .tag) (body .trailer)) (unfold takes in e)
@@ -108,18 +108,18 @@ module _ {L : Type 0} (rules : Rules L) (demands : Demands L) where
 
       module _ (later : Later) (g h : Field) (last others : Fields) (room n : ℕ) (rs qs : List Record) (t : g .tag ≡ h .tag) (a : Agree n last others) (s : Similar rs qs) (l : suc room ≤ suc n + room₁) where
         -- the run of a count
-        run-same : (inner : L) → RunTaken inner (g .tag) room (recordOf 2 g) rs last (bodyWithin body turns) (ended f rest room₁ rs₁)
-            → Alongside ended (andThen (withRun (recordOf 2 h) qs (runFrom rules demands inner (h .tag) others room)) (bodyWithin body turns)) (suc n) (suc room) f rest room₁ rs₁
+        run-same : (inner : L) → RunTaken inner (g .tag) room (partRecord 2 g) rs last (bodyWithin body turns) (ended f rest room₁ rs₁)
+            → Alongside ended (andThen (withRun (partRecord 2 h) qs (runFrom rules demands inner (h .tag) others room)) (bodyWithin body turns)) (suc n) (suc room) f rest room₁ rs₁
         run-same inner r =
-            let k = body-falls turns (field (r .found) (r .behind)) (suc (r .room-left)) (storedRun (recordOf 2 g) (r .entries) rs) f rest room₁ rs₁ (r .goes-on) in
+            let k = body-falls turns (field (r .found) (r .behind)) (suc (r .room-left)) (storedRun (partRecord 2 g) (r .entries) rs) f rest room₁ rs₁ (r .goes-on) in
             let w = walk-same rules room (run inner (g .tag) 1 0 ∷ []) [] [] last others n (r .found) (r .behind) (r .room-left) (r .entries) (r .walked) none a (omega arith) in
-            let b = later (field (r .found) (r .behind)) (field (w .found) (w .behind)) (suc (r .room-left)) (suc (w .left)) (storedRun (recordOf 2 g) (r .entries) rs) (storedRun (recordOf 2 h) (w .kept) qs)
+            let b = later (field (r .found) (r .behind)) (field (w .found) (w .behind)) (suc (r .room-left)) (suc (w .left)) (storedRun (partRecord 2 g) (r .entries) rs) (storedRun (partRecord 2 h) (w .kept) qs)
             (r .goes-on) (similar-run (alike-field 2 g h t) (w .similar) s) (same (w .tag) (w .agree)) (omega (arith, w .counted)) in
             record {
               found = b .found;
               behind = b .behind;
               kept = b .kept;
-              is = run-takes inner (h .tag) room (recordOf 2 h) qs others (bodyWithin body turns) (ended (b .found) (b .behind) room₁ (b .kept))
+              is = run-takes inner (h .tag) room (partRecord 2 h) qs others (bodyWithin body turns) (ended (b .found) (b .behind) room₁ (b .kept))
                   (record {
                     found = w .found;
                     behind = w .behind;
@@ -148,9 +148,9 @@ module _ {L : Type 0} (rules : Rules L) (demands : Demands L) where
         by-kind : (k : Kind L) → takes body (bodyWithin body turns) g last room rs k ≡ ended f rest room₁ rs₁ → Alongside ended (takes body (bodyWithin body turns) h others room qs k) (suc n) (suc room) f rest room₁ rs₁
         unfolding takes bodyOf
         by-kind plain e =
-            let w = later last others room n (stored (recordOf 2 g) rs) (stored (recordOf 2 h) qs) (next-on turns last room (stored (recordOf 2 g) rs) f rest room₁ rs₁ e) (similar-stored (alike-field 2 g h t) s) a (omega arith) in
-            one-more ended (told ended _ w (on-next turns others room (stored (recordOf 2 h) qs) (w .found) (w .behind) room₁ (w .kept) (w .is)))
-        by-kind (counts inner) e = run-same inner (run-taken inner (g .tag) room (recordOf 2 g) rs last (bodyWithin body turns) f rest room₁ rs₁ e)
+            let w = later last others room n (stored (partRecord 2 g) rs) (stored (partRecord 2 h) qs) (next-on turns last room (stored (partRecord 2 g) rs) f rest room₁ rs₁ e) (similar-stored (alike-field 2 g h t) s) a (omega arith) in
+            one-more ended (told ended _ w (on-next turns others room (stored (partRecord 2 h) qs) (w .found) (w .behind) room₁ (w .kept) (w .is)))
+        by-kind (counts inner) e = run-same inner (run-taken inner (g .tag) room (partRecord 2 g) rs last (bodyWithin body turns) f rest room₁ rs₁ e)
         by-kind other e = rw (ap (λ (tag : ℕ). holdsTag tag tags) (sym t)) (by-tag (holdsTag (g .tag) tags) e)
 
       one-turn : Later → (fields others : Fields) (room n : ℕ) (rs qs : List Record) → bodyWithin body (suc turns) fields room rs ≡ ended f rest room₁ rs₁

@@ -9,7 +9,7 @@ use Rattle.tagvalue.specs.Fields.{Fields, unreadable, field, Each, each-end, ea
 use Rattle.tagvalue.specs.declared.Field.{Field}
 use Rattle.records.specs.declared.Record.{Record}
 use Rattle.groups.specs.Groups.{Rules, Frame, Move, adds, joinsAt, disorders, leaves, decide, moved, walk}
-use Rattle.groups.specs.Groups.{ended as ran, recordOf as entryRecord}
+use Rattle.groups.specs.Groups.{ended as ran, entryRecord}
 use Rattle.groups.specs.GroupLaws.{keeps}
 use Rattle.groups.specs.Reading.{listStore, joinedList}
 use Rattle.tags_alone.specs.Agree.{Agree, enough, same, Similar, none, more}

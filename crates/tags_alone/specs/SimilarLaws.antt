@@ -10,9 +10,9 @@ use Rattle.tagvalue.specs.Choice.{pick}
 use Rattle.tagvalue.specs.declared.Field.{Field}
 use Rattle.records.specs.Records.{stored}
 use Rattle.records.specs.declared.Record.{Record}
-use Rattle.groups.specs.Groups.{recordOf as entryRecord}
+use Rattle.groups.specs.Groups.{entryRecord}
 use Rattle.groups.specs.Reading.{joinedList}
-use Rattle.parts.specs.Parts.{recordOf}
+use Rattle.parts.specs.Parts.{partRecord}
 use Rattle.body.specs.Body.{behindRun, storedRun}
 use Rattle.tags_alone.specs.Agree.{Alike, Similar, none, more}
 
@@ -49,8 +49,8 @@ similar-drop (suc n) none = none
 similar-drop (suc n) (more a s) = similar-drop n s
 
 -- fields of the same tag make records that are alike
-pub alike-field : (part : ℕ) (f g : Field) → f .tag ≡ g .tag → Alike (recordOf part f) (recordOf part g)
-unfolding recordOf
+pub alike-field : (part : ℕ) (f g : Field) → f .tag ≡ g .tag → Alike (partRecord part f) (partRecord part g)
+unfolding partRecord
 alike-field part f g t = record { part = refl; depth = refl; number = refl; tag = t }
 
 pub alike-entry : (depth number : ℕ) (f g : Field) → f .tag ≡ g .tag → Alike (entryRecord depth number f) (entryRecord depth number g)

@@ -4,7 +4,7 @@ use mathlib.Core.List.{List, [], _∷_}
 use lib.ListN.{length}
 use lib.Dec.{eqb}
 use Rattle.tagvalue.specs.Choice.{pick}
-use Rattle.tagvalue.specs.Number.{numberOf}
+use Rattle.tagvalue.specs.Number.{numberIn}
 use Rattle.tagvalue.specs.declared.Number.{Number}
 use Rattle.tagvalue.specs.declared.Number.the-variants.{NoNumber}
 
@@ -15,7 +15,7 @@ sumOf (x ∷ s) = x + sumOf s
 
 -- a value of three digits is compared; "any other CheckSum value is not compared"
 unfoldable pub checksumOf : List ℕ → Number
-checksumOf value = pick (eqb (length value) 3) (numberOf value) NoNumber
+checksumOf value = pick (eqb (length value) 3) (numberIn value) NoNumber
 
 -- "three digits"
 unfoldable pub checksumDigits : ℕ → List ℕ

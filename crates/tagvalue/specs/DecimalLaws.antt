@@ -12,7 +12,7 @@ use lib.Seq.{take-all, take-length, drop-drop}
 use lib.Dec.{leb, ltb}
 use borrow.Author.Tests.{ltb-true, ltb-false, lt-ltb, le-ltb, le-leb, lt-leb, leb-true, leb-false}
 use Rattle.tagvalue.specs.Choice.{pick}
-use Rattle.tagvalue.specs.Number.{isDigit, allDigits, worth, numberOf, tagOf}
+use Rattle.tagvalue.specs.Number.{isDigit, allDigits, worth, numberIn, tagOf}
 use Rattle.tagvalue.specs.NumberLaws.{number-good, tag-good}
 use Rattle.tagvalue.specs.CheckSum.{checksumOf, checksumDigits}
 use Rattle.tagvalue.specs.Decimal.{decimalWithin, decimal, writtenAt, answerAt}
@@ -132,7 +132,7 @@ decimal-no-zero =
     r (omega arith)
     (sym (List·getD-append (decimal (n / 10)) _ 0 0 (decimal-some (n / 10))) ∙ rw (decimal-step n h) at e))
 
-pub number-reads : (n : ℕ) → n ≤ 4294967295 → numberOf (decimal n) ≡ Worth n
+pub number-reads : (n : ℕ) → n ≤ 4294967295 → numberIn (decimal n) ≡ Worth n
 number-reads n h = number-good (decimal n) n (λ e. omega (arith, decimal-some n)) (decimal-digits n) (decimal-worth n) h
 
 pub decimal-reads : (n : ℕ) → 1 ≤ n → n ≤ 4294967295 → tagOf (decimal n) ≡ Worth n

@@ -8,7 +8,7 @@ use Prim.Native.String.{String}
 use lib.ListN.{length}
 use Rattle.tagvalue.specs.Text.{bytes}
 use Rattle.tagvalue.specs.Find.{findIn}
-use Rattle.tagvalue.specs.Number.{isDigit, allDigits, worth, numberOf, nonZero, tagOf}
+use Rattle.tagvalue.specs.Number.{isDigit, allDigits, worth, numberIn, nonZero, tagOf}
 use Rattle.tagvalue.specs.Separator.{isRefusedSeparator}
 use Rattle.tagvalue.specs.CheckSum.{sumOf, checksumOf, checksumDigits}
 use Rattle.tagvalue.specs.Decimal.{decimal, decimalWithin, writtenAt, answerAt}
@@ -39,12 +39,12 @@ equals-found : Holds (findIn 61 0) (("8=x|=", At 1) ∷ ("=", At 0) ∷ ("8|", N
 unfolding findIn
 equals-found = refl
 
-numbers : Holds numberOf (("0", Worth 0) ∷ ("0042", Worth 42) ∷ ("4294967295", Worth 4294967295) ∷ ("4294967296", NoNumber) ∷ ("99999999999999999999999999", NoNumber) ∷ ("", NoNumber) ∷ ("-1", NoNumber) ∷ ("4:", NoNumber) ∷ ("4/", NoNumber) ∷ [])
-unfolding numberOf isDigit allDigits worth
+numbers : Holds numberIn (("0", Worth 0) ∷ ("0042", Worth 42) ∷ ("4294967295", Worth 4294967295) ∷ ("4294967296", NoNumber) ∷ ("99999999999999999999999999", NoNumber) ∷ ("", NoNumber) ∷ ("-1", NoNumber) ∷ ("4:", NoNumber) ∷ ("4/", NoNumber) ∷ [])
+unfolding numberIn isDigit allDigits worth
 numbers = refl
 
 tags : Holds tagOf (("1", Worth 1) ∷ ("0035", Worth 35) ∷ ("4294967295", Worth 4294967295) ∷ ("4294967296", NoNumber) ∷ ("0", NoNumber) ∷ ("000", NoNumber) ∷ ("", NoNumber) ∷ ("1a", NoNumber) ∷ [])
-unfolding tagOf nonZero numberOf isDigit allDigits worth
+unfolding tagOf nonZero numberIn isDigit allDigits worth
 tags = refl
 
 -- 22: `=` and the digits, but neither neighbour of the digits
@@ -53,7 +53,7 @@ unfolding isRefusedSeparator isDigit
 separators = refl
 
 checksums : Holds checksumOf (("163", Worth 163) ∷ ("007", Worth 7) ∷ ("999", Worth 999) ∷ ("abc", NoNumber) ∷ ("16", NoNumber) ∷ ("0163", NoNumber) ∷ ("", NoNumber) ∷ [])
-unfolding checksumOf numberOf isDigit allDigits worth
+unfolding checksumOf numberIn isDigit allDigits worth
 checksums = refl
 
 -- P1 and P4 of 01: the bytes before the CheckSum

@@ -23,8 +23,8 @@ worth n [] = n
 worth n (x ∷ s) = worth (n * 10 + (x - 48)) s
 
 -- "one or more digits", here worth at most 4,294,967,295
-unfoldable pub numberOf : List ℕ → Number
-numberOf text =
+unfoldable pub numberIn : List ℕ → Number
+numberIn text =
     pick (eqb (length text) 0) NoNumber
     (pick (allDigits text) (pick (leb (worth 0 text) 4294967295) (Worth (worth 0 text)) NoNumber) NoNumber)
 
@@ -34,4 +34,4 @@ nonZero (Worth n) = pick (eqb n 0) NoNumber (Worth n)
 
 -- "the tag text, one or more digits worth 1 to 4,294,967,295, leading zeros allowed"
 unfoldable pub tagOf : List ℕ → Number
-tagOf text = nonZero (numberOf text)
+tagOf text = nonZero (numberIn text)

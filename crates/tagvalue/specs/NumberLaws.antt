@@ -11,7 +11,7 @@ use lib.Seq.{drop-cons}
 use lib.Dec.{eqb, leb}
 use borrow.Author.Tests.{eq-eqb, ne-eqb, le-leb, lt-leb}
 use Rattle.tagvalue.specs.Choice.{pick, pick-same}
-use Rattle.tagvalue.specs.Number.{isDigit, allDigits, worth, numberOf, nonZero, tagOf}
+use Rattle.tagvalue.specs.Number.{isDigit, allDigits, worth, numberIn, nonZero, tagOf}
 use Rattle.tagvalue.specs.CheckSum.{sumOf, checksumOf}
 use Rattle.tagvalue.specs.declared.Number.the-variants.{Worth, NoNumber}
 
@@ -55,31 +55,31 @@ worth-least [] n = le-refl n
 worth-least (x ∷ s) n = omega (arith, worth-least s (n * 10 + (x - 48)))
 
 module _ (s : List ℕ) where
-  pub number-empty : length s ≡ 0 → numberOf s ≡ NoNumber
-  unfolding numberOf
+  pub number-empty : length s ≡ 0 → numberIn s ≡ NoNumber
+  unfolding numberIn
   number-empty h = rw (eq-eqb _ _ h)
 
-  pub number-bad : allDigits s ≡ false → numberOf s ≡ NoNumber
-  unfolding numberOf
+  pub number-bad : allDigits s ≡ false → numberIn s ≡ NoNumber
+  unfolding numberIn
   number-bad h = rw (h, pick-same)
 
-  pub number-large : 4294967295 < worth 0 s → numberOf s ≡ NoNumber
-  unfolding numberOf
+  pub number-large : 4294967295 < worth 0 s → numberIn s ≡ NoNumber
+  unfolding numberIn
   number-large h = rw (lt-leb _ _ h, pick-same, pick-same)
 
-  pub number-good : (n : ℕ) → (length s ≡ 0 → ⊥) → allDigits s ≡ true → worth 0 s ≡ n → n ≤ 4294967295 → numberOf s ≡ Worth n
-  unfolding numberOf
+  pub number-good : (n : ℕ) → (length s ≡ 0 → ⊥) → allDigits s ≡ true → worth 0 s ≡ n → n ≤ 4294967295 → numberIn s ≡ Worth n
+  unfolding numberIn
   number-good n l d w h = rw (ne-eqb _ _ l, d, w, le-leb _ _ h)
 
-  pub tag-none : numberOf s ≡ NoNumber → tagOf s ≡ NoNumber
+  pub tag-none : numberIn s ≡ NoNumber → tagOf s ≡ NoNumber
   unfolding tagOf nonZero
   tag-none h = rw h
 
-  pub tag-zero : (n : ℕ) → numberOf s ≡ Worth n → n ≡ 0 → tagOf s ≡ NoNumber
+  pub tag-zero : (n : ℕ) → numberIn s ≡ Worth n → n ≡ 0 → tagOf s ≡ NoNumber
   unfolding tagOf nonZero
   tag-zero n h z = rw (h, eq-eqb _ _ z)
 
-  pub tag-good : (n : ℕ) → numberOf s ≡ Worth n → (n ≡ 0 → ⊥) → tagOf s ≡ Worth n
+  pub tag-good : (n : ℕ) → numberIn s ≡ Worth n → (n ≡ 0 → ⊥) → tagOf s ≡ Worth n
   unfolding tagOf nonZero
   tag-good n h z = rw (h, ne-eqb _ _ z)
 
@@ -87,12 +87,12 @@ module _ (s : List ℕ) where
   unfolding checksumOf
   checksum-other h = rw (ne-eqb _ _ h)
 
-  pub checksum-three : length s ≡ 3 → checksumOf s ≡ numberOf s
+  pub checksum-three : length s ≡ 3 → checksumOf s ≡ numberIn s
   unfolding checksumOf
   checksum-three h = rw (eq-eqb _ _ h)
 
 -- a tag has a digit at least
 pub tag-some : (s : List ℕ) (t : ℕ) → tagOf s ≡ Worth t → 1 ≤ length s
-unfolding tagOf nonZero numberOf
+unfolding tagOf nonZero numberIn
 tag-some [] t h = let z : _≡_ {A = ℕ} 0 1 = cc in absurd (omega arith)
 tag-some (x ∷ s) t h = omega arith

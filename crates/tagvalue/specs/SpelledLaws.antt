@@ -12,7 +12,7 @@ use lib.Seq.{drop-drop, drop-at, drop-append-seam}
 use borrow.Author.Tests.{le-leb, eqb-false}
 use Rattle.tagvalue.specs.Choice.{pick}
 use Rattle.tagvalue.specs.FindLaws.{Absent, none, also}
-use Rattle.tagvalue.specs.Number.{isDigit, allDigits, numberOf, nonZero, tagOf}
+use Rattle.tagvalue.specs.Number.{isDigit, allDigits, numberIn, nonZero, tagOf}
 use Rattle.tagvalue.specs.DecimalLaws.{all-digits-first}
 use Rattle.tagvalue.specs.Field.{startAt, fieldAt, fieldBytes, valueOf}
 use Rattle.tagvalue.specs.FieldTextLaws.{Spelled, spelt, spelled-read, read-spelled, bytes-size, value-part}
@@ -91,7 +91,7 @@ module _ (mode : Mode) (message : List ℕ) (c : Cursor) (f : Field) (read : fie
   -- no tag is 0
   pub step-tag : f .tag ≡ 0 → ⊥
   unfolding tagOf
-  step-tag = not-zero (numberOf (spells .text)) (f .tag) (spells .is-tag)
+  step-tag = not-zero (numberIn (spells .text)) (f .tag) (spells .is-tag)
 
 -- a field's text that stands behind other bytes
 module _ (mode : Mode) (tag : ℕ) (copy pre text value post : List ℕ) (whole : copy ≡ pre ++ (fieldBytes (mode .separator) text value ++ post)) (reads : tagOf text ≡ Worth tag)

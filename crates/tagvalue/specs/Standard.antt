@@ -99,12 +99,12 @@ pub data Stretch : Type 0 where
 
 -- A group is a count field, whose value is a positive int, and that many entries. An entry is members that start with the
 -- delimiter, the same for all entries of the group; no tag stands twice among them. Members may be groups again.
-pub data Stands : Stretch → List Told → Type 0 where
-  no-member : Stands (members []) []
-  field : {t : ℕ} {v : List ℕ} {ts : List ℕ} {fs : List Told} → Stands (members ts) fs → Stands (members (t ∷ ts)) (told t v ∷ fs)
-  group : {t d n : ℕ} {count : List ℕ} {ts : List ℕ} {gs fs : List Told} → Int count (suc n) → Stands (entries d (suc n)) gs → Stands (members ts) fs → Stands (members (t ∷ ts)) (told t count ∷ (gs ++ fs))
-  no-entry : {d : ℕ} → Stands (entries d zero) []
-  entry : {d n : ℕ} {ts : List ℕ} {fs gs : List Told} → Stands (members (d ∷ ts)) fs → Distinct (d ∷ ts) → Stands (entries d n) gs → Stands (entries d (suc n)) (fs ++ gs)
+pub data Members : Stretch → List Told → Type 0 where
+  no-member : Members (members []) []
+  field : {t : ℕ} {v : List ℕ} {ts : List ℕ} {fs : List Told} → Members (members ts) fs → Members (members (t ∷ ts)) (told t v ∷ fs)
+  group : {t d n : ℕ} {count : List ℕ} {ts : List ℕ} {gs fs : List Told} → Int count (suc n) → Members (entries d (suc n)) gs → Members (members ts) fs → Members (members (t ∷ ts)) (told t count ∷ (gs ++ fs))
+  no-entry : {d : ℕ} → Members (entries d zero) []
+  entry : {d n : ℕ} {ts : List ℕ} {fs gs : List Told} → Members (members (d ∷ ts)) fs → Distinct (d ∷ ts) → Members (entries d n) gs → Members (entries d (suc n)) (fs ++ gs)
 
 -- ===== messages =====
 
@@ -134,5 +134,5 @@ pub record Message (Pair : ℕ → ℕ → Type 0) (bytes : List ℕ) : Type 0 w
   pub length-is : Int body-length (length counted)
   pub sum-is : Int check-sum (total (first ++ (second ++ counted)) % 256)
   pub three-digits : length check-sum ≡ 3
-  pub members-are : Stands (members tags) others
+  pub members-are : Members (members tags) others
   pub no-tag-twice : Distinct (8 ∷ (9 ∷ (35 ∷ (10 ∷ tags))))

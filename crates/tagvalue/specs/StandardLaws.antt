@@ -9,7 +9,7 @@ use native.Mathlib.Omega.{arith}
 use lib.ListN.{length, drop}
 use lib.Seq.{drop-append-seam}
 use borrow.Author.Tests.{le-leb}
-use Rattle.tagvalue.specs.Number.{isDigit, allDigits, worth, numberOf, tagOf}
+use Rattle.tagvalue.specs.Number.{isDigit, allDigits, worth, numberIn, tagOf}
 use Rattle.tagvalue.specs.NumberLaws.{worth-least, number-good, tag-good}
 use Rattle.tagvalue.specs.FindLaws.{Absent}
 use Rattle.tagvalue.specs.FindLaws as find
@@ -39,7 +39,7 @@ absent-all [] h All.none = find.none
 absent-all (x ∷ s) h (All.also p a) = find.also (h x p) (absent-all s h a)
 
 -- an int of the standard is a number of 01, where it is not too large
-pub int-read : (text : List ℕ) (n : ℕ) → standard.Int text n → n ≤ 4294967295 → numberOf text ≡ Worth n
+pub int-read : (text : List ℕ) (n : ℕ) → standard.Int text n → n ≤ 4294967295 → numberIn text ≡ Worth n
 int-read text n i h = number-good text n (λ e. omega (arith, i .some)) (digits-all text (i .digits)) (worth-same 0 text ∙ i .worth) h
 
 not-nothing : (d : ℕ) (ds : List ℕ) → d ≢ 48 → All Digit (d ∷ ds) → 1 ≤ standard.worthAfter 0 (d ∷ ds)

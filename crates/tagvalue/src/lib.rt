@@ -5,7 +5,7 @@ ghost use mathlib.Core.List.{_++_};
 ghost use Prim.Native.Nat.{_+_, _-_, _<_, _%_, _^_};
 ghost use lib.ListN.{length, take};
 ghost use Rattle.tagvalue.specs.Find.{findIn};
-ghost use Rattle.tagvalue.specs.Number.{numberOf, tagOf};
+ghost use Rattle.tagvalue.specs.Number.{numberIn, tagOf};
 ghost use Rattle.tagvalue.specs.Separator.{isRefusedSeparator};
 ghost use Rattle.tagvalue.specs.CheckSum.{sumOf, checksumOf, checksumDigits};
 ghost use Rattle.tagvalue.specs.Decimal.{decimal, writtenAt, answerAt};
@@ -51,7 +51,7 @@ fn widened(byte: u8) -> u64
 
 // One or more digits, leading zeros allowed. However long the text, nothing overflows.
 pub fn number_of(text: &[u8]) -> Number
-    ensures { λ r. ⌜ r ≡ numberOf (now (text .entry)) ⌝ }
+    ensures { λ r. ⌜ r ≡ numberIn (now (text .entry)) ⌝ }
 {
     if text.len() == 0 {
         return Number::NoNumber;

@@ -20,10 +20,10 @@ use Rattle.build_config.specs.declared.Config.{Config}
 use Rattle.integrity.specs.declared.Integrity.{Integrity}
 use Rattle.integrity.specs.declared.Integrity.the-variants.{Sound, Garbled}
 use Rattle.integrity.specs.declared.Verified.{Verified}
-use Rattle.dictionary_rules.specs.Check.{checkOf, numberOf}
+use Rattle.dictionary_rules.specs.Check.{checkOf, numberOfCheck}
 use Rattle.dictionary_meaning_rules.specs.Meaning.{dictionaryOf}
 use Rattle.dictionary_layout_rules.specs.Tree.{Dictionary, knows, headerTags, trailerTags, Choice, noMessage, laidOut, layoutOf}
-use Rattle.records.specs.Records.{laid, recordsOf, between, recordWords, stride}
+use Rattle.records.specs.Records.{laid, recordsOf, between, recordWords, stride, valueAt}
 use Rattle.records.specs.WordLaws.{records-laid, laid-length}
 use Rattle.records.specs.declared.Record.{Record}
 use Rattle.lent.specs.Meaning.{wordsOf, valuesOf}
@@ -32,11 +32,11 @@ use Rattle.groups.specs.Reading.{accepted, layoutRules}
 use Rattle.required.specs.Checking.{layoutDemands}
 use Rattle.nesting.specs.Entries.{layout-first}
 use Rattle.build_answers.specs.declared.Answer.the-variants.{Valid, InvalidSeparator, TooFewRecords, TooLong as MessageTooLong, BadDictionary}
-use Rattle.parts.specs.Parts.{Reading, ended, refused, recordOf}
+use Rattle.parts.specs.Parts.{Reading, ended, refused, partRecord}
 use Rattle.parts.specs.Trailer.{Trailer, stopped, unstopped, crowded, trailerFrom}
 use Rattle.body.specs.Body.{bodyFrom}
 use Rattle.body.specs.Kinds.{bodyOf}
-use Rattle.reading.specs.Beginning.{headerOf, verifiedRecords, withChecksum, startedBy, startOf, msgTypeRecord, valueAt}
+use Rattle.reading.specs.Beginning.{headerOf, verifiedRecords, withChecksum, startedBy, startOf, msgTypeRecord}
 use Rattle.reading.specs.Message.{Outcome, refusal, afterTrailer, afterBody, afterType, afterHeader, messageRead}
 use Rattle.builder.specs.Build.{BuildOutcome, wordsWith, untouched, shown, checkedRead, buildOf}
 use Rattle.taking.specs.Taking.{after, takingOver}
@@ -63,8 +63,8 @@ module _ (dictionary : Dictionary) (config : Config) (message : List ℕ) (short
     unfolding afterBody
     body-takes layout (refused answer) e a = absurd (body-never (layoutRules (accepted config (knows dictionary))) layoutDemands (trailerTags dictionary) layout (suc (suc room)) (field f rest) (suc room) [] (unfold bodyFrom in (e ∙ ap refused (unfold refusal in a))))
     body-takes layout (ended g more room₂ b) e a =
-        trailer-takes h b (trailerFrom (field g more) (suc room₂) (recordOf 3 (v .checksum) ∷ []))
-        (λ rs end-of-it. parts-take (config .mode) message v (verified-read (config .mode) message v sound) (layoutRules (accepted config (knows dictionary))) (layout-first (accepted config (knows dictionary))) layoutDemands (headerTags dictionary) (trailerTags dictionary) layout f g rest more room room₂ h b rs (trailerFrom (field g more) (suc room₂) (recordOf 3 (v .checksum) ∷ [])) short (unfold headerOf verifiedRecords in header) e refl end-of-it)
+        trailer-takes h b (trailerFrom (field g more) (suc room₂) (partRecord 3 (v .checksum) ∷ []))
+        (λ rs end-of-it. parts-take (config .mode) message v (verified-read (config .mode) message v sound) (layoutRules (accepted config (knows dictionary))) (layout-first (accepted config (knows dictionary))) layoutDemands (headerTags dictionary) (trailerTags dictionary) layout f g rest more room room₂ h b rs (trailerFrom (field g more) (suc room₂) (partRecord 3 (v .checksum) ∷ [])) short (unfold headerOf verifiedRecords in header) e refl end-of-it)
         a
 
     type-takes : (choice : Choice) → afterType dictionary config f rest room h (v .checksum) choice .answer ≡ Valid → Takes message (afterType dictionary config f rest room h (v .checksum) choice .records)
@@ -124,7 +124,7 @@ pub record Shown (message : List ℕ) (config : Config) (dictionary : List ℕ) 
   pub separates : isRefusedSeparator (config .mode .separator) ≡ false
   pub enough : ltb lent 1024 ≡ false
   pub short : length message ≤ 8192
-  pub checked : eqb (numberOf (checkOf dictionary)) 0 ≡ true
+  pub checked : eqb (numberOfCheck (checkOf dictionary)) 0 ≡ true
   pub valid : messageRead (dictionaryOf dictionary) config message .answer ≡ Valid
   pub count : built .records ≡ length (messageRead (dictionaryOf dictionary) config message .records)
   pub words : built .words ≡ wordsWith (messageRead (dictionaryOf dictionary) config message .records)
@@ -133,12 +133,12 @@ module _ (message : List ℕ) (config : Config) (dictionary : List ℕ) (lent : 
   shown-valid : isRefusedSeparator (config .mode .separator) ≡ false → ltb lent 1024 ≡ false → length message ≤ 8192 → shown lent (checkedRead message config dictionary (checkOf dictionary)) .answer ≡ Valid
       → Shown message config dictionary lent (shown lent (checkedRead message config dictionary (checkOf dictionary)))
   unfolding shown checkedRead
-  shown-valid separates enough short a = by-check (eqb (numberOf (checkOf dictionary)) 0) refl a
+  shown-valid separates enough short a = by-check (eqb (numberOfCheck (checkOf dictionary)) 0) refl a
     where
       out : Bool → Outcome
       out b = pick b (messageRead (dictionaryOf dictionary) config message) (refusal (BadDictionary (checkOf dictionary)) [])
 
-      by-check : (b : Bool) → eqb (numberOf (checkOf dictionary)) 0 ≡ b → out b .answer ≡ Valid → Shown message config dictionary lent (shown lent (out b))
+      by-check : (b : Bool) → eqb (numberOfCheck (checkOf dictionary)) 0 ≡ b → out b .answer ≡ Valid → Shown message config dictionary lent (shown lent (out b))
       by-check true c a = record { separates = separates; enough = enough; short = short; checked = c; valid = a; count = refl; words = refl }
       by-check false c a = let z : _≡_ {A = ℕ} 0 1 = unfold refusal in cc in absurd (omega arith)
 
@@ -156,7 +156,7 @@ module _ (message : List ℕ) (config : Config) (dictionary : List ℕ) (lent : 
       by-tests false false false q r s a = shown-valid q r (ltb-false 8192 (length message) s) a
 
   -- and put together again: past its checks the build shows what is read
-  pub shown-build : isRefusedSeparator (config .mode .separator) ≡ false → ltb lent 1024 ≡ false → length message ≤ 8192 → eqb (numberOf (checkOf dictionary)) 0 ≡ true
+  pub shown-build : isRefusedSeparator (config .mode .separator) ≡ false → ltb lent 1024 ≡ false → length message ≤ 8192 → eqb (numberOfCheck (checkOf dictionary)) 0 ≡ true
       → buildOf message config dictionary lent before ≡ shown lent (messageRead (dictionaryOf dictionary) config message)
   unfolding buildOf checkedRead
   shown-build separates enough short checked = rw (separates, enough, le-ltb 8192 (length message) short, checked) refl

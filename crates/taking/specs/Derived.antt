@@ -4,11 +4,11 @@ use mathlib.Core.Path.{_≡_}
 use mathlib.Core.List.{List, [], _∷_, _++_}
 use lib.ListN.{length}
 use lib.Dec.{eqb}
+use Rattle.records.specs.Records.{valueAt}
 use Rattle.tagvalue.specs.Choice.{pick}
 use Rattle.records.specs.declared.Record.{Record}
 use Rattle.maps.specs.Map.{Map, end, field, entry}
 use Rattle.lent.specs.Meaning.{Message}
-use Rattle.taking.specs.Taking.{valueAt}
 
 -- part, depth, entry number, tag and value
 pub data Valued : Type 0 where

@@ -3,10 +3,11 @@ use mathlib.Core.Path.{_≡_, refl}
 use mathlib.Core.Bool.{true, false}
 use mathlib.Core.List.{List, [], _∷_}
 use Prim.Native.Nat.{ℕ}
+use Rattle.records.specs.Records.{valueAt}
 use Rattle.records.specs.declared.Record.{Record}
 use Rattle.maps.specs.Map.{Map, end, field, entry}
 use Rattle.maps.specs.Rows.{row}
-use Rattle.taking.specs.Taking.{nearestIn, onCount, joinsInRun, joinsOnCount, joinsBehind, joinsOf, isJoined, hasRoom, isNext, areNext, partHeads, ownRows, recordRows, rowsBehind, rowsOf, valueAt, valuesAt}
+use Rattle.taking.specs.Taking.{nearestIn, onCount, joinsInRun, joinsOnCount, joinsBehind, joinsOf, isJoined, hasRoom, isNext, areNext, partHeads, ownRows, recordRows, rowsBehind, rowsOf, valuesAt}
 use Rattle.taking.specs.Derived.{valued, entryNumber, recordsIn, derived, given}
 
 -- a record whose value is one byte

@@ -6,13 +6,14 @@ use Prim.Native.Nat.{ℕ, _+_, _-_, _≤_}
 use native.Mathlib.Omega.{arith}
 use lib.ListN.{length, length-append, length-take, length-drop}
 use borrow.Author.Tests.{le-leb}
+use Rattle.records.specs.Records.{valueAt}
 use Rattle.records.specs.declared.Record.{Record}
 use Rattle.maps.specs.Map.{Map, field, entry, valuesIn}
 use Rattle.maps.specs.Rows.{Row, row, laid}
 use Rattle.lent.specs.Formed.{isFormed}
 use Rattle.taking.specs.declared.Joins.{Joins}
 use Rattle.taking.specs.declared.Joins.the-variants.{Open, Entry}
-use Rattle.taking.specs.Taking.{joinsOf, isJoined, hasRoom, isNext, areNext, partHeads, ownRows, recordRows, rowsBehind, valueAt, valuesAt}
+use Rattle.taking.specs.Taking.{joinsOf, isJoined, hasRoom, isNext, areNext, partHeads, ownRows, recordRows, rowsBehind, valuesAt}
 use Rattle.taking.specs.LayingLaws.{heads-none}
 use Rattle.taking.specs.JoinLaws.{joins-own}
 use Rattle.taking.specs.Derived.{Own, Stands, no-more, own, in-entry}

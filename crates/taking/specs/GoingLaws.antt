@@ -6,7 +6,7 @@ use Prim.Native.Nat.{ℕ, _+_, _-_, _*_, _≤_, _<_}
 use native.Mathlib.Omega.{arith}
 use lib.ListN.{length, set, replicate, length-append}
 use Rattle.tagvalue.specs.Choice.{pick}
-use Rattle.records.specs.Records.{recordAt, between}
+use Rattle.records.specs.Records.{recordAt, between, valueAt}
 use Rattle.records.specs.RecordLaws.{between-on, between-end}
 use Rattle.records.specs.declared.Record.{Record}
 use Rattle.maps.specs.Rows.{Row, row, flat, padded, messageWords, messageRows}
@@ -14,7 +14,7 @@ use Rattle.maps.specs.RowsLaws.{padded-none, padded-length}
 use Rattle.lent.specs.MeaningLaws.{flat-length}
 use Rattle.taking.specs.declared.Laying.{Laying}
 use Rattle.taking.specs.declared.Step.the-variants.{On, Refused}
-use Rattle.taking.specs.Taking.{recordsBefore, joinsOf, isNext, areNext, partHeads, recordRows, rowsBehind, rowsOf, valueAt, valuesAt, laidOut, noRecords, layoutFrom}
+use Rattle.taking.specs.Taking.{recordsBefore, joinsOf, isNext, areNext, partHeads, recordRows, rowsBehind, rowsOf, valuesAt, laidOut, noRecords, layoutFrom}
 use Rattle.taking.specs.Laying.{rowed, Adds, reach, Ready, steppedBy, Steps}
 use Rattle.taking.specs.JoinLaws.{before-next}
 use Rattle.taking.specs.StepLaws.{joined-reach, next-is, rows-few, value-length}

@@ -4,13 +4,14 @@ use mathlib.Core.Path.{_≡_}
 use mathlib.Core.Bool.{Bool, true, false}
 use mathlib.Core.List.{List, [], _∷_, _++_}
 use lib.ListN.{length}
+use Rattle.records.specs.Records.{valueAt}
 use Rattle.tagvalue.specs.Choice.{pick}
 use Rattle.records.specs.declared.Record.{Record}
 use Rattle.maps.specs.Rows.{Row, flat, padded, messageWords, messageRows}
 use Rattle.taking.specs.declared.Laying.{Laying}
 use Rattle.taking.specs.declared.Step.{Step}
 use Rattle.taking.specs.declared.Step.the-variants.{On, Refused}
-use Rattle.taking.specs.Taking.{joinsOf, isNext, recordRows, valueAt, Layout, laidOut, noRecords}
+use Rattle.taking.specs.Taking.{joinsOf, isNext, recordRows, Layout, laidOut, noRecords}
 
 -- rows in words, before they are counted, and values in their store
 unfoldable pub rowed : List Row → List ℕ

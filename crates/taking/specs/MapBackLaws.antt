@@ -6,6 +6,7 @@ use Prim.Native.Nat.{ℕ, _+_, _≤_, _<_}
 use native.Mathlib.Omega.{arith}
 use lib.ListN.{length, take, drop}
 use lib.Seq.{take-at, drop-at}
+use Rattle.records.specs.Records.{valueAt}
 use Rattle.tagvalue.specs.Choice.{pick}
 use Rattle.records.specs.declared.Record.{Record}
 use Rattle.maps.specs.Map.{Map, end, field, entry, valuesIn}
@@ -15,7 +16,7 @@ use Rattle.taking.specs.declared.Nearest.{Nearest}
 use Rattle.taking.specs.declared.Nearest.the-variants.{Is, Nothing}
 use Rattle.taking.specs.declared.Joins.{Joins}
 use Rattle.taking.specs.declared.Joins.the-variants.{Open, Entry, Nowhere}
-use Rattle.taking.specs.Taking.{nearestIn, joinsOf, isJoined, isNext, areNext, ownRows, rowsBehind, valueAt, valuesAt}
+use Rattle.taking.specs.Taking.{nearestIn, joinsOf, isJoined, isNext, areNext, ownRows, rowsBehind, valuesAt}
 use Rattle.taking.specs.JoinLaws.{joins-first, joins-other}
 use Rattle.taking.specs.StepLaws.{next-is}
 use Rattle.taking.specs.Derived.{Own, Stands, no-more, own, in-entry}

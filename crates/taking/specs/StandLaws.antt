@@ -101,17 +101,17 @@ module _ (bytes : List ℕ) (part : ℕ) where
           ∙ run-next before r (c .last .number) (λ z. omega (arith, z, n, o .numbered)) (omega (arith, n, o .numbered)) (Is (c .count)) (ap (λ (k : ℕ). nearestIn k before) up ∙ c .nearest)
           ∙ (unfold onCount in ap Entry (c .starts))
 
-  pub record After (depth number : ℕ) (before : List Record) : Type 0 where
+  pub record ContextAfter (depth number : ℕ) (before : List Record) : Type 0 where
     pub start : ℕ
     pub entries : ℕ
     pub context : Context depth number start entries before
 
-  after-same : {depth number : ℕ} {a b : List Record} → a ≡ b → After depth number b → After depth number a
+  after-same : {depth number : ℕ} {a b : List Record} → a ≡ b → ContextAfter depth number b → ContextAfter depth number a
   after-same e k = rw e k
 
   -- past an entry the run has one more
   pub past-entry : {depth number start entries : ℕ} {before : List Record} (r : Record) {inner : Map} {rs : List Record} → Context depth number start entries before → Own bytes part (depth + 1) (entries + 1) r → Stands bytes part (depth + 1) (entries + 1) (r .tag) 0 inner rs
-      → After (depth + 1) (entries + 1) (passed (r ∷ before) rs) → Context depth number start (entries + 1) (passed (r ∷ before) rs)
+      → ContextAfter (depth + 1) (entries + 1) (passed (r ∷ before) rs) → Context depth number start (entries + 1) (passed (r ∷ before) rs)
   past-entry {depth} {before = before} r c o inner a =
       let k = a .context in
       record {
@@ -124,7 +124,7 @@ module _ (bytes : List ℕ) (part : ℕ) where
         either = inr (k .counts .of, k .counts .deep, k .counts .numbered);
       }
 
-  pub past-map : {depth number start entries : ℕ} {m : Map} {rs : List Record} → Stands bytes part depth number start entries m rs → (before : List Record) → Context depth number start entries before → After depth number (passed before rs)
+  pub past-map : {depth number start entries : ℕ} {m : Map} {rs : List Record} → Stands bytes part depth number start entries m rs → (before : List Record) → Context depth number start entries before → ContextAfter depth number (passed before rs)
   unfolding passed
   past-map no-more before c = record { start = _; entries = _; context = c }
   past-map (own r o more) before c = past-map more (r ∷ before) (own-context r before o)

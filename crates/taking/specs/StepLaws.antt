@@ -7,6 +7,7 @@ use native.Mathlib.Omega.{arith}
 use lib.ListN.{length, length-append, length-take, length-drop}
 use lib.Dec.{eqb, leb}
 use borrow.Author.Tests.{le-leb, lt-leb, leb-true, leb-false, eqb-true}
+use Rattle.records.specs.Records.{valueAt}
 use Rattle.tagvalue.specs.Choice.{pick, pick-same}
 use Rattle.tagvalue.specs.Decimal.{writtenAt}
 use Rattle.records.specs.declared.Record.{Record}
@@ -18,7 +19,7 @@ use Rattle.taking.specs.declared.Joins.{Joins}
 use Rattle.taking.specs.declared.Joins.the-variants.{Open, Entry, Nowhere}
 use Rattle.taking.specs.declared.Laying.{Laying}
 use Rattle.taking.specs.declared.Step.the-variants.{On, Refused}
-use Rattle.taking.specs.Taking.{nearestIn, joinsInRun, joinsOnCount, joinsBehind, joinsOf, isJoined, hasRoom, isNext, partHeads, ownRows, recordRows, valueAt}
+use Rattle.taking.specs.Taking.{nearestIn, joinsInRun, joinsOnCount, joinsBehind, joinsOf, isJoined, hasRoom, isNext, partHeads, ownRows, recordRows}
 use Rattle.taking.specs.Laying.{Adds, reach, steppedBy, Steps}
 use Rattle.taking.specs.LayingLaws.{adds-then, heads-length}
 

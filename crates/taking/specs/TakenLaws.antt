@@ -6,7 +6,7 @@ use Prim.Native.Nat.{ℕ, suc, _+_, _-_, _/_, _≤_, _<_}
 use native.Mathlib.Omega.{arith}
 use lib.ListN.{length, length-append}
 use borrow.Author.Tests.{eq-eqb, le-leb}
-use Rattle.records.specs.Records.{recordsOf, between, stride}
+use Rattle.records.specs.Records.{recordsOf, between, stride, valueAt}
 use Rattle.records.specs.declared.Record.{Record}
 use Rattle.maps.specs.Map.{Map, field, entry, valuesIn}
 use Rattle.maps.specs.Rows.{Row, row, laid, messageWords}
@@ -14,7 +14,7 @@ use Rattle.lent.specs.Meaning.{Message, parts, wordsOf, valuesOf}
 use Rattle.lent.specs.Formed.{Formed, Within}
 use Rattle.lent.specs.FormedLaws.{layout-lends}
 use Rattle.taking.specs.declared.Taken.the-variants.{Made}
-use Rattle.taking.specs.Taking.{isNext, areNext, partHeads, recordRows, rowsBehind, rowsOf, valueAt, valuesAt, laidOut, layoutFrom, after, judged, takingOver}
+use Rattle.taking.specs.Taking.{isNext, areNext, partHeads, recordRows, rowsBehind, rowsOf, valuesAt, laidOut, layoutFrom, after, judged, takingOver}
 use Rattle.taking.specs.TakeLaws.{take-judged}
 use Rattle.taking.specs.Derived.{Valued, valued, entryNumber, recordsIn, derived, given, Own, Stands, no-more, own, in-entry, StandFor}
 use Rattle.taking.specs.StandLaws.{passed}

@@ -7,7 +7,7 @@ use mathlib.Core.List.{List, [], _∷_, _++_}
 use lib.ListN.{length, take, drop}
 use lib.Dec.{eqb, leb}
 use Rattle.tagvalue.specs.Choice.{pick}
-use Rattle.records.specs.Records.{recordsOf, recordAt, between}
+use Rattle.records.specs.Records.{recordsOf, recordAt, between, valueAt}
 use Rattle.records.specs.declared.Record.{Record}
 use Rattle.maps.specs.Rows.{Row, row, flat, padded, messageWords}
 use Rattle.lent.specs.Lent.{isMessage}
@@ -100,10 +100,6 @@ rowsBehind part before (r ∷ rs) = recordRows part (joinsOf before r) r ++ rows
 unfoldable pub rowsOf : List Record → List Row
 rowsOf rs = row 2 0 1 0 ∷ rowsBehind 1 [] rs
 
--- a record's value, and all values in order
-unfoldable pub valueAt : List ℕ → Record → List ℕ
-valueAt bytes r = take (r .length) (drop (r .place) bytes)
-
 unfoldable pub valuesAt : List ℕ → List Record → List ℕ
 valuesAt bytes [] = []
 valuesAt bytes (r ∷ rs) = valueAt bytes r ++ valuesAt bytes rs
@@ -120,16 +116,16 @@ layoutFrom bytes rs =
     noRecords
 
 -- what the call answers, and what it leaves of words and values
-pub data After : Type 0 where
-  after : Taken → List ℕ → List ℕ → After
+pub data AfterTaking : Type 0 where
+  after : Taken → List ℕ → List ℕ → AfterTaking
 
 -- "27 .. message breaking module 2"; what is refused leaves everything as it was
-unfoldable pub judged : List ℕ → List ℕ → Layout → After
+unfoldable pub judged : List ℕ → List ℕ → Layout → AfterTaking
 judged words values noRecords = after NoMessage words values
 judged words values (laidOut newWords newValues) = pick (isMessage newWords newValues) (after Made newWords newValues) (after NoMessage words values)
 
 -- no more records than there are, and no more than 1,024 fields
-unfoldable pub takingOver : List ℕ → ℕ → List ℕ → List ℕ → List ℕ → After
+unfoldable pub takingOver : List ℕ → ℕ → List ℕ → List ℕ → List ℕ → AfterTaking
 takingOver records count bytes words values =
     pick (eqb (length words) messageWords)
     (pick (eqb (length values) 8192)

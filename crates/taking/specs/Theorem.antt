@@ -10,7 +10,7 @@ use lib.ListN.{length, take, replicate, length-append}
 use lib.Seq.{take-at}
 use lib.Dec.{eqb, leb}
 use Rattle.tagvalue.specs.Choice.{pick}
-use Rattle.records.specs.Records.{recordsOf, between}
+use Rattle.records.specs.Records.{recordsOf, between, valueAt}
 use Rattle.records.specs.declared.Record.{Record}
 use Rattle.maps.specs.Rows.{Row, flat, padded, sizeOf, sizes, messageWords}
 use Rattle.lent.specs.Lent.{isMessage, rowCount}
@@ -25,7 +25,7 @@ use Rattle.lent.specs.FormedLaws.{lent-formed}
 use Rattle.taking.specs.declared.Joins.{Joins}
 use Rattle.taking.specs.declared.Joins.the-variants.{Open, Entry, Nowhere}
 use Rattle.taking.specs.declared.Taken.the-variants.{Made, NoMessage}
-use Rattle.taking.specs.Taking.{joinsOf, isJoined, isNext, areNext, partHeads, ownRows, recordRows, rowsBehind, rowsOf, valueAt, valuesAt, laidOut, noRecords, layoutFrom, after, judged, takingOver}
+use Rattle.taking.specs.Taking.{joinsOf, isJoined, isNext, areNext, partHeads, ownRows, recordRows, rowsBehind, rowsOf, valuesAt, laidOut, noRecords, layoutFrom, after, judged, takingOver}
 use Rattle.taking.specs.StepLaws.{next-is}
 use Rattle.taking.specs.Derived.{derived, given, StandFor}
 use Rattle.taking.specs.GoesLaws.{value-size}

@@ -55,12 +55,12 @@ builtFrom message separator settings dictionary lent = buildOf message (configOf
 -- ===== lent records, taken over =====
 
 -- a lent record, as the core has it
-unfoldable pub recordOf : FieldRecord → Record
-recordOf f = record { part = f .part; depth = f .depth; number = f .entry; tag = f .tag; place = f .place; length = f .length }
+unfoldable pub recordOfLent : FieldRecord → Record
+recordOfLent f = record { part = f .part; depth = f .depth; number = f .entry; tag = f .tag; place = f .place; length = f .length }
 
 unfoldable pub recordsFrom : List FieldRecord → List Record
 recordsFrom [] = []
-recordsFrom (f ∷ fs) = recordOf f ∷ recordsFrom fs
+recordsFrom (f ∷ fs) = recordOfLent f ∷ recordsFrom fs
 
 -- lent records, as the core's words
 unfoldable pub wordsLent : List FieldRecord → List ℕ
@@ -73,4 +73,4 @@ readCount lent count = pick (ltb lent count) 0 (pick (ltb 1024 count) 0 count)
 -- the first i lent records, put into words one after the other
 unfoldable pub putFields : List FieldRecord → ℕ → List ℕ → List ℕ
 putFields fs zero words = words
-putFields fs (suc i) words = onRecords (replaced i (recordOf (getD fs i blankField))) (putFields fs i words)
+putFields fs (suc i) words = onRecords (replaced i (recordOfLent (getD fs i blankField))) (putFields fs i words)

@@ -4,7 +4,7 @@ use mathlib.Core.Path.{_≡_, refl, ap, _∙_}
 use mathlib.Core.List.{List}
 use borrow.Author.Tests.{lt-ltb, le-ltb}
 use Rattle.taking.specs.declared.Taken.{Taken}
-use Rattle.taking.specs.Taking.{After, after, numberOfTaken}
+use Rattle.taking.specs.Taking.{AfterTaking, after, numberOfTaken}
 use Rattle.telling.specs.Told.{takingNumber, takenWords, takenValues}
 use Rattle.telling.specs.Lent.{readCount}
 
@@ -21,14 +21,14 @@ unfolding readCount
 read-all lent count h under = rw (le-ltb lent count h, le-ltb 1024 count under) refl
 
 -- what a taking over tells follows from its outcome
-pub took-number : (k : Taken) (words values : List ℕ) (o : After) (n : ℕ) → after k words values ≡ o → n ≡ numberOfTaken k → n ≡ takingNumber o
+pub took-number : (k : Taken) (words values : List ℕ) (o : AfterTaking) (n : ℕ) → after k words values ≡ o → n ≡ numberOfTaken k → n ≡ takingNumber o
 unfolding takingNumber
 took-number k words values o n e h = h ∙ ap takingNumber e
 
-pub took-words : (k : Taken) (words values : List ℕ) (o : After) → after k words values ≡ o → words ≡ takenWords o
+pub took-words : (k : Taken) (words values : List ℕ) (o : AfterTaking) → after k words values ≡ o → words ≡ takenWords o
 unfolding takenWords
 took-words k words values o e = ap takenWords e
 
-pub took-values : (k : Taken) (words values : List ℕ) (o : After) → after k words values ≡ o → values ≡ takenValues o
+pub took-values : (k : Taken) (words values : List ℕ) (o : AfterTaking) → after k words values ≡ o → values ≡ takenValues o
 unfolding takenValues
 took-values k words values o e = ap takenValues e

@@ -14,7 +14,7 @@ use Rattle.message_rules.specs.declared.FoundValue.{FoundValue}
 use Rattle.message_rules.specs.declared.FoundValue.the-variants as value
 use Rattle.message_rules.specs.declared.FoundMap.{FoundMap}
 use Rattle.message_rules.specs.declared.FoundMap.the-variants as map
-use Rattle.taking.specs.Taking.{After as AfterTaking, after as afterTaking, numberOfTaken}
+use Rattle.taking.specs.Taking.{AfterTaking, after as afterTaking, numberOfTaken}
 
 -- "`[records, first value, second value, 0]`, fixed on every answer", each of them as a word of 32 bits
 unfoldable pub told : ℕ → ℕ × ℕ → List ℕ

@@ -5,7 +5,7 @@ use mathlib.Core.List.{List, [], _∷_}
 use native.Mathlib.Omega.{arith}
 use lib.ListN.{length, set, getD}
 use Rattle.dictionary_rules.specs.declared.Checked.{Checked}
-use Rattle.dictionary_rules.specs.Check.{numberOf as numberOfCheck, valuesOf as valuesOfCheck}
+use Rattle.dictionary_rules.specs.Check.{numberOfCheck, valuesOfCheck}
 use Rattle.build_answers.specs.Answer.{numberOf, valuesOf}
 use Rattle.builder.specs.declared.Built.{Built}
 use Rattle.builder.specs.Build.{BuildOutcome, builtTold}

@@ -18,7 +18,7 @@ ghost use Rattle.message_rules.specs.LookUps.{numberOfValue, numberOfMap};
 ghost use Rattle.builder.specs.Build.{buildOf};
 ghost use Rattle.build_config.specs.Settings.{configOf};
 ghost use Rattle.telling.specs.Told.{told, partNumbered, lengthOfEncoding, toldMap, toldValue, takingNumber, takenWords, takenValues};
-ghost use Rattle.telling.specs.Lent.{fieldAt, shownOf, toldOf, recordOf, readCount};
+ghost use Rattle.telling.specs.Lent.{fieldAt, shownOf, toldOf, recordOfLent, readCount};
 
 // A record as it is lent: twelve bytes. Depth and entry are 0 outside groups, else they start from 1.
 #[repr(C)]
@@ -128,7 +128,7 @@ pub fn build(
 
 // A lent record as record i of the words.
 pub fn put_field(words: &mut [u32; records::WORDS], i: usize, field: FieldRecord)
-    ensures { λ _. ⌜ now (words .exit) ≡ onRecords (replaced i (recordOf field)) (now (words .entry)) ⌝ }
+    ensures { λ _. ⌜ now (words .exit) ≡ onRecords (replaced i (recordOfLent field)) (now (words .entry)) ⌝ }
 {
     let record = Record {
         part: field.part as u32,

@@ -17,19 +17,19 @@ use Rattle.integrity.specs.declared.Integrity.{Integrity}
 use Rattle.integrity.specs.declared.Integrity.the-variants.{Sound, Garbled}
 use Rattle.integrity.specs.declared.Verified.{Verified}
 use Rattle.dictionary_layout_rules.specs.Tree.{Dictionary, knows, headerTags, trailerTags, holdsTag, Choice, noMessage, laidOut, layoutOf}
-use Rattle.records.specs.Records.{stored}
+use Rattle.records.specs.Records.{stored, valueAt}
 use Rattle.records.specs.declared.Record.{Record}
 use Rattle.groups.specs.Reading.{accepted, layoutRules}
 use Rattle.required.specs.Checking.{layoutDemands}
 use Rattle.build_answers.specs.Answer.{numberOf}
 use Rattle.build_answers.specs.declared.Answer.{Answer}
 use Rattle.build_answers.specs.declared.Answer.the-variants.{Valid}
-use Rattle.parts.specs.Parts.{Reading, ended, refused, recordOf}
+use Rattle.parts.specs.Parts.{Reading, ended, refused, partRecord}
 use Rattle.parts.specs.Header.{headerFrom}
 use Rattle.parts.specs.Trailer.{Trailer, stopped, unstopped, crowded, trailerFrom}
 use Rattle.body.specs.Body.{bodyFrom}
 use Rattle.body.specs.Kinds.{bodyOf}
-use Rattle.reading.specs.Beginning.{headerOf, verifiedRecords, withChecksum, startedBy, startOf, msgTypeRecord, valueAt}
+use Rattle.reading.specs.Beginning.{headerOf, verifiedRecords, withChecksum, startedBy, startOf, msgTypeRecord}
 use Rattle.reading.specs.Message.{Outcome, shownWith, refusal, afterTrailer, afterBody, afterType, afterHeader, messageRead}
 use Rattle.standing.specs.CountLaws.{grows-stored}
 use Rattle.taken.specs.Theorem.{build-takes}
@@ -39,9 +39,9 @@ unfolding headerFrom
 header-few tags (unreadable cause place) room rs n f rest room₁ rs₁ e = let z : _≡_ {A = ℕ} 0 1 = cc in absurd (omega arith)
 header-few tags (field g more) zero rs n f rest room₁ rs₁ e = let z : _≡_ {A = ℕ} 0 1 = cc in absurd (omega arith)
 header-few tags (field g more) (suc room) rs n f rest room₁ rs₁ e =
-    by-tag (holdsTag (g .tag) tags) e (λ q. header-few tags more room (stored (recordOf 1 g) rs) (omega (arith, n, grows-stored (recordOf 1 g) rs .longer)) f rest room₁ rs₁ q)
+    by-tag (holdsTag (g .tag) tags) e (λ q. header-few tags more room (stored (partRecord 1 g) rs) (omega (arith, n, grows-stored (partRecord 1 g) rs .longer)) f rest room₁ rs₁ q)
   where
-    by-tag : (b : Bool) → pick b (headerFrom tags more room (stored (recordOf 1 g) rs)) (ended g more room rs) ≡ ended f rest room₁ rs₁ → (headerFrom tags more room (stored (recordOf 1 g) rs) ≡ ended f rest room₁ rs₁ → length rs₁ ≤ 1024) → length rs₁ ≤ 1024
+    by-tag : (b : Bool) → pick b (headerFrom tags more room (stored (partRecord 1 g) rs)) (ended g more room rs) ≡ ended f rest room₁ rs₁ → (headerFrom tags more room (stored (partRecord 1 g) rs) ≡ ended f rest room₁ rs₁ → length rs₁ ≤ 1024) → length rs₁ ≤ 1024
     by-tag true e later = later e
     by-tag false e later = let d : rs ≡ rs₁ = cc in rw (← d) (omega (arith, n))
 
@@ -70,7 +70,7 @@ trailer-few h b crowded n = refusal-few _ h n
 body-few : (h : List Record) (checksum : Field) (r : Reading) → length h ≤ 1024 → Few (afterBody h checksum r)
 unfolding afterBody
 body-few h checksum (refused answer) n = refusal-few answer h n
-body-few h checksum (ended f rest room b) n = trailer-few h b (trailerFrom (field f rest) (suc room) (recordOf 3 checksum ∷ [])) n
+body-few h checksum (ended f rest room b) n = trailer-few h b (trailerFrom (field f rest) (suc room) (partRecord 3 checksum ∷ [])) n
 
 module _ (dictionary : Dictionary) (config : Config) (message : List ℕ) where
   type-few : (f : Field) (rest : Fields) (room : ℕ) (h : List Record) (checksum : Field) (choice : Choice) → length h ≤ 1024 → Few (afterType dictionary config f rest room h checksum choice)
@@ -86,9 +86,9 @@ module _ (dictionary : Dictionary) (config : Config) (message : List ℕ) where
   verified-few : (v : Verified) → length (verifiedRecords v) ≤ 3
   unfolding verifiedRecords
   verified-few v =
-      let one = stored (recordOf 1 (v .«begin_string»)) [] in
-      let two = stored (recordOf 1 (v .«body_length»)) one in
-      omega (arith, grows-stored (recordOf 1 (v .«begin_string»)) [] .longer, grows-stored (recordOf 1 (v .«body_length»)) one .longer, grows-stored (recordOf 1 (v .«msg_type»)) two .longer)
+      let one = stored (partRecord 1 (v .«begin_string»)) [] in
+      let two = stored (partRecord 1 (v .«body_length»)) one in
+      omega (arith, grows-stored (partRecord 1 (v .«begin_string»)) [] .longer, grows-stored (partRecord 1 (v .«body_length»)) one .longer, grows-stored (partRecord 1 (v .«msg_type»)) two .longer)
 
   integrity-few : (i : Integrity) → Few (afterHeader dictionary config message (startedBy (headerTags dictionary) config message i))
   unfolding startedBy

@@ -5,6 +5,7 @@ use mathlib.Core.Bool.{Bool, true, false}
 use mathlib.Core.List.{List, [], _∷_}
 use native.Mathlib.Omega.{arith}
 use lib.Dec.{leb}
+use Rattle.records.specs.Records.{valueAt}
 use Rattle.build_config.specs.declared.Config.{Config}
 use Rattle.tagvalue.specs.Choice.{pick}
 use Rattle.tagvalue.specs.Fields.{Fields, field, fieldsFrom}
@@ -21,11 +22,11 @@ use Rattle.required.specs.Checking.{layoutDemands}
 use Rattle.nesting.specs.Entries.{All, all-none, all-more, all-append, all-stored}
 use Rattle.build_answers.specs.Answer.{numberOf}
 use Rattle.build_answers.specs.declared.Answer.{Answer}
-use Rattle.parts.specs.Parts.{Reading, ended, refused, recordOf}
+use Rattle.parts.specs.Parts.{Reading, ended, refused, partRecord}
 use Rattle.parts.specs.Trailer.{Trailer, stopped, unstopped, crowded, trailerFrom}
 use Rattle.body.specs.Body.{bodyFrom}
 use Rattle.body.specs.Kinds.{bodyOf}
-use Rattle.reading.specs.Beginning.{headerOf, verifiedRecords, withChecksum, startedBy, startOf, msgTypeRecord, valueAt}
+use Rattle.reading.specs.Beginning.{headerOf, verifiedRecords, withChecksum, startedBy, startOf, msgTypeRecord}
 use Rattle.reading.specs.Message.{shownWith, refusal, afterTrailer, afterBody, afterType, afterHeader, messageRead}
 use Rattle.standing.specs.Counting.{Fine}
 use Rattle.standing.specs.CountLaws.{read-fine, all-fine}
@@ -56,8 +57,8 @@ module _ (message : List ℕ) where
     body-shown h (refused answer) ah k = refusal-small answer h ah
     body-shown h (ended f rest room b) ah k =
         let kept = k f rest room b refl in
-        trailer-shown h b (trailerFrom (field f rest) (suc room) (recordOf 3 checksum ∷ [])) ah (kept .small)
-        (trailer-small (field f rest) (suc room) (recordOf 3 checksum ∷ []) (record { small = all-more (part-small 3 checksum (omega arith) sum-fine) all-none; each = kept .each; left = kept .left }))
+        trailer-shown h b (trailerFrom (field f rest) (suc room) (partRecord 3 checksum ∷ [])) ah (kept .small)
+        (trailer-small (field f rest) (suc room) (partRecord 3 checksum ∷ []) (record { small = all-more (part-small 3 checksum (omega arith) sum-fine) all-none; each = kept .each; left = kept .left }))
 
     type-shown : (f : Field) (rest : Fields) (room : ℕ) (h : List Record) (choice : Choice) → Kept message (field f rest) (suc room) h → AllSmall (afterType dictionary config f rest room h checksum choice .records)
     unfolding afterType
@@ -76,9 +77,9 @@ module _ (message : List ℕ) where
     unfolding verifiedRecords
     verified-kept v r = record {
       small =
-          all-stored _ (recordOf 1 (v .«msg_type»)) (part-small 1 (v .«msg_type») (omega arith) (read-fine (config .mode) message _ (v .«msg_type») (r .types)))
-          (all-stored _ (recordOf 1 (v .«body_length»)) (part-small 1 (v .«body_length») (omega arith) (read-fine (config .mode) message _ (v .«body_length») (r .counts)))
-          (all-stored _ (recordOf 1 (v .«begin_string»)) (part-small 1 (v .«begin_string») (omega arith) (read-fine (config .mode) message _ (v .«begin_string») (r .begins))) all-none));
+          all-stored _ (partRecord 1 (v .«msg_type»)) (part-small 1 (v .«msg_type») (omega arith) (read-fine (config .mode) message _ (v .«msg_type») (r .types)))
+          (all-stored _ (partRecord 1 (v .«body_length»)) (part-small 1 (v .«body_length») (omega arith) (read-fine (config .mode) message _ (v .«body_length») (r .counts)))
+          (all-stored _ (partRecord 1 (v .«begin_string»)) (part-small 1 (v .«begin_string») (omega arith) (read-fine (config .mode) message _ (v .«begin_string») (r .begins))) all-none));
       each = all-fine (config .mode) message (v .«msg_type» .next);
       left = omega arith;
     }

@@ -16,15 +16,15 @@ use Rattle.dictionary_layout_rules.specs.declared.Position.{Position}
 use Rattle.dictionary_layout_rules.specs.declared.Position.the-variants.{At, Nowhere}
 use Rattle.records.specs.Records.{stored}
 use Rattle.records.specs.declared.Record.{Record}
-use Rattle.groups.specs.Groups.{Rules, Opened, none, opened, Frame, run, entry, Kind, plain, count, joins, wrong, ends, counting, declared, kindOf, opens, Move, adds, joinsAt, disorders, leaves, inEntry, decide, Outcome, moved, walk}
-use Rattle.groups.specs.Groups.{recordOf as entryRecord, ended as ran, refused as stops}
+use Rattle.groups.specs.Groups.{Rules, Opened, none, opened, Frame, run, entry, Kind, plain, count, joins, wrong, ends, counting, declared, kindOf, opens, Move, adds, joinsAt, disorders, leaves, inEntry, decide, RunOutcome, moved, walk}
+use Rattle.groups.specs.Groups.{entryRecord, ended as ran, refused as stops}
 use Rattle.groups.specs.Reading.{joinedList, listStore}
 use Rattle.required.specs.Required.{Demands, runLack}
 use Rattle.required.specs.declared.Lack.{Lack}
 use Rattle.required.specs.declared.Lack.the-variants.{Missing, Complete}
 use Rattle.nesting.specs.Entries.{All, all-none, all-more, all-append, all-stored}
 use Rattle.build_answers.specs.declared.Answer.the-variants.{InvalidField}
-use Rattle.parts.specs.Parts.{ended, refused, recordOf}
+use Rattle.parts.specs.Parts.{ended, refused, partRecord}
 use Rattle.parts.specs.Header.{headerFrom}
 use Rattle.parts.specs.Trailer.{Trailer, stopped, unstopped, crowded, trailerFrom}
 use Rattle.body.specs.Body.{Kind as Taken, plain as takes-plain, counts, other, Body, storedRun, andThen, nextFrom, withRun, takes, bodyWithin}
@@ -46,8 +46,8 @@ pub record Kept (message : List ℕ) (fields : Fields) (room : ℕ) (rs : List R
   pub each : Each (Fine message) fields
   pub left : room ≤ 1024
 
-pub part-small : {message : List ℕ} (part : ℕ) (f : Field) → part ≤ 3 → Fine message f → Small message (recordOf part f)
-unfolding recordOf
+pub part-small : {message : List ℕ} (part : ℕ) (f : Field) → part ≤ 3 → Fine message f → Small message (partRecord part f)
+unfolding partRecord
 part-small part f p fine = record { of-three = p; shallow = omega arith; numbered = omega arith; inside = fine .inside }
 
 entry-small : {message : List ℕ} (depth number : ℕ) (f : Field) → depth ≤ 4 → number ≤ 1024 → Fine message f → Small message (entryRecord depth number f)
@@ -154,25 +154,25 @@ walk-kept {L} rules {message} (suc room) stack rs (field g more) s c f rest room
         later stack₂ (joinedList start (entryRecord depth number g) rs) (m .0) (kept-on c (all-joins start (entryRecord depth number g) rs (entry-small depth number g (m .1) (m .2) (first-fine (c .each))) (c .small))) (unfold moved listStore in e)
     by-move (disorders group) m e later = let z : _≡_ {A = ℕ} 0 1 = unfold moved in cc in absurd (omega arith)
     by-move leaves m e later =
-        let q : _≡_ {A = Outcome (List Record) (List Record)} (ran g more room rs) (ran f rest room₁ rs₁) = unfold moved in e in
+        let q : _≡_ {A = RunOutcome (List Record) (List Record)} (ran g more room rs) (ran f rest room₁ rs₁) = unfold moved in e in
         let a : g ≡ f = cc in
         let b : more ≡ rest = cc in
         let d : room ≡ room₁ = cc in
         let l : rs ≡ rs₁ = cc in
         rw (← a, ← b, ← d, ← l) c
 
-part-kept : {message : List ℕ} {f : Field} {rest : Fields} {room : ℕ} {rs : List Record} (part : ℕ) → part ≤ 3 → Kept message (field f rest) (suc room) rs → Kept message rest room (stored (recordOf part f) rs)
-part-kept {f = f} part p k = kept-on k (all-stored _ (recordOf part f) (part-small part f p (first-fine (k .each))) (k .small))
+part-kept : {message : List ℕ} {f : Field} {rest : Fields} {room : ℕ} {rs : List Record} (part : ℕ) → part ≤ 3 → Kept message (field f rest) (suc room) rs → Kept message rest room (stored (partRecord part f) rs)
+part-kept {f = f} part p k = kept-on k (all-stored _ (partRecord part f) (part-small part f p (first-fine (k .each))) (k .small))
 
 pub header-kept : {message : List ℕ} (tags : List ℕ) (fields : Fields) (room : ℕ) (rs : List Record) → Kept message fields room rs → (f : Field) (rest : Fields) (room₁ : ℕ) (rs₁ : List Record) → headerFrom tags fields room rs ≡ ended f rest room₁ rs₁
     → Kept message (field f rest) (suc room₁) rs₁
 unfolding headerFrom
 header-kept tags (unreadable cause place) room rs r f rest room₁ rs₁ e = let z : _≡_ {A = ℕ} 0 1 = cc in absurd (omega arith)
 header-kept tags (field g more) zero rs r f rest room₁ rs₁ e = let z : _≡_ {A = ℕ} 0 1 = cc in absurd (omega arith)
-header-kept {message} tags (field g more) (suc room) rs r f rest room₁ rs₁ e = by-tag (holdsTag (g .tag) tags) e (λ q. header-kept tags more room (stored (recordOf 1 g) rs) (part-kept 1 (omega arith) r) f rest room₁ rs₁ q)
+header-kept {message} tags (field g more) (suc room) rs r f rest room₁ rs₁ e = by-tag (holdsTag (g .tag) tags) e (λ q. header-kept tags more room (stored (partRecord 1 g) rs) (part-kept 1 (omega arith) r) f rest room₁ rs₁ q)
   where
-    by-tag : (b : Bool) → pick b (headerFrom tags more room (stored (recordOf 1 g) rs)) (ended g more room rs) ≡ ended f rest room₁ rs₁
-        → (headerFrom tags more room (stored (recordOf 1 g) rs) ≡ ended f rest room₁ rs₁ → Kept message (field f rest) (suc room₁) rs₁) → Kept message (field f rest) (suc room₁) rs₁
+    by-tag : (b : Bool) → pick b (headerFrom tags more room (stored (partRecord 1 g) rs)) (ended g more room rs) ≡ ended f rest room₁ rs₁
+        → (headerFrom tags more room (stored (partRecord 1 g) rs) ≡ ended f rest room₁ rs₁ → Kept message (field f rest) (suc room₁) rs₁) → Kept message (field f rest) (suc room₁) rs₁
     by-tag true e later = later e
     by-tag false e later =
         let a : g ≡ f = cc in
@@ -192,9 +192,9 @@ unfolding trailerFrom
 trailer-small (unreadable cause place) zero rs k = tt
 trailer-small (unreadable cause place) (suc room) rs k = k .small
 trailer-small (field g more) zero rs k = tt
-trailer-small {message} (field g more) (suc room) rs k = by-tag (eqb (g .tag) 10) (trailer-small more room (stored (recordOf 3 g) rs) (part-kept 3 (omega arith) k))
+trailer-small {message} (field g more) (suc room) rs k = by-tag (eqb (g .tag) 10) (trailer-small more room (stored (partRecord 3 g) rs) (part-kept 3 (omega arith) k))
   where
-    by-tag : (b : Bool) → TrailerSmall message (trailerFrom more room (stored (recordOf 3 g) rs)) → TrailerSmall message (pick b (stopped g rs) (trailerFrom more room (stored (recordOf 3 g) rs)))
+    by-tag : (b : Bool) → TrailerSmall message (trailerFrom more room (stored (partRecord 3 g) rs)) → TrailerSmall message (pick b (stopped g rs) (trailerFrom more room (stored (partRecord 3 g) rs)))
     by-tag true later = k .small
     by-tag false later = later
 
@@ -218,16 +218,16 @@ module _ {L : Type 0} (rules : Rules L) (demands : Demands L) (tags : List ℕ) 
       after-next (field h last) zero rs₂ r₂ q later = let z : _≡_ {A = ℕ} 0 1 = unfold nextFrom andThen in cc in absurd (omega arith)
       after-next (field h last) (suc room₂) rs₂ r₂ q later = later (field h last) (suc room₂) rs₂ r₂ (unfold nextFrom andThen in q)
 
-      after-lack : (h : Field) (last : Fields) (room₂ : ℕ) (es : List Record) (lack : Lack) → Kept message (field h last) (suc room₂) (storedRun (recordOf 2 g) es rs)
-          → andThen (withRun (recordOf 2 g) rs (checked h last room₂ es lack)) (bodyWithin body turns) ≡ ended f rest room₁ rs₁ → Later → Kept message (field f rest) (suc room₁) rs₁
-      after-lack h last room₂ es Complete r₂ q later = later (field h last) (suc room₂) (storedRun (recordOf 2 g) es rs) r₂ (unfold checked withRun andThen in q)
+      after-lack : (h : Field) (last : Fields) (room₂ : ℕ) (es : List Record) (lack : Lack) → Kept message (field h last) (suc room₂) (storedRun (partRecord 2 g) es rs)
+          → andThen (withRun (partRecord 2 g) rs (checked h last room₂ es lack)) (bodyWithin body turns) ≡ ended f rest room₁ rs₁ → Later → Kept message (field f rest) (suc room₁) rs₁
+      after-lack h last room₂ es Complete r₂ q later = later (field h last) (suc room₂) (storedRun (partRecord 2 g) es rs) r₂ (unfold checked withRun andThen in q)
       after-lack h last room₂ es (Missing t u) r₂ q later = let z : _≡_ {A = ℕ} 0 1 = unfold checked withRun andThen in cc in absurd (omega arith)
 
-      with-run : (h : Field) (last : Fields) (room₂ : ℕ) (es : List Record) → Kept message (field h last) (suc room₂) es → Kept message (field h last) (suc room₂) (storedRun (recordOf 2 g) es rs)
-      with-run h last room₂ es k = record { small = all-run (recordOf 2 g) es rs (part-small 2 g (omega arith) (first-fine (r .each))) (k .small) (r .small); each = k .each; left = k .left }
+      with-run : (h : Field) (last : Fields) (room₂ : ℕ) (es : List Record) → Kept message (field h last) (suc room₂) es → Kept message (field h last) (suc room₂) (storedRun (partRecord 2 g) es rs)
+      with-run h last room₂ es k = record { small = all-run (partRecord 2 g) es rs (part-small 2 g (omega arith) (first-fine (r .each))) (k .small) (r .small); each = k .each; left = k .left }
 
-      after-run : (inner : L) (o : Outcome (List Record) (List Record)) → walk rules listStore room (run inner (g .tag) 1 0 ∷ []) [] more ≡ o
-          → andThen (withRun (recordOf 2 g) rs (ranAs rules demands inner (g .tag) o)) (bodyWithin body turns) ≡ ended f rest room₁ rs₁ → Later → Kept message (field f rest) (suc room₁) rs₁
+      after-run : (inner : L) (o : RunOutcome (List Record) (List Record)) → walk rules listStore room (run inner (g .tag) 1 0 ∷ []) [] more ≡ o
+          → andThen (withRun (partRecord 2 g) rs (ranAs rules demands inner (g .tag) o)) (bodyWithin body turns) ≡ ended f rest room₁ rs₁ → Later → Kept message (field f rest) (suc room₁) rs₁
       after-run inner (ran h last room₂ es) w q later =
           after-lack h last room₂ es (runLack demands 4 inner (g .tag) 1 es)
           (with-run h last room₂ es (walk-kept rules room (run inner (g .tag) 1 0 ∷ []) [] more (run-open {depth = 1} {entries = 0} (omega arith) (omega (arith, r .left)) nothing-open) (kept-on r all-none) h last room₂ es w)) (unfold ranAs in q) later
@@ -243,6 +243,6 @@ module _ {L : Type 0} (rules : Rules L) (demands : Demands L) (tags : List ℕ) 
       by-tag false q = let z : _≡_ {A = ℕ} 0 1 = cc in absurd (omega arith)
 
       by-kind : (k : Taken L) → takes body (bodyWithin body turns) g more room rs k ≡ ended f rest room₁ rs₁ → Later → Kept message (field f rest) (suc room₁) rs₁
-      by-kind takes-plain q later = after-next more room (stored (recordOf 2 g) rs) (part-kept 2 (omega arith) r) (unfold takes in q) later
+      by-kind takes-plain q later = after-next more room (stored (partRecord 2 g) rs) (part-kept 2 (omega arith) r) (unfold takes in q) later
       by-kind (counts inner) q later = after-run inner (walk rules listStore room (run inner (g .tag) 1 0 ∷ []) [] more) refl (unfold takes bodyOf runFrom in q) later
       by-kind other q later = by-tag (holdsTag (g .tag) (body .trailer)) (unfold takes in q)

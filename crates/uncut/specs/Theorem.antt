@@ -12,7 +12,7 @@ use lib.ListN.{length, replicate, List·getD-append}
 use Rattle.tagvalue.specs.Separator.{isRefusedSeparator}
 use Rattle.tagvalue.specs.Choice.{pick}
 use Rattle.build_config.specs.declared.Config.{Config}
-use Rattle.dictionary_rules.specs.Check.{checkOf, numberOf as numberOfCheck}
+use Rattle.dictionary_rules.specs.Check.{checkOf, numberOfCheck}
 use Rattle.dictionary_rules.specs.declared.Checked.{Checked}
 use Rattle.dictionary_meaning_rules.specs.Meaning.{dictionaryOf}
 use Rattle.records.specs.declared.Record.{Record}

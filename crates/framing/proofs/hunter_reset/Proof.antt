@@ -2,7 +2,7 @@
 use mathlib.Core.Path.{ap, _∙_}
 use Rattle.frame_hunter_rules.specs.declared.State.{State}
 use Rattle.frame_hunter_rules.specs.declared.Answer.the-variants.{Fine}
-use Rattle.frame_hunter_rules.specs.Bytes.{numberOf}
+use Rattle.frame_hunter_rules.specs.Bytes.{numberOfHunter}
 use Rattle.framing.specs.States.{hunterTold}
 use borrow.Author.Needs.{needs}
 use Rattle.framing.proofs.hunter_reset.Statement.{statement}
@@ -18,7 +18,7 @@ hunter-told-requires : tie.Need-hunter-told-requires
 hunter-told-requires c κs = search needs
 
 returns : tie.Need-returns
-unfolding numberOf
+unfolding numberOfHunter
 returns c =
     (c .hunter-told .ensures ∙ ap (λ (s : State). hunterTold s Fine) (c .before .reset .ensures), c .before .before .tell .ensures)
 

@@ -2,7 +2,7 @@
 use mathlib.Core.Path.{ap, _∙_}
 use Rattle.frame_parser_rules.specs.declared.State.{State}
 use Rattle.frame_parser_rules.specs.declared.Answer.the-variants.{Accepted}
-use Rattle.frame_parser_rules.specs.Framer.{numberOf}
+use Rattle.frame_parser_rules.specs.Framer.{numberOfParser}
 use Rattle.framing.specs.States.{portedTold}
 use borrow.Author.Needs.{needs}
 use Rattle.framing.proofs.ported_reset.Statement.{statement}
@@ -18,7 +18,7 @@ ported-told-requires : tie.Need-ported-told-requires
 ported-told-requires c κs = search needs
 
 returns : tie.Need-returns
-unfolding numberOf
+unfolding numberOfParser
 returns c =
     (c .ported-told .ensures ∙ ap (λ (s : State). portedTold s Accepted) (c .before .reset .ensures), c .before .before .tell .ensures)
 

@@ -1,7 +1,7 @@
 -- `record_of` meets its contract: it copies the field's numbers, which fit a word.
 use mathlib.Core.Path.{refl}
 use borrow.Author.Needs.{needs}
-use Rattle.groups.specs.Groups.{recordOf}
+use Rattle.groups.specs.Groups.{entryRecord}
 use Rattle.groups.proofs.record_of.Statement.{statement}
 use Rattle.groups.proofs.record_of.Tie as tie
 
@@ -12,7 +12,7 @@ cast-t5 : tie.Need-cast-t5
 cast-t5 c = search needs
 
 returns : tie.Need-returns
-returns c = unfold recordOf in refl
+returns c = unfold entryRecord in refl
 
 pub record-of-spec : {M : Type 1} → statement M
 record-of-spec = tie.close (tie.spec cast-t4 cast-t5 returns)

@@ -1,7 +1,7 @@
 -- `number` meets its contract: each arm is a case of the definition.
 use mathlib.Core.Path.{sym, ap}
 use borrow.Author.Needs.{needs}
-use Rattle.frame_hunter_rules.specs.Bytes.{numberOf}
+use Rattle.frame_hunter_rules.specs.Bytes.{numberOfHunter}
 use Rattle.hunter.proofs.number.Statement.{statement}
 use Rattle.hunter.proofs.number.Tie as tie
 
@@ -21,24 +21,24 @@ enum-told-5 : tie.Need-enum-told-5
 enum-told-5 c = search needs
 
 returns : tie.Need-returns
-unfolding numberOf
-returns c = sym (ap numberOf (c .enum-told .given .1))
+unfolding numberOfHunter
+returns c = sym (ap numberOfHunter (c .enum-told .given .1))
 
 returns-2 : tie.Need-returns-2
-unfolding numberOf
-returns-2 c = sym (ap numberOf (c .enum-told2 .given .1))
+unfolding numberOfHunter
+returns-2 c = sym (ap numberOfHunter (c .enum-told2 .given .1))
 
 returns-3 : tie.Need-returns-3
-unfolding numberOf
-returns-3 c = sym (ap numberOf (c .enum-told3 .given .1))
+unfolding numberOfHunter
+returns-3 c = sym (ap numberOfHunter (c .enum-told3 .given .1))
 
 returns-4 : tie.Need-returns-4
-unfolding numberOf
-returns-4 c = sym (ap numberOf (c .enum-told4 .given .1))
+unfolding numberOfHunter
+returns-4 c = sym (ap numberOfHunter (c .enum-told4 .given .1))
 
 returns-5 : tie.Need-returns-5
-unfolding numberOf
-returns-5 c = sym (ap numberOf (c .enum-told5 .given .1))
+unfolding numberOfHunter
+returns-5 c = sym (ap numberOfHunter (c .enum-told5 .given .1))
 
 pub number-spec : {M : Type 1} → statement M
 number-spec =

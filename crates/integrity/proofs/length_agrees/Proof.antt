@@ -5,7 +5,7 @@ use Prim.Native.Nat.{ℕ, _+_, _-_}
 use native.Mathlib.Omega.{arith}
 use lib.ListN.{length}
 use lib.Dec.{eqb}
-use Rattle.tagvalue.specs.Number.{numberOf}
+use Rattle.tagvalue.specs.Number.{numberIn}
 use Rattle.tagvalue.specs.Field.{valueOf}
 use Rattle.tagvalue.specs.declared.Number.the-variants.{Worth}
 use Rattle.integrity.specs.IntegrityLaws.{length-none, length-other, length-is}
@@ -30,7 +30,7 @@ returns : tie.Need-returns
 returns c = sym (length-none _ _ (rw (c .before .before .before .value-of .ensures) at (sym (c .before .before .number-of .ensures) ∙ c .enum-told .given .1)))
 
 -- what the field's value is worth
-number : (c : tie.After-known-told) → let a = c .before .before .before .before .before .before .before .args in numberOf (valueOf (a .message .now) (a .body-length)) ≡ Worth (c .before .n .given .0 .0)
+number : (c : tie.After-known-told) → let a = c .before .before .before .before .before .before .before .args in numberIn (valueOf (a .message .now) (a .body-length)) ≡ Worth (c .before .n .given .0 .0)
 number c = rw (c .before .before .before .before .value-of .ensures) at (sym (c .before .before .before .number-of .ensures) ∙ c .before .n .given .1)
 
 returns-2 : tie.Need-returns-2

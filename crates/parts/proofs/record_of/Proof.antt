@@ -1,6 +1,6 @@
 -- `record_of` meets its contract: place and length fit a word.
 use mathlib.Core.Path.{_≡_, refl}
-use Rattle.parts.specs.Parts.{recordOf}
+use Rattle.parts.specs.Parts.{partRecord}
 use borrow.Author.Needs.{needs}
 use Rattle.parts.proofs.record_of.Statement.{statement}
 use Rattle.parts.proofs.record_of.Tie as tie
@@ -12,7 +12,7 @@ cast-t4 : tie.Need-cast-t4
 cast-t4 c = search needs
 
 returns : tie.Need-returns
-unfolding recordOf
+unfolding partRecord
 returns c = refl
 
 pub record-of-spec : {M : Type 1} → statement M

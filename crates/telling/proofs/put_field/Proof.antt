@@ -1,5 +1,5 @@
 -- `put_field` meets its contract: the record is widened.
-use Rattle.telling.specs.Lent.{recordOf}
+use Rattle.telling.specs.Lent.{recordOfLent}
 use borrow.Author.Needs.{needs}
 use Rattle.telling.proofs.put_field.Statement.{statement}
 use Rattle.telling.proofs.put_field.Tie as tie
@@ -23,7 +23,7 @@ replace-requires : tie.Need-replace-requires
 replace-requires c κs = search needs
 
 returns : tie.Need-returns
-unfolding recordOf
+unfolding recordOfLent
 returns c = c .replace .ensures
 
 pub put-field-spec : {M : Type 1} → statement M

@@ -7,7 +7,7 @@ use Rattle.gateway.proofs.Walk.{owns, Is, shows, mem, partAt, lone, uin
 use Rattle.gateway.proofs.Calling.{asked, answered}
 use Rattle.gateway.proofs.Framer.{Four}
 use Rattle.gateway.proofs.Words.{Words, packed, given-up}
-use Rattle.taking.specs.Taking.{After, takingOver}
+use Rattle.taking.specs.Taking.{AfterTaking, takingOver}
 use Rattle.telling.specs.Told.{told, takingNumber, takenWords, takenValues}
 use Rattle.telling.specs.Lent.{wordsLent, readCount, putFields}
 use Rattle.telling.specs.declared.FieldRecord.{FieldRecord}
@@ -105,7 +105,7 @@ module _ {M : Type 1} (𝓤 : URA M) (H : Heap 𝓤) (A : Atoms 𝓤) (W : Given
   to-take l ν δ zs n = (((ν ∷ [], (κ₁, (κ₂, (κ₃, (κ₄, tt))))), (fullShare, (q₁, (q₂, (q₃, (q₄, tt))))), tt, (at l δ zs, (n, (count, (s, (d, (c, (y, tt))))))), (vptr l 0 ∷ [], (vint w64 n ∷ [], (vint w64 count ∷ [], (w ∷ [], (w₁ ∷ [], (w₂ ∷ [], (p ∷ [], tt)))))))), tt)
 
   -- what the core says where the words are zs and n records were read
-  abbrev from-words : ℕ → List ℕ → After
+  abbrev from-words : ℕ → List ℕ → AfterTaking
   from-words n zs = takingOver (take (stride * n) zs) count (now s) (now d) (now c)
 
   abbrev Said : ℕ → List ℕ → ℕ → List ℕ → List ℕ → List ℕ → Type 0
@@ -117,7 +117,7 @@ module _ {M : Type 1} (𝓤 : URA M) (H : Heap 𝓤) (A : Atoms 𝓤) (W : Given
   most : (n : ℕ) → n ≡ readCount len count → n ≤ 1024
   most n e = subst (λ (k : ℕ). k ≤ 1024) (sym e) (read-most len count)
 
-  abbrev end : After
+  abbrev end : AfterTaking
   end = takingOver (wordsLent (now x)) count (now s) (now d) (now c)
 
   abbrev Ends : ℕ → List ℕ → List ℕ → List ℕ → Type 0

@@ -8,7 +8,7 @@ use Rattle.gateway.proofs.Calling.{asked, answered, stands}
 use Rattle.gateway.proofs.Counting.{counted}
 use Rattle.gateway.proofs.Words.{Words, packed, unpacked}
 use Rattle.records.specs.Records.{onRecords, replaced}
-use Rattle.telling.specs.Lent.{blankField, recordOf, putFields}
+use Rattle.telling.specs.Lent.{blankField, recordOfLent, putFields}
 use Rattle.gateway.specs.TakingLaws.{put-next}
 use Rattle.telling.specs.declared.FieldRecord.{FieldRecord}
 use Rattle.telling.proofs.FieldRecord as T
@@ -130,7 +130,7 @@ module _ {M : Type 1} (𝓤 : URA M) (H : Heap 𝓤) (A : Atoms 𝓤) (W : Given
         nothing ! $ move ! (3 ∷ 0 ∷ []) $ join ! $ nothing ! $ move ! (5 ∷ 0 ∷ []) $ fjoin ! $ owned ! usize (Is usize) (uint-makes 𝓤 H A W w64) i _ (refl, i-fits) $ fjoin ! $ move ! (2 ∷ 0 ∷ []) $ fjoin ! $ move ! (1 ∷ 0 ∷ []) $
         use2 W (raw (Put 𝓤 H A at-mem run .pre (to ν δ₁ i))) (asked 𝓤 H A callee.ended (callee.clauses 𝓤 H A at-mem run) (to ν δ₁ i) (id⊢ 𝓤 (emp 𝓤))) $
         calls-at ! fm (Put 𝓤 H A at-mem run) known (to ν δ₁ i) (and-then ! (load ! (from ! (stop !)) (look ! 8 refl)) (and-then ! (load ! (from ! (stop !)) (look ! 5 refl)) (and-then ! (load ! (from ! (stop !)) (look ! 11 refl)) (no-more !)))) (λ u.
-        answered 𝓤 H A callee.ended (callee.clauses 𝓤 H A at-mem run) (to ν δ₁ i) ! tt u (λ z ws. heard ! (ws .0 ≡ onRecords (replaced i (recordOf (f i))) (putFields xs i cs)) (λ e. fsplit ! $ move ! (1 ∷ []) $ drop ! $ move ! (1 ∷ 2 ∷ []) $ peeks ! unit (Is unit) (shows 𝓤 H A unit) z (u ∷ []) (λ is.
+        answered 𝓤 H A callee.ended (callee.clauses 𝓤 H A at-mem run) (to ν δ₁ i) ! tt u (λ z ws. heard ! (ws .0 ≡ onRecords (replaced i (recordOfLent (f i))) (putFields xs i cs)) (λ e. fsplit ! $ move ! (1 ∷ []) $ drop ! $ move ! (1 ∷ 2 ∷ []) $ peeks ! unit (Is unit) (shows 𝓤 H A unit) z (u ∷ []) (λ is.
         land ! (from ! (stop !)) (init ! 9 refl (nothing-lawful 𝓤 H A W .typed z _ is .0)) $ drop ! $
         split ! $ move ! (1 ∷ []) $ drop ! $ lft-end ! tt $ move ! (0 ∷ 2 ∷ 1 ∷ []) $ use3 W (later (‵ (partAt Words fullShare (ws .0) wb wo))) (ref-back 𝓤 H A W Words (ν ∷ []) δ₁ (ws .0) wb wo) $ await ! tt $
         assigns-last ! (bin ! (load ! (from ! (stop !)) (look ! 4 refl)) (lit ! tt) (record { fits = next-fits })) (from ! (stop !)) (store ! 4 refl (tt, record { fits = next-fits })) $
