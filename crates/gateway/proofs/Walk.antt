@@ -50,8 +50,8 @@ pub use denote.Triple.Statement.{Contract, Triple}
 pub use denote.Triple.Call.{calls-at}
 pub use denote.Triple.Clauses.{Ended, Clauses, closing, Lasts, lasts, atExit}
 pub use denote.Triple.Entry.{onEntry, Args, Res, alive}
-pub use denote.Triple.Spec.{tripleOf, Meets}
-pub use denote.Triple.Walked.{says, Stays, stay-ref, gave-slice, stay-none-slice, gave-ref, walkOf, goes-ref, goes-gave-slice, goes-none-slice, goes-gave-ref, ends-at, needs, stay-none, goes-none, Walks, walked, walk-meets, stay-slice, stay-none-ref, goes-slice, goes-none-ref, AllGo}
+pub use denote.Triple.Spec.{tripleOf}
+pub use denote.Triple.Walked.{says, Stays, stay-ref, gave-slice, stay-none-slice, gave-ref, walkOf, goes-ref, goes-gave-slice, goes-none-slice, goes-gave-ref, ends-at, needs, stay-none, goes-none, walked, walk-meets, stay-slice, stay-none-ref, goes-slice, goes-none-ref, AllGo}
 pub use denote.Exit.{yes}
 pub use denote.Plain.{uint-lawful, uint-makes, uint-vals, uint-tells, nothing-lawful}
 pub use denote.Lend.{lends-ref, ref-back, lends-shr, Held}

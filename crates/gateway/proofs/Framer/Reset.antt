@@ -3,7 +3,7 @@
 use Rattle.gateway.proofs.Walk.{_≡_, refl, ap, List, [], _∷_, ℕ, URA, fullShare, named, w32, erased, Name, Fn, tyInt, Val, vptr, vint, SProp, ent, emp, via, fst∗, id⊢, Lft, GName, Share, ftrue, fat, flft, fobs, fbor, fres}
 use Rattle.gateway.proofs.Walk.{Heap, Calls, Loops, WpFn, Atoms, fact, Given, ‵, raw, _⊛_, ⋆, _$_, _∵_, !, qed, by, move, keep, drop, use2, split, join, rewrite, fsplit, fsplit3, fjoin, fjoin3, feqI, suffices, frame, done, Item, look, store, init, forget, stop, hop, fld, from, load, of-opd, addr, and-then, no-more, assigns, land, returns, enter, alloc1, alloc0, params1, pass1, pass0, free1, free0, whole, sub, look-in, Body, FmC}
 use Rattle.gateway.proofs.Walk.{owns, mem, u32, RefMutOf, RefT, MutRef, now, ptr-vals, mut-tells, plain, heard, nothing, Contract, Triple, calls-at, Ended, Clauses, closing, onEntry, tripleOf, says, Stays, stay-ref, gave-ref, walkOf, goes-ref, goes-gave-ref, ends-at, yes, uint-lawful}
-use Rattle.gateway.proofs.Calling.{asked, answered, tokens, Stands, stands}
+use Rattle.gateway.proofs.Calling.{asked, answered, tokens, One, Meets-on, meets-on}
 use Rattle.gateway.proofs.Framer.{Framer, Four, St, reply, reply-laws, Re, ReTy, lent, words, values, lends-words, replies, pointer}
 use Rattle.gateway.proofs.Framer.Steps.{opened, parted, shut}
 use denote.Struct.Laws as LL
@@ -86,8 +86,8 @@ module _ (F : Framer) (key : Name) (replied : F .Reply) (told : List ℕ) where
           move ! (14 ∷ 15 ∷ []) $ free1 ! $ move ! (12 ∷ 13 ∷ []) $ free1 ! $ move ! (10 ∷ 11 ∷ []) $ free1 ! $ move ! (8 ∷ 9 ∷ []) $ free1 ! $ move ! (6 ∷ 7 ∷ []) $ free1 ! $ free0 ! $
           keep ! (0 ∷ 1 ∷ 2 ∷ 3 ∷ 4 ∷ 5 ∷ []) $ by ! (exits r (ws .0) e)))))))))))
 
-  pub proved : Stands key function core-ended (λ M 𝓤 H A _ _. core-clauses 𝓤) ended (λ M 𝓤 H A _ _. clauses 𝓤)
+  pub proved : Meets-on function (One key core-ended (λ M 𝓤 H A _ _. core-clauses 𝓤)) ended (λ M 𝓤 H A _ _. clauses 𝓤)
   proved =
-      stands key function core-ended (λ M 𝓤 H A _ _. core-clauses 𝓤) ended (λ M 𝓤 H A _ _. clauses 𝓤) stayed (λ M 𝓤 H A W. (goes-ref 𝓤 H A W 2 0 tt (plain (λ _. St F)), (goes-gave-ref 𝓤 H A W 2 1 tt (plain (λ _. Four)), tt)))
+      meets-on function (One key core-ended (λ M 𝓤 H A _ _. core-clauses 𝓤)) ended (λ M 𝓤 H A _ _. clauses 𝓤) stayed (λ M 𝓤 H A W. (goes-ref 𝓤 H A W 2 0 tt (plain (λ _. St F)), (goes-gave-ref 𝓤 H A W 2 1 tt (plain (λ _. Four)), tt)))
       (λ κs. (ptr-vals, (ptr-vals, tt))) (λ κs. (mut-tells (named 0) (κs .0) (St F), (mut-tells (named 1) (κs .1 .0) Four, tt)))
       (λ M 𝓤 H A W _ _ 𝓣 fm known κs qs bounds a g are. via 𝓤 _ (fst∗ 𝓤 _ (emp 𝓤)) (walk 𝓤 H A W (κs .0) (κs .1 .0) (qs .0) (qs .1 .0) (a .0 .ptr .0) (a .0 .ptr .1) (a .0 .name) (a .0 .now) (a .1 .0) (𝓣 .C) (𝓣 .Λ) fm known))

@@ -2,9 +2,9 @@
 -- `field_at`, of which only its contract is known, and stores what it returns.
 use Rattle.gateway.proofs.Walk.{_≡_, refl, sym, ap, subst, ℕ, suc, _+_, _*_, _<_, _≤_, _^_, add-one, arith, Bool, List, [], _∷_, length, set, lit<, lt-ltb, le-ltb, URA, fullShare, Ty, loop, named, mut, imm, w64, tyInt, tyBool, tyPtr, tyUnit, tyRef, Val, vbool, vint, vptr, vunit, SProp, ent, emp, sep, id⊢, Lft, GName, Share, Fml, ftrue, fat, froom, fdies, flft, fobs, fauth, fbor, fobor}
 use Rattle.gateway.proofs.Walk.{Memory, Routine, Heap, Out, Env, afterSeq, afterBlock, afterTurn, Calls, Loops, Wp, atReturn, WpFn, Tables, Atoms, sem, Fun, FmC, Given, Item, ‵, raw, _⊛_, ⋆, anyQ, atRet, _$_, _∵_, !, qed, by, move, keep, drop, use1, use2, split, join, rewrite, fsplit, fjoin, feqI, suffices, frame, done, whole, sub, look-in, look, store, store-raw, init, forget, stop, hop, fld, from, load, lit, unit-lit, of-opd, bin, and-then, no-more, assigns, assigns-last, land, stays, leaves-loop, returns, enter, alloc1, alloc0, params1, pass1, pass0, free1, free0, exec}
-use Rattle.gateway.proofs.Walk.{owns, pureI, Is, shows, pointee, uint-makes, uint-vals, uint-tells, usize, RefT, ShrRef, now, ptr-vals, shr-tells, shr-copy, shr-lawful, sliceTy, sliceVal, MutSlice, Room, heres, codedHoleys, at-slice, slice-vals, mut-slice-tells, Held, row, place-is, elem-out, elem-put, opens-slice, closes-slice, plain, owned, peeks, heard, nothing, Contract, Triple, calls-at, onEntry, tripleOf, says, needs, Stays, stay-slice, stay-none-ref, stay-none, walkOf, goes-slice, goes-none-ref, goes-none, ends-at, yes}
+use Rattle.gateway.proofs.Walk.{cited, owns, pureI, Is, shows, pointee, uint-makes, uint-vals, uint-tells, usize, RefT, ShrRef, now, ptr-vals, shr-tells, shr-copy, shr-lawful, sliceTy, sliceVal, MutSlice, Room, heres, codedHoleys, at-slice, slice-vals, mut-slice-tells, Held, row, place-is, elem-out, elem-put, opens-slice, closes-slice, plain, owned, peeks, heard, nothing, Contract, Triple, calls-at, onEntry, tripleOf, says, needs, Stays, stay-slice, stay-none-ref, stay-none, walkOf, goes-slice, goes-none-ref, goes-none, ends-at, yes}
 use denote.Struct.Laws as LL
-use Rattle.gateway.proofs.Calling.{asked, answered, stands}
+use Rattle.gateway.proofs.Calling.{asked, answered, One, meets-on}
 use Rattle.gateway.proofs.Counting.{counted}
 use Rattle.gateway.proofs.Words.{Words}
 use Rattle.telling.specs.Lent.{blankField, fieldAt, filled}
@@ -191,7 +191,7 @@ module _ {M : Type 1} (𝓤 : URA M) (H : Heap 𝓤) (A : Atoms 𝓤) (W : Given
 pub fill-spec : {M : Type 1} → stated.statement M
 unfolding code.routine
 fill-spec {M} 𝓤 H 𝓜 𝓖 𝓡 =
-    stands #telling·field-at code.function callee.ended (λ M 𝓤 H. callee.clauses 𝓤 H) fill.ended (λ M 𝓤 H. fill.clauses 𝓤 H) stayed (λ M 𝓤 H A W. (goes-slice 𝓤 H A W 2 0 tt (plain (λ _. T.the-row)), (goes-none-ref 𝓤 H A W 2 (1 ∷ []) tt (plain (λ _. Words)) yes, (goes-none 𝓤 H A W 2 (λ _. usize) yes (λ κs x f. refl), (goes-none 𝓤 H A W 2 (λ _. usize) yes (λ κs x f. refl), tt)))))
+    meets-on code.function (One #telling·field-at callee.ended (λ M 𝓤 H. callee.clauses 𝓤 H)) fill.ended (λ M 𝓤 H. fill.clauses 𝓤 H) stayed (λ M 𝓤 H A W. (goes-slice 𝓤 H A W 2 0 tt (plain (λ _. T.the-row)), (goes-none-ref 𝓤 H A W 2 (1 ∷ []) tt (plain (λ _. Words)) yes, (goes-none 𝓤 H A W 2 (λ _. usize) yes (λ κs x f. refl), (goes-none 𝓤 H A W 2 (λ _. usize) yes (λ κs x f. refl), tt)))))
     (λ κs. (slice-vals, (ptr-vals, (uint-vals w64, (uint-vals w64, tt))))) (λ κs. (mut-slice-tells (named 0) (κs .0) T.the-row, (shr-tells (named 1) (κs .1 .0) Words, (uint-tells w64, (uint-tells w64, tt)))))
     (λ M 𝓤 H A W mem run 𝓣 fm known κs qs bounds a g are. needs 𝓤 (a .1 .1 .1 .0 ≤ length (now (a .0))) _ (λ in-range. walk 𝓤 H A W mem run (κs .0) (κs .1 .0) (qs .0) (qs .1 .0) (a .0 .ptr .0) (a .0 .ptr .1) (a .0 .name) (a .0 .now) (a .1 .0) (a .1 .1 .0) (a .1 .1 .1 .0) (are .1 .1 .0 .1) (are .1 .1 .1 .0 .1) in-range 𝓣 fm known (are .0 .0 .1) (are .1 .0)))
-    M 𝓤 H 𝓜 𝓖 𝓡 code.env #building·fill (code.unfolded 𝓤 H 𝓜 𝓡) callee-def.routine code.calls-telling·field-at (callee-thm.met 𝓤 H 𝓜 𝓖 𝓡)
+    M 𝓤 H 𝓜 𝓖 𝓡 code.env #building·fill (code.unfolded 𝓤 H 𝓜 𝓡) (cited 𝓤 H _ 𝓜 𝓡 code.env #telling·field-at callee-def.routine code.calls-telling·field-at (callee-thm.met 𝓤 H 𝓜 𝓖 𝓡))

@@ -4,6 +4,7 @@ use Rattle.telling.specs.Told.{told}
 use Rattle.framing.specs.States.{portedIn, portedTold}
 use Rattle.framing.proofs.ported_take.Symbol as core
 use Rattle.framing.proofs.ported_take.Met as core-thm
+use Rattle.gateway.proofs.Walk.{cited}
 use Rattle.gateway.proofs.Framer.Kinds.{ported}
 use Rattle.gateway.proofs.Framer.Take.{proved}
 use Rattle.gateway.proofs.framers.gateway_ported_take.Key.{name}
@@ -14,4 +15,4 @@ pub gateway-ported-take-spec : {M : Type 1} → stated.statement M
 unfolding code.routine
 gateway-ported-take-spec {M} 𝓤 H 𝓜 𝓖 𝓡 =
     proved ported core.name (λ h s c. portedTold (taken (portedIn h) s c .state) (taken (portedIn h) s c .answer)) (λ h s c. takenStore (portedIn h) s c) (λ h s c. takenOutput (portedIn h) s c) (λ h s c. told 0 (valueOf (taken (portedIn h) s c .answer), 0))
-    M 𝓤 H 𝓜 𝓖 𝓡 code.env name (code.unfolded 𝓤 H 𝓜 𝓡) core.routine code.calls-framing·ported-take (core-thm.met 𝓤 H 𝓜 𝓖 𝓡)
+    M 𝓤 H 𝓜 𝓖 𝓡 code.env name (code.unfolded 𝓤 H 𝓜 𝓡) (cited 𝓤 H _ 𝓜 𝓡 code.env core.name core.routine code.calls-framing·ported-take (core-thm.met 𝓤 H 𝓜 𝓖 𝓡))

@@ -2,9 +2,9 @@
 -- each time for a lifetime that the walk makes, and the message is given up to the core. Of the callees only their contracts are known.
 use Rattle.records.specs.Records.{recordWords, stride}
 use Rattle.gateway.proofs.Walk.{_≡_, refl, sym, ap, _∙_, subst, ℕ, _*_, _<_, _≤_, _^_, [], _∷_, List, length, take, replicate, URA, fullShare, named, w32, w64, tyInt, Val, vptr, vint, SProp, ent, emp, via, fst∗, id⊢, Lft, Share, GName, Fml, ftrue, fat, froom, flft, flent, fres}
-use Rattle.gateway.proofs.Walk.{Memory, Routine, Heap, Calls, Loops, WpFn, Tables, Atoms, Fun, factI, givenOf, tables, tablesOf, Given, ‵, raw, _⊛_, ⋆, some, later, _$_, _∵_, !, qed, by, move, keep, drop, use1, use2, use3, split, join, pick, rewrite, fsplit, fjoin, feqL, suffices, frame, await, done, look, init, forget, stop, hop, fld, from, load, of-opd, addr, and-then, no-more, assigns, land, returns, enter, alloc1, alloc0, params1, pass1, pass0, free1, free0, agg, whole, sub, look-in, Body, lft-new, lft-end, lent-back, FmC, fmOf, WpFn-mono}
-use Rattle.gateway.proofs.Walk.{owns, Is, shows, mem, partAt, lone, uint-makes, uint-lawful, uint-vals, uint-tells, nothing-lawful, u8, u32, usize, unit, array-lawful, RefT, now, MutRef, ShrRef, ptr-vals, mut-tells, sliceVal, MutSlice, ShrSlice, Room, finally, slice-vals, mut-slice-tells, shr-slice-tells, shr-slice-copy, shr-slice-lawful, lends-ref, ref-back, lends-shr, plain, only, owned, peeks, heard, nothing, Contract, Triple, calls-at, onEntry, Meets, tripleOf, entered, cited, says, Stays, gave-ref, gave-slice, stay-none, stay-none-slice, walkOf, goes-gave-ref, goes-gave-slice, goes-none, goes-none-slice, Walks, ends-at, walked, walk-meets, yes}
-use Rattle.gateway.proofs.Calling.{asked, answered}
+use Rattle.gateway.proofs.Walk.{Memory, Routine, Heap, Calls, Loops, WpFn, Atoms, Fun, factI, Given, ‵, raw, _⊛_, ⋆, some, later, _$_, _∵_, !, qed, by, move, keep, drop, use1, use2, use3, split, join, pick, rewrite, fsplit, fjoin, feqL, suffices, frame, await, done, look, init, forget, stop, hop, fld, from, load, of-opd, addr, and-then, no-more, assigns, land, returns, enter, alloc1, alloc0, params1, pass1, pass0, free1, free0, agg, whole, sub, look-in, Body, lft-new, lft-end, lent-back, FmC}
+use Rattle.gateway.proofs.Walk.{owns, Is, shows, mem, partAt, lone, uint-makes, uint-lawful, uint-vals, uint-tells, nothing-lawful, u8, u32, usize, unit, array-lawful, RefT, now, MutRef, ShrRef, ptr-vals, mut-tells, sliceVal, MutSlice, ShrSlice, Room, finally, slice-vals, mut-slice-tells, shr-slice-tells, shr-slice-copy, shr-slice-lawful, lends-ref, ref-back, lends-shr, plain, only, owned, peeks, heard, nothing, Contract, Triple, calls-at, onEntry, tripleOf, cited, says, Stays, gave-ref, gave-slice, stay-none, stay-none-slice, walkOf, goes-gave-ref, goes-gave-slice, goes-none, goes-none-slice, ends-at, yes}
+use Rattle.gateway.proofs.Calling.{asked, answered, Knows, meets-on}
 use Rattle.gateway.proofs.Framer.{Four}
 use Rattle.gateway.proofs.Words.{Words, packed, given-up}
 use Rattle.taking.specs.Taking.{AfterTaking, takingOver}
@@ -192,38 +192,19 @@ module _ {M : Type 1} (𝓤 : URA M) (H : Heap 𝓤) (A : Atoms 𝓤) (W : Given
         move ! (46 ∷ 47 ∷ []) $ free1 ! $ move ! (44 ∷ 45 ∷ []) $ free1 ! $ move ! (42 ∷ 43 ∷ []) $ free1 ! $ move ! (40 ∷ 41 ∷ []) $ free1 ! $ move ! (38 ∷ 39 ∷ []) $ free1 ! $ move ! (36 ∷ 37 ∷ []) $ free1 ! $ move ! (34 ∷ 35 ∷ []) $ free1 ! $ move ! (0 ∷ 33 ∷ []) $ free1 ! $ move ! (30 ∷ 31 ∷ []) $ free1 ! $ move ! (28 ∷ 29 ∷ []) $ free1 ! $ move ! (26 ∷ 27 ∷ []) $ free1 ! $ move ! (24 ∷ 25 ∷ []) $ free1 ! $ move ! (22 ∷ 23 ∷ []) $ free1 ! $ move ! (20 ∷ 21 ∷ []) $ free1 ! $ move ! (18 ∷ 19 ∷ []) $ free1 ! $ move ! (16 ∷ 17 ∷ []) $ free1 ! $ move ! (14 ∷ 15 ∷ []) $ free1 ! $ move ! (12 ∷ 13 ∷ []) $ free1 ! $ move ! (10 ∷ 11 ∷ []) $ free1 ! $ free0 ! $
         keep ! (7 ∷ 3 ∷ 2 ∷ 1 ∷ 0 ∷ 9 ∷ 8 ∷ 6 ∷ 5 ∷ 4 ∷ []) $ by ! (exits r (us .1 .1 .1 .1 .0) (us .1 .1 .1 .1 .1 .0) (us .1 .1 .1 .1 .1 .1 .0) (isr .1) same same₁ (joined cs n (ws .1 .1 .0) r (us .1 .1 .1 .1 .0) (us .1 .1 .1 .1 .1 .0) (us .1 .1 .1 .1 .1 .1 .0) e₁ en e₂ e₃)))))))))))))))))))))))))))))))))))))))))))
 
-module _ {M : Type 1} (𝓤 : URA M) (H : Heap 𝓤) (A : Atoms 𝓤) (W : Given 𝓤 H A) (mem′ : Memory → SProp 𝓤) (run : Routine → Fun 𝓤) where
-  entry-walks : (C : Calls 𝓤 H) (Λ : Loops 𝓤 H) → FmC 𝓤 H (W .laws) C → Triple 𝓤 (C #telling·blank-words) (Blank 𝓤 H A mem′ run) → Triple 𝓤 (C #telling·read-count) (Count 𝓤 H A mem′ run) → Triple 𝓤 (C #taking-over·lay) (Lay 𝓤 H A mem′ run) → Triple 𝓤 (C #telling·take-over) (Take 𝓤 H A mem′ run)
-      → Walks 𝓤 H A entry.ended stayed (WpFn 𝓤 H C Λ code.function) (entry.clauses 𝓤 H A mem′ run)
-  entry-walks C Λ fm known-blank known-count known-lay known-take = walked 𝓤 H A entry.ended stayed (entry.clauses 𝓤 H A mem′ run) (WpFn 𝓤 H C Λ code.function)
-      (λ κs. (slice-vals, (uint-vals w64, (slice-vals, (slice-vals, (slice-vals, (ptr-vals, tt)))))))
-      (λ κs. (shr-slice-tells (named 0) (κs .0) T.the-row, (uint-tells w64, (shr-slice-tells (named 1) (κs .1 .0) u8, (mut-slice-tells (named 2) (κs .1 .1 .0) u32, (mut-slice-tells (named 3) (κs .1 .1 .1 .0) u8, (mut-tells (named 4) (κs .1 .1 .1 .1 .0) Four, tt)))))))
-      (λ κs qs bounds a g are. via 𝓤 _ (fst∗ 𝓤 _ (emp 𝓤))
-      (walk 𝓤 H A W mem′ run (κs .0) (κs .1 .0) (κs .1 .1 .0) (κs .1 .1 .1 .0) (κs .1 .1 .1 .1 .0) (qs .0) (qs .1 .0) (qs .1 .1 .0) (qs .1 .1 .1 .0) (qs .1 .1 .1 .1 .0) (a .0) (a .1 .0) (are .1 .0 .1) (a .1 .1 .0) (a .1 .1 .1 .0) (a .1 .1 .1 .1 .0) (a .1 .1 .1 .1 .1 .0) C Λ fm known-blank known-count known-lay known-take (are .0 .0 .1) (are .1 .1 .1 .0 .0 .1) (are .1 .1 .1 .1 .0 .0 .1) (are .0) (are .1 .1 .0)))
-
-entry-meets : {M : Type 1} (𝓤 : URA M) (H : Heap 𝓤) (A : Atoms 𝓤) → Given 𝓤 H A → (mem′ : Memory → SProp 𝓤) (run : Routine → Fun 𝓤) (𝓣 : Tables 𝓤 H) → Triple 𝓤 (𝓣 .C #telling·blank-words) (Blank 𝓤 H A mem′ run) → Triple 𝓤 (𝓣 .C #telling·read-count) (Count 𝓤 H A mem′ run) → Triple 𝓤 (𝓣 .C #taking-over·lay) (Lay 𝓤 H A mem′ run) → Triple 𝓤 (𝓣 .C #telling·take-over) (Take 𝓤 H A mem′ run)
-    → Meets 𝓤 H A entry.signature (WpFn 𝓤 H (𝓣 .C) (𝓣 .Λ) code.function) (entry.spec 𝓤 H A mem′ run)
-entry-meets 𝓤 H A W mem′ run 𝓣 known-blank known-count known-lay known-take =
-    walk-meets 𝓤 H A entry.ended stayed W (
-      goes-none-slice 𝓤 H A W 5 (0 ∷ []) tt (plain (λ _. T.the-row)) yes,
-      (
-        goes-none 𝓤 H A W 5 (λ _. usize) yes (λ κs x f. refl),
-        (
-          goes-none-slice 𝓤 H A W 5 (1 ∷ []) tt (plain (λ _. u8)) yes,
-          (goes-gave-slice 𝓤 H A W 5 2 tt (plain (λ _. u32)), (goes-gave-slice 𝓤 H A W 5 3 tt (plain (λ _. u8)), (goes-gave-ref 𝓤 H A W 5 4 tt (plain (λ _. Four)), tt))),
-        ),
-      ),
-    )
-    (entry.clauses 𝓤 H A mem′ run)
-    (WpFn 𝓤 H (𝓣 .C) (𝓣 .Λ) code.function) (WpFn-mono 𝓤 H (W .laws) 𝓣 code.function) (entry-walks 𝓤 H A W mem′ run (𝓣 .C) (𝓣 .Λ) (fmOf 𝓤 H (W .laws) 𝓣) known-blank known-count known-lay known-take)
+abbrev Known : Knows
+Known M 𝓤 H A mem run C = Triple 𝓤 (C #telling·blank-words) (Blank 𝓤 H A mem run) × Triple 𝓤 (C #telling·read-count) (Count 𝓤 H A mem run) × Triple 𝓤 (C #taking-over·lay) (Lay 𝓤 H A mem run) × Triple 𝓤 (C #telling·take-over) (Take 𝓤 H A mem run)
 
 pub gateway-take-over-spec : {M : Type 1} → stated.statement M
-unfolding code.routine tablesOf
-gateway-take-over-spec 𝓤 H 𝓜 𝓖 𝓡 =
-    entered 𝓤 H (tripleOf 𝓤 H (𝓖 .A) entry.signature (entry.spec 𝓤 H (𝓖 .A) (𝓜 .mem) (𝓡 .run)))
-    (tables 𝓤 H 𝓜 𝓡 code.env .C) (tables 𝓤 H 𝓜 𝓡 code.env .Λ) #taking-over·gateway-take-over code.function (code.unfolded 𝓤 H 𝓜 𝓡)
-    (entry-meets 𝓤 H (𝓖 .A) (givenOf 𝓤 H 𝓜 𝓖) (𝓜 .mem) (𝓡 .run) (tablesOf 𝓤 H 𝓜 (tables 𝓤 H 𝓜 𝓡 code.env))
-    (cited 𝓤 H (Blank 𝓤 H (𝓖 .A) (𝓜 .mem) (𝓡 .run)) 𝓜 𝓡 code.env #telling·blank-words blank-def.routine code.calls-telling·blank-words (blank-thm.met 𝓤 H 𝓜 𝓖 𝓡))
-    (cited 𝓤 H (Count 𝓤 H (𝓖 .A) (𝓜 .mem) (𝓡 .run)) 𝓜 𝓡 code.env #telling·read-count counted-def.routine code.calls-telling·read-count (counted-thm.met 𝓤 H 𝓜 𝓖 𝓡))
-    (cited 𝓤 H (Lay 𝓤 H (𝓖 .A) (𝓜 .mem) (𝓡 .run)) 𝓜 𝓡 code.env #taking-over·lay lay-def.routine code.calls-gateway·taking-over·lay (lay-thm.met 𝓤 H 𝓜 𝓖 𝓡))
-    (cited 𝓤 H (Take 𝓤 H (𝓖 .A) (𝓜 .mem) (𝓡 .run)) 𝓜 𝓡 code.env #telling·take-over core-def.routine code.calls-telling·take-over (core-thm.met 𝓤 H 𝓜 𝓖 𝓡)))
+unfolding code.routine
+gateway-take-over-spec {M} 𝓤 H 𝓜 𝓖 𝓡 =
+    meets-on code.function Known entry.ended (λ M 𝓤 H. entry.clauses 𝓤 H) stayed (λ M 𝓤 H A W. (goes-none-slice 𝓤 H A W 5 (0 ∷ []) tt (plain (λ _. T.the-row)) yes, (goes-none 𝓤 H A W 5 (λ _. usize) yes (λ κs x f. refl), (goes-none-slice 𝓤 H A W 5 (1 ∷ []) tt (plain (λ _. u8)) yes, (goes-gave-slice 𝓤 H A W 5 2 tt (plain (λ _. u32)), (goes-gave-slice 𝓤 H A W 5 3 tt (plain (λ _. u8)), (goes-gave-ref 𝓤 H A W 5 4 tt (plain (λ _. Four)), tt)))))))
+    (λ κs. (slice-vals, (uint-vals w64, (slice-vals, (slice-vals, (slice-vals, (ptr-vals, tt)))))))
+    (λ κs. (shr-slice-tells (named 0) (κs .0) T.the-row, (uint-tells w64, (shr-slice-tells (named 1) (κs .1 .0) u8, (mut-slice-tells (named 2) (κs .1 .1 .0) u32, (mut-slice-tells (named 3) (κs .1 .1 .1 .0) u8, (mut-tells (named 4) (κs .1 .1 .1 .1 .0) Four, tt)))))))
+    (λ M 𝓤 H A W mem run 𝓣 fm known κs qs bounds a g are. via 𝓤 _ (fst∗ 𝓤 _ (emp 𝓤)) (walk 𝓤 H A W mem run (κs .0) (κs .1 .0) (κs .1 .1 .0) (κs .1 .1 .1 .0) (κs .1 .1 .1 .1 .0) (qs .0) (qs .1 .0) (qs .1 .1 .0) (qs .1 .1 .1 .0) (qs .1 .1 .1 .1 .0) (a .0) (a .1 .0) (are .1 .0 .1) (a .1 .1 .0) (a .1 .1 .1 .0) (a .1 .1 .1 .1 .0) (a .1 .1 .1 .1 .1 .0) (𝓣 .C) (𝓣 .Λ) fm (known .0) (known .1) (known .2) (known .3) (are .0 .0 .1) (are .1 .1 .1 .0 .0 .1) (are .1 .1 .1 .1 .0 .0 .1) (are .0) (are .1 .1 .0)))
+    M 𝓤 H 𝓜 𝓖 𝓡 code.env #taking-over·gateway-take-over (code.unfolded 𝓤 H 𝓜 𝓡) (
+      cited 𝓤 H _ 𝓜 𝓡 code.env #telling·blank-words blank-def.routine code.calls-telling·blank-words (blank-thm.met 𝓤 H 𝓜 𝓖 𝓡),
+      cited 𝓤 H _ 𝓜 𝓡 code.env #telling·read-count counted-def.routine code.calls-telling·read-count (counted-thm.met 𝓤 H 𝓜 𝓖 𝓡),
+      cited 𝓤 H _ 𝓜 𝓡 code.env #taking-over·lay lay-def.routine code.calls-gateway·taking-over·lay (lay-thm.met 𝓤 H 𝓜 𝓖 𝓡),
+      cited 𝓤 H _ 𝓜 𝓡 code.env #telling·take-over core-def.routine code.calls-telling·take-over (core-thm.met 𝓤 H 𝓜 𝓖 𝓡),
+    )

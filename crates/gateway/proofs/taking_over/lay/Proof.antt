@@ -2,9 +2,9 @@
 -- records, copies one out, and lends the words to `put_field`, of which only its contract is known.
 use Rattle.gateway.proofs.Walk.{_≡_, refl, sym, _∙_, ℕ, suc, _+_, _*_, _<_, _≤_, _^_, add-one, arith, Bool, List, [], _∷_, length, getD, lit<, lt-ltb, le-ltb, URA, fullShare, Ty, loop, named, erased, mut, imm, w64, tyInt, tyBool, tyPtr, tyUnit, tyRef, Val, vbool, vint, vptr, vunit, SProp, ent, emp, id⊢, Lft, GName, Share, Fml, ftrue, fex, fsep, fat, froom, fdies, flft, flent, fobs, fauth, fbor, fobor, fshr-bor}
 use Rattle.gateway.proofs.Walk.{Memory, Routine, Heap, Out, Env, afterSeq, afterBlock, afterTurn, Calls, Loops, Wp, atReturn, WpFn, Tables, Atoms, Fun, FmC, Given, Item, ‵, raw, _⊛_, ⋆, some, later, anyQ, atRet, _$_, _∵_, !, qed, by, move, keep, drop, use1, use2, use3, split, join, pick, rewrite, fsplit, fsplit3, fjoin, fjoin3, fpick, feqI, suffices, frame, await, done, whole, sub, look-in, look, look-raw, store, init, forget, stop, hop, fld, from, load, lit, unit-lit, of-opd, addr, bin, and-then, no-more, assigns, assigns-last, land, stays, leaves-loop, returns, enter, alloc1, alloc0, params1, pass1, pass0, free1, free0, exec, Body, arr-parts, lft-new, lft-end}
-use Rattle.gateway.proofs.Walk.{owns, Is, shows, pointee, mem, cellAt, partAt, shares, uint-makes, uint-vals, uint-tells, nothing-lawful, usize, unit, RefT, MutRef, now, ptr-vals, mut-tells, sliceTy, sliceVal, ShrSlice, Room, slice-vals, shr-slice-tells, shr-slice-copy, shr-slice-lawful, lends-ref, ref-back, place-is, elem-out, elem-back, looks-slice, shuts-slice, plain, opens, closes, owned, peeks, heard, nothing, Contract, Triple, calls-at, onEntry, tripleOf, says, needs, Stays, stay-ref, stay-none-slice, stay-none, walkOf, goes-ref, goes-none-slice, goes-none, ends-at, yes}
+use Rattle.gateway.proofs.Walk.{cited, owns, Is, shows, pointee, mem, cellAt, partAt, shares, uint-makes, uint-vals, uint-tells, nothing-lawful, usize, unit, RefT, MutRef, now, ptr-vals, mut-tells, sliceTy, sliceVal, ShrSlice, Room, slice-vals, shr-slice-tells, shr-slice-copy, shr-slice-lawful, lends-ref, ref-back, place-is, elem-out, elem-back, looks-slice, shuts-slice, plain, opens, closes, owned, peeks, heard, nothing, Contract, Triple, calls-at, onEntry, tripleOf, says, needs, Stays, stay-ref, stay-none-slice, stay-none, walkOf, goes-ref, goes-none-slice, goes-none, ends-at, yes}
 use denote.Struct.Laws as LL
-use Rattle.gateway.proofs.Calling.{asked, answered, stands}
+use Rattle.gateway.proofs.Calling.{asked, answered, One, meets-on}
 use Rattle.gateway.proofs.Counting.{counted}
 use Rattle.gateway.proofs.Words.{Words, packed, unpacked}
 use Rattle.records.specs.Records.{onRecords, replaced}
@@ -187,7 +187,7 @@ module _ {M : Type 1} (𝓤 : URA M) (H : Heap 𝓤) (A : Atoms 𝓤) (W : Given
 pub lay-spec : {M : Type 1} → stated.statement M
 unfolding code.routine
 lay-spec {M} 𝓤 H 𝓜 𝓖 𝓡 =
-    stands #telling·put-field code.function callee.ended (λ M 𝓤 H. callee.clauses 𝓤 H) lay.ended (λ M 𝓤 H. lay.clauses 𝓤 H) stayed (λ M 𝓤 H A W. (goes-none-slice 𝓤 H A W 2 (0 ∷ []) tt (plain (λ _. T.the-row)) yes, (goes-none 𝓤 H A W 2 (λ _. usize) yes (λ κs x f. refl), (goes-ref 𝓤 H A W 2 1 tt (plain (λ _. Words)), tt))))
+    meets-on code.function (One #telling·put-field callee.ended (λ M 𝓤 H. callee.clauses 𝓤 H)) lay.ended (λ M 𝓤 H. lay.clauses 𝓤 H) stayed (λ M 𝓤 H A W. (goes-none-slice 𝓤 H A W 2 (0 ∷ []) tt (plain (λ _. T.the-row)) yes, (goes-none 𝓤 H A W 2 (λ _. usize) yes (λ κs x f. refl), (goes-ref 𝓤 H A W 2 1 tt (plain (λ _. Words)), tt))))
     (λ κs. (slice-vals, (uint-vals w64, (ptr-vals, tt)))) (λ κs. (shr-slice-tells (named 0) (κs .0) T.the-row, (uint-tells w64, (mut-tells (named 1) (κs .1 .0) Words, tt))))
     (λ M 𝓤 H A W mem run 𝓣 fm known κs qs bounds a g are. needs 𝓤 (a .1 .0 ≤ length (now (a .0))) _ (λ in-range. walk 𝓤 H A W mem run (κs .0) (κs .1 .0) (qs .0) (qs .1 .0) (a .0 .ptr .0) (a .0 .ptr .1) (a .0 .name) (a .0 .now) (a .1 .0) (are .1 .0 .1) (a .1 .1 .0 .ptr .0) (a .1 .1 .0 .ptr .1) (a .1 .1 .0 .name) (a .1 .1 .0 .now) in-range 𝓣 fm known (are .0 .0 .1) (are .0)))
-    M 𝓤 H 𝓜 𝓖 𝓡 code.env #taking-over·lay (code.unfolded 𝓤 H 𝓜 𝓡) callee-def.routine code.calls-telling·put-field (callee-thm.met 𝓤 H 𝓜 𝓖 𝓡)
+    M 𝓤 H 𝓜 𝓖 𝓡 code.env #taking-over·lay (code.unfolded 𝓤 H 𝓜 𝓡) (cited 𝓤 H _ 𝓜 𝓡 code.env #telling·put-field callee-def.routine code.calls-telling·put-field (callee-thm.met 𝓤 H 𝓜 𝓖 𝓡))
