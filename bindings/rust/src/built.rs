@@ -78,7 +78,7 @@ impl Default for Records {
 pub fn build<'a>(bytes: &'a [u8], dictionary: &Dictionary, config: Config, records: &'a mut Records) -> Result<Built<'a>, NotBuilt<'a>> {
     let mut out = [0; 4];
     let (lent, flat) = (&mut records.lent, dictionary.as_bytes());
-    // SAFETY: each pointer goes with the length of what it comes from, `records` is borrowed for writing alone, and `out` has its size.
+    // SAFETY: each pointer goes with the length of what it comes from, `build_records` is borrowed for writing alone, and `out` has its size.
     let number = unsafe {
         raw::gateway_build(
             bytes.as_ptr(),

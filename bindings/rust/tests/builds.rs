@@ -1,11 +1,11 @@
-//! Builds, played through this crate: the tables are read from the sources of `build_samples`, the expected lines from its
+//! Builds, played through this crate: the tables are read from the sources of `sample_builds`, the expected lines from its
 //! `stdout`, to which the proved program is held.
 mod shared;
 
 use shared::{example, expected, separated, tables, whole};
 use tinkoraba::{build, Bars, Built, Config, Dictionary, Records};
 
-/// An answer as `build_samples` writes it.
+/// An answer as `sample_builds` writes it.
 fn told(number: u32, values: (u32, u32), built: &Built<'_>) -> String {
     let mut line = format!("{number} {} {} {}", built.records().len(), values.0, values.1);
     line.push_str(" blank");

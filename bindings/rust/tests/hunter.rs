@@ -1,10 +1,10 @@
-//! The calls of `hunter_samples`, made through this crate and held to the lines of its `stdout`.
+//! The calls of `sample_hunter`, made through this crate and held to the lines of its `stdout`.
 mod shared;
 
 use shared::{number, separated, text};
 use tinkoraba::{Bars, Hunter};
 
-/// Calls of the hunting framer, told as `hunter_samples` tells them.
+/// Calls of the hunting framer, told as `sample_hunter` tells them.
 struct Told {
     hunter: Hunter,
     lines: Vec<String>,

@@ -1,4 +1,4 @@
-//! Messages that are changed and encoded, played through this crate: the tables are read from the sources of `message_samples`, the expected lines from its
+//! Messages that are changed and encoded, played through this crate: the tables are read from the sources of `sample_messages`, the expected lines from its
 //! `stdout`, to which the proved program is held.
 mod shared;
 

@@ -1,10 +1,10 @@
 // build_answers: the answer to a message, with its number and the values returned with it. A new answer is one more case here.
 // It reads nothing and decides nothing: whoever refuses says which answer it is.
 use dictionary_rules::Checked;
-use integrity::GarbledReason;
-use tagvalue::Cause;
+use build_integrity::GarbledReason;
+use field_tagvalue::Cause;
 ghost use mathlib.Core.Path.{_≡_};
-ghost use Rattle.integrity.specs.Integrity.{numberOfReason};
+ghost use Rattle.build_integrity.specs.Integrity.{numberOfReason};
 ghost use Rattle.build_answers.specs.Answer.{numberOf, valuesOf};
 
 // The answer to a message. Numbers are a tag and the tag of its group, or the place and length of a value.
@@ -58,7 +58,7 @@ pub fn number_of(answer: Answer) -> u32
         Answer::TooManyFields => 21,
         Answer::InvalidSeparator => 22,
         Answer::TooFewRecords => 23,
-        Answer::BadDictionary(checked) => flat::number_of(checked),
+        Answer::BadDictionary(checked) => dictionary_check::number_of(checked),
     }
 }
 
@@ -84,6 +84,6 @@ pub fn values_of(answer: Answer) -> Values
         Answer::TooManyFields => returned(0, 0),
         Answer::InvalidSeparator => returned(0, 0),
         Answer::TooFewRecords => returned(0, 0),
-        Answer::BadDictionary(checked) => returned(flat::value_of(checked) as usize, 0),
+        Answer::BadDictionary(checked) => returned(dictionary_check::value_of(checked) as usize, 0),
     }
 }

@@ -1,6 +1,6 @@
 // build_config: how a message is built, in one value that every reader hands on whole. A new mode or setting is one more field of it.
 // It decides nothing: what a setting means is said where it is asked.
-use tagvalue::Mode;
+use field_tagvalue::Mode;
 ghost use mathlib.Core.Path.{_≡_};
 ghost use Rattle.build_config.specs.Settings.{validates, configOf};
 
@@ -21,7 +21,7 @@ fn validates(settings: u32) -> bool
 pub fn config_of(settings: u32, separator: u8) -> Config
     ensures { λ r. ⌜ r ≡ configOf settings separator ⌝ }
 {
-    let mode = tagvalue::separated_by(separator);
+    let mode = field_tagvalue::separated_by(separator);
     let validate = validates(settings);
     Config { mode, validate }
 }

@@ -5,27 +5,27 @@ use mathlib.Core.List.{List}
 use Prim.Native.Nat.{ℕ, _-_, _<_, _^_}
 use native.Mathlib.Omega.{arith}
 use lib.ListN.{length}
-use Rattle.tagvalue.specs.declared.Mode.{Mode}
+use Rattle.field_tagvalue.specs.declared.Mode.{Mode}
 use Rattle.build_config.specs.declared.Config.{Config}
-use Rattle.tagvalue.specs.Fields.{fieldsFrom}
-use Rattle.tagvalue.specs.declared.Field.{Field}
-use Rattle.integrity.specs.Integrity.{integrityOf}
-use Rattle.integrity.specs.VerifiedLaws.{verified-read}
-use Rattle.integrity.specs.declared.Integrity.the-variants.{Sound, Garbled}
-use Rattle.integrity.specs.declared.GarbledReason.{GarbledReason}
-use Rattle.integrity.specs.declared.Verified.{Verified}
-use Rattle.records.specs.declared.Record.{Record}
+use Rattle.field_tagvalue.specs.Fields.{fieldsFrom}
+use Rattle.field_tagvalue.specs.declared.Field.{Field}
+use Rattle.build_integrity.specs.Integrity.{integrityOf}
+use Rattle.build_integrity.specs.VerifiedLaws.{verified-read}
+use Rattle.build_integrity.specs.declared.Integrity.the-variants.{Sound, Garbled}
+use Rattle.build_integrity.specs.declared.GarbledReason.{GarbledReason}
+use Rattle.build_integrity.specs.declared.Verified.{Verified}
+use Rattle.build_records.specs.declared.Record.{Record}
 use Rattle.build_answers.specs.declared.Answer.{Answer}
 use Rattle.build_answers.specs.declared.Answer.the-variants.{Garbled as garbled}
-use Rattle.parts.specs.declared.Progress.{Progress}
-use Rattle.parts.specs.declared.PartRead.{PartRead}
-use Rattle.parts.specs.declared.PartRead.the-variants.{At, Refused}
-use Rattle.parts.specs.Parts.{ended, partRecord, partOf, partTold, Kept}
-use Rattle.tagvalue.specs.FieldsLaws.{step-inside}
-use Rattle.parts.specs.Header.{headerFrom}
+use Rattle.build_parts.specs.declared.Progress.{Progress}
+use Rattle.build_parts.specs.declared.PartRead.{PartRead}
+use Rattle.build_parts.specs.declared.PartRead.the-variants.{At, Refused}
+use Rattle.build_parts.specs.Parts.{ended, partRecord, partOf, partTold, Kept}
+use Rattle.field_tagvalue.specs.FieldsLaws.{step-inside}
+use Rattle.build_parts.specs.Header.{headerFrom}
 use Rattle.builder.specs.declared.Headed.{Headed}
 use Rattle.builder.specs.declared.Begun.the-variants.{Header, Refused as RefusedStart}
-use Rattle.reading.specs.Beginning.{verifiedRecords, roomBehind, headerOf, withChecksum, startedBy, startOf}
+use Rattle.build_rules.specs.Beginning.{verifiedRecords, roomBehind, headerOf, withChecksum, startedBy, startOf}
 use Rattle.builder.specs.Reading.{VerifiedInside, startTold, HeaderEnds, Begins}
 use Rattle.builder.specs.Finishing.{part-empty}
 

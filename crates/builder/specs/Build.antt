@@ -4,20 +4,20 @@ use Prim.Native.Nat.{ℕ, _-_}
 use mathlib.Core.List.{List, [], _++_}
 use lib.ListN.{length, replicate}
 use lib.Dec.{eqb, ltb}
-use Rattle.tagvalue.specs.Choice.{pick}
-use Rattle.tagvalue.specs.Separator.{isRefusedSeparator}
+use Rattle.field_tagvalue.specs.Choice.{pick}
+use Rattle.field_tagvalue.specs.Separator.{isRefusedSeparator}
 use Rattle.build_config.specs.declared.Config.{Config}
 use Rattle.dictionary_rules.specs.Check.{checkOf, numberOfCheck}
 use Rattle.dictionary_rules.specs.declared.Checked.{Checked}
 use Rattle.dictionary_meaning_rules.specs.Meaning.{dictionaryOf}
-use Rattle.records.specs.Records.{laid, recordWords}
-use Rattle.records.specs.declared.Record.{Record}
+use Rattle.build_records.specs.Records.{laid, recordWords}
+use Rattle.build_records.specs.declared.Record.{Record}
 use Rattle.build_answers.specs.declared.Answer.{Answer}
 use Rattle.build_answers.specs.declared.Answer.the-variants.{TooLong as MessageTooLong, InvalidSeparator, TooFewRecords, BadDictionary}
-use Rattle.reading.specs.declared.Stop.{Stop}
-use Rattle.reading.specs.declared.Stop.the-variants.{Nowhere}
+use Rattle.build_rules.specs.declared.Stop.{Stop}
+use Rattle.build_rules.specs.declared.Stop.the-variants.{Nowhere}
 use Rattle.builder.specs.declared.Built.{Built}
-use Rattle.reading.specs.Message.{Outcome, refusal, messageRead}
+use Rattle.build_rules.specs.Message.{Outcome, refusal, messageRead}
 
 -- the answer, what stopped the trailer, how many records are shown, over how many of the lent ones is written, and the core's words
 pub record BuildOutcome : Type 0 where

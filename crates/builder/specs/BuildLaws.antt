@@ -15,15 +15,15 @@ use Rattle.dictionary_meaning_rules.specs.PlainTags.{listing, plainTags}
 use Rattle.dictionary_meaning_rules.specs.TagsMeant.{header-listed, trailer-listed}
 use Rattle.dictionary_meaning_rules.specs.declared.TagList.{TagList}
 use Rattle.dictionary_meaning_rules.specs.declared.TagList.the-variants.{Listed, Unlisted}
-use Rattle.records.specs.Records.{recordsOf, leftover, laid, between, recordWords, recordRoom, stride}
-use Rattle.records.specs.WordLaws.{words-whole, laid-append, laid-length, records-length}
-use Rattle.records.specs.declared.Record.{Record}
+use Rattle.build_records.specs.Records.{recordsOf, leftover, laid, between, recordWords, recordRoom, stride}
+use Rattle.build_records.specs.WordLaws.{words-whole, laid-append, laid-length, records-length}
+use Rattle.build_records.specs.declared.Record.{Record}
 use Rattle.build_answers.specs.declared.Answer.{Answer}
 use Rattle.build_answers.specs.declared.Answer.the-variants.{BadDictionary}
 use Rattle.build_answers.specs.Answer.{numberOf}
-use Rattle.parts.specs.Parts.{partOf}
-use Rattle.parts.specs.PartLaws.{parted, part-length}
-use Rattle.reading.specs.Message.{refusal, messageRead}
+use Rattle.build_parts.specs.Parts.{partOf}
+use Rattle.build_parts.specs.PartLaws.{parted, part-length}
+use Rattle.build_rules.specs.Message.{refusal, messageRead}
 use Rattle.builder.specs.Reading.{Prepared, standardTags, shownCount}
 use Rattle.builder.specs.Build.{wordsWith, checkedRead}
 

@@ -8,10 +8,10 @@ use lib.Dec.{leb}
 use borrow.Author.Tests.{leb-true}
 use native.Mathlib.Omega.{arith}
 use Rattle.build_config.specs.Settings.{validating}
-use Rattle.tagvalue.specs.Number.{isDigit}
-use Rattle.tagvalue.specs.Separator.{isRefusedSeparator}
-use Rattle.tagvalue.specs.CheckSum.{sumOf, checksumDigits}
-use Rattle.tagvalue.specs.Decimal.{decimalWithin}
+use Rattle.field_tagvalue.specs.Number.{isDigit}
+use Rattle.field_tagvalue.specs.Separator.{isRefusedSeparator}
+use Rattle.field_tagvalue.specs.CheckSum.{sumOf, checksumDigits}
+use Rattle.field_tagvalue.specs.Decimal.{decimalWithin}
 use Rattle.dictionary_layout_rules.specs.Tree.{Dictionary}
 use Rattle.build_answers.specs.Answer.{numberOf, valuesOf}
 use Rattle.dictionary_rules.specs.Check.{checkOf}
@@ -23,8 +23,8 @@ use Rattle.dictionary_meaning_rules.specs.Meaning.{onTop, groupOnTop, below, in
 use Rattle.builder.specs.Build.{BuildOutcome, wordsWith, shown, checkedRead, buildOf}
 use Rattle.builder.specs.BuildLaws.{check-reads}
 use Rattle.builder.specs.ReadingLaws.{build-reads}
-use Rattle.reading.specs.Message.{messageRead}
-use Rattle.reading.specs.Examples.{dictionary, Row, table, Told, told, all-read}
+use Rattle.build_rules.specs.Message.{messageRead}
+use Rattle.build_rules.specs.Examples.{dictionary, Row, table, Told, told, all-read}
 
 abbrev firstTest : List Bool → Bool
 firstTest [] = true

@@ -4,26 +4,26 @@ use mathlib.Core.List.{List, [], _∷_, _++_, append-assoc}
 use Prim.Native.Nat.{ℕ, suc, _+_, _-_, _/_, _≤_, _<_}
 use native.Mathlib.Omega.{arith}
 use lib.ListN.{length}
-use Rattle.tagvalue.specs.declared.Mode.{Mode}
-use Rattle.tagvalue.specs.Fields.{field, fieldsFrom}
-use Rattle.tagvalue.specs.declared.Field.{Field}
-use Rattle.records.specs.Records.{recordsOf, stored}
-use Rattle.records.specs.RecordLaws.{between-end}
-use Rattle.records.specs.declared.Record.{Record}
+use Rattle.field_tagvalue.specs.declared.Mode.{Mode}
+use Rattle.field_tagvalue.specs.Fields.{field, fieldsFrom}
+use Rattle.field_tagvalue.specs.declared.Field.{Field}
+use Rattle.build_records.specs.Records.{recordsOf, stored}
+use Rattle.build_records.specs.RecordLaws.{between-end}
+use Rattle.build_records.specs.declared.Record.{Record}
 use Rattle.build_answers.specs.declared.Answer.{Answer}
 use Rattle.build_answers.specs.declared.Answer.the-variants.{TooManyFields}
-use Rattle.parts.specs.declared.Progress.{Progress}
-use Rattle.parts.specs.declared.PartRead.{PartRead}
-use Rattle.parts.specs.declared.PartRead.the-variants.{At, Refused}
-use Rattle.parts.specs.declared.TrailerRead.{TrailerRead}
-use Rattle.parts.specs.declared.TrailerRead.the-variants.{Stopped, Unstopped, TooManyFields as Crowded}
-use Rattle.reading.specs.declared.Stop.the-variants.{At as stops, Nowhere}
+use Rattle.build_parts.specs.declared.Progress.{Progress}
+use Rattle.build_parts.specs.declared.PartRead.{PartRead}
+use Rattle.build_parts.specs.declared.PartRead.the-variants.{At, Refused}
+use Rattle.build_parts.specs.declared.TrailerRead.{TrailerRead}
+use Rattle.build_parts.specs.declared.TrailerRead.the-variants.{Stopped, Unstopped, TooManyFields as Crowded}
+use Rattle.build_rules.specs.declared.Stop.the-variants.{At as stops, Nowhere}
 use Rattle.builder.specs.declared.Finished.the-variants.{Whole, Refused as RefusedWhole}
-use Rattle.parts.specs.Parts.{Reading, partRecord, partOf, partTold, Kept}
-use Rattle.body.specs.RunLaws.{between-split}
-use Rattle.body.specs.GroupReading.{front-is, front-parts}
-use Rattle.parts.specs.Trailer.{trailerFrom, trailerTold, trailerCounts}
-use Rattle.reading.specs.Message.{afterTrailer, afterBody}
+use Rattle.build_parts.specs.Parts.{Reading, partRecord, partOf, partTold, Kept}
+use Rattle.build_body.specs.RunLaws.{between-split}
+use Rattle.build_body.specs.GroupReading.{front-is, front-parts}
+use Rattle.build_parts.specs.Trailer.{trailerFrom, trailerTold, trailerCounts}
+use Rattle.build_rules.specs.Message.{afterTrailer, afterBody}
 use Rattle.builder.specs.Reading.{finishTold}
 
 -- a part that ends where it starts is empty

@@ -8,11 +8,11 @@ use native.Mathlib.Omega.{arith}
 use borrow.Author.Tests.{eq-eqb, ne-eqb}
 use lib.ListN.{length, getD, take, drop, List·getD-eq-default}
 use Rattle.build_config.specs.declared.Config.{Config}
-use Rattle.tagvalue.specs.Fields.{Fields, field}
-use Rattle.tagvalue.specs.declared.Field.{Field}
-use Rattle.records.specs.Records.{recordAt, between, blank, valueAt}
-use Rattle.records.specs.RecordLaws.{between-on, between-end}
-use Rattle.records.specs.declared.Record.{Record}
+use Rattle.field_tagvalue.specs.Fields.{Fields, field}
+use Rattle.field_tagvalue.specs.declared.Field.{Field}
+use Rattle.build_records.specs.Records.{recordAt, between, blank, valueAt}
+use Rattle.build_records.specs.RecordLaws.{between-on, between-end}
+use Rattle.build_records.specs.declared.Record.{Record}
 use Rattle.dictionary_layout_rules.specs.Layout.{items}
 use Rattle.dictionary_layout_rules.specs.Tree.{Choice, knows, trailerTags, layoutOf}
 use Rattle.dictionary_rules.specs.Index.{tagAt}
@@ -23,16 +23,16 @@ use Rattle.dictionary_meaning_rules.specs.Theorem.{TableOf, no-table, a-table, 
 use Rattle.dictionary_meaning_rules.specs.KnownTags.{tags-known}
 use Rattle.dictionary_meaning_rules.specs.declared.MessageTable.{MessageTable}
 use Rattle.dictionary_meaning_rules.specs.declared.MessageTable.the-variants.{Rows}
-use Rattle.groups.specs.Reading.{tableRules}
-use Rattle.required.specs.Checking.{tableDemands}
+use Rattle.build_groups.specs.Reading.{tableRules}
+use Rattle.build_required.specs.Checking.{tableDemands}
 use Rattle.build_answers.specs.declared.Answer.the-variants.{InvalidMsgType}
-use Rattle.parts.specs.Parts.{partOf}
-use Rattle.body.specs.Kinds.{bodyOf}
-use Rattle.body.specs.Body.{bodyFrom}
-use Rattle.body.specs.Meaning.{body-means}
+use Rattle.build_parts.specs.Parts.{partOf}
+use Rattle.build_body.specs.Kinds.{bodyOf}
+use Rattle.build_body.specs.Body.{bodyFrom}
+use Rattle.build_body.specs.Meaning.{body-means}
 use Rattle.builder.specs.declared.Finished.the-variants.{Refused}
-use Rattle.reading.specs.Beginning.{msgTypeRecord}
-use Rattle.reading.specs.Message.{afterBody, afterType}
+use Rattle.build_rules.specs.Beginning.{msgTypeRecord}
+use Rattle.build_rules.specs.Message.{afterBody, afterType}
 use Rattle.builder.specs.Reading.{finishTold}
 use Rattle.builder.specs.Reading.{Prepared}
 

@@ -7,22 +7,22 @@ use Prim.Native.Nat.{ℕ, zero, suc, _+_, _-_, _≤_}
 use native.Mathlib.Omega.{arith}
 use lib.Dec.{eqb}
 use lib.ListN.{length}
-use Rattle.tagvalue.specs.FieldsLaws.{step-inside, all-inside}
-use Rattle.tagvalue.specs.declared.Mode.{Mode}
+use Rattle.field_tagvalue.specs.FieldsLaws.{step-inside, all-inside}
+use Rattle.field_tagvalue.specs.declared.Mode.{Mode}
 use Rattle.build_config.specs.declared.Config.{Config}
-use Rattle.tagvalue.specs.Choice.{pick}
-use Rattle.tagvalue.specs.Fields.{Fields, unreadable, field, Each, each-end, each-field, Inside}
-use Rattle.tagvalue.specs.declared.Field.{Field}
-use Rattle.integrity.specs.Integrity.{integrityOf}
-use Rattle.integrity.specs.declared.Integrity.the-variants.{Sound}
-use Rattle.integrity.specs.declared.Verified.{Verified}
+use Rattle.field_tagvalue.specs.Choice.{pick}
+use Rattle.field_tagvalue.specs.Fields.{Fields, unreadable, field, Each, each-end, each-field, Inside}
+use Rattle.field_tagvalue.specs.declared.Field.{Field}
+use Rattle.build_integrity.specs.Integrity.{integrityOf}
+use Rattle.build_integrity.specs.declared.Integrity.the-variants.{Sound}
+use Rattle.build_integrity.specs.declared.Verified.{Verified}
 use Rattle.dictionary_layout_rules.specs.Tree.{holdsTag}
-use Rattle.records.specs.Records.{stored}
-use Rattle.records.specs.declared.Record.{Record}
-use Rattle.parts.specs.Parts.{ended, partRecord}
-use Rattle.parts.specs.Header.{headerFrom}
-use Rattle.reading.specs.Beginning.{verifiedRecords, roomBehind, headerOf, msgTypeRecord}
-use Rattle.integrity.specs.VerifiedLaws.{VerifiedRead, verified-read}
+use Rattle.build_records.specs.Records.{stored}
+use Rattle.build_records.specs.declared.Record.{Record}
+use Rattle.build_parts.specs.Parts.{ended, partRecord}
+use Rattle.build_parts.specs.Header.{headerFrom}
+use Rattle.build_rules.specs.Beginning.{verifiedRecords, roomBehind, headerOf, msgTypeRecord}
+use Rattle.build_integrity.specs.VerifiedLaws.{VerifiedRead, verified-read}
 
 -- a record's value lies in the message where its field's does
 abbrev RecordIn : List ℕ → Record → Type 0

@@ -5,26 +5,26 @@ use mathlib.Core.List.{List}
 use mathlib.Core.Bool.{Bool, true, false}
 use lib.ListN.{length}
 use lib.Dec.{eqb, leb}
-use Rattle.records.specs.Records.{stride}
-use Rattle.tagvalue.specs.Choice.{pick}
-use Rattle.tagvalue.specs.Fields.{fieldsFrom, Inside}
-use Rattle.tagvalue.specs.declared.Mode.{Mode}
-use Rattle.integrity.specs.declared.Verified.{Verified}
+use Rattle.build_records.specs.Records.{stride}
+use Rattle.field_tagvalue.specs.Choice.{pick}
+use Rattle.field_tagvalue.specs.Fields.{fieldsFrom, Inside}
+use Rattle.field_tagvalue.specs.declared.Mode.{Mode}
+use Rattle.build_integrity.specs.declared.Verified.{Verified}
 use Rattle.dictionary_rules.specs.Check.{checkOf, storeOf, preparedOf}
 use Rattle.dictionary_rules.specs.declared.Checked.the-variants.{Passes}
 use Rattle.dictionary_layout_rules.specs.Tree.{Dictionary, headerTags, trailerTags}
 use Rattle.build_answers.specs.declared.Answer.{Answer}
 use Rattle.build_answers.specs.declared.Answer.the-variants.{Valid}
 use Rattle.build_answers.specs.Answer.{numberOf}
-use Rattle.parts.specs.Parts.{partOf}
+use Rattle.build_parts.specs.Parts.{partOf}
 use Rattle.builder.specs.declared.Headed.{Headed}
 use Rattle.builder.specs.declared.Begun.{Begun}
 use Rattle.builder.specs.declared.Begun.the-variants.{Header, Refused}
 use Rattle.builder.specs.declared.Finished.{Finished}
 use Rattle.builder.specs.declared.Finished.the-variants.{Whole, Refused as RefusedWhole}
 use Rattle.builder.specs.declared.Read.{Read}
-use Rattle.reading.specs.Beginning.{Start, started, unsound, msgTypeRecord}
-use Rattle.reading.specs.Message.{Outcome, refusal}
+use Rattle.build_rules.specs.Beginning.{Start, started, unsound, msgTypeRecord}
+use Rattle.build_rules.specs.Message.{Outcome, refusal}
 
 -- a record can hold the places of the fields that were verified
 pub record VerifiedInside (v : Verified) : Type 0 where

@@ -8,10 +8,10 @@ use native.Mathlib.Omega.{arith}
 use lib.ListN.{length, take, replicate}
 use lib.Dec.{eqb, leb, ltb}
 use borrow.Author.Tests.{le-ltb, lt-ltb}
-use Rattle.records.specs.Records.{recordWords, recordRoom, stride, valueAt}
-use Rattle.tagvalue.specs.Choice.{pick}
-use Rattle.tagvalue.specs.Separator.{isRefusedSeparator}
-use Rattle.tagvalue.specs.Fields.{fieldsFrom}
+use Rattle.build_records.specs.Records.{recordWords, recordRoom, stride, valueAt}
+use Rattle.field_tagvalue.specs.Choice.{pick}
+use Rattle.field_tagvalue.specs.Separator.{isRefusedSeparator}
+use Rattle.field_tagvalue.specs.Fields.{fieldsFrom}
 use Rattle.build_config.specs.declared.Config.{Config}
 use Rattle.dictionary_rules.specs.Check.{outcome, checkOf, preparedOf, storeOf, numberOfCheck}
 use Rattle.dictionary_rules.specs.declared.Checked.{Checked}
@@ -20,16 +20,16 @@ use Rattle.dictionary_layout_rules.specs.Tree.{Dictionary, headerTags, layoutOf
 use Rattle.build_answers.specs.declared.Answer.{Answer}
 use Rattle.build_answers.specs.declared.Answer.the-variants.{Valid, TooLong, InvalidSeparator, TooFewRecords, BadDictionary}
 use Rattle.build_answers.specs.Answer.{numberOf}
-use Rattle.parts.specs.Parts.{partOf}
+use Rattle.build_parts.specs.Parts.{partOf}
 use Rattle.builder.specs.declared.Headed.{Headed}
 use Rattle.builder.specs.declared.Begun.{Begun}
 use Rattle.builder.specs.declared.Begun.the-variants.{Header, Refused}
-use Rattle.reading.specs.declared.Stop.{Stop}
-use Rattle.reading.specs.declared.Stop.the-variants.{Nowhere}
+use Rattle.build_rules.specs.declared.Stop.{Stop}
+use Rattle.build_rules.specs.declared.Stop.the-variants.{Nowhere}
 use Rattle.builder.specs.declared.Finished.{Finished}
 use Rattle.builder.specs.declared.Finished.the-variants.{Whole, Refused as Stopped}
-use Rattle.reading.specs.Beginning.{startOf, msgTypeRecord}
-use Rattle.reading.specs.Message.{Outcome, shownWith, refusal, afterType, afterHeader, messageRead}
+use Rattle.build_rules.specs.Beginning.{startOf, msgTypeRecord}
+use Rattle.build_rules.specs.Message.{Outcome, shownWith, refusal, afterType, afterHeader, messageRead}
 use Rattle.builder.specs.Reading.{finishTold, finishCounts}
 use Rattle.builder.specs.Reading.{startTold, Prepared, shownCount, readTold}
 use Rattle.builder.specs.Build.{untouched, shown, checkedRead, buildOf, builtTold}

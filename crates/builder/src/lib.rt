@@ -1,35 +1,35 @@
 // builder: from a message's bytes to its answer and its records: integrity, header, MsgType's layout, body and trailer in turn.
-// It reads a dictionary through the index and the tables that are made of it, and keeps records through `records` only.
+// It reads a dictionary through the index and the tables that are made of it, and keeps records through `build_records` only.
 use dictionary_meaning_rules::MessageTable;
-use flattening::tags;
-use flattening::tags::TagList;
+use dictionary_flattening::tags;
+use dictionary_flattening::tags::TagList;
 use build_config::Config;
-use integrity::Integrity;
-use integrity::Verified;
+use build_integrity::Integrity;
+use build_integrity::Verified;
 use dictionary_layout_rules::Level;
 use build_answers::Answer;
-use parts::PartRead;
-use parts::Progress;
-use parts::TrailerRead;
-use reading::Stop;
-use records::Record;
-use tagvalue::Field;
+use build_parts::PartRead;
+use build_parts::Progress;
+use build_parts::TrailerRead;
+use build_rules::Stop;
+use build_records::Record;
+use field_tagvalue::Field;
 ghost use mathlib.Core.Path.{_≡_};
 ghost use mathlib.Core.List.{[], _++_};
 ghost use Prim.Native.Nat.{suc, _+_, _-_, _*_, _≤_, _<_, _/_, _^_};
 ghost use lib.ListN.{length, take, replicate};
-ghost use Rattle.records.specs.Records.{recordWords, recordRoom, stride, valueAt};
+ghost use Rattle.build_records.specs.Records.{recordWords, recordRoom, stride, valueAt};
 ghost use Rattle.dictionary_rules.specs.Index.{tagAt};
-ghost use Rattle.tagvalue.specs.Fields.{field, fieldsFrom, Inside};
-ghost use Rattle.groups.specs.Reading.{tableRules};
-ghost use Rattle.required.specs.Checking.{tableDemands};
+ghost use Rattle.field_tagvalue.specs.Fields.{field, fieldsFrom, Inside};
+ghost use Rattle.build_groups.specs.Reading.{tableRules};
+ghost use Rattle.build_required.specs.Checking.{tableDemands};
 ghost use Rattle.dictionary_meaning_rules.specs.Meaning.{dictionaryOf};
 ghost use Rattle.dictionary_layout_rules.specs.Tree.{layoutOf, trailerTags};
-ghost use Rattle.parts.specs.Parts.{partOf};
-ghost use Rattle.body.specs.Kinds.{bodyOf};
-ghost use Rattle.body.specs.Body.{bodyFrom};
-ghost use Rattle.reading.specs.Beginning.{verifiedRecords, startOf, msgTypeRecord};
-ghost use Rattle.reading.specs.Message.{afterBody, afterType, messageRead};
+ghost use Rattle.build_parts.specs.Parts.{partOf};
+ghost use Rattle.build_body.specs.Kinds.{bodyOf};
+ghost use Rattle.build_body.specs.Body.{bodyFrom};
+ghost use Rattle.build_rules.specs.Beginning.{verifiedRecords, startOf, msgTypeRecord};
+ghost use Rattle.build_rules.specs.Message.{afterBody, afterType, messageRead};
 ghost use Rattle.builder.specs.Reading.{finishTold, finishCounts};
 ghost use Rattle.builder.specs.Reading.{VerifiedInside, startTold, HeaderEnds, Begins, Prepared, standardTags, readTold, shownCount};
 ghost use Rattle.builder.specs.Build.{checkedRead, buildOf, builtTold};
@@ -95,7 +95,7 @@ fn finish(
     let first = headed.stop;
     let checksum = headed.checksum;
     let header = begun.records;
-    match body::read_body(
+    match build_body::read_body(
         message,
         config,
         table,
@@ -110,17 +110,17 @@ fn finish(
         PartRead::Refused(answer) => Finished::Refused(answer),
         PartRead::At(field, so_far) => {
             let from = so_far.records;
-            let records = parts::keep(
+            let records = build_parts::keep(
                 words,
                 from,
                 from,
-                parts::record_of(records::TRAILER, checksum),
+                build_parts::record_of(build_records::TRAILER, checksum),
             );
             let progress = Progress {
                 room: so_far.room,
                 records,
             };
-            match parts::read_trailer(message, config, field, words, from, progress) {
+            match build_parts::read_trailer(message, config, field, words, from, progress) {
                 TrailerRead::Stopped(stop, count) => Finished::Whole(Stop::At(stop), count),
                 TrailerRead::Unstopped(count) => Finished::Whole(Stop::Nowhere, count),
                 TrailerRead::TooManyFields => Finished::Refused(Answer::TooManyFields),
@@ -134,12 +134,12 @@ fn keep_verified(words: &mut [u32], verified: Verified) -> usize
     requires { ⌜ (3 ≤ length (now words) / stride) × VerifiedInside verified ⌝ }
     ensures { λ r. ⌜ (partOf 0 r (now (words .exit)) ≡ verifiedRecords verified) × (r ≤ 3) ⌝ }
 {
-    let begin_string = parts::record_of(records::HEADER, verified.begin_string);
-    let body_length = parts::record_of(records::HEADER, verified.body_length);
-    let msg_type = parts::record_of(records::HEADER, verified.msg_type);
-    let first = parts::keep(words, 0, 0, begin_string);
-    let second = parts::keep(words, 0, first, body_length);
-    parts::keep(words, 0, second, msg_type)
+    let begin_string = build_parts::record_of(build_records::HEADER, verified.begin_string);
+    let body_length = build_parts::record_of(build_records::HEADER, verified.body_length);
+    let msg_type = build_parts::record_of(build_records::HEADER, verified.msg_type);
+    let first = build_parts::keep(words, 0, 0, begin_string);
+    let second = build_parts::keep(words, 0, first, body_length);
+    build_parts::keep(words, 0, second, msg_type)
 }
 
 // Integrity, and the header behind the fields that it verified.
@@ -148,7 +148,7 @@ fn begin(message: &[u8], config: Config, header_tags: &[u32], words: &mut [u32])
     ensures { λ r. ⌜ startTold (config .mode) (now (message .entry)) r (now (words .exit)) ≡ startOf (now («header_tags» .entry)) config (now (message .entry)) ⌝ }
     ensures { λ r. ⌜ Begins (now (message .entry)) (now (words .exit)) r ⌝ }
 {
-    match integrity::verify(message, config.mode) {
+    match build_integrity::verify(message, config.mode) {
         Integrity::Garbled(reason) => Begun::Refused(Answer::Garbled(reason)),
         Integrity::Sound(verified) => {
             let msg_type = verified.msg_type;
@@ -158,7 +158,7 @@ fn begin(message: &[u8], config: Config, header_tags: &[u32], words: &mut [u32])
                 room: ROOM,
                 records: keep_verified(words, verified),
             };
-            match parts::read_header(message, config, header_tags, behind, words, kept) {
+            match build_parts::read_header(message, config, header_tags, behind, words, kept) {
                 PartRead::Refused(answer) => Begun::Refused(answer),
                 PartRead::At(stop, progress) => Begun::Header(Headed {
                     stop,
@@ -177,13 +177,13 @@ fn msg_type_of(words: &[u32], count: usize) -> Record
 {
     let mut i: usize = 0;
     while i < count {
-        let found = records::record_at(words, i);
+        let found = build_records::record_at(words, i);
         if found.tag == MSG_TYPE {
             return found;
         }
         i += 1;
     }
-    records::record_at(words, words.len())
+    build_records::record_at(words, words.len())
 }
 
 // Body and trailer by the layout of MsgType, which must be in the dictionary. The dictionary passed its check, which left the index.
@@ -205,7 +205,7 @@ fn read_headed(
     let place = msg_type.place as usize;
     let length = msg_type.length as usize;
     let mut table = [0u32; 4096];
-    match flattening::message_table(
+    match dictionary_flattening::message_table(
         dictionary,
         index,
         &message[place..place + length],
@@ -308,8 +308,8 @@ fn read_checked(message: &[u8], config: Config, dictionary: &[u8], words: &mut [
     ensures { λ r. ⌜ r .records ≤ recordRoom ⌝ }
 {
     let mut index = [0u16; 96150];
-    let checked = flat::prepare(dictionary, &mut index);
-    if flat::number_of(checked) != 0 {
+    let checked = dictionary_check::prepare(dictionary, &mut index);
+    if dictionary_check::number_of(checked) != 0 {
         return Read {
             answer: Answer::BadDictionary(checked),
             stop: Stop::Nowhere,
@@ -349,13 +349,13 @@ pub fn build(
     config: Config,
     dictionary: &[u8],
     lent: usize,
-    words: &mut [u32; records::WORDS],
+    words: &mut [u32; build_records::WORDS],
 ) -> Built
     ensures { λ r. ⌜ builtTold r (now (words .exit)) ≡ buildOf (now (message .entry)) config (now (dictionary .entry)) lent (now (words .entry)) ⌝ }
 {
     // Only where the array is made a slice does the proof learn its length.
     let records = &mut words[..];
-    if tagvalue::is_refused_separator(config.mode.separator) {
+    if field_tagvalue::is_refused_separator(config.mode.separator) {
         return untouched(Answer::InvalidSeparator);
     }
     if lent < 1024 {

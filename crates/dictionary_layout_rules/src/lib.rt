@@ -1,5 +1,5 @@
 // dictionary_layout_rules: definitions and worked examples alone. What a dictionary means as a tree, and what is looked up in its tables,
-// whatever code looks it up: `layout` is proved against it. No function stands here, so that a wrong definition is refused in seconds.
+// whatever code looks it up: `dictionary_layout` is proved against it. No function stands here, so that a wrong definition is refused in seconds.
 
 // The rows of a message's own items, or of a group's entries: the first of them, and the row where they end.
 pub struct Level {

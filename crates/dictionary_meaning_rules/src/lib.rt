@@ -1,5 +1,5 @@
 // dictionary_meaning_rules: definitions, laws and worked examples alone. What a dictionary's bytes mean, and that the tables and lists which
-// are written from them mean the same, whatever code writes them: `flattening` is proved against it. No function stands here, so that a wrong
+// are written from them mean the same, whatever code writes them: `dictionary_flattening` is proved against it. No function stands here, so that a wrong
 // definition is refused in seconds.
 
 // How far flattening came: the place after the items, and the next free row. Broken: these are no items, or too many.

@@ -8,12 +8,12 @@ use native.Mathlib.Omega.{arith}
 use lib.ListN.{length, drop, replicate, length-append, length-drop, length-replicate}
 use lib.Dec.{eqb}
 use borrow.Author.Tests.{eqb-true, eqb-false}
-use Rattle.tagvalue.specs.Choice.{pick}
-use Rattle.chains.specs.Chain.{keyOf, found, entered, numberAt}
-use Rattle.chains.specs.ChainLaws.{Bounded, found-bounded, enter-length, enter-entry, enter-older, enter-bounded, enter-found, enter-elsewhere, clear-bounded, clear-found}
-use Rattle.chains.specs.declared.Table.{Table}
-use Rattle.chains.specs.declared.Table.the-variants.{Tags, Components, MsgTypes}
-use Rattle.chains.specs.declared.Entry.{Entry}
+use Rattle.field_tagvalue.specs.Choice.{pick}
+use Rattle.dictionary_chains.specs.Chain.{keyOf, found, entered, numberAt}
+use Rattle.dictionary_chains.specs.ChainLaws.{Bounded, found-bounded, enter-length, enter-entry, enter-older, enter-bounded, enter-found, enter-elsewhere, clear-bounded, clear-found}
+use Rattle.dictionary_chains.specs.declared.Table.{Table}
+use Rattle.dictionary_chains.specs.declared.Table.the-variants.{Tags, Components, MsgTypes}
+use Rattle.dictionary_chains.specs.declared.Entry.{Entry}
 use Rattle.dictionary_rules.specs.Index.{tagEntry, componentEntry, messageEntry, componentOf, tagAt, componentAt, messageAt, noted}
 use Rattle.dictionary_rules.specs.IndexLaws.{tag-unknown, tag-known, component-missing, component-closed, message-nowhere, message-placed}
 use Rattle.dictionary_rules.specs.declared.Component.{Component}

@@ -3,10 +3,10 @@ use Prim.Native.Nat.{ℕ, _/_, _%_}
 use mathlib.Core.Bool.{Bool, true, false}
 use mathlib.Core.List.{List}
 use lib.Dec.{eqb}
-use Rattle.tagvalue.specs.Choice.{pick}
-use Rattle.chains.specs.Chain.{entryAt, found, entered}
-use Rattle.chains.specs.declared.Table.the-variants.{Tags, Components, MsgTypes}
-use Rattle.chains.specs.declared.Entry.{Entry}
+use Rattle.field_tagvalue.specs.Choice.{pick}
+use Rattle.dictionary_chains.specs.Chain.{entryAt, found, entered}
+use Rattle.dictionary_chains.specs.declared.Table.the-variants.{Tags, Components, MsgTypes}
+use Rattle.dictionary_chains.specs.declared.Entry.{Entry}
 use Rattle.dictionary_rules.specs.declared.Component.{Component}
 use Rattle.dictionary_rules.specs.declared.Looked.{Looked}
 use Rattle.dictionary_rules.specs.declared.Looked.the-variants.{Closed, Missing}

@@ -4,8 +4,8 @@ use mathlib.Core.Bool.{true, false}
 use mathlib.Core.List.{List}
 use Prim.Native.Nat.{ℕ}
 use borrow.Author.Tests.{eq-eqb, ne-eqb}
-use Rattle.chains.specs.Chain.{entryAt, found}
-use Rattle.chains.specs.declared.Table.the-variants.{Tags, Components, MsgTypes}
+use Rattle.dictionary_chains.specs.Chain.{entryAt, found}
+use Rattle.dictionary_chains.specs.declared.Table.the-variants.{Tags, Components, MsgTypes}
 use Rattle.dictionary_rules.specs.Index.{componentOf, tagAt, lookedAs, componentAt, placedAs, messageAt}
 use Rattle.dictionary_rules.specs.declared.Looked.the-variants.{Closed, Missing}
 use Rattle.dictionary_rules.specs.declared.Placed.the-variants.{At, Nowhere}

@@ -1,5 +1,5 @@
 // dictionary_rules: definitions and worked examples alone. What the records of a flat dictionary are, what they name, and how the whole is
-// answered, whatever code checks it: `flat_records`, `flat_names`, `flat_steps` and `flat` are proved against it. No function stands here, so
+// answered, whatever code checks it: `dictionary_records`, `dictionary_names`, `dictionary_steps` and `dictionary_check` are proved against it. No function stands here, so
 // that a wrong definition is refused in seconds.
 
 pub enum Record {

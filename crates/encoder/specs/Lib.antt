@@ -1,3 +1,9 @@
-pub mod Writing
-pub mod WritingLaws
-pub mod MessageLaws
+pub mod Judging
+pub mod Leaving
+pub mod SizeLaws
+pub mod JudgingLaws
+pub mod FoundLaws
+pub mod CountLaws
+pub mod VerdictLaws
+pub mod LeavingLaws
+pub mod EncodedLaws

@@ -1,277 +1,181 @@
-// encoder: a message as bytes. It writes what a lent message holds in one pass over its rows, with the CheckSum behind it (27, 23); `encoding`
-// judges a message first and sets its BodyLength. It keeps nothing and demands nothing of what is lent.
+// encoder: the encode operation (27, 22, 43, 20, 21, 23). All is judged by sizes of rows before anything changes; then the message gets its
+// new BodyLength, is written, and gets its new CheckSum. It keeps nothing and demands nothing of what is lent.
+use encode_rows::Encoded;
+use message_rules::Change;
 use message_rules::Located;
 use message_rules::Part;
 use message_rules::Span;
-use tagvalue::Written;
-use tagvalue::wide;
+use field_tagvalue::Written;
+use encode_rules::Encoding;
+use encode_rules::Verdict;
 ghost use mathlib.Core.Path.{_≡_};
-ghost use mathlib.Core.Bool.{true, false};
-ghost use mathlib.Core.List.{[]};
-ghost use Prim.Native.Nat.{_+_, _-_, _*_, _%_, _≤_, _<_};
-ghost use lib.ListN.{length, take, drop};
-ghost use Rattle.tagvalue.specs.Decimal.{decimal, writtenAt};
-ghost use Rattle.tagvalue.specs.CheckSum.{sumOf};
-ghost use Rattle.tagvalue.specs.Field.{fieldBytes};
-ghost use Rattle.maps.specs.Rows.{rowAt, rowsFrom, rowsBefore, sizeOf, sizes, messageWords, messageRows};
-ghost use Rattle.message_rules.specs.Changes.{placeOf};
-ghost use Rattle.encoder.specs.Writing.{chosen, rowOn, rowText, rowsText, rowBytes, bytesIn, isUncounted, uncounted, itemsAt, textAt, Spans, tailOf, WritingOutcome, outcome, writing};
+ghost use Prim.Native.Nat.{_+_, _≤_, _<_};
+ghost use Rattle.field_tagvalue.specs.Decimal.{decimal};
+ghost use Rattle.message_lent.specs.Meaning.{messageIn};
+ghost use Rattle.message_rules.specs.declared.Part.the-variants.{Header};
+ghost use Rattle.message_rules.specs.Changes.{after, storing};
+ghost use Rattle.encode_rules.specs.Encode.{verdictOf, left, encoded, encodingOf};
+ghost use Rattle.encoder.specs.Judging.{SpanWithin, heldAt, hungAt, sizeAt, incompleteAt, allBytes, bodyAt, addedAt, fieldsAt};
+ghost use Rattle.encoder.specs.Leaving.{Encodable};
 
-fn write_bytes(output: &mut [u8], at: usize, text: &[u8]) -> usize
-    requires { ⌜ at + length (now text) ≤ length (now output) ⌝ }
-    ensures { λ r. ⌜ r ≡ at + length (now (text .entry)) ⌝ }
-    ensures { λ _. ⌜ now (output .exit) ≡ writtenAt at (now (text .entry)) (now (output .entry)) ⌝ }
+fn holds(words: &[u32], span: Span, tag: u32) -> bool
+    requires { ⌜ SpanWithin (now words) span ⌝ }
+    ensures { λ r. ⌜ r ≡ heldAt (now (words .entry)) span tag ⌝ }
 {
-    bytes::copy(text, &mut output[at..]);
-    at + text.len()
+    let from = span.from;
+    let to = span.to;
+    message_maps::find_row(words, 1, 1, tag, from, to) < to
 }
 
-// One field: its tag, `=`, its value and the separator.
-fn write_field(output: &mut [u8], at: usize, tag: u32, value: &[u8], separator: u8) -> usize
-    requires { ⌜ at + (length (decimal tag) + length (now value) + 2) ≤ length (now output) ⌝ }
-    ensures { λ r. ⌜ r ≡ at + (length (decimal tag) + length (now (value .entry)) + 2) ⌝ }
-    ensures { λ _. ⌜ now (output .exit) ≡ writtenAt at (fieldBytes separator (decimal tag) (now (value .entry))) (now (output .entry)) ⌝ }
+fn has_run(words: &[u32], span: Span, start: u32) -> bool
+    requires { ⌜ SpanWithin (now words) span ⌝ }
+    ensures { λ r. ⌜ r ≡ hungAt (now (words .entry)) span start ⌝ }
 {
-    let Written::Next(digits) = tagvalue::write_number(output, at, tag) else {
-        return at;
-    };
-    let equals = [61u8];
-    let ending = [separator];
-    let place = write_bytes(output, digits, &equals[..]);
-    let end = write_bytes(output, place, value);
-    write_bytes(output, end, &ending[..])
+    let from = span.from;
+    let to = span.to;
+    message_maps::find_row(words, 2, 1, start, from, to) < to
 }
 
-fn is_chosen(which: u32, tag: u32) -> bool
-    ensures { λ r. ⌜ r ≡ chosen which tag ⌝ }
-{
-    if which == 0 {
-        return true;
-    }
-    if which == 1 {
-        if tag == 8 {
-            return false;
-        }
-        if tag == 9 {
-            return false;
-        }
-        return tag != 35;
-    }
-    tag == which
-}
-
-// How many bytes a row takes when it is written.
-pub fn row_bytes(words: &[u32], row: usize) -> usize
-    requires { ⌜ (row < messageRows) × (length (now words) ≡ messageWords) ⌝ }
-    ensures { λ r. ⌜ r ≡ rowBytes (rowAt (now (words .entry)) row) ⌝ }
+// How many bytes a part's own field takes when it is written, 0 where the part lacks it.
+fn field_bytes(words: &[u32], span: Span, tag: u32) -> usize
+    requires { ⌜ SpanWithin (now words) span ⌝ }
+    ensures { λ r. ⌜ r ≡ sizeAt (now (words .entry)) span tag ⌝ }
     ensures { λ r. ⌜ r < 8589934592 ⌝ }
 {
-    if maps::kind_of(words, row) == 1 {
-        return tagvalue::digit_count(maps::tag_of(words, row))
-            + wide(maps::extra_of(words, row))
-            + 2;
+    let from = span.from;
+    let to = span.to;
+    let at = message_maps::find_row(words, 1, 1, tag, from, to);
+    if at < to {
+        return encode_rows::row_bytes(words, at);
     }
     0
 }
 
-pub fn bytes_between(words: &[u32], from: usize, to: usize) -> usize
-    requires { ⌜ (from ≤ to) × (to ≤ messageRows) × (length (now words) ≡ messageWords) ⌝ }
-    ensures { λ r. ⌜ r ≡ bytesIn (rowsFrom (to - from) from (now (words .entry))) ⌝ }
-    ensures { λ r. ⌜ r ≤ messageRows * 8589934592 ⌝ }
+// A header without 8 or 35, or a run without its count; the trailer's 10 counts none, as it is dropped.
+fn is_incomplete(words: &[u32], head: Span, tail: Span) -> bool
+    requires { ⌜ (SpanWithin (now words) head) × (SpanWithin (now words) tail) ⌝ }
+    ensures { λ r. ⌜ r ≡ incompleteAt (now (words .entry)) head tail ⌝ }
 {
-    let mut size: usize = 0;
-    let mut i = from;
-    while i < to {
-        size += row_bytes(words, i);
-        i += 1;
+    if !holds(words, head, 8) {
+        return true;
     }
-    size
+    if !holds(words, head, 35) {
+        return true;
+    }
+    if has_run(words, tail, 10) {
+        return true;
+    }
+    let count = head.count;
+    encode_rows::has_uncounted(words, count)
 }
 
-fn is_uncounted(words: &[u32], row: usize) -> bool
-    requires { ⌜ (row < messageRows) × (length (now words) ≡ messageWords) ⌝ }
-    ensures { λ r. ⌜ r ≡ isUncounted (rowsBefore row (now (words .entry))) (rowAt (now (words .entry)) row) ⌝ }
+// The bytes of all fields and entries but the header's own 8 and 9 and the trailer's own 10.
+fn body_length(words: &[u32], head: Span, tail: Span) -> usize
+    requires { ⌜ (SpanWithin (now words) head) × (SpanWithin (now words) tail) ⌝ }
+    requires { ⌜ sizeAt (now words) head 8 + sizeAt (now words) head 9 + sizeAt (now words) tail 10 ≤ allBytes (now words) head ⌝ }
+    ensures { λ r. ⌜ r ≡ bodyAt (now (words .entry)) head tail ⌝ }
 {
-    if maps::kind_of(words, row) != 2 {
-        return false;
-    }
-    let level = maps::level_of(words, row);
-    if level == 0 {
-        return false;
-    }
-    if lent::held_before(words, row, 1, level, maps::tag_of(words, row)) {
-        return false;
-    }
-    true
+    let count = head.count;
+    let all = encode_rows::bytes_between(words, 0, count);
+    let eight = field_bytes(words, head, 8);
+    let nine = field_bytes(words, head, 9);
+    let ten = field_bytes(words, tail, 10);
+    all - (eight + nine + ten)
 }
 
-pub fn has_uncounted(words: &[u32], to: usize) -> bool
-    requires { ⌜ (to ≤ messageRows) × (length (now words) ≡ messageWords) ⌝ }
-    ensures { λ r. ⌜ r ≡ uncounted [] (rowsFrom (to - 0) 0 (now (words .entry))) ⌝ }
+// How many fields come to a part where it gets a field: none where that field is held.
+fn added(words: &[u32], span: Span, tag: u32) -> usize
+    requires { ⌜ SpanWithin (now words) span ⌝ }
+    ensures { λ r. ⌜ r ≡ addedAt (now (words .entry)) span tag ⌝ }
+    ensures { λ r. ⌜ r ≤ 1 ⌝ }
 {
-    let mut i: usize = 0;
-    while i < to {
-        if is_uncounted(words, i) {
-            return true;
-        }
-        i += 1;
+    if holds(words, span, tag) {
+        return 0;
     }
-    false
+    1
 }
 
-fn row_on(words: &[u32], row: usize, which: u32, on: bool) -> bool
-    requires { ⌜ (row < messageRows) × (length (now words) ≡ messageWords) ⌝ }
-    ensures { λ r. ⌜ r ≡ rowOn which on (rowAt (now (words .entry)) row) ⌝ }
+// The fields with the new 9 and 10.
+fn fields_with(words: &[u32], head: Span, tail: Span) -> usize
+    requires { ⌜ (SpanWithin (now words) head) × (SpanWithin (now words) tail) ⌝ }
+    ensures { λ r. ⌜ r ≡ fieldsAt (now (words .entry)) head tail ⌝ }
 {
-    if maps::level_of(words, row) == 1 {
-        return is_chosen(which, maps::tag_of(words, row));
-    }
-    on
+    let count = head.count;
+    message_lent::fields_in(words, 1, 0, count) + (added(words, head, 9) + added(words, tail, 10))
 }
 
-// Writes a row if it is a field and is to be written; its value stands at `place`.
-fn write_row(
-    words: &[u32],
-    values: &[u8],
-    output: &mut [u8],
-    at: usize,
-    row: usize,
-    place: usize,
-    on: bool,
-    separator: u8,
-) -> usize
-    requires { ⌜ (row < messageRows) × (length (now words) ≡ messageWords) × (place + sizeOf (rowAt (now words) row) ≤ length (now values)) × (at + length (rowText separator on (rowAt (now words) row) (drop place (now values))) ≤ length (now output)) ⌝ }
-    ensures { λ r. ⌜ r ≡ at + length (rowText separator on (rowAt (now (words .entry)) row) (drop place (now (values .entry)))) ⌝ }
-    ensures { λ _. ⌜ now (output .exit) ≡ writtenAt at (rowText separator on (rowAt (now (words .entry)) row) (drop place (now (values .entry)))) (now (output .entry)) ⌝ }
-{
-    if !on {
-        return at;
-    }
-    if maps::kind_of(words, row) != 1 {
-        return at;
-    }
-    let end = place + maps::size_of(words, row);
-    write_field(
-        output,
-        at,
-        maps::tag_of(words, row),
-        &values[place..end],
-        separator,
-    )
-}
-
-// Writes what a map has under the chosen tags; its rows stand from `from` to `to`.
-fn write_items(
-    words: &[u32],
-    values: &[u8],
-    output: &mut [u8],
-    at: usize,
-    from: usize,
-    to: usize,
-    which: u32,
-    separator: u8,
-) -> usize
-    requires { ⌜ (from ≤ to) × (to ≤ messageRows) × (length (now words) ≡ messageWords) × (placeOf (now words) to ≤ length (now values)) × (at + length (rowsText which separator false (rowsFrom (to - from) from (now words)) (drop (placeOf (now words) from) (now values))) ≤ length (now output)) ⌝ }
-    ensures { λ r. ⌜ r ≡ at + length (rowsText which separator false (rowsFrom (to - from) from (now (words .entry))) (drop (placeOf (now (words .entry)) from) (now (values .entry)))) ⌝ }
-    ensures { λ _. ⌜ now (output .exit) ≡ writtenAt at (rowsText which separator false (rowsFrom (to - from) from (now (words .entry))) (drop (placeOf (now (words .entry)) from) (now (values .entry)))) (now (output .entry)) ⌝ }
-{
-    let mut next = at;
-    let mut place = maps::size_between(words, 0, from);
-    let mut on = false;
-    let mut i = from;
-    while i < to {
-        on = row_on(words, i, which, on);
-        next = write_row(words, values, output, next, i, place, on, separator);
-        place += maps::size_of(words, i);
-        i += 1;
-    }
-    next
-}
-
-// How writing a message ended: 0 with the length, 27, 23.
-pub enum Encoded {
-    Written(usize),
-    NoMessage,
-    NoRoom,
-}
-
-// The header's 8, 9 and 35, the rest of the header, body and trailer.
-fn write_text(
-    words: &[u32],
-    values: &[u8],
-    output: &mut [u8],
-    head: Span,
-    middle: Span,
-    tail: Span,
-    separator: u8,
-) -> usize
-    requires { ⌜ Spans (now words) (now values) (now output) head middle tail separator ⌝ }
-    ensures { λ r. ⌜ r ≡ length (textAt (now (words .entry)) (now (values .entry)) head middle tail separator) ⌝ }
-    ensures { λ _. ⌜ now (output .exit) ≡ writtenAt 0 (textAt (now (words .entry)) (now (values .entry)) head middle tail separator) (now (output .entry)) ⌝ }
-{
-    let from = head.from;
-    let to = head.to;
-    let body = middle.from;
-    let body_end = middle.to;
-    let trailer = tail.from;
-    let trailer_end = tail.to;
-    let first = write_items(words, values, output, 0, from, to, 8, separator);
-    let second = write_items(words, values, output, first, from, to, 9, separator);
-    let third = write_items(words, values, output, second, from, to, 35, separator);
-    let fourth = write_items(words, values, output, third, from, to, 1, separator);
-    let fifth = write_items(words, values, output, fourth, body, body_end, 0, separator);
-    write_items(
-        words,
-        values,
-        output,
-        fifth,
-        trailer,
-        trailer_end,
-        0,
-        separator,
-    )
-}
-
-fn sum_before(output: &[u8], at: usize) -> u8
-    requires { ⌜ at ≤ length (now output) ⌝ }
-    ensures { λ r. ⌜ r ≡ sumOf (take at (now (output .entry))) % 256 ⌝ }
-{
-    tagvalue::sum_of(&output[..at])
-}
-
-// The prefix `10=`, three digits of the sum of all before, and the separator.
-fn write_tail(output: &mut [u8], at: usize, separator: u8)
-    requires { ⌜ at + 7 ≤ length (now output) ⌝ }
-    ensures { λ _. ⌜ now (output .exit) ≡ writtenAt at (tailOf separator (take at (now (output .entry)))) (now (output .entry)) ⌝ }
-{
-    let sum = sum_before(output, at);
-    let digits = tagvalue::checksum_digits(sum);
-    let prefix = [49u8, 48, 61];
-    let ending = [separator];
-    let first = write_bytes(output, at, &prefix[..]);
-    let second = write_bytes(output, first, &digits[..]);
-    write_bytes(output, second, &ending[..]);
-}
-
-// Writes a message as it is held, with the CheckSum of its bytes behind it: 27, 23.
-pub fn write_message(words: &[u32], values: &[u8], output: &mut [u8], separator: u8) -> Encoded
-    ensures { λ r. ⌜ outcome r (now (output .exit)) ≡ writing separator (now (words .entry)) (now (values .entry)) (now (output .entry)) ⌝ }
+fn judge(words: &[u32], values: &[u8], separator: u8, room: usize) -> Verdict
+    ensures { λ r. ⌜ r ≡ verdictOf separator (now (words .entry)) (now (values .entry)) room ⌝ }
 {
     let Located::At(head) = message::locate(words, values, Part::Header) else {
-        return Encoded::NoMessage;
-    };
-    let Located::At(middle) = message::locate(words, values, Part::Body) else {
-        return Encoded::NoMessage;
+        return Verdict::Refused(Encoding::NoMessage);
     };
     let Located::At(tail) = message::locate(words, values, Part::Trailer) else {
-        return Encoded::NoMessage;
+        return Verdict::Refused(Encoding::NoMessage);
     };
-    let count = head.count;
-    let size = bytes_between(words, 0, count);
-    if output.len() < size + 7 {
-        return Encoded::NoRoom;
+    if field_tagvalue::is_refused_separator(separator) {
+        return Verdict::Refused(Encoding::InvalidSeparator);
     }
-    let at = write_text(words, values, output, head, middle, tail, separator);
-    write_tail(output, at, separator);
-    Encoded::Written(at + 7)
+    if is_incomplete(words, head, tail) {
+        return Verdict::Refused(Encoding::Incomplete);
+    }
+    let body = body_length(words, head, tail);
+    if 8192 < body {
+        return Verdict::Refused(Encoding::TooLong);
+    }
+    let begin = field_bytes(words, head, 8);
+    let length = begin + field_tagvalue::digit_count(body as u32) + body + 10;
+    if 8192 < length {
+        return Verdict::Refused(Encoding::TooLong);
+    }
+    if 1024 < fields_with(words, head, tail) {
+        return Verdict::Refused(Encoding::TooManyFields);
+    }
+    if room < length {
+        return Verdict::Refused(Encoding::NoRoom);
+    }
+    Verdict::Measured(body as u32)
+}
+
+fn set_body_length(words: &mut [u32], values: &mut [u8], body: u32) -> Change
+    ensures { λ r. ⌜ after r (now (words .exit)) (now (values .exit)) ≡ storing Header 9 (decimal body) (now (words .entry)) (now (values .entry)) ⌝ }
+{
+    let mut digits = [0u8; 10];
+    let scratch = &mut digits[..];
+    let Written::Next(end) = field_tagvalue::write_number(scratch, 0, body) else {
+        return Change::NotStorable;
+    };
+    message::store(words, values, Part::Header, 9, &digits[..end])
+}
+
+// Writes a message that was found fit to be encoded, and sets its 9 and 10.
+fn write_encoding(
+    words: &mut [u32],
+    values: &mut [u8],
+    output: &mut [u8],
+    separator: u8,
+    body: u32,
+) -> Encoding
+    requires { ⌜ Encodable separator (now words) (now values) (now output) body ⌝ }
+    ensures { λ r. ⌜ left r (now (words .exit)) (now (values .exit)) (now (output .exit)) ≡ encoded separator (messageIn (now (words .entry)) (now (values .entry))) (now (output .entry)) ⌝ }
+{
+    message::remove(words, values, Part::Trailer, 10);
+    set_body_length(words, values, body);
+    let Encoded::Written(length) = encode_rows::write_message(words, values, output, separator) else {
+        return Encoding::NoMessage;
+    };
+    let first = length - 4;
+    let last = length - 1;
+    message::store(words, values, Part::Trailer, 10, &output[first..last]);
+    Encoding::Written(length)
+}
+
+// Encodes a message at the start of the output: 27, 22, 43, 20, 21, 23. It then holds its new 9 and 10.
+pub fn encode(words: &mut [u32], values: &mut [u8], output: &mut [u8], separator: u8) -> Encoding
+    ensures { λ r. ⌜ left r (now (words .exit)) (now (values .exit)) (now (output .exit)) ≡ encodingOf separator (now (words .entry)) (now (values .entry)) (now (output .entry)) ⌝ }
+{
+    match judge(words, values, separator, output.len()) {
+        Verdict::Measured(body) => write_encoding(words, values, output, separator, body),
+        Verdict::Refused(refusal) => refusal,
+    }
 }

@@ -1,5 +1,5 @@
 // frame_hunter_rules: definitions and worked examples alone. What the hunting framer answers and leaves, and which frames a stream comes out
-// as however it is cut, whatever code hunts: `hunter` is proved against it. No function stands here, so that a wrong definition is refused
+// as however it is cut, whatever code hunts: `frame_hunter` is proved against it. No function stands here, so that a wrong definition is refused
 // in seconds.
 
 // What the hunt does at a place: it hands out so many bytes, passes the place, or stops there.

@@ -1,5 +1,5 @@
 // frame_parser_rules: definitions and worked examples alone. What the ported framer answers and leaves, and what a stream of messages comes
-// out as, whatever code does it: `parser` is proved against it. No function stands here, so that a wrong definition is refused in seconds.
+// out as, whatever code does it: `frame_parser` is proved against it. No function stands here, so that a wrong definition is refused in seconds.
 
 // What the framer keeps beside the store: how many bytes are used, whether the end was told, and whether a length over 8,192 bytes
 // was announced, the mark that 20 leaves.

@@ -1,5 +1,5 @@
 // frame_verdict_rules: definitions and worked examples alone. What a frame is, and what is known of a place from the bytes that stand there,
-// whatever code judges it: `verdict` is proved against it. No function stands here, so that a wrong definition is refused in seconds.
+// whatever code judges it: `frame_verdict` is proved against it. No function stands here, so that a wrong definition is refused in seconds.
 
 // What is known of a place from the bytes that stand there: a frame of so many bytes starts; no continuation makes one start; neither.
 pub enum Verdict {

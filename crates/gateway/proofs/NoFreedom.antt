@@ -12,7 +12,7 @@ use denote.Ref.{now}
 use contract.Lifetimes.{Lfts}
 use denote.Triple.Entry.{Args, Res}
 use denote.Triple.Clauses.{AtExit, Ended, Clauses}
-use Rattle.no_freedom.proofs.Schema.{same, NoFreedom}
+use Rattle.promise_no_freedom.proofs.Schema.{same, NoFreedom}
 use Rattle.gateway.proofs.gateway_most_records.Reads as of-most-records
 use Rattle.gateway.proofs.gateway_most_records.Kinds as in-most-records
 use Rattle.gateway.proofs.gateway_most_message_bytes.Reads as of-most-message-bytes

@@ -1,6 +1,6 @@
 -- The 6,150 words that a build writes and a taking over reads, as one part of memory: put together of a cell and what is owned there, taken apart again,
 -- and, where they lie in a local, given up.
-use Rattle.records.specs.Records.{recordWords}
+use Rattle.build_records.specs.Records.{recordWords}
 use Rattle.gateway.proofs.Walk.{refl, ℕ, List, [], _∷_, URA, fullShare, w32, Val, ent, id⊢, fex, fsep, froom}
 use Rattle.gateway.proofs.Walk.{Heap, Atoms, sem, Given, ‵, ⋆, _$_, _∵_, !, qed, move, drop, rewrite, fsplit, fjoin, fpick, fpack, done, forget}
 use Rattle.gateway.proofs.Walk.{RattleType, Is, shows, cellAt, partAt, partOf, lone, uint-vals, uint-tells, u32, Array, array-tells, peeks}

@@ -6,9 +6,9 @@ use Rattle.message_rules.specs.declared.Part.{Part}
 use Rattle.message_rules.specs.declared.Change.{Change}
 use Rattle.message_rules.specs.Changes.{After, after, numberOfChange, storing, removing}
 use Rattle.message_rules.specs.Runs.{hanging}
-use Rattle.written_form.specs.declared.Encoding.{Encoding}
-use Rattle.written_form.specs.Encode.{Left, left, numberOfEncoding}
-use Rattle.telling.specs.Told.{told, changeNumber, changedWords, changedValues, lengthOfEncoding, encodingNumber, encodingLength, leftWords, leftValues, leftOutput}
+use Rattle.encode_rules.specs.declared.Encoding.{Encoding}
+use Rattle.encode_rules.specs.Encode.{Left, left, numberOfEncoding}
+use Rattle.face_messages.specs.Told.{told, changeNumber, changedWords, changedValues, lengthOfEncoding, encodingNumber, encodingLength, leftWords, leftValues, leftOutput}
 
 -- the part by its number
 pub storing-in : (p q : Part) (tag : ℕ) (value words values : List ℕ) (a : After) → p ≡ q → a ≡ storing p tag value words values → a ≡ storing q tag value words values

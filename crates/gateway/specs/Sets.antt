@@ -4,7 +4,7 @@ use Prim.Native.Nat.{ℕ, zero, suc, _≤_}
 use native.Mathlib.Nat.{not-suc-le-zero, le-of-suc-le-suc}
 use mathlib.Core.List.{List, [], _∷_, _++_}
 use lib.ListN.{length, set, drop, length-set}
-use Rattle.telling.specs.Lent.{table}
+use Rattle.face_messages.specs.Lent.{table}
 
 -- the first i places stored to
 abbrev pub sets : {A : Type 0} → (ℕ → A) → List A → ℕ → List A

@@ -9,16 +9,16 @@ use borrow.Author.Tests.{ltb-false, leb-true, leb-false, le-leb, lt-leb}
 use lib.Dec.{eqb, leb, ltb}
 use lib.ListN.{length, take, drop, getD, set, replicate, length-replicate}
 use lib.Seq.{take-at, take-take, length-take-le}
-use Rattle.maps.specs.Rows.{messageWords}
-use Rattle.tagvalue.specs.Choice.{pick, pick-same}
-use Rattle.records.specs.declared.Record.{Record}
-use Rattle.records.specs.Records.{laid, recordsOf, leftover, onRecords, replaced, between, recordWords, stride}
-use Rattle.records.specs.WordLaws.{words-whole, records-laid, records-on, records-length, laid-append, laid-length}
-use Rattle.taking.specs.declared.Taken.the-variants.{NoMessage}
-use Rattle.taking.specs.Taking.{AfterTaking, after, takingOver}
-use Rattle.telling.specs.declared.FieldRecord.{FieldRecord}
-use Rattle.telling.specs.Lent.{blankField, table, recordOfLent, recordsFrom, wordsLent, readCount, putFields}
-use Rattle.telling.specs.TakeLaws.{read-past, read-over, read-all}
+use Rattle.message_maps.specs.Rows.{messageWords}
+use Rattle.field_tagvalue.specs.Choice.{pick, pick-same}
+use Rattle.build_records.specs.declared.Record.{Record}
+use Rattle.build_records.specs.Records.{laid, recordsOf, leftover, onRecords, replaced, between, recordWords, stride}
+use Rattle.build_records.specs.WordLaws.{words-whole, records-laid, records-on, records-length, laid-append, laid-length}
+use Rattle.message_take_over.specs.declared.Taken.the-variants.{NoMessage}
+use Rattle.message_take_over.specs.Taking.{AfterTaking, after, takingOver}
+use Rattle.face_messages.specs.declared.FieldRecord.{FieldRecord}
+use Rattle.face_messages.specs.Lent.{blankField, table, recordOfLent, recordsFrom, wordsLent, readCount, putFields}
+use Rattle.face_messages.specs.TakeLaws.{read-past, read-over, read-all}
 use Rattle.gateway.specs.Sets.{sets, sets-part}
 
 pub put-next : (fs : List FieldRecord) (i : ℕ) (words : List ℕ) → onRecords (replaced i (recordOfLent (getD fs i blankField))) (putFields fs i words) ≡ putFields fs (suc i) words

@@ -1,12 +1,12 @@
 // The dictionary's check, and the build over the caller's records.
-use telling::FieldRecord;
+use face_messages::FieldRecord;
 ghost use mathlib.Core.Path.{_≡_};
 ghost use Prim.Native.Nat.{_≤_};
 ghost use lib.ListN.{length, getD};
 ghost use Rattle.dictionary_rules.specs.Check.{checkOf, numberOfCheck, valuesOfCheck};
 ghost use Rattle.build_answers.specs.Answer.{numberOf, valuesOf};
-ghost use Rattle.telling.specs.Told.{told};
-ghost use Rattle.telling.specs.Lent.{filled, builtFrom, recordsLent};
+ghost use Rattle.face_messages.specs.Told.{told};
+ghost use Rattle.face_messages.specs.Lent.{filled, builtFrom, recordsLent};
 
 // Checks a flat dictionary.
 #[no_mangle]
@@ -14,19 +14,19 @@ pub extern "C" fn gateway_check(dictionary: &[u8], out: &mut [u32; 4]) -> u32
     ensures { λ r. ⌜ r ≡ numberOfCheck (checkOf (now (dictionary .entry))) ⌝ }
     ensures { λ _. ⌜ now (out .exit) ≡ told 0 (getD (valuesOfCheck (checkOf (now (dictionary .entry)))) 0 0, 0) ⌝ }
 {
-    let checked = flat::check(dictionary);
-    telling::tell(out, 0, flat::value_of(checked) as usize, 0);
-    flat::number_of(checked)
+    let checked = dictionary_check::check(dictionary);
+    face_messages::tell(out, 0, dictionary_check::value_of(checked) as usize, 0);
+    dictionary_check::number_of(checked)
 }
 
 // Writes over so many of the lent records: those that the words show, and blank ones behind them.
-fn fill(records: &mut [FieldRecord], words: &[u32; records::WORDS], shown: usize, written: usize)
+fn fill(records: &mut [FieldRecord], words: &[u32; build_records::WORDS], shown: usize, written: usize)
     requires { ⌜ written ≤ length (now records) ⌝ }
     ensures { λ _. ⌜ now (records .exit) ≡ filled (now (words .entry)) shown written (now (records .entry)) ⌝ }
 {
     let mut i: usize = 0;
     while i < written {
-        records[i] = telling::field_at(words, shown, i);
+        records[i] = face_messages::field_at(words, shown, i);
         i += 1;
     }
 }
@@ -45,8 +45,8 @@ pub extern "C" fn gateway_build(
         × (now (records .exit) ≡ recordsLent (builtFrom (now (message .entry)) separator settings (now (dictionary .entry)) (length (now (records .entry)))) (now (records .entry)))
         × (now (out .exit) ≡ told (builtFrom (now (message .entry)) separator settings (now (dictionary .entry)) (length (now (records .entry))) .records) (valuesOf (builtFrom (now (message .entry)) separator settings (now (dictionary .entry)) (length (now (records .entry))) .answer))) ⌝ }
 {
-    let mut words = telling::blank_words();
-    let built = telling::build(
+    let mut words = face_messages::blank_words();
+    let built = face_messages::build(
         message,
         separator,
         settings,

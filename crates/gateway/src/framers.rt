@@ -1,11 +1,11 @@
 // The two framers. A state and a store of 16,384 bytes are lent to each call; a state of zeros is fresh.
-use framing::HunterState;
-use framing::PortedState;
+use face_framers::HunterState;
+use face_framers::PortedState;
 ghost use mathlib.Core.Path.{_≡_};
 ghost use Rattle.frame_parser_rules.specs.Framer.{numberOfParser, valueOf, fresh, pushed, pushedStore, finished, taken, takenStore, takenOutput};
 ghost use Rattle.frame_hunter_rules.specs.Bytes.{numberOfHunter, freshState, pushed as hunterPushed, finished as hunterFinished, tookFrom};
-ghost use Rattle.telling.specs.Told.{told};
-ghost use Rattle.framing.specs.States.{portedIn, portedOut, hunterIn, hunterOut};
+ghost use Rattle.face_messages.specs.Told.{told};
+ghost use Rattle.face_framers.specs.States.{portedIn, portedOut, hunterIn, hunterOut};
 
 // A chunk of the stream for the ported framer.
 #[no_mangle]
@@ -20,7 +20,7 @@ pub extern "C" fn gateway_ported_push(
         × (now (store .exit) ≡ pushedStore (portedIn (now (state .entry))) (now (store .entry)) (now (chunk .entry)))
         × (now (out .exit) ≡ told 0 (0, 0)) ⌝ }
 {
-    let reply = framing::ported_push(*state, store, chunk, out);
+    let reply = face_framers::ported_push(*state, store, chunk, out);
     *state = reply.state;
     reply.number
 }
@@ -36,7 +36,7 @@ pub extern "C" fn gateway_ported_end(
         × (now (state .exit) ≡ portedOut (finished (portedIn (now (state .entry))) (now (store .entry)) .state))
         × (now (out .exit) ≡ told 0 (0, 0)) ⌝ }
 {
-    let reply = framing::ported_end(*state, store, out);
+    let reply = face_framers::ported_end(*state, store, out);
     *state = reply.state;
     reply.number
 }
@@ -55,7 +55,7 @@ pub extern "C" fn gateway_ported_take(
         × (now (output .exit) ≡ takenOutput (portedIn (now (state .entry))) (now (store .entry)) (now (output .entry)))
         × (now (out .exit) ≡ told 0 (valueOf (taken (portedIn (now (state .entry))) (now (store .entry)) (now (output .entry)) .answer), 0)) ⌝ }
 {
-    let reply = framing::ported_take(*state, store, output, out);
+    let reply = face_framers::ported_take(*state, store, output, out);
     *state = reply.state;
     reply.number
 }
@@ -65,7 +65,7 @@ pub extern "C" fn gateway_ported_take(
 pub extern "C" fn gateway_ported_reset(state: &mut PortedState, out: &mut [u32; 4]) -> u32
     ensures { λ r. ⌜ (r ≡ 0) × (now (state .exit) ≡ portedOut fresh) × (now (out .exit) ≡ told 0 (0, 0)) ⌝ }
 {
-    let reply = framing::ported_reset(out);
+    let reply = face_framers::ported_reset(out);
     *state = reply.state;
     reply.number
 }
@@ -83,7 +83,7 @@ pub extern "C" fn gateway_hunter_push(
         × (now (store .exit) ≡ hunterPushed (hunterIn (now (state .entry))) (now (store .entry)) (now (chunk .entry)) .store)
         × (now (out .exit) ≡ told 0 (0, 0)) ⌝ }
 {
-    let reply = framing::hunter_push(*state, store, chunk, out);
+    let reply = face_framers::hunter_push(*state, store, chunk, out);
     *state = reply.state;
     reply.number
 }
@@ -99,7 +99,7 @@ pub extern "C" fn gateway_hunter_end(
         × (now (state .exit) ≡ hunterOut (hunterFinished (hunterIn (now (state .entry))) (now (store .entry)) .reply .state))
         × (now (out .exit) ≡ told 0 (0, 0)) ⌝ }
 {
-    let reply = framing::hunter_end(*state, store, out);
+    let reply = face_framers::hunter_end(*state, store, out);
     *state = reply.state;
     reply.number
 }
@@ -118,7 +118,7 @@ pub extern "C" fn gateway_hunter_take(
         × (now (output .exit) ≡ tookFrom (hunterIn (now (state .entry))) (now (store .entry)) (now (output .entry)) .output)
         × (now (out .exit) ≡ told 0 (tookFrom (hunterIn (now (state .entry))) (now (store .entry)) (now (output .entry)) .taken .length, 0)) ⌝ }
 {
-    let reply = framing::hunter_take(*state, store, output, out);
+    let reply = face_framers::hunter_take(*state, store, output, out);
     *state = reply.state;
     reply.number
 }
@@ -128,7 +128,7 @@ pub extern "C" fn gateway_hunter_take(
 pub extern "C" fn gateway_hunter_reset(state: &mut HunterState, out: &mut [u32; 4]) -> u32
     ensures { λ r. ⌜ (r ≡ 0) × (now (state .exit) ≡ hunterOut freshState) × (now (out .exit) ≡ told 0 (0, 0)) ⌝ }
 {
-    let reply = framing::hunter_reset(out);
+    let reply = face_framers::hunter_reset(out);
     *state = reply.state;
     reply.number
 }

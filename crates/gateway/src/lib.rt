@@ -6,7 +6,7 @@ pub mod framers;
 pub mod messages;
 pub mod taking_over;
 
-ghost use Rattle.maps.specs.Rows.{messageWords};
+ghost use Rattle.message_maps.specs.Rows.{messageWords};
 ghost use mathlib.Core.Path.{_≡_};
 
 // How many records a build wants lent at the least, and how many fields a message has at the most.
@@ -46,5 +46,5 @@ pub extern "C" fn gateway_most_dictionary_bytes() -> u32
 pub extern "C" fn gateway_message_words() -> u32
     ensures { λ r. ⌜ r ≡ messageWords ⌝ }
 {
-    maps::WORDS
+    message_maps::WORDS
 }

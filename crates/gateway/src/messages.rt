@@ -3,8 +3,8 @@
 ghost use mathlib.Core.Path.{_≡_};
 ghost use Rattle.message_rules.specs.Changes.{emptying, making, storing, removing};
 ghost use Rattle.message_rules.specs.Runs.{starting, entering, storingLast, hangingLast, hanging};
-ghost use Rattle.written_form.specs.Encode.{encodingOf};
-ghost use Rattle.telling.specs.Told.{told, partNumbered, changeNumber, changedWords, changedValues, encodingNumber, encodingLength, leftWords, leftValues, leftOutput};
+ghost use Rattle.encode_rules.specs.Encode.{encodingOf};
+ghost use Rattle.face_messages.specs.Told.{told, partNumbered, changeNumber, changedWords, changedValues, encodingNumber, encodingLength, leftWords, leftValues, leftOutput};
 
 // Makes what is lent an empty message.
 #[no_mangle]
@@ -15,7 +15,7 @@ pub extern "C" fn gateway_empty(words: &mut [u32], values: &mut [u8], out: &mut 
     ensures { λ _. ⌜ now (out .exit) ≡ told 0 (0, 0) ⌝ }
 {
     let change = message::empty(words, values);
-    telling::tell_change(out, change)
+    face_messages::tell_change(out, change)
 }
 
 // Makes what is lent a new message, with a BeginString and a MsgType.
@@ -33,7 +33,7 @@ pub extern "C" fn gateway_new(
     ensures { λ _. ⌜ now (out .exit) ≡ told 0 (0, 0) ⌝ }
 {
     let change = message::new(words, values, begin_string, message_type);
-    telling::tell_change(out, change)
+    face_messages::tell_change(out, change)
 }
 
 // Stores a field in a part of a message.
@@ -51,8 +51,8 @@ pub extern "C" fn gateway_store(
     ensures { λ _. ⌜ now (values .exit) ≡ changedValues (storing (partNumbered part) tag (now (value .entry)) (now (words .entry)) (now (values .entry))) ⌝ }
     ensures { λ _. ⌜ now (out .exit) ≡ told 0 (0, 0) ⌝ }
 {
-    let change = message::store(words, values, telling::part_numbered(part), tag, value);
-    telling::tell_change(out, change)
+    let change = message::store(words, values, face_messages::part_numbered(part), tag, value);
+    face_messages::tell_change(out, change)
 }
 
 // Removes a field from a part of a message.
@@ -69,8 +69,8 @@ pub extern "C" fn gateway_remove(
     ensures { λ _. ⌜ now (values .exit) ≡ changedValues (removing (partNumbered part) tag (now (words .entry)) (now (values .entry))) ⌝ }
     ensures { λ _. ⌜ now (out .exit) ≡ told 0 (0, 0) ⌝ }
 {
-    let change = message::remove(words, values, telling::part_numbered(part), tag);
-    telling::tell_change(out, change)
+    let change = message::remove(words, values, face_messages::part_numbered(part), tag);
+    face_messages::tell_change(out, change)
 }
 
 // Makes what is lent a draft of a run, without any entry.
@@ -81,8 +81,8 @@ pub extern "C" fn gateway_draft(words: &mut [u32], values: &mut [u8], out: &mut 
     ensures { λ _. ⌜ now (values .exit) ≡ changedValues (starting (now (words .entry)) (now (values .entry))) ⌝ }
     ensures { λ _. ⌜ now (out .exit) ≡ told 0 (0, 0) ⌝ }
 {
-    let change = runs::empty(words, values);
-    telling::tell_change(out, change)
+    let change = message_runs::empty(words, values);
+    face_messages::tell_change(out, change)
 }
 
 // Adds an entry to a draft.
@@ -99,8 +99,8 @@ pub extern "C" fn gateway_add_entry(
     ensures { λ _. ⌜ now (values .exit) ≡ changedValues (entering start delimiter (now (words .entry)) (now (values .entry))) ⌝ }
     ensures { λ _. ⌜ now (out .exit) ≡ told 0 (0, 0) ⌝ }
 {
-    let change = runs::add_entry(words, values, start, delimiter);
-    telling::tell_change(out, change)
+    let change = message_runs::add_entry(words, values, start, delimiter);
+    face_messages::tell_change(out, change)
 }
 
 // Stores a field in a draft's last entry.
@@ -117,8 +117,8 @@ pub extern "C" fn gateway_store_last(
     ensures { λ _. ⌜ now (values .exit) ≡ changedValues (storingLast tag (now (value .entry)) (now (words .entry)) (now (values .entry))) ⌝ }
     ensures { λ _. ⌜ now (out .exit) ≡ told 0 (0, 0) ⌝ }
 {
-    let change = runs::store_last(words, values, tag, value);
-    telling::tell_change(out, change)
+    let change = message_runs::store_last(words, values, tag, value);
+    face_messages::tell_change(out, change)
 }
 
 // Hangs a run, lent as a draft, in another draft's last entry.
@@ -135,8 +135,8 @@ pub extern "C" fn gateway_hang_last(
     ensures { λ _. ⌜ now (values .exit) ≡ changedValues (hangingLast (now («run_words» .entry)) (now («run_values» .entry)) (now (words .entry)) (now (values .entry))) ⌝ }
     ensures { λ _. ⌜ now (out .exit) ≡ told 0 (0, 0) ⌝ }
 {
-    let change = runs::hang_last(words, values, run_words, run_values);
-    telling::tell_change(out, change)
+    let change = message_runs::hang_last(words, values, run_words, run_values);
+    face_messages::tell_change(out, change)
 }
 
 // Hangs a run, lent as a draft, on a part of a message.
@@ -154,14 +154,14 @@ pub extern "C" fn gateway_hang(
     ensures { λ _. ⌜ now (values .exit) ≡ changedValues (hanging (partNumbered part) (now («run_words» .entry)) (now («run_values» .entry)) (now (words .entry)) (now (values .entry))) ⌝ }
     ensures { λ _. ⌜ now (out .exit) ≡ told 0 (0, 0) ⌝ }
 {
-    let change = runs::hang(
+    let change = message_runs::hang(
         words,
         values,
-        telling::part_numbered(part),
+        face_messages::part_numbered(part),
         run_words,
         run_values,
     );
-    telling::tell_change(out, change)
+    face_messages::tell_change(out, change)
 }
 
 // Encodes a message at the start of the output; the first value is its length.
@@ -179,6 +179,6 @@ pub extern "C" fn gateway_encode(
     ensures { λ _. ⌜ now (output .exit) ≡ leftOutput (encodingOf separator (now (words .entry)) (now (values .entry)) (now (output .entry))) ⌝ }
     ensures { λ _. ⌜ now (out .exit) ≡ told 0 (encodingLength (encodingOf separator (now (words .entry)) (now (values .entry)) (now (output .entry))), 0) ⌝ }
 {
-    let encoded = encoding::encode(words, values, output, separator);
-    telling::tell_encoding(out, encoded)
+    let encoded = encoder::encode(words, values, output, separator);
+    face_messages::tell_encoding(out, encoded)
 }

@@ -1,20 +1,20 @@
 // A built message, taken over from the caller's records into a lent message.
-use telling::FieldRecord;
+use face_messages::FieldRecord;
 ghost use mathlib.Core.Path.{_≡_};
 ghost use Prim.Native.Nat.{_≤_};
 ghost use lib.ListN.{length};
-ghost use Rattle.taking.specs.Taking.{takingOver};
-ghost use Rattle.telling.specs.Told.{told, takingNumber, takenWords, takenValues};
-ghost use Rattle.telling.specs.Lent.{wordsLent, putFields};
+ghost use Rattle.message_take_over.specs.Taking.{takingOver};
+ghost use Rattle.face_messages.specs.Told.{told, takingNumber, takenWords, takenValues};
+ghost use Rattle.face_messages.specs.Lent.{wordsLent, putFields};
 
 // Puts so many of the lent records into the words.
-fn lay(records: &[FieldRecord], read: usize, words: &mut [u32; records::WORDS])
+fn lay(records: &[FieldRecord], read: usize, words: &mut [u32; build_records::WORDS])
     requires { ⌜ read ≤ length (now records) ⌝ }
     ensures { λ _. ⌜ now (words .exit) ≡ putFields (now (records .entry)) read (now (words .entry)) ⌝ }
 {
     let mut i: usize = 0;
     while i < read {
-        telling::put_field(words, i, records[i]);
+        face_messages::put_field(words, i, records[i]);
         i += 1;
     }
 }
@@ -34,8 +34,8 @@ pub extern "C" fn gateway_take_over(
         × (now (values .exit) ≡ takenValues (takingOver (wordsLent (now (records .entry))) count (now (message .entry)) (now (words .entry)) (now (values .entry))))
         × (now (out .exit) ≡ told 0 (0, 0)) ⌝ }
 {
-    let mut laid = telling::blank_words();
-    let read = telling::read_count(records.len(), count);
+    let mut laid = face_messages::blank_words();
+    let read = face_messages::read_count(records.len(), count);
     lay(records, read, &mut laid);
-    telling::take_over(&laid, read, count, message, words, values, out)
+    face_messages::take_over(&laid, read, count, message, words, values, out)
 }

@@ -1,5 +1,5 @@
-// message: FIX messages made and changed by calls. It says what a message means in no other words than maps; `lent` says what may be lent,
-// `maps` moves rows and bytes. No operation demands anything of what is lent: where it is no message the answer is 27.
+// message: FIX messages made and changed by calls. It says what a message means in no other words than maps; `message_lent` says what may be lent,
+// `message_maps` moves rows and bytes. No operation demands anything of what is lent: where it is no message the answer is 27.
 use message_rules::Change;
 use message_rules::Cut;
 use message_rules::Located;
@@ -16,13 +16,13 @@ ghost use Rattle.message_rules.specs.Changes.{locatedIn, Cuttable, changedAt, R
 pub fn locate(words: &[u32], values: &[u8], part: Part) -> Located
     ensures { λ r. ⌜ r ≡ locatedIn part (now (words .entry)) (now (values .entry)) ⌝ }
 {
-    if !lent::is_message(words, values) {
+    if !message_lent::is_message(words, values) {
         return Located::Nowhere;
     }
-    let count = lent::row_count(words);
-    let first = maps::end_of(words, 0, 1, count);
+    let count = message_lent::row_count(words);
+    let first = message_maps::end_of(words, 0, 1, count);
     let body = first + 1;
-    let second = maps::end_of(words, 0, body, count);
+    let second = message_maps::end_of(words, 0, body, count);
     let trailer = second + 1;
     match part {
         Part::Header => {
@@ -78,11 +78,11 @@ pub fn cut_rows(
     let kept = cut.kept;
     let until = cut.until;
     let count = cut.count;
-    let first = maps::size_between(words, 0, from);
-    let second = maps::size_between(words, 0, to);
-    let third = maps::size_between(words, 0, kept);
-    let fourth = maps::size_between(words, 0, until);
-    let used = maps::size_between(words, 0, count);
+    let first = message_maps::size_between(words, 0, from);
+    let second = message_maps::size_between(words, 0, to);
+    let third = message_maps::size_between(words, 0, kept);
+    let fourth = message_maps::size_between(words, 0, until);
+    let used = message_maps::size_between(words, 0, count);
     if !fits(
         first + (fourth - second) + (second - third) + (used - fourth),
         bytes.len(),
@@ -96,7 +96,7 @@ pub fn cut_rows(
         return Change::TooManyFields;
     }
     let left = from + (until - to) + (to - kept) + (count - until);
-    maps::splice_words(
+    message_maps::splice_words(
         words,
         4 * from + 1,
         4 * to + 1,
@@ -106,7 +106,7 @@ pub fn cut_rows(
         rows,
     );
     words[0] = (left + added) as u32;
-    maps::splice_bytes(values, first, second, third, fourth, used, bytes);
+    message_maps::splice_bytes(values, first, second, third, fourth, used, bytes);
     Change::Made
 }
 
@@ -126,7 +126,7 @@ pub fn put_field(
     let to = span.to;
     let count = span.count;
     let row = [1u32, 1, tag, value.len() as u32];
-    let at = maps::find_row(words, 1, 1, tag, from, to);
+    let at = message_maps::find_row(words, 1, 1, tag, from, to);
     if at < to {
         let place = Cut {
             from: at,
@@ -137,8 +137,8 @@ pub fn put_field(
         };
         return cut_rows(words, values, place, &row[..], 1, value, true, fields);
     }
-    let first = maps::find_row(words, 2, 1, tag, from, to);
-    let last = maps::run_end(words, 1, tag, first, to);
+    let first = message_maps::find_row(words, 2, 1, tag, from, to);
+    let last = message_maps::run_end(words, 1, tag, first, to);
     let run = Cut {
         from: first,
         to: last,
@@ -153,7 +153,7 @@ pub fn put_field(
 pub fn empty(words: &mut [u32], values: &mut [u8]) -> Change
     ensures { λ r. ⌜ after r (now (words .exit)) (now (values .exit)) ≡ emptying (now (words .entry)) (now (values .entry)) ⌝ }
 {
-    if words.len() != maps::WORDS {
+    if words.len() != message_maps::WORDS {
         return Change::NoMessage;
     }
     if values.len() != 8192 {
@@ -161,9 +161,9 @@ pub fn empty(words: &mut [u32], values: &mut [u8]) -> Change
     }
     let heads = [2u32, 0, 1, 0, 2, 0, 2, 0, 2, 0, 3, 0];
     let no_bytes = [0u8; 1];
-    maps::splice_words(words, 1, 1, 1, 1, 1, &heads[..]);
+    message_maps::splice_words(words, 1, 1, 1, 1, 1, &heads[..]);
     words[0] = 3;
-    maps::splice_bytes(values, 0, 0, 0, 0, 0, &no_bytes[..0]);
+    message_maps::splice_bytes(values, 0, 0, 0, 0, 0, &no_bytes[..0]);
     Change::Made
 }
 
@@ -181,7 +181,7 @@ pub fn store(words: &mut [u32], values: &mut [u8], part: Part, tag: u32, value: 
         return Change::NotStorable;
     }
     let count = span.count;
-    let fields = lent::fields_in(words, 1, 0, count);
+    let fields = message_lent::fields_in(words, 1, 0, count);
     put_field(words, values, span, tag, value, fields)
 }
 
@@ -189,7 +189,7 @@ pub fn store(words: &mut [u32], values: &mut [u8], part: Part, tag: u32, value: 
 pub fn new(words: &mut [u32], values: &mut [u8], begin_string: &[u8], message_type: &[u8]) -> Change
     ensures { λ r. ⌜ after r (now (words .exit)) (now (values .exit)) ≡ making (now («begin_string» .entry)) (now («message_type» .entry)) (now (words .entry)) (now (values .entry)) ⌝ }
 {
-    if words.len() != maps::WORDS {
+    if words.len() != message_maps::WORDS {
         return Change::NoMessage;
     }
     if values.len() != 8192 {
@@ -213,11 +213,11 @@ pub fn remove(words: &mut [u32], values: &mut [u8], part: Part, tag: u32) -> Cha
     let from = span.from;
     let to = span.to;
     let count = span.count;
-    let at = maps::find_row(words, 1, 1, tag, from, to);
+    let at = message_maps::find_row(words, 1, 1, tag, from, to);
     if to <= at {
         return Change::Made;
     }
-    let fields = lent::fields_in(words, 1, 0, count);
+    let fields = message_lent::fields_in(words, 1, 0, count);
     let no_words = [0u32; 1];
     let no_bytes = [0u8; 1];
     let place = Cut {

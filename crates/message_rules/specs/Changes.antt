@@ -5,11 +5,11 @@ use mathlib.Core.Bool.{Bool, true, false}
 use mathlib.Core.List.{List, [], _∷_, _++_}
 use lib.ListN.{length, set}
 use lib.Dec.{eqb, leb, ltb}
-use Rattle.tagvalue.specs.Choice.{pick}
-use Rattle.maps.specs.Map.{Map, end, field, entry, holds, withoutField, stored, hung, fieldCount, valuesIn}
-use Rattle.maps.specs.Rows.{laid, flat, rowsFrom, findFrom, runEndFrom, sizes, padded, spliced, messageWords, messageRows}
-use Rattle.lent.specs.Lent.{isMessage}
-use Rattle.lent.specs.Meaning.{Message, parts, wordsOf, valuesOf, messageIn}
+use Rattle.field_tagvalue.specs.Choice.{pick}
+use Rattle.message_maps.specs.Map.{Map, end, field, entry, holds, withoutField, stored, hung, fieldCount, valuesIn}
+use Rattle.message_maps.specs.Rows.{laid, flat, rowsFrom, findFrom, runEndFrom, sizes, padded, spliced, messageWords, messageRows}
+use Rattle.message_lent.specs.Lent.{isMessage}
+use Rattle.message_lent.specs.Meaning.{Message, parts, wordsOf, valuesOf, messageIn}
 use Rattle.message_rules.specs.declared.Part.{Part}
 use Rattle.message_rules.specs.declared.Part.the-variants.{Header, Body, Trailer}
 use Rattle.message_rules.specs.declared.Change.{Change}

@@ -9,13 +9,13 @@ use native.Mathlib.Nat.{sub-zero}
 use lib.ListN.{length, take, drop, set, getD, replicate, length-append, length-take, length-drop, take-append-drop}
 use lib.Seq.{take-at, drop-at, drop-cons}
 use lib.Dec.{leb, ltb, eqb}
-use Rattle.tagvalue.specs.Choice.{pick, pick-same}
-use Rattle.maps.specs.Map.{Map, end, field, entry, valuesIn}
-use Rattle.maps.specs.Rows.{Row, row, laid, flat, part, padded, rowAt, rowsFrom, levelOf, sizes, endFrom, spliced, messageWords, messageRows}
-use Rattle.lent.specs.Lent.{rowCount, rowsOf, isMessage}
-use Rattle.lent.specs.LentLaws.{Laid, Held, message-held}
-use Rattle.lent.specs.Meaning.{Message, parts, wordsOf, valuesOf, messageIn}
-use Rattle.lent.specs.MeaningLaws.{Means, means, flat-length, flat-append, rows-flat}
+use Rattle.field_tagvalue.specs.Choice.{pick, pick-same}
+use Rattle.message_maps.specs.Map.{Map, end, field, entry, valuesIn}
+use Rattle.message_maps.specs.Rows.{Row, row, laid, flat, part, padded, rowAt, rowsFrom, levelOf, sizes, endFrom, spliced, messageWords, messageRows}
+use Rattle.message_lent.specs.Lent.{rowCount, rowsOf, isMessage}
+use Rattle.message_lent.specs.LentLaws.{Laid, Held, message-held}
+use Rattle.message_lent.specs.Meaning.{Message, parts, wordsOf, valuesOf, messageIn}
+use Rattle.message_lent.specs.MeaningLaws.{Means, means, flat-length, flat-append, rows-flat}
 use Rattle.message_rules.specs.Changes.{After, after, placeOf, Cuttable, cutRows, cutSize, cutWords, cutValues, changedAt, mapWords, mapValues, judgedMap}
 use Rattle.message_rules.specs.LayoutLaws.{sizes-append, sizes-laid}
 use Rattle.message_rules.specs.PlaceLaws.{rows-length, rows-part, part-rows, part-values, spliced-parts}

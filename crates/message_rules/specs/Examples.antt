@@ -6,13 +6,13 @@ use mathlib.Core.Bool.{Bool, true, false}
 use Prim.Native.Nat.{ℕ, zero, suc}
 use lib.ListN.{replicate}
 use native.Mathlib.Omega.{arith}
-use Rattle.maps.specs.Rows.{messageWords}
-use Rattle.records.specs.Records.{recordRoom}
-use Rattle.tagvalue.specs.Text.{bytes}
-use Rattle.maps.specs.Map.{Map, end, field, entry, joined, holds, holdsAny, replaced, withoutField, leading, pastLeading, runOn, withoutRun, stored, fieldCount, valuesIn}
-use Rattle.lent.specs.Meaning.{Message, parts, wordsOf, valuesOf}
-use Rattle.lent.specs.Formed.{stands, goesOn, isFormed, Within}
-use Rattle.lent.specs.FormedLaws.{Lends, layout-lends}
+use Rattle.message_maps.specs.Rows.{messageWords}
+use Rattle.build_records.specs.Records.{recordRoom}
+use Rattle.field_tagvalue.specs.Text.{bytes}
+use Rattle.message_maps.specs.Map.{Map, end, field, entry, joined, holds, holdsAny, replaced, withoutField, leading, pastLeading, runOn, withoutRun, stored, fieldCount, valuesIn}
+use Rattle.message_lent.specs.Meaning.{Message, parts, wordsOf, valuesOf}
+use Rattle.message_lent.specs.Formed.{stands, goesOn, isFormed, Within}
+use Rattle.message_lent.specs.FormedLaws.{Lends, layout-lends}
 use Rattle.message_rules.specs.Changes.{After, after, numberOfChange, partOf, withPart, fieldTotal, valueTotal, judged, ofMessage, ofStore, noFields, emptying, newMessage, storing, removing}
 use Rattle.message_rules.specs.declared.Part.{Part}
 use Rattle.message_rules.specs.declared.Part.the-variants.{Header, Body, Trailer}

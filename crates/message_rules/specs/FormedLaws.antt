@@ -7,14 +7,14 @@ use native.Mathlib.Omega.{arith}
 use lib.ListN.{length}
 use lib.Dec.{leb, eqb}
 use borrow.Author.Tests.{leb-true, eqb-true, eqb-false}
-use Rattle.maps.specs.Rows.{messageWords}
-use Rattle.tagvalue.specs.Choice.{pick}
-use Rattle.maps.specs.Map.{Map, holds, withoutField, stored, fieldCount, valuesIn}
-use Rattle.lent.specs.Lent.{isMessage}
-use Rattle.lent.specs.Meaning.{Message, parts, wordsOf, valuesOf, messageIn}
-use Rattle.lent.specs.Formed.{isFormed, Formed, Within}
-use Rattle.lent.specs.FormedLaws.{lent-formed, Lends, layout-lends}
-use Rattle.lent.specs.StoredLaws.{formed-stored, formed-without}
+use Rattle.message_maps.specs.Rows.{messageWords}
+use Rattle.field_tagvalue.specs.Choice.{pick}
+use Rattle.message_maps.specs.Map.{Map, holds, withoutField, stored, fieldCount, valuesIn}
+use Rattle.message_lent.specs.Lent.{isMessage}
+use Rattle.message_lent.specs.Meaning.{Message, parts, wordsOf, valuesOf, messageIn}
+use Rattle.message_lent.specs.Formed.{isFormed, Formed, Within}
+use Rattle.message_lent.specs.FormedLaws.{lent-formed, Lends, layout-lends}
+use Rattle.message_lent.specs.StoredLaws.{formed-stored, formed-without}
 use Rattle.message_rules.specs.Changes.{after, partOf, withPart, fieldTotal, valueTotal, judged, noFields, ofStore, emptying, storing, removing}
 use Rattle.message_rules.specs.ChangeLaws.{no-message, store-zero, store-on, remove-none, remove-on}
 use Rattle.message_rules.specs.SplitLaws.{field-gone}

@@ -5,9 +5,9 @@ use mathlib.Core.List.{List, [], _∷_}
 use mathlib.Core.Bool.{Bool, true, false}
 use Prim.Native.Nat.{ℕ}
 use lib.ListN.{length}
-use Rattle.tagvalue.specs.Text.{bytes}
-use Rattle.maps.specs.Map.{Map, end, field, entry, Looked, none, some, valuesIn}
-use Rattle.lent.specs.Meaning.{Message, parts}
+use Rattle.field_tagvalue.specs.Text.{bytes}
+use Rattle.message_maps.specs.Map.{Map, end, field, entry, Looked, none, some, valuesIn}
+use Rattle.message_lent.specs.Meaning.{Message, parts}
 use Rattle.message_rules.specs.declared.Part.the-variants.{Header, Body, Trailer}
 use Rattle.message_rules.specs.LookUps.{rowsIn, standing, mapAt, valueIn, entryIn, partRow, valueOf, entryOf}
 use Rattle.message_rules.specs.declared.FoundValue.the-variants as value

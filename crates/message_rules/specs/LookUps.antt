@@ -5,10 +5,10 @@ use mathlib.Core.Bool.{Bool, true, false}
 use mathlib.Core.List.{List, [], _∷_}
 use lib.ListN.{length}
 use lib.Dec.{eqb, leb}
-use Rattle.tagvalue.specs.Choice.{pick}
-use Rattle.maps.specs.Map.{Map, end, field, entry, Looked, none, some, valuesIn}
-use Rattle.lent.specs.Lent.{isMessage}
-use Rattle.lent.specs.Meaning.{Message, parts, messageIn}
+use Rattle.field_tagvalue.specs.Choice.{pick}
+use Rattle.message_maps.specs.Map.{Map, end, field, entry, Looked, none, some, valuesIn}
+use Rattle.message_lent.specs.Lent.{isMessage}
+use Rattle.message_lent.specs.Meaning.{Message, parts, messageIn}
 use Rattle.message_rules.specs.declared.Part.{Part}
 use Rattle.message_rules.specs.declared.Part.the-variants.{Header, Body, Trailer}
 use Rattle.message_rules.specs.declared.FoundValue.{FoundValue}

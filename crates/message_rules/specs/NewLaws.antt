@@ -8,12 +8,12 @@ use lib.ListN.{length, getD, take, drop, replicate, length-append}
 use lib.Seq.{take-at, drop-at}
 use lib.Dec.{leb, ltb, eqb}
 use borrow.Author.Tests.{le-leb, lt-leb, eq-eqb, ne-eqb}
-use Rattle.tagvalue.specs.Choice.{pick}
-use Rattle.maps.specs.Map.{Map, end, field, entry, joined, holds, replaced, withoutRun, runOn, stored, fieldCount, holdsAny, valuesIn}
-use Rattle.maps.specs.Rows.{Row, row, laid, flat, padded, rowAt, rowsFrom, sizes, sizeOf, levelOf, matches, messageWords, messageRows}
-use Rattle.maps.specs.RowsLaws.{padded-length}
-use Rattle.lent.specs.Lent.{heldBefore, deepest, fieldAllowed, headAllowed, rowAllowed, rowsAllowed, delimiterIs, isPart, nextPart, partsFrom, isOwn, ownBelow, weight, fieldsIn, rowCount, rowsOf, isLaid, isMessage}
-use Rattle.lent.specs.Meaning.{Message, parts, wordsOf, valuesOf, opened, withField, withEntry, withRow, openIn, outermost, thirdOf, secondOf, partsIn, messageIn}
+use Rattle.field_tagvalue.specs.Choice.{pick}
+use Rattle.message_maps.specs.Map.{Map, end, field, entry, joined, holds, replaced, withoutRun, runOn, stored, fieldCount, holdsAny, valuesIn}
+use Rattle.message_maps.specs.Rows.{Row, row, laid, flat, padded, rowAt, rowsFrom, sizes, sizeOf, levelOf, matches, messageWords, messageRows}
+use Rattle.message_maps.specs.RowsLaws.{padded-length}
+use Rattle.message_lent.specs.Lent.{heldBefore, deepest, fieldAllowed, headAllowed, rowAllowed, rowsAllowed, delimiterIs, isPart, nextPart, partsFrom, isOwn, ownBelow, weight, fieldsIn, rowCount, rowsOf, isLaid, isMessage}
+use Rattle.message_lent.specs.Meaning.{Message, parts, wordsOf, valuesOf, opened, withField, withEntry, withRow, openIn, outermost, thirdOf, secondOf, partsIn, messageIn}
 use Rattle.message_rules.specs.Changes.{After, after, ofMessage, ofStore, partOf, withPart, fieldTotal, valueTotal, judged, noFields, newMessage, emptying, making, storing}
 use Rattle.message_rules.specs.ChangeLaws.{store-on, empty-made}
 use Rattle.message_rules.specs.declared.Change.{Change}

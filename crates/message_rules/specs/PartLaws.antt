@@ -4,11 +4,11 @@ use mathlib.Core.List.{List, [], _∷_, _++_, append-assoc}
 use Prim.Native.Nat.{ℕ, _+_}
 use native.Mathlib.Omega.{arith}
 use lib.ListN.{length, length-append}
-use Rattle.maps.specs.Map.{Map, valuesIn, fieldCount}
-use Rattle.maps.specs.Rows.{Row, row, laid, sizes, sizeOf}
-use Rattle.lent.specs.Lent.{fieldsIn}
-use Rattle.lent.specs.Meaning.{Message, parts}
-use Rattle.lent.specs.LaidLaws.{fields-parts}
+use Rattle.message_maps.specs.Map.{Map, valuesIn, fieldCount}
+use Rattle.message_maps.specs.Rows.{Row, row, laid, sizes, sizeOf}
+use Rattle.message_lent.specs.Lent.{fieldsIn}
+use Rattle.message_lent.specs.Meaning.{Message, parts}
+use Rattle.message_lent.specs.LaidLaws.{fields-parts}
 use Rattle.message_rules.specs.Changes.{partOf, withPart, fieldTotal, spanOf}
 use Rattle.message_rules.specs.LayoutLaws.{sizes-append, sizes-laid}
 use Rattle.message_rules.specs.declared.Part.{Part}

@@ -10,13 +10,13 @@ use lib.ListN.{length, take, drop, set, getD, replicate, length-append, length-t
 use lib.Seq.{take-at, drop-at, drop-cons}
 use lib.Dec.{leb, ltb, eqb}
 use borrow.Author.Tests.{le-leb, lt-leb}
-use Rattle.tagvalue.specs.Choice.{pick, pick-same}
-use Rattle.maps.specs.Map.{Map, end, field, entry, valuesIn}
-use Rattle.maps.specs.Rows.{Row, row, laid, flat, part, padded, rowAt, rowsFrom, levelOf, sizes, endFrom, spliced}
-use Rattle.lent.specs.Lent.{rowCount, rowsOf, isMessage}
-use Rattle.lent.specs.LentLaws.{Laid, Held, message-held}
-use Rattle.lent.specs.Meaning.{Message, parts, wordsOf, valuesOf, messageIn}
-use Rattle.lent.specs.MeaningLaws.{Means, means, flat-length, flat-append, rows-flat}
+use Rattle.field_tagvalue.specs.Choice.{pick, pick-same}
+use Rattle.message_maps.specs.Map.{Map, end, field, entry, valuesIn}
+use Rattle.message_maps.specs.Rows.{Row, row, laid, flat, part, padded, rowAt, rowsFrom, levelOf, sizes, endFrom, spliced}
+use Rattle.message_lent.specs.Lent.{rowCount, rowsOf, isMessage}
+use Rattle.message_lent.specs.LentLaws.{Laid, Held, message-held}
+use Rattle.message_lent.specs.Meaning.{Message, parts, wordsOf, valuesOf, messageIn}
+use Rattle.message_lent.specs.MeaningLaws.{Means, means, flat-length, flat-append, rows-flat}
 use Rattle.message_rules.specs.Changes.{After, after, placeOf, Cuttable, cutRows, cutSize, cutWords, cutValues, changedAt, locatedIn, spanOf}
 use Rattle.message_rules.specs.LayoutLaws.{sizes-append, sizes-laid, end-below}
 use Rattle.message_rules.specs.declared.Cut.{Cut}

@@ -5,12 +5,12 @@ use mathlib.Core.Bool.{Bool, true, false}
 use mathlib.Core.List.{List, [], _∷_}
 use lib.ListN.{length}
 use lib.Dec.{eqb, leb}
-use Rattle.tagvalue.specs.Choice.{pick}
-use Rattle.maps.specs.Rows.{Row, levelOf}
-use Rattle.maps.specs.Map.{Map, end, field, entry, joined, stored, hung, fieldCount}
-use Rattle.lent.specs.Lent.{rowsOf, fieldsIn, isLaid}
-use Rattle.lent.specs.Meaning.{Message, openIn, outermost}
-use Rattle.lent.specs.Formed.{isRun}
+use Rattle.field_tagvalue.specs.Choice.{pick}
+use Rattle.message_maps.specs.Rows.{Row, levelOf}
+use Rattle.message_maps.specs.Map.{Map, end, field, entry, joined, stored, hung, fieldCount}
+use Rattle.message_lent.specs.Lent.{rowsOf, fieldsIn, isLaid}
+use Rattle.message_lent.specs.Meaning.{Message, openIn, outermost}
+use Rattle.message_lent.specs.Formed.{isRun}
 use Rattle.message_rules.specs.Changes.{After, after, ofStore, ofMessage, partOf, withPart, mapWords, mapValues, judgedMap, judged}
 use Rattle.message_rules.specs.declared.Part.{Part}
 use Rattle.message_rules.specs.declared.Change.the-variants.{Made, NoMessage, NotStorable, NoRun, TooManyFields}

@@ -8,14 +8,14 @@ use native.Mathlib.Nat.{sub-zero}
 use lib.ListN.{length, take, length-append}
 use lib.Dec.{leb, ltb, eqb}
 use borrow.Author.Tests.{lt-leb, ltb-true, ltb-false}
-use Rattle.tagvalue.specs.Choice.{pick}
-use Rattle.maps.specs.Map.{Map, end, field, entry, joined, holds, replaced, withoutField, runOn, withoutRun, stored, fieldCount, valuesIn}
-use Rattle.maps.specs.Rows.{Row, laid, rowsFrom, sizes, findFrom, messageRows}
-use Rattle.lent.specs.Lent.{rowCount, rowsOf, isMessage, fieldsIn}
-use Rattle.lent.specs.LaidLaws.{rows-parts}
-use Rattle.lent.specs.LentLaws.{message-held}
-use Rattle.lent.specs.Meaning.{Message, parts, wordsOf, valuesOf, messageIn}
-use Rattle.lent.specs.MeaningLaws.{means}
+use Rattle.field_tagvalue.specs.Choice.{pick}
+use Rattle.message_maps.specs.Map.{Map, end, field, entry, joined, holds, replaced, withoutField, runOn, withoutRun, stored, fieldCount, valuesIn}
+use Rattle.message_maps.specs.Rows.{Row, laid, rowsFrom, sizes, findFrom, messageRows}
+use Rattle.message_lent.specs.Lent.{rowCount, rowsOf, isMessage, fieldsIn}
+use Rattle.message_lent.specs.LaidLaws.{rows-parts}
+use Rattle.message_lent.specs.LentLaws.{message-held}
+use Rattle.message_lent.specs.Meaning.{Message, parts, wordsOf, valuesOf, messageIn}
+use Rattle.message_lent.specs.MeaningLaws.{means}
 use Rattle.message_rules.specs.Changes.{after, Cuttable, changedAt, partOf, withPart, fieldTotal, valueTotal, mapWords, mapValues, judgedMap, judged, spanOf, putAt, Ready}
 use Rattle.message_rules.specs.LayoutLaws.{values-joined, count-joined}
 use Rattle.message_rules.specs.SplitLaws.{field-split, run-split}

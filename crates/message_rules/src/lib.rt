@@ -1,5 +1,5 @@
 // message_rules: definitions and worked examples alone. What a call makes of a message that is lent, what is found in one, and what a run is
-// made of, whatever code does it: `message`, `look_ups` and `runs` are proved against it. No function stands here, so that a wrong definition
+// made of, whatever code does it: `message`, `message_look_ups` and `message_runs` are proved against it. No function stands here, so that a wrong definition
 // is refused in seconds.
 
 pub enum Part {

@@ -5,7 +5,7 @@ use Prim.Native.Nat.{ℕ, _+_, _-_, _*_, _≤_}
 use native.Mathlib.Omega.{arith}
 use borrow.Author.Needs.{needs}
 use lib.ListN.{length, length-set, take, drop, replicate, take-append-drop}
-use Rattle.records.specs.Records.{recordWords, stride}
+use Rattle.build_records.specs.Records.{recordWords, stride}
 use Rattle.builder.specs.BuildLaws.{blank-step, blank-start, blank-end}
 use Rattle.builder.proofs.blank.Statement.{statement}
 use Rattle.builder.proofs.blank.Tie as tie

@@ -4,9 +4,9 @@ use mathlib.Core.List.{[]}
 use Prim.Native.Nat.{ℕ, suc, _+_, _-_, _/_, _≤_, _<_, _^_}
 use native.Mathlib.Omega.{arith}
 use lib.ListN.{length}
-use Rattle.records.specs.Records.{stride}
-use Rattle.parts.specs.Parts.{Ends}
-use Rattle.body.specs.Body.{bodyFrom}
+use Rattle.build_records.specs.Records.{stride}
+use Rattle.build_parts.specs.Parts.{Ends}
+use Rattle.build_body.specs.Body.{bodyFrom}
 use Rattle.builder.specs.Reading.{finishCounts}
 use Rattle.builder.specs.Finishing.{part-empty, stopped-counts, unstopped-counts, finish-refused, finish-stopped, finish-unstopped, finish-crowded}
 use borrow.Author.Needs.{needs}

@@ -4,11 +4,11 @@ use mathlib.Core.Path.{_≡_, refl, sym, ap, _∙_}
 use Prim.Native.Nat.{_-_}
 use native.Mathlib.Omega.{arith}
 use borrow.Author.Needs.{needs}
-use Rattle.records.specs.Records.{recordsOf, between}
-use Rattle.records.specs.WordLaws.{records-length}
-use Rattle.records.specs.declared.Record.{Record}
-use Rattle.parts.specs.Parts.{partOf}
-use Rattle.reading.specs.Beginning.{msgTypeRecord}
+use Rattle.build_records.specs.Records.{recordsOf, between}
+use Rattle.build_records.specs.WordLaws.{records-length}
+use Rattle.build_records.specs.declared.Record.{Record}
+use Rattle.build_parts.specs.Parts.{partOf}
+use Rattle.build_rules.specs.Beginning.{msgTypeRecord}
 use Rattle.builder.specs.HeadedLaws.{type-here, type-later, type-nowhere}
 use Rattle.builder.proofs.msg_type_of.Statement.{statement}
 use Rattle.builder.proofs.msg_type_of.Tie as tie

@@ -9,7 +9,7 @@ use borrow.Author.Needs.{needs}
 use lib.ListN.{replicate, length-replicate}
 use types.Run.{OneOf}
 use denote.Enum.Declared.{tagOf}
-use Rattle.records.specs.Records.{valueAt}
+use Rattle.build_records.specs.Records.{valueAt}
 use Rattle.dictionary_layout_rules.specs.Tree.{layoutOf}
 use Rattle.dictionary_meaning_rules.proofs.MessageTable as table-type
 use Rattle.dictionary_meaning_rules.specs.declared.MessageTable.{MessageTable}
@@ -17,8 +17,8 @@ use Rattle.dictionary_meaning_rules.specs.declared.MessageTable.the-variants.{R
 use Rattle.dictionary_meaning_rules.specs.Meaning.{dictionaryOf}
 use Rattle.dictionary_meaning_rules.specs.MessageTable.{tabling}
 use Rattle.dictionary_meaning_rules.specs.Theorem.{TableOf}
-use Rattle.parts.specs.Parts.{partOf}
-use Rattle.reading.specs.Beginning.{msgTypeRecord}
+use Rattle.build_parts.specs.Parts.{partOf}
+use Rattle.build_rules.specs.Beginning.{msgTypeRecord}
 use Rattle.builder.specs.Reading.{finishCounts}
 use Rattle.builder.specs.HeadedLaws.{bytes-of, type-inside, written-size, type-told, laid-after, none-after}
 use Rattle.builder.proofs.read_headed.Statement.{statement}

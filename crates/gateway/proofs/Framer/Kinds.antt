@@ -1,12 +1,12 @@
 -- The two framers, as the walks take them: each a state and a reply of the crate framing.
-use Rattle.framing.specs.declared.PortedReply.{PortedReply}
-use Rattle.framing.specs.declared.HunterReply.{HunterReply}
-use Rattle.framing.proofs.PortedState as PS
-use Rattle.framing.proofs.PortedState.Laws as PL
-use Rattle.framing.proofs.PortedReply as PR
-use Rattle.framing.proofs.HunterState as HS
-use Rattle.framing.proofs.HunterState.Laws as HL
-use Rattle.framing.proofs.HunterReply as HR
+use Rattle.face_framers.specs.declared.PortedReply.{PortedReply}
+use Rattle.face_framers.specs.declared.HunterReply.{HunterReply}
+use Rattle.face_framers.proofs.PortedState as PS
+use Rattle.face_framers.proofs.PortedState.Laws as PL
+use Rattle.face_framers.proofs.PortedReply as PR
+use Rattle.face_framers.proofs.HunterState as HS
+use Rattle.face_framers.proofs.HunterState.Laws as HL
+use Rattle.face_framers.proofs.HunterReply as HR
 use Rattle.gateway.proofs.Framer.{Framer}
 
 abbrev pub ported : Framer

@@ -8,11 +8,11 @@ use native.Mathlib.Omega.{arith}
 use borrow.Author.Needs.{needs}
 use lib.ListN.{length, getD, take, drop, set, length-set}
 use borrow.Author.Tests.{not-true, not-false}
-use Rattle.maps.specs.Rows.{laid, rowsFrom, endFrom}
-use Rattle.lent.specs.Lent.{isMessage, rowCount, rowsOf}
-use Rattle.lent.specs.LentLaws.{Held, message-held}
-use Rattle.lent.specs.Meaning.{Message, messageIn}
-use Rattle.lent.specs.MeaningLaws.{means}
+use Rattle.message_maps.specs.Rows.{laid, rowsFrom, endFrom}
+use Rattle.message_lent.specs.Lent.{isMessage, rowCount, rowsOf}
+use Rattle.message_lent.specs.LentLaws.{Held, message-held}
+use Rattle.message_lent.specs.Meaning.{Message, messageIn}
+use Rattle.message_lent.specs.MeaningLaws.{means}
 use Rattle.message_rules.specs.Changes.{locatedIn, spanOf}
 use Rattle.message_rules.specs.PlaceLaws.{Standing, standing}
 use Rattle.message.proofs.locate.Statement.{statement}

@@ -7,7 +7,7 @@ use Prim.Native.Nat.{ℕ, zero, suc, _+_, _-_, _*_, _^_, _≤_, _<_}
 use native.Mathlib.Omega.{arith}
 use borrow.Author.Needs.{needs}
 use lib.ListN.{length, getD, take, drop, set, length-set}
-use Rattle.maps.specs.Rows.{rowsFrom, findFrom, runEndFrom}
+use Rattle.message_maps.specs.Rows.{rowsFrom, findFrom, runEndFrom}
 use Rattle.message_rules.specs.Changes.{after, Cuttable, changedAt, fieldPlace, Ready, putAt}
 use Rattle.message_rules.specs.ChangeLaws.{put-place, able-place, put-last, able-last}
 use Rattle.message_rules.specs.FrameLaws.{find-within}

@@ -7,15 +7,15 @@ use denote.Struct.Laws as LL
 use Rattle.gateway.proofs.Calling.{asked, answered, One, meets-on}
 use Rattle.gateway.proofs.Counting.{counted}
 use Rattle.gateway.proofs.Words.{Words}
-use Rattle.telling.specs.Lent.{blankField, fieldAt, filled}
-use Rattle.telling.specs.declared.FieldRecord.{FieldRecord}
+use Rattle.face_messages.specs.Lent.{blankField, fieldAt, filled}
+use Rattle.face_messages.specs.declared.FieldRecord.{FieldRecord}
 use Rattle.gateway.specs.Sets.{sets, length-sets, sets-part}
-use Rattle.telling.proofs.FieldRecord as T
-use Rattle.telling.proofs.FieldRecord.Laws as T′
-use Rattle.telling.proofs.field_at as callee
-use Rattle.telling.proofs.field_at.Symbol as callee-def
-use Rattle.telling.proofs.field_at.Symbol.{name as #telling·field-at}
-use Rattle.telling.proofs.field_at.Met as callee-thm
+use Rattle.face_messages.proofs.FieldRecord as T
+use Rattle.face_messages.proofs.FieldRecord.Laws as T′
+use Rattle.face_messages.proofs.field_at as callee
+use Rattle.face_messages.proofs.field_at.Symbol as callee-def
+use Rattle.face_messages.proofs.field_at.Symbol.{name as #face-messages·field-at}
+use Rattle.face_messages.proofs.field_at.Met as callee-thm
 use Rattle.gateway.proofs.building.fill.Key.{name as #building·fill}
 use Rattle.gateway.proofs.building.fill as fill
 use Rattle.gateway.proofs.building.fill.Statement as stated
@@ -92,7 +92,7 @@ module _ {M : Type 1} (𝓤 : URA M) (H : Heap 𝓤) (A : Atoms 𝓤) (W : Given
       nothing ! $ move ! (3 ∷ 0 ∷ []) $ join ! $
       use2 W (raw (FieldAt 𝓤 H A mem run .pre (to i))) (asked 𝓤 H A callee.ended (callee.clauses 𝓤 H A mem run) (to i) (id⊢ 𝓤 (emp 𝓤))) $ frame ! $ done !
 
-  module _ (𝓣 : Tables 𝓤 H) (fm : FmC 𝓤 H (W .laws) (𝓣 .C)) (known : Triple 𝓤 (𝓣 .C #telling·field-at) (FieldAt 𝓤 H A mem run)) (room : Room T.the-row len) (l₀ l₁ l₂ l₃ l₄ l₅ l₆ l₇ l₈ l₉ : ℕ) where
+  module _ (𝓣 : Tables 𝓤 H) (fm : FmC 𝓤 H (W .laws) (𝓣 .C)) (known : Triple 𝓤 (𝓣 .C #face-messages·field-at) (FieldAt 𝓤 H A mem run)) (room : Room T.the-row len) (l₀ l₁ l₂ l₃ l₄ l₅ l₆ l₇ l₈ l₉ : ℕ) where
     abbrev C : Calls 𝓤 H
     C = 𝓣 .C
 
@@ -172,7 +172,7 @@ module _ {M : Type 1} (𝓤 : URA M) (H : Heap 𝓤) (A : Atoms 𝓤) (W : Given
     loops : ent 𝓤 (⋆ 𝓤 H A (At 0)) (Wp 𝓤 H C Λ En (loop body.turn-1) Left)
     loops = counted 𝓤 H (W .laws) 𝓣 En body.turn-1 Left (λ i. ⋆ 𝓤 H A (At i)) m more ends
 
-  walk : (𝓣 : Tables 𝓤 H) → FmC 𝓤 H (W .laws) (𝓣 .C) → Triple 𝓤 (𝓣 .C #telling·field-at) (FieldAt 𝓤 H A mem run) → Room T.the-row len → Is (ShrRef (named 1) κ₁ Words) s (w ∷ [])
+  walk : (𝓣 : Tables 𝓤 H) → FmC 𝓤 H (W .laws) (𝓣 .C) → Triple 𝓤 (𝓣 .C #face-messages·field-at) (FieldAt 𝓤 H A mem run) → Room T.the-row len → Is (ShrRef (named 1) κ₁ Words) s (w ∷ [])
       → ent 𝓤 (onEntry 𝓤 H A fill.signature (κ, (κ₁, tt)) (q, (q₁, tt)) a vals) (WpFn 𝓤 H (𝓣 .C) (𝓣 .Λ) code.function (v ∷ w ∷ vint w64 n ∷ vint w64 m ∷ []) Post)
   walk 𝓣 fm known room is =
       qed W ((‵ (flft κ q) ⊛ (‵ (flft κ₁ q₁) ⊛ ‵ ftrue)) ∷ ‵ (owns (MutSlice (named 0) κ T.the-row ∷ ShrRef (named 1) κ₁ Words ∷ usize ∷ usize ∷ []) a vals) ∷ []) ∵ enter ! (𝓣 .C) (𝓣 .Λ) code.function (v ∷ w ∷ vint w64 n ∷ vint w64 m ∷ []) _ $
@@ -191,7 +191,7 @@ module _ {M : Type 1} (𝓤 : URA M) (H : Heap 𝓤) (A : Atoms 𝓤) (W : Given
 pub fill-spec : {M : Type 1} → stated.statement M
 unfolding code.routine
 fill-spec {M} 𝓤 H 𝓜 𝓖 𝓡 =
-    meets-on code.function (One #telling·field-at callee.ended (λ M 𝓤 H. callee.clauses 𝓤 H)) fill.ended (λ M 𝓤 H. fill.clauses 𝓤 H) stayed (λ M 𝓤 H A W. (goes-slice 𝓤 H A W 2 0 tt (plain (λ _. T.the-row)), (goes-none-ref 𝓤 H A W 2 (1 ∷ []) tt (plain (λ _. Words)) yes, (goes-none 𝓤 H A W 2 (λ _. usize) yes (λ κs x f. refl), (goes-none 𝓤 H A W 2 (λ _. usize) yes (λ κs x f. refl), tt)))))
+    meets-on code.function (One #face-messages·field-at callee.ended (λ M 𝓤 H. callee.clauses 𝓤 H)) fill.ended (λ M 𝓤 H. fill.clauses 𝓤 H) stayed (λ M 𝓤 H A W. (goes-slice 𝓤 H A W 2 0 tt (plain (λ _. T.the-row)), (goes-none-ref 𝓤 H A W 2 (1 ∷ []) tt (plain (λ _. Words)) yes, (goes-none 𝓤 H A W 2 (λ _. usize) yes (λ κs x f. refl), (goes-none 𝓤 H A W 2 (λ _. usize) yes (λ κs x f. refl), tt)))))
     (λ κs. (slice-vals, (ptr-vals, (uint-vals w64, (uint-vals w64, tt))))) (λ κs. (mut-slice-tells (named 0) (κs .0) T.the-row, (shr-tells (named 1) (κs .1 .0) Words, (uint-tells w64, (uint-tells w64, tt)))))
     (λ M 𝓤 H A W mem run 𝓣 fm known κs qs bounds a g are. needs 𝓤 (a .1 .1 .1 .0 ≤ length (now (a .0))) _ (λ in-range. walk 𝓤 H A W mem run (κs .0) (κs .1 .0) (qs .0) (qs .1 .0) (a .0 .ptr .0) (a .0 .ptr .1) (a .0 .name) (a .0 .now) (a .1 .0) (a .1 .1 .0) (a .1 .1 .1 .0) (are .1 .1 .0 .1) (are .1 .1 .1 .0 .1) in-range 𝓣 fm known (are .0 .0 .1) (are .1 .0)))
-    M 𝓤 H 𝓜 𝓖 𝓡 code.env #building·fill (code.unfolded 𝓤 H 𝓜 𝓡) (cited 𝓤 H _ 𝓜 𝓡 code.env #telling·field-at callee-def.routine code.calls-telling·field-at (callee-thm.met 𝓤 H 𝓜 𝓖 𝓡))
+    M 𝓤 H 𝓜 𝓖 𝓡 code.env #building·fill (code.unfolded 𝓤 H 𝓜 𝓡) (cited 𝓤 H _ 𝓜 𝓡 code.env #face-messages·field-at callee-def.routine code.calls-face-messages·field-at (callee-thm.met 𝓤 H 𝓜 𝓖 𝓡))

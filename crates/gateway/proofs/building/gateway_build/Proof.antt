@@ -42,26 +42,26 @@ use denote.Triple.Spec.{Meets, tripleOf}
 use denote.Triple.Table.{entered, cited}
 use denote.Triple.Walked.{says, Stays, gave-ref, gave-slice, stay-none, stay-none-slice, walkOf, goes-gave-ref, goes-gave-slice, goes-none, goes-none-slice, Walks, ends-at, walked, walk-meets}
 use denote.Exit.{yes}
-use Rattle.records.specs.Records.{recordWords}
+use Rattle.build_records.specs.Records.{recordWords}
 use Rattle.builder.specs.Build.{BuildOutcome, buildOf}
-use Rattle.parts.specs.Answer.{numberOf, valuesOf}
+use Rattle.build_parts.specs.Answer.{numberOf, valuesOf}
 use Rattle.build_config.specs.Settings.{configOf}
-use Rattle.telling.specs.Told.{told}
-use Rattle.telling.specs.Lent.{shownOf, toldOf, filled, recordsLent, builtFrom}
-use Rattle.telling.specs.LentLaws.{written-lent, shown-from, told-from, records-from}
-use Rattle.telling.specs.declared.FieldRecord.{FieldRecord}
-use Rattle.telling.specs.declared.Shown.{Shown}
-use Rattle.telling.proofs.FieldRecord as T
-use Rattle.telling.proofs.Shown as D
-use Rattle.telling.proofs.Shown.Laws as D′
-use Rattle.telling.proofs.blank_words as blank
-use Rattle.telling.proofs.blank_words.Symbol as blank-def
-use Rattle.telling.proofs.blank_words.Symbol.{name as #telling·blank-words}
-use Rattle.telling.proofs.blank_words.Met as blank-thm
-use Rattle.telling.proofs.build as core
-use Rattle.telling.proofs.build.Symbol as core-def
-use Rattle.telling.proofs.build.Symbol.{name as #telling·build}
-use Rattle.telling.proofs.build.Met as core-thm
+use Rattle.face_messages.specs.Told.{told}
+use Rattle.face_messages.specs.Lent.{shownOf, toldOf, filled, recordsLent, builtFrom}
+use Rattle.face_messages.specs.LentLaws.{written-lent, shown-from, told-from, records-from}
+use Rattle.face_messages.specs.declared.FieldRecord.{FieldRecord}
+use Rattle.face_messages.specs.declared.Shown.{Shown}
+use Rattle.face_messages.proofs.FieldRecord as T
+use Rattle.face_messages.proofs.Shown as D
+use Rattle.face_messages.proofs.Shown.Laws as D′
+use Rattle.face_messages.proofs.blank_words as blank
+use Rattle.face_messages.proofs.blank_words.Symbol as blank-def
+use Rattle.face_messages.proofs.blank_words.Symbol.{name as #face-messages·blank-words}
+use Rattle.face_messages.proofs.blank_words.Met as blank-thm
+use Rattle.face_messages.proofs.build as core
+use Rattle.face_messages.proofs.build.Symbol as core-def
+use Rattle.face_messages.proofs.build.Symbol.{name as #face-messages·build}
+use Rattle.face_messages.proofs.build.Met as core-thm
 use Rattle.gateway.proofs.Framer.{Four}
 use Rattle.gateway.proofs.Words.{Words, packed, given-up}
 use Rattle.gateway.proofs.building.fill as fill
@@ -170,7 +170,7 @@ module _ {M : Type 1} (𝓤 : URA M) (H : Heap 𝓤) (A : Atoms 𝓤) (W : Given
       nothing ! $ move ! (4 ∷ 0 ∷ []) $ fjoin ! $ move ! (3 ∷ 0 ∷ []) $ fjoin ! $ move ! (2 ∷ 0 ∷ []) $ fjoin ! $ owned ! u32 (Is u32) (uint-makes 𝓤 H A W w32) settings _ (refl, settings-fits) $ fjoin ! $ owned ! u8 (Is u8) (uint-makes 𝓤 H A W w8) separator _ (refl, separator-fits) $ fjoin ! $ move ! (1 ∷ 0 ∷ []) $ fjoin ! $ frame ! $
       owned ! u32 (Is u32) (uint-makes 𝓤 H A W w32) k _ (refl, fits) $ done !
 
-  module _ (C : Calls 𝓤 H) (Λ : Loops 𝓤 H) (fm : FmC 𝓤 H (W .laws) C) (known-blank : Triple 𝓤 (C #telling·blank-words) (Blank 𝓤 H A at-mem run)) (known-build : Triple 𝓤 (C #telling·build) (Build 𝓤 H A at-mem run)) (known-fill : Triple 𝓤 (C #building·fill) (Fill 𝓤 H A at-mem run)) where
+  module _ (C : Calls 𝓤 H) (Λ : Loops 𝓤 H) (fm : FmC 𝓤 H (W .laws) C) (known-blank : Triple 𝓤 (C #face-messages·blank-words) (Blank 𝓤 H A at-mem run)) (known-build : Triple 𝓤 (C #face-messages·build) (Build 𝓤 H A at-mem run)) (known-fill : Triple 𝓤 (C #building·fill) (Fill 𝓤 H A at-mem run)) where
     walk : Room T.the-row len → Is (ShrSlice (named 0) κ u8) s (w ∷ []) → Is (ShrSlice (named 1) κ₁ u8) d (w₁ ∷ []) → ent 𝓤 (onEntry 𝓤 H A build.signature (κ, (κ₁, (κ₂, (κ₃, tt)))) (q, (q₁, (q₂, (q₃, tt)))) a vals) (WpFn 𝓤 H C Λ code.function (w ∷ vint w8 separator ∷ vint w32 settings ∷ w₁ ∷ v ∷ p ∷ []) Post)
     walk room ss ds =
         qed W ((‵ (flft κ q) ⊛ ‵ (flft κ₁ q₁) ⊛ ‵ (flft κ₂ q₂) ⊛ ‵ (flft κ₃ q₃) ⊛ ‵ ftrue) ∷ ‵ (owns (ShrSlice (named 0) κ u8 ∷ u8 ∷ u32 ∷ ShrSlice (named 1) κ₁ u8 ∷ MutSlice (named 2) κ₂ T.the-row ∷ MutRef (named 3) κ₃ Four ∷ []) a vals) ∷ []) ∵ enter ! C Λ code.function (w ∷ vint w8 separator ∷ vint w32 settings ∷ w₁ ∷ v ∷ p ∷ []) _ $
@@ -227,7 +227,7 @@ module _ {M : Type 1} (𝓤 : URA M) (H : Heap 𝓤) (A : Atoms 𝓤) (W : Given
         keep ! (5 ∷ 4 ∷ 1 ∷ 3 ∷ 8 ∷ 7 ∷ 2 ∷ 6 ∷ []) $ by ! (exits (r .number) (us .0) (ws .1 .1 .1 .1 .1 .1 .0) (LL.owed D.the-type D′.the-laws r (u₈ ∷ []) is₂ .0 .1) same (joined cs (ws .1 .1 .1 .1 .1 .0) (ws .1 .1 .1 .1 .1 .1 .0) r (us .0) e₁ e₂ e₃))))))))))))))))))))))))))))))))))))))
 
 module _ {M : Type 1} (𝓤 : URA M) (H : Heap 𝓤) (A : Atoms 𝓤) (W : Given 𝓤 H A) (mem′ : Memory → SProp 𝓤) (run : Routine → Fun 𝓤) where
-  build-walks : (C : Calls 𝓤 H) (Λ : Loops 𝓤 H) → FmC 𝓤 H (W .laws) C → Triple 𝓤 (C #telling·blank-words) (Blank 𝓤 H A mem′ run) → Triple 𝓤 (C #telling·build) (Build 𝓤 H A mem′ run) → Triple 𝓤 (C #building·fill) (Fill 𝓤 H A mem′ run)
+  build-walks : (C : Calls 𝓤 H) (Λ : Loops 𝓤 H) → FmC 𝓤 H (W .laws) C → Triple 𝓤 (C #face-messages·blank-words) (Blank 𝓤 H A mem′ run) → Triple 𝓤 (C #face-messages·build) (Build 𝓤 H A mem′ run) → Triple 𝓤 (C #building·fill) (Fill 𝓤 H A mem′ run)
       → Walks 𝓤 H A build.ended stayed (WpFn 𝓤 H C Λ code.function) (build.clauses 𝓤 H A mem′ run)
   build-walks C Λ fm known-blank known-build known-fill = walked 𝓤 H A build.ended stayed (build.clauses 𝓤 H A mem′ run) (WpFn 𝓤 H C Λ code.function)
       (λ κs. (slice-vals, (uint-vals w8, (uint-vals w32, (slice-vals, (slice-vals, (ptr-vals, tt)))))))
@@ -236,7 +236,7 @@ module _ {M : Type 1} (𝓤 : URA M) (H : Heap 𝓤) (A : Atoms 𝓤) (W : Given
       (walk 𝓤 H A W mem′ run (κs .0) (κs .1 .0) (κs .1 .1 .0) (κs .1 .1 .1 .0) (qs .0) (qs .1 .0) (qs .1 .1 .0) (qs .1 .1 .1 .0) (a .0) (a .1 .0) (are .1 .0 .1) (a .1 .1 .0) (are .1 .1 .0 .1) (a .1 .1 .1 .0) (a .1 .1 .1 .1 .0) (a .1 .1 .1 .1 .1 .0) C Λ fm known-blank known-build known-fill (are .1 .1 .1 .1 .0 .0 .1) (are .0) (are .1 .1 .1 .0)))
 
 build-meets : {M : Type 1} (𝓤 : URA M) (H : Heap 𝓤) (A : Atoms 𝓤) → Given 𝓤 H A → (mem′ : Memory → SProp 𝓤) (run : Routine → Fun 𝓤) (𝓣 : Tables 𝓤 H)
-    → Triple 𝓤 (𝓣 .C #telling·blank-words) (Blank 𝓤 H A mem′ run) → Triple 𝓤 (𝓣 .C #telling·build) (Build 𝓤 H A mem′ run) → Triple 𝓤 (𝓣 .C #building·fill) (Fill 𝓤 H A mem′ run)
+    → Triple 𝓤 (𝓣 .C #face-messages·blank-words) (Blank 𝓤 H A mem′ run) → Triple 𝓤 (𝓣 .C #face-messages·build) (Build 𝓤 H A mem′ run) → Triple 𝓤 (𝓣 .C #building·fill) (Fill 𝓤 H A mem′ run)
     → Meets 𝓤 H A build.signature (WpFn 𝓤 H (𝓣 .C) (𝓣 .Λ) code.function) (build.spec 𝓤 H A mem′ run)
 build-meets 𝓤 H A W mem′ run 𝓣 known-blank known-build known-fill =
     walk-meets 𝓤 H A build.ended stayed W (
@@ -258,6 +258,6 @@ gateway-build-spec 𝓤 H 𝓜 𝓖 𝓡 =
     entered 𝓤 H (tripleOf 𝓤 H (𝓖 .A) build.signature (build.spec 𝓤 H (𝓖 .A) (𝓜 .mem) (𝓡 .run)))
     (tables 𝓤 H 𝓜 𝓡 code.env .C) (tables 𝓤 H 𝓜 𝓡 code.env .Λ) #building·gateway-build code.function (code.unfolded 𝓤 H 𝓜 𝓡)
     (build-meets 𝓤 H (𝓖 .A) (givenOf 𝓤 H 𝓜 𝓖) (𝓜 .mem) (𝓡 .run) (tablesOf 𝓤 H 𝓜 (tables 𝓤 H 𝓜 𝓡 code.env))
-    (cited 𝓤 H (Blank 𝓤 H (𝓖 .A) (𝓜 .mem) (𝓡 .run)) 𝓜 𝓡 code.env #telling·blank-words blank-def.routine code.calls-telling·blank-words (blank-thm.met 𝓤 H 𝓜 𝓖 𝓡))
-    (cited 𝓤 H (Build 𝓤 H (𝓖 .A) (𝓜 .mem) (𝓡 .run)) 𝓜 𝓡 code.env #telling·build core-def.routine code.calls-telling·build (core-thm.met 𝓤 H 𝓜 𝓖 𝓡))
+    (cited 𝓤 H (Blank 𝓤 H (𝓖 .A) (𝓜 .mem) (𝓡 .run)) 𝓜 𝓡 code.env #face-messages·blank-words blank-def.routine code.calls-face-messages·blank-words (blank-thm.met 𝓤 H 𝓜 𝓖 𝓡))
+    (cited 𝓤 H (Build 𝓤 H (𝓖 .A) (𝓜 .mem) (𝓡 .run)) 𝓜 𝓡 code.env #face-messages·build core-def.routine code.calls-face-messages·build (core-thm.met 𝓤 H 𝓜 𝓖 𝓡))
     (cited 𝓤 H (Fill 𝓤 H (𝓖 .A) (𝓜 .mem) (𝓡 .run)) 𝓜 𝓡 code.env #building·fill fill-def.routine code.calls-gateway·building·fill (fill-thm.met 𝓤 H 𝓜 𝓖 𝓡)))

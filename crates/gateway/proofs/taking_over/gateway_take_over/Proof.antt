@@ -1,29 +1,29 @@
 -- `gateway_take_over` meets its contract: a walk of its MIR, by hand. Fresh words are put into a local, the local is lent by `&mut` to `lay` and by `&` to the core,
 -- each time for a lifetime that the walk makes, and the message is given up to the core. Of the callees only their contracts are known.
-use Rattle.records.specs.Records.{recordWords, stride}
+use Rattle.build_records.specs.Records.{recordWords, stride}
 use Rattle.gateway.proofs.Walk.{_≡_, refl, sym, ap, _∙_, subst, ℕ, _*_, _<_, _≤_, _^_, [], _∷_, List, length, take, replicate, URA, fullShare, named, w32, w64, tyInt, Val, vptr, vint, SProp, ent, emp, via, fst∗, id⊢, Lft, Share, GName, Fml, ftrue, fat, froom, flft, flent, fres}
 use Rattle.gateway.proofs.Walk.{Memory, Routine, Heap, Calls, Loops, WpFn, Atoms, Fun, factI, Given, ‵, raw, _⊛_, ⋆, some, later, _$_, _∵_, !, qed, by, move, keep, drop, use1, use2, use3, split, join, pick, rewrite, fsplit, fjoin, feqL, suffices, frame, await, done, look, init, forget, stop, hop, fld, from, load, of-opd, addr, and-then, no-more, assigns, land, returns, enter, alloc1, alloc0, params1, pass1, pass0, free1, free0, agg, whole, sub, look-in, Body, lft-new, lft-end, lent-back, FmC}
 use Rattle.gateway.proofs.Walk.{owns, Is, shows, mem, partAt, lone, uint-makes, uint-lawful, uint-vals, uint-tells, nothing-lawful, u8, u32, usize, unit, array-lawful, RefT, now, MutRef, ShrRef, ptr-vals, mut-tells, sliceVal, MutSlice, ShrSlice, Room, finally, slice-vals, mut-slice-tells, shr-slice-tells, shr-slice-copy, shr-slice-lawful, lends-ref, ref-back, lends-shr, plain, only, owned, peeks, heard, nothing, Contract, Triple, calls-at, onEntry, tripleOf, cited, says, Stays, gave-ref, gave-slice, stay-none, stay-none-slice, walkOf, goes-gave-ref, goes-gave-slice, goes-none, goes-none-slice, ends-at, yes}
 use Rattle.gateway.proofs.Calling.{asked, answered, Knows, meets-on}
 use Rattle.gateway.proofs.Framer.{Four}
 use Rattle.gateway.proofs.Words.{Words, packed, given-up}
-use Rattle.taking.specs.Taking.{AfterTaking, takingOver}
-use Rattle.telling.specs.Told.{told, takingNumber, takenWords, takenValues}
-use Rattle.telling.specs.Lent.{wordsLent, readCount, putFields}
-use Rattle.telling.specs.declared.FieldRecord.{FieldRecord}
-use Rattle.telling.proofs.FieldRecord as T
-use Rattle.telling.proofs.blank_words as blank
-use Rattle.telling.proofs.blank_words.Symbol as blank-def
-use Rattle.telling.proofs.blank_words.Symbol.{name as #telling·blank-words}
-use Rattle.telling.proofs.blank_words.Met as blank-thm
-use Rattle.telling.proofs.read_count as counted
-use Rattle.telling.proofs.read_count.Symbol as counted-def
-use Rattle.telling.proofs.read_count.Symbol.{name as #telling·read-count}
-use Rattle.telling.proofs.read_count.Met as counted-thm
-use Rattle.telling.proofs.take_over as core
-use Rattle.telling.proofs.take_over.Symbol as core-def
-use Rattle.telling.proofs.take_over.Symbol.{name as #telling·take-over}
-use Rattle.telling.proofs.take_over.Met as core-thm
+use Rattle.message_take_over.specs.Taking.{AfterTaking, takingOver}
+use Rattle.face_messages.specs.Told.{told, takingNumber, takenWords, takenValues}
+use Rattle.face_messages.specs.Lent.{wordsLent, readCount, putFields}
+use Rattle.face_messages.specs.declared.FieldRecord.{FieldRecord}
+use Rattle.face_messages.proofs.FieldRecord as T
+use Rattle.face_messages.proofs.blank_words as blank
+use Rattle.face_messages.proofs.blank_words.Symbol as blank-def
+use Rattle.face_messages.proofs.blank_words.Symbol.{name as #face-messages·blank-words}
+use Rattle.face_messages.proofs.blank_words.Met as blank-thm
+use Rattle.face_messages.proofs.read_count as counted
+use Rattle.face_messages.proofs.read_count.Symbol as counted-def
+use Rattle.face_messages.proofs.read_count.Symbol.{name as #face-messages·read-count}
+use Rattle.face_messages.proofs.read_count.Met as counted-thm
+use Rattle.face_messages.proofs.take_over as core
+use Rattle.face_messages.proofs.take_over.Symbol as core-def
+use Rattle.face_messages.proofs.take_over.Symbol.{name as #face-messages·take-over}
+use Rattle.face_messages.proofs.take_over.Met as core-thm
 use Rattle.gateway.specs.TakingLaws.{read-within, read-most, taken-from}
 use Rattle.gateway.proofs.taking_over.lay as lay
 use Rattle.gateway.proofs.taking_over.lay.Symbol as lay-def
@@ -137,7 +137,7 @@ module _ {M : Type 1} (𝓤 : URA M) (H : Heap 𝓤) (A : Atoms 𝓤) (W : Given
       nothing ! $ move ! (5 ∷ 0 ∷ []) $ fjoin ! $ move ! (4 ∷ 0 ∷ []) $ fjoin ! $ move ! (3 ∷ 0 ∷ []) $ fjoin ! $ move ! (2 ∷ 0 ∷ []) $ fjoin ! $ owned ! usize (Is usize) (uint-makes 𝓤 H A W w64) count _ (refl, count-fits) $ fjoin ! $ move ! (1 ∷ 0 ∷ []) $ fjoin ! $ frame ! $
       owned ! u32 (Is u32) (uint-makes 𝓤 H A W w32) k _ (refl, fits) $ done !
 
-  module _ (C : Calls 𝓤 H) (Λ : Loops 𝓤 H) (fm : FmC 𝓤 H (W .laws) C) (known-blank : Triple 𝓤 (C #telling·blank-words) (Blank 𝓤 H A at-mem run)) (known-count : Triple 𝓤 (C #telling·read-count) (Count 𝓤 H A at-mem run)) (known-lay : Triple 𝓤 (C #taking-over·lay) (Lay 𝓤 H A at-mem run)) (known-take : Triple 𝓤 (C #telling·take-over) (Take 𝓤 H A at-mem run)) where
+  module _ (C : Calls 𝓤 H) (Λ : Loops 𝓤 H) (fm : FmC 𝓤 H (W .laws) C) (known-blank : Triple 𝓤 (C #face-messages·blank-words) (Blank 𝓤 H A at-mem run)) (known-count : Triple 𝓤 (C #face-messages·read-count) (Count 𝓤 H A at-mem run)) (known-lay : Triple 𝓤 (C #taking-over·lay) (Lay 𝓤 H A at-mem run)) (known-take : Triple 𝓤 (C #face-messages·take-over) (Take 𝓤 H A at-mem run)) where
     walk : Room T.the-row len → Room u32 (length (now d)) → Room u8 (length (now c)) → Is (ShrSlice (named 0) κ T.the-row) x (v ∷ []) → Is (ShrSlice (named 1) κ₁ u8) s (w ∷ [])
         → ent 𝓤 (onEntry 𝓤 H A entry.signature (κ, (κ₁, (κ₂, (κ₃, (κ₄, tt))))) (q, (q₁, (q₂, (q₃, (q₄, tt))))) a vals) (WpFn 𝓤 H C Λ code.function (v ∷ vint w64 count ∷ w ∷ w₁ ∷ w₂ ∷ p ∷ []) Post)
     walk room room₂ room₃ xis ss =
@@ -193,7 +193,7 @@ module _ {M : Type 1} (𝓤 : URA M) (H : Heap 𝓤) (A : Atoms 𝓤) (W : Given
         keep ! (7 ∷ 3 ∷ 2 ∷ 1 ∷ 0 ∷ 9 ∷ 8 ∷ 6 ∷ 5 ∷ 4 ∷ []) $ by ! (exits r (us .1 .1 .1 .1 .0) (us .1 .1 .1 .1 .1 .0) (us .1 .1 .1 .1 .1 .1 .0) (isr .1) same same₁ (joined cs n (ws .1 .1 .0) r (us .1 .1 .1 .1 .0) (us .1 .1 .1 .1 .1 .0) (us .1 .1 .1 .1 .1 .1 .0) e₁ en e₂ e₃)))))))))))))))))))))))))))))))))))))))))))
 
 abbrev Known : Knows
-Known M 𝓤 H A mem run C = Triple 𝓤 (C #telling·blank-words) (Blank 𝓤 H A mem run) × Triple 𝓤 (C #telling·read-count) (Count 𝓤 H A mem run) × Triple 𝓤 (C #taking-over·lay) (Lay 𝓤 H A mem run) × Triple 𝓤 (C #telling·take-over) (Take 𝓤 H A mem run)
+Known M 𝓤 H A mem run C = Triple 𝓤 (C #face-messages·blank-words) (Blank 𝓤 H A mem run) × Triple 𝓤 (C #face-messages·read-count) (Count 𝓤 H A mem run) × Triple 𝓤 (C #taking-over·lay) (Lay 𝓤 H A mem run) × Triple 𝓤 (C #face-messages·take-over) (Take 𝓤 H A mem run)
 
 pub gateway-take-over-spec : {M : Type 1} → stated.statement M
 unfolding code.routine
@@ -203,8 +203,8 @@ gateway-take-over-spec {M} 𝓤 H 𝓜 𝓖 𝓡 =
     (λ κs. (shr-slice-tells (named 0) (κs .0) T.the-row, (uint-tells w64, (shr-slice-tells (named 1) (κs .1 .0) u8, (mut-slice-tells (named 2) (κs .1 .1 .0) u32, (mut-slice-tells (named 3) (κs .1 .1 .1 .0) u8, (mut-tells (named 4) (κs .1 .1 .1 .1 .0) Four, tt)))))))
     (λ M 𝓤 H A W mem run 𝓣 fm known κs qs bounds a g are. via 𝓤 _ (fst∗ 𝓤 _ (emp 𝓤)) (walk 𝓤 H A W mem run (κs .0) (κs .1 .0) (κs .1 .1 .0) (κs .1 .1 .1 .0) (κs .1 .1 .1 .1 .0) (qs .0) (qs .1 .0) (qs .1 .1 .0) (qs .1 .1 .1 .0) (qs .1 .1 .1 .1 .0) (a .0) (a .1 .0) (are .1 .0 .1) (a .1 .1 .0) (a .1 .1 .1 .0) (a .1 .1 .1 .1 .0) (a .1 .1 .1 .1 .1 .0) (𝓣 .C) (𝓣 .Λ) fm (known .0) (known .1) (known .2) (known .3) (are .0 .0 .1) (are .1 .1 .1 .0 .0 .1) (are .1 .1 .1 .1 .0 .0 .1) (are .0) (are .1 .1 .0)))
     M 𝓤 H 𝓜 𝓖 𝓡 code.env #taking-over·gateway-take-over (code.unfolded 𝓤 H 𝓜 𝓡) (
-      cited 𝓤 H _ 𝓜 𝓡 code.env #telling·blank-words blank-def.routine code.calls-telling·blank-words (blank-thm.met 𝓤 H 𝓜 𝓖 𝓡),
-      cited 𝓤 H _ 𝓜 𝓡 code.env #telling·read-count counted-def.routine code.calls-telling·read-count (counted-thm.met 𝓤 H 𝓜 𝓖 𝓡),
+      cited 𝓤 H _ 𝓜 𝓡 code.env #face-messages·blank-words blank-def.routine code.calls-face-messages·blank-words (blank-thm.met 𝓤 H 𝓜 𝓖 𝓡),
+      cited 𝓤 H _ 𝓜 𝓡 code.env #face-messages·read-count counted-def.routine code.calls-face-messages·read-count (counted-thm.met 𝓤 H 𝓜 𝓖 𝓡),
       cited 𝓤 H _ 𝓜 𝓡 code.env #taking-over·lay lay-def.routine code.calls-gateway·taking-over·lay (lay-thm.met 𝓤 H 𝓜 𝓖 𝓡),
-      cited 𝓤 H _ 𝓜 𝓡 code.env #telling·take-over core-def.routine code.calls-telling·take-over (core-thm.met 𝓤 H 𝓜 𝓖 𝓡),
+      cited 𝓤 H _ 𝓜 𝓡 code.env #face-messages·take-over core-def.routine code.calls-face-messages·take-over (core-thm.met 𝓤 H 𝓜 𝓖 𝓡),
     )

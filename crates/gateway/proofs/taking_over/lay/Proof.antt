@@ -7,16 +7,16 @@ use denote.Struct.Laws as LL
 use Rattle.gateway.proofs.Calling.{asked, answered, One, meets-on}
 use Rattle.gateway.proofs.Counting.{counted}
 use Rattle.gateway.proofs.Words.{Words, packed, unpacked}
-use Rattle.records.specs.Records.{onRecords, replaced}
-use Rattle.telling.specs.Lent.{blankField, recordOfLent, putFields}
+use Rattle.build_records.specs.Records.{onRecords, replaced}
+use Rattle.face_messages.specs.Lent.{blankField, recordOfLent, putFields}
 use Rattle.gateway.specs.TakingLaws.{put-next}
-use Rattle.telling.specs.declared.FieldRecord.{FieldRecord}
-use Rattle.telling.proofs.FieldRecord as T
-use Rattle.telling.proofs.FieldRecord.Laws as T′
-use Rattle.telling.proofs.put_field as callee
-use Rattle.telling.proofs.put_field.Symbol as callee-def
-use Rattle.telling.proofs.put_field.Symbol.{name as #telling·put-field}
-use Rattle.telling.proofs.put_field.Met as callee-thm
+use Rattle.face_messages.specs.declared.FieldRecord.{FieldRecord}
+use Rattle.face_messages.proofs.FieldRecord as T
+use Rattle.face_messages.proofs.FieldRecord.Laws as T′
+use Rattle.face_messages.proofs.put_field as callee
+use Rattle.face_messages.proofs.put_field.Symbol as callee-def
+use Rattle.face_messages.proofs.put_field.Symbol.{name as #face-messages·put-field}
+use Rattle.face_messages.proofs.put_field.Met as callee-thm
 use Rattle.gateway.proofs.taking_over.lay.Key.{name as #taking-over·lay}
 use Rattle.gateway.proofs.taking_over.lay as lay
 use Rattle.gateway.proofs.taking_over.lay.Statement as stated
@@ -85,7 +85,7 @@ module _ {M : Type 1} (𝓤 : URA M) (H : Heap 𝓤) (A : Atoms 𝓤) (W : Given
   abbrev to : ℕ → GName → ℕ → Put 𝓤 H A at-mem run .Ghost
   to ν δ₁ i = (((ν ∷ [], tt), (fullShare, tt), tt, (at δ₁ i, (i, (f i, tt))), (p ∷ [], (vint w64 i ∷ [], (LL.vals T.the-type T′.the-laws (f i), tt)))), tt)
 
-  module _ (𝓣 : Tables 𝓤 H) (fm : FmC 𝓤 H (W .laws) (𝓣 .C)) (known : Triple 𝓤 (𝓣 .C #telling·put-field) (Put 𝓤 H A at-mem run)) (room : Room T.the-row (length xs)) (l₀ l₁ l₂ l₃ l₄ l₅ l₆ l₇ l₈ l₉ l₁₀ : ℕ) where
+  module _ (𝓣 : Tables 𝓤 H) (fm : FmC 𝓤 H (W .laws) (𝓣 .C)) (known : Triple 𝓤 (𝓣 .C #face-messages·put-field) (Put 𝓤 H A at-mem run)) (room : Room T.the-row (length xs)) (l₀ l₁ l₂ l₃ l₄ l₅ l₆ l₇ l₈ l₉ l₁₀ : ℕ) where
     abbrev C : Calls 𝓤 H
     C = 𝓣 .C
 
@@ -171,7 +171,7 @@ module _ {M : Type 1} (𝓤 : URA M) (H : Heap 𝓤) (A : Atoms 𝓤) (W : Given
     loops : ent 𝓤 (⋆ 𝓤 H A (At 0)) (Wp 𝓤 H C Λ En (loop body.turn-1) Left)
     loops = counted 𝓤 H (W .laws) 𝓣 En body.turn-1 Left (λ i. ⋆ 𝓤 H A (At i)) m more ends
 
-  walk : (𝓣 : Tables 𝓤 H) → FmC 𝓤 H (W .laws) (𝓣 .C) → Triple 𝓤 (𝓣 .C #telling·put-field) (Put 𝓤 H A at-mem run) → Room T.the-row (length xs) → Is (ShrSlice (named 0) κ T.the-row) x (v ∷ [])
+  walk : (𝓣 : Tables 𝓤 H) → FmC 𝓤 H (W .laws) (𝓣 .C) → Triple 𝓤 (𝓣 .C #face-messages·put-field) (Put 𝓤 H A at-mem run) → Room T.the-row (length xs) → Is (ShrSlice (named 0) κ T.the-row) x (v ∷ [])
       → ent 𝓤 (onEntry 𝓤 H A lay.signature (κ, (κ₁, tt)) (q, (q₁, tt)) a vals) (WpFn 𝓤 H (𝓣 .C) (𝓣 .Λ) code.function (v ∷ vint w64 m ∷ p ∷ []) Post)
   unfolding putFields
   walk 𝓣 fm known room is =
@@ -187,7 +187,7 @@ module _ {M : Type 1} (𝓤 : URA M) (H : Heap 𝓤) (A : Atoms 𝓤) (W : Given
 pub lay-spec : {M : Type 1} → stated.statement M
 unfolding code.routine
 lay-spec {M} 𝓤 H 𝓜 𝓖 𝓡 =
-    meets-on code.function (One #telling·put-field callee.ended (λ M 𝓤 H. callee.clauses 𝓤 H)) lay.ended (λ M 𝓤 H. lay.clauses 𝓤 H) stayed (λ M 𝓤 H A W. (goes-none-slice 𝓤 H A W 2 (0 ∷ []) tt (plain (λ _. T.the-row)) yes, (goes-none 𝓤 H A W 2 (λ _. usize) yes (λ κs x f. refl), (goes-ref 𝓤 H A W 2 1 tt (plain (λ _. Words)), tt))))
+    meets-on code.function (One #face-messages·put-field callee.ended (λ M 𝓤 H. callee.clauses 𝓤 H)) lay.ended (λ M 𝓤 H. lay.clauses 𝓤 H) stayed (λ M 𝓤 H A W. (goes-none-slice 𝓤 H A W 2 (0 ∷ []) tt (plain (λ _. T.the-row)) yes, (goes-none 𝓤 H A W 2 (λ _. usize) yes (λ κs x f. refl), (goes-ref 𝓤 H A W 2 1 tt (plain (λ _. Words)), tt))))
     (λ κs. (slice-vals, (uint-vals w64, (ptr-vals, tt)))) (λ κs. (shr-slice-tells (named 0) (κs .0) T.the-row, (uint-tells w64, (mut-tells (named 1) (κs .1 .0) Words, tt))))
     (λ M 𝓤 H A W mem run 𝓣 fm known κs qs bounds a g are. needs 𝓤 (a .1 .0 ≤ length (now (a .0))) _ (λ in-range. walk 𝓤 H A W mem run (κs .0) (κs .1 .0) (qs .0) (qs .1 .0) (a .0 .ptr .0) (a .0 .ptr .1) (a .0 .name) (a .0 .now) (a .1 .0) (are .1 .0 .1) (a .1 .1 .0 .ptr .0) (a .1 .1 .0 .ptr .1) (a .1 .1 .0 .name) (a .1 .1 .0 .now) in-range 𝓣 fm known (are .0 .0 .1) (are .0)))
-    M 𝓤 H 𝓜 𝓖 𝓡 code.env #taking-over·lay (code.unfolded 𝓤 H 𝓜 𝓡) (cited 𝓤 H _ 𝓜 𝓡 code.env #telling·put-field callee-def.routine code.calls-telling·put-field (callee-thm.met 𝓤 H 𝓜 𝓖 𝓡))
+    M 𝓤 H 𝓜 𝓖 𝓡 code.env #taking-over·lay (code.unfolded 𝓤 H 𝓜 𝓡) (cited 𝓤 H _ 𝓜 𝓡 code.env #face-messages·put-field callee-def.routine code.calls-face-messages·put-field (callee-thm.met 𝓤 H 𝓜 𝓖 𝓡))

@@ -1,0 +1,175 @@
+-- `read_body` meets its contract. The loop's invariant: what is left of the body from where reading stands comes to the whole, and
+-- nothing happens to the records before it. The measure is the room.
+use mathlib.Core.Path.{_≡_, refl, sym, ap, _∙_}
+use Prim.Native.Nat.{ℕ, suc, _+_, _-_, _/_, _≤_, _<_, _^_}
+use native.Mathlib.Omega.{arith}
+use lib.ListN.{length}
+use borrow.Author.Needs.{needs}
+use Rattle.build_records.specs.Records.{stride}
+use Rattle.dictionary_rules.specs.Index.{tagAt}
+use Rattle.build_groups.specs.Reading.{tableRules}
+use Rattle.build_required.specs.Checking.{tableDemands}
+use Rattle.build_parts.specs.Parts.{partTold, Ends, Stays}
+use Rattle.build_parts.specs.PartLaws.{stays-refused, stays-at}
+use Rattle.build_body.specs.Body.{andThen}
+use Rattle.build_body.specs.Kinds.{meantBy}
+use Rattle.build_body.specs.BodyReading.{partRoom, left, left-refused, left-plain, left-run, left-ends, left-invalid, stays-on, room-falls}
+use Rattle.build_body.proofs.read_body.Statement.{statement}
+use Rattle.build_body.proofs.read_body.Tie as tie
+
+abbrev Inv-loop : tie.InvT-loop
+Inv-loop message config table index trailer-tags level words₀ from reading₀ words reading =
+    (length words ≡ length words₀) × (Stays message words₀ words from (partRoom reading₀) reading)
+    × (left (tableRules config table (tagAt index)) (tableDemands table) (config .mode) message from trailer-tags level reading₀ words₀ ≡ left (tableRules config table (tagAt index)) (tableDemands table) (config .mode) message from trailer-tags level reading words)
+
+abbrev μ-loop : tie.MeasureT-loop
+μ-loop message config table index trailer-tags level words₀ from reading₀ words reading = partRoom reading
+
+loop-holds : tie.Need-loop-holds Inv-loop μ-loop
+unfolding partRoom
+loop-holds c = let a = c .before .before .before .before in (
+  refl,
+  stays-at _ _ _ _ _ refl _ _ (record { fits = omega arith; inside = a .pre .1; starts = omega arith; falls = omega arith }),
+  refl,
+)
+
+enum-known-reading : tie.Need-enum-known-reading Inv-loop μ-loop
+enum-known-reading c = search needs
+
+enum-told : tie.Need-enum-told Inv-loop μ-loop
+enum-told c = search needs
+
+same-length : tie.Need-same-length Inv-loop μ-loop
+same-length c = c .before .before .loop .inv .0
+
+returns : tie.Need-returns Inv-loop μ-loop
+unfolding partTold andThen partRoom
+returns c = let l = c .before .before in
+    (sym (l .loop .inv .2 ∙ left-refused _ _ _ _ _ _ _ _ _ _ (c .enum-told .given .1)), l .loop .inv .1)
+
+kind-of-requires : tie.Need-kind-of-requires Inv-loop μ-loop
+kind-of-requires c κs = search needs
+
+enum-told-2 : tie.Need-enum-told-2 Inv-loop μ-loop
+enum-told-2 c = search needs
+
+-- where reading stands
+ends : (c : tie.After-known-told Inv-loop μ-loop) → let l = c .before .before .before in let a = l .before .before .before .before .before in Ends (a .args .message .now) (a .args .words .now) (a .args .from) (suc (a .args .progress .room)) (c .before .reading .given .0 .0) (c .before .reading .given .0 .1 .0)
+unfolding partRoom
+ends c = c .before .before .before .loop .inv .1 .ends _ _ (c .before .reading .given .1)
+
+-- what the steps of the body ask
+record Asks (c : tie.After-known-told Inv-loop μ-loop) : Type 0 where
+  short : length (c .before .before .before .before .before .before .before .before .args .message .now) < 2 ^ 32
+  fits : c .before .reading .given .0 .1 .0 .records + c .before .reading .given .0 .1 .0 .room < length (c .before .before .before .loop .words) / stride
+  words-short : length (c .before .before .before .loop .words) < 2 ^ 32
+
+asks : (c : tie.After-known-told Inv-loop μ-loop) → Asks c
+asks c = let e = ends c in
+    record { short = omega arith; fits = omega (arith, e .fits); words-short = omega arith }
+
+read-plain-requires : tie.Need-read-plain-requires Inv-loop μ-loop
+read-plain-requires c κs = let k = c .before .before .before .before in
+    let a = asks k in
+    let e = ends k in
+    (a .short, e .inside, e .starts, a .fits)
+
+loop-less : tie.Need-loop-less Inv-loop μ-loop
+loop-less c = let r = c .before .before in
+    let k = r .before .before .before .before .before in
+    room-falls _ _ _ _ _ _ _ _ (k .before .reading .given .1) (r .read-plain .ensures .1)
+
+loop-again : tie.Need-loop-again Inv-loop μ-loop
+unfolding meantBy partRoom
+loop-again c = let r = c .before .before in
+    let t = r .before .before in
+    let q = t .before .before in
+    let k = q .before in
+    let l = k .before .before .before in (
+      r .read-plain .kept .1 .1 .1 .0 ∙ l .loop .inv .0,
+      stays-on _ _ _ _ _ _ _ _ (l .loop .inv .0) (l .loop .inv .1 .before) (ends k .falls) (r .read-plain .ensures .1),
+      l .loop .inv .2 ∙ left-plain _ _ _ _ _ _ _ _ _ _ _ (k .before .reading .given .1) (sym (q .kind-of .ensures) ∙ ap meantBy (t .enum-told2 .given .1)) _ _ (r .read-plain .ensures .0),
+    )
+
+enum-known-inner : tie.Need-enum-known-inner Inv-loop μ-loop
+enum-known-inner c = search needs
+
+read-group-requires : tie.Need-read-group-requires Inv-loop μ-loop
+read-group-requires c κs = let k = c .before .before .before .before .before in
+    let a = asks k in
+    let e = ends k in
+    (a .short, e .inside, e .starts, a .fits, a .words-short)
+
+loop-less-2 : tie.Need-loop-less-2 Inv-loop μ-loop
+loop-less-2 c = let r = c .before .before in
+    let k = r .before .before .before .before .before .before in
+    room-falls _ _ _ _ _ _ _ _ (k .before .reading .given .1) (r .read-group .ensures .1)
+
+loop-again-2 : tie.Need-loop-again-2 Inv-loop μ-loop
+unfolding meantBy partRoom
+loop-again-2 c = let r = c .before .before in
+    let t = r .before .before .before in
+    let q = t .before .before in
+    let k = q .before in
+    let l = k .before .before .before in (
+      r .read-group .kept .1 .1 .1 .1 .1 .1 .0 ∙ l .loop .inv .0,
+      stays-on _ _ _ _ _ _ _ _ (l .loop .inv .0) (l .loop .inv .1 .before) (ends k .falls) (r .read-group .ensures .1),
+      l .loop .inv .2 ∙ left-run _ _ _ _ _ _ _ _ _ _ _ (k .before .reading .given .1) _ (sym (q .kind-of .ensures) ∙ ap meantBy (t .inner .given .1)) _ _ (r .read-group .ensures .0),
+    )
+
+enum-told-3 : tie.Need-enum-told-3 Inv-loop μ-loop
+enum-told-3 c = search needs
+
+holds-requires : tie.Need-holds-requires Inv-loop μ-loop
+holds-requires c κs = search needs
+
+same-length-2 : tie.Need-same-length-2 Inv-loop μ-loop
+same-length-2 c = c .before .before .before .before .before .before .before .before .loop .inv .0
+
+returns-2 : tie.Need-returns-2 Inv-loop μ-loop
+unfolding meantBy partTold andThen partRoom
+returns-2 c = let h = c .before in
+    let t = h .before in
+    let q = t .before .before in
+    let k = q .before in
+    let l = k .before .before .before in
+    (sym (l .loop .inv .2 ∙ left-ends _ _ _ _ _ _ _ _ _ _ _ (k .before .reading .given .1) (sym (q .kind-of .ensures) ∙ ap meantBy (t .enum-told3 .given .1)) (sym (h .holds .ensures) ∙ c .if1 .taken)), stays-at _ _ _ _ _ (l .loop .inv .1 .before) _ _ (ends k))
+
+same-length-3 : tie.Need-same-length-3 Inv-loop μ-loop
+same-length-3 c = c .before .before .before .before .before .before .before .before .loop .inv .0
+
+returns-3 : tie.Need-returns-3 Inv-loop μ-loop
+unfolding meantBy partTold andThen partRoom
+returns-3 c = let h = c .before in
+    let t = h .before in
+    let q = t .before .before in
+    let k = q .before in
+    let l = k .before .before .before in
+    (sym (l .loop .inv .2 ∙ left-invalid _ _ _ _ _ _ _ _ _ _ _ (k .before .reading .given .1) (sym (q .kind-of .ensures) ∙ ap meantBy (t .enum-told3 .given .1)) (sym (h .holds .ensures) ∙ c .if1 .left)), stays-refused _ _ _ _ _ (l .loop .inv .1 .before) _)
+
+pub read-body-spec : {M : Type 1} → statement M
+read-body-spec =
+    tie.close
+    (tie.spec
+    Inv-loop
+    μ-loop
+    loop-holds
+    enum-known-reading
+    enum-told
+    same-length
+    returns
+    kind-of-requires
+    enum-told-2
+    read-plain-requires
+    loop-less
+    loop-again
+    enum-known-inner
+    read-group-requires
+    loop-less-2
+    loop-again-2
+    enum-told-3
+    holds-requires
+    same-length-2
+    returns-2
+    same-length-3
+    returns-3)

@@ -1,0 +1,255 @@
+// build_body: the body of a message, its fields and its repeating groups, between header and trailer.
+// It reads through look-ups only and keeps records through `build_records` only; only the builder calls it.
+use build_groups::Group;
+use build_groups::Reading;
+use build_groups::Refusal;
+use build_config::Config;
+use dictionary_layout_rules::Level;
+use dictionary_layout_rules::Nested;
+use dictionary_layout_rules::Position;
+use build_answers::Answer;
+use build_parts::Next;
+use build_parts::PartRead;
+use build_parts::Progress;
+use build_records::Record;
+use build_records::Standing;
+use build_required::Lack;
+use field_tagvalue::Field;
+ghost use mathlib.Core.Path.{_≡_};
+ghost use Rattle.dictionary_rules.specs.Index.{tagAt};
+ghost use Prim.Native.Nat.{suc, _+_, _≤_, _<_, _/_, _^_};
+ghost use lib.ListN.{length};
+ghost use Rattle.field_tagvalue.specs.Fields.{field, fieldsFrom, Inside};
+ghost use Rattle.build_records.specs.Records.{stored, stride};
+ghost use Rattle.build_groups.specs.Reading.{tableRules, answerOf};
+ghost use Rattle.build_required.specs.Checking.{tableDemands};
+ghost use Rattle.build_parts.specs.Parts.{partRecord, partOf, partTold, Stays};
+ghost use Rattle.build_body.specs.Kinds.{meantBy, kindOf, runFrom, bodyOf};
+ghost use Rattle.build_body.specs.Body.{nextFrom, withRun, bodyFrom, RunEnd, Dropped, Opened};
+
+// Where a run comes in: behind its count, among so many records.
+pub struct Opening {
+    pub records: usize,
+    pub place: usize,
+}
+
+// What a tag is to the body: a field of the layout or an accepted one, a count, or neither.
+enum BodyKind {
+    Plain,
+    Counts(Level),
+    Other,
+}
+
+// With validation off, unknown user-defined tags are the body's too.
+fn kind_of(config: Config, table: &[u32], index: &[u16; 96150], level: Level, tag: u32) -> BodyKind
+    ensures { λ r. ⌜ meantBy r ≡ kindOf (tableRules config (now (table .entry)) (tagAt (now (index .entry)))) level tag ⌝ }
+{
+    let Position::At(_) = dictionary_layout::position_of(table, level, tag) else {
+        if build_groups::accepted(config, index, tag) {
+            return BodyKind::Plain;
+        }
+        return BodyKind::Other;
+    };
+    let Nested::Within(inner) = dictionary_layout::group_of(table, level, tag) else {
+        return BodyKind::Plain;
+    };
+    BodyKind::Counts(inner)
+}
+
+// Stores a field of the body and reads the next.
+fn read_plain(
+    message: &[u8],
+    config: Config,
+    plain: Field,
+    words: &mut [u32],
+    from: usize,
+    progress: Progress,
+) -> PartRead
+    requires { ⌜ (length (now message) < 2 ^ 32) × (Inside (now message) plain) × (from ≤ progress .records) × (progress .records + progress .room < length (now words) / stride) ⌝ }
+    ensures { λ r. ⌜ partTold (config .mode) (now (message .entry)) from r (now (words .exit)) ≡ nextFrom (fieldsFrom (config .mode) (now (message .entry)) (plain .next)) (progress .room) (stored (partRecord 2 plain) (partOf from (progress .records) (now (words .entry)))) ⌝ }
+    ensures { λ r. ⌜ Stays (now (message .entry)) (now (words .entry)) (now (words .exit)) from (progress .room) r ⌝ }
+{
+    let records = build_parts::keep(
+        words,
+        from,
+        progress.records,
+        build_parts::record_of(build_records::BODY, plain),
+    );
+    match build_parts::next_field(message, config, plain.next, progress.room) {
+        Next::Missing(answer) => PartRead::Refused(answer),
+        Next::Got(field) => PartRead::At(
+            field,
+            Progress {
+                room: progress.room - 1,
+                records,
+            },
+        ),
+    }
+}
+
+// A refusal of a run as the answer to the message.
+fn answer_of(refusal: Refusal) -> Answer
+    ensures { λ r. ⌜ r ≡ answerOf refusal ⌝ }
+{
+    match refusal {
+        Refusal::Malformed(cause, place) => Answer::Malformed(cause, place),
+        Refusal::TooManyFields => Answer::TooManyFields,
+        Refusal::InvalidOrderInGroup(tag, group) => Answer::InvalidOrderInGroup(tag, group),
+    }
+}
+
+// Where the run ends that starts at a place.
+fn run_end(words: &[u32], place: usize, records: usize) -> usize
+    requires { ⌜ (place ≤ records) × (records ≤ length (now words) / stride) ⌝ }
+    ensures { λ r. ⌜ RunEnd (now (words .entry)) place records r ⌝ }
+{
+    let mut end = place;
+    while end < records {
+        let found = build_records::record_at(words, end);
+        if found.depth == 0 {
+            return end;
+        }
+        end += 1;
+    }
+    end
+}
+
+// Takes the run out that starts at a place; answers how many records are left.
+fn drop_run(words: &mut [u32], place: usize, records: usize) -> usize
+    requires { ⌜ (place ≤ records) × (records ≤ length (now words) / stride) ⌝ }
+    ensures { λ r. ⌜ Dropped (now (words .entry)) (now (words .exit)) place records r ⌝ }
+{
+    let gone = run_end(words, place, records) - place;
+    build_records::remove(words, records, place, gone);
+    records - gone
+}
+
+// Stores a count in the last map, whose records start at an index, and makes way for its run. "A second run replaces the first."
+fn open_run(words: &mut [u32], from: usize, records: usize, stored: Record) -> Opening
+    requires { ⌜ (from ≤ records) × (records < length (now words) / stride) ⌝ }
+    ensures { λ r. ⌜ Opened (now (words .entry)) (now (words .exit)) from records stored r ⌝ }
+{
+    match build_records::store(words, records, from, records, stored) {
+        Standing::At(i) => {
+            let place = i + 1;
+            Opening {
+                records: drop_run(words, place, records),
+                place,
+            }
+        }
+        Standing::Nowhere => Opening {
+            records: records + 1,
+            place: records + 1,
+        },
+    }
+}
+
+// Stores a count and reads its run; the entries must hold their required fields.
+fn read_group(
+    message: &[u8],
+    config: Config,
+    table: &[u32],
+    index: &[u16; 96150],
+    inner: Level,
+    count: Field,
+    words: &mut [u32],
+    from: usize,
+    progress: Progress,
+) -> PartRead
+    requires { ⌜ (length (now message) < 2 ^ 32) × (Inside (now message) count) × (from ≤ progress .records) × (progress .records + progress .room < length (now words) / stride) × (length (now words) < 2 ^ 32) ⌝ }
+    ensures { λ r. ⌜ partTold (config .mode) (now (message .entry)) from r (now (words .exit)) ≡ withRun (partRecord 2 count) (partOf from (progress .records) (now (words .entry))) (runFrom (tableRules config (now (table .entry)) (tagAt (now (index .entry)))) (tableDemands (now (table .entry))) inner (count .tag) (fieldsFrom (config .mode) (now (message .entry)) (count .next)) (progress .room)) ⌝ }
+    ensures { λ r. ⌜ Stays (now (message .entry)) (now (words .entry)) (now (words .exit)) from (progress .room) r ⌝ }
+{
+    let opening = open_run(
+        words,
+        from,
+        progress.records,
+        build_parts::record_of(build_records::BODY, count),
+    );
+    let group = Group {
+        level: inner,
+        tag: count.tag,
+        depth: 1,
+    };
+    let start = build_groups::Progress {
+        room: progress.room,
+        records: opening.records,
+        place: opening.place,
+    };
+    match build_groups::read_run(
+        message,
+        config,
+        table,
+        index,
+        group,
+        count.next,
+        words,
+        start,
+    ) {
+        Reading::Refused(refusal) => PartRead::Refused(answer_of(refusal)),
+        Reading::At(field, run) => {
+            match build_required::check_run(words, table, group, opening.place, run.place) {
+                Lack::Missing(tag, group_tag) => PartRead::Refused(Answer::RequiredFieldMissing(
+                    tag,
+                    group_tag,
+                )),
+                Lack::Complete => PartRead::At(
+                    field,
+                    Progress {
+                        room: run.room,
+                        records: run.records,
+                    },
+                ),
+            }
+        }
+    }
+}
+
+// The body, from the field that ended the header on. "The first other field must be a trailer tag, else 1."
+pub fn read_body(
+    message: &[u8],
+    config: Config,
+    table: &[u32],
+    index: &[u16; 96150],
+    trailer_tags: &[u32],
+    level: Level,
+    first: Field,
+    words: &mut [u32],
+    from: usize,
+    progress: Progress,
+) -> PartRead
+    requires { ⌜ (length (now message) < 2 ^ 32) × (Inside (now message) first) × (from ≤ progress .records) × (progress .records + progress .room < length (now words) / stride) × (length (now words) < 2 ^ 32) ⌝ }
+    ensures { λ r. ⌜ partTold (config .mode) (now (message .entry)) from r (now (words .exit)) ≡ bodyFrom (bodyOf (tableRules config (now (table .entry)) (tagAt (now (index .entry)))) (tableDemands (now (table .entry))) (now («trailer_tags» .entry)) level) (field first (fieldsFrom (config .mode) (now (message .entry)) (first .next))) (suc (progress .room)) (partOf from (progress .records) (now (words .entry))) ⌝ }
+    ensures { λ r. ⌜ Stays (now (message .entry)) (now (words .entry)) (now (words .exit)) from (suc (progress .room)) r ⌝ }
+{
+    let mut reading = PartRead::At(first, progress);
+    loop {
+        let PartRead::At(field, so_far) = reading else {
+            return reading;
+        };
+        match kind_of(config, table, index, level, field.tag) {
+            BodyKind::Plain => {
+                reading = read_plain(message, config, field, words, from, so_far);
+            }
+            BodyKind::Counts(inner) => {
+                reading = read_group(
+                    message,
+                    config,
+                    table,
+                    index,
+                    inner,
+                    field,
+                    words,
+                    from,
+                    so_far,
+                );
+            }
+            BodyKind::Other => {
+                if dictionary_layout::holds(trailer_tags, field.tag) {
+                    return reading;
+                }
+                return PartRead::Refused(Answer::InvalidField(field.tag));
+            }
+        }
+    }
+}

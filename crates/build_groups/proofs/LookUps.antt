@@ -1,0 +1,79 @@
+-- Each way that looking a tag up goes: one law for each return of `accepted`, `opens` and `kind_of`.
+use mathlib.Core.Path.{_≡_, refl}
+use mathlib.Core.Bool.{Bool, true, false, not}
+use mathlib.Core.List.{List}
+use Prim.Native.Nat.{ℕ, _≤_, _<_}
+use lib.Dec.{eqb}
+use borrow.Author.Tests.{le-leb, lt-leb, lt-ltb, le-ltb}
+use Rattle.field_tagvalue.specs.Choice.{pick, pick-same}
+use Rattle.build_config.specs.declared.Config.{Config}
+use Rattle.dictionary_layout_rules.specs.Table.{positionOf, groupWithin, delimiterAt}
+use Rattle.dictionary_layout_rules.specs.declared.Level.{Level}
+use Rattle.dictionary_layout_rules.specs.declared.Position.the-variants.{At, Nowhere}
+use Rattle.dictionary_layout_rules.specs.declared.Nested.the-variants.{Within, NoGroup}
+use Rattle.dictionary_layout_rules.specs.declared.FirstTag.the-variants.{First, NoTag}
+use Rattle.build_groups.specs.Groups.{isDelimiter, opens, plain, count, joins, wrong, ends, counting, declared, kindOf}
+use Rattle.build_groups.specs.Reading.{accepted, openedBy, tableRules, opensAt, kindAt}
+use Rattle.build_groups.specs.declared.Group.{Group}
+
+module _ (config : Config) (known : ℕ → Bool) (tag : ℕ) where
+  pub validated : config .validate ≡ true → accepted config known tag ≡ false
+  unfolding accepted
+  validated v = rw v
+
+  pub not-user-defined : tag < 5000 → accepted config known tag ≡ false
+  unfolding accepted
+  not-user-defined h = rw (lt-ltb _ _ h) (pick-same (config .validate) false)
+
+  pub unknown : config .validate ≡ false → 5000 ≤ tag → accepted config known tag ≡ not (known tag)
+  unfolding accepted
+  unknown v h = rw (v, le-ltb _ _ h) (turned (known tag))
+    where
+      turned : (b : Bool) → pick b false true ≡ not b
+      turned true = refl
+      turned false = refl
+
+module _ (table : List ℕ) (level : Level) (tag : ℕ) where
+  pub no-delimiter : delimiterAt table level ≡ NoTag → opensAt table level tag ≡ false
+  unfolding opensAt isDelimiter
+  no-delimiter e = rw e
+
+  pub one-delimiter : (delimiter : ℕ) → delimiterAt table level ≡ First delimiter → opensAt table level tag ≡ eqb delimiter tag
+  unfolding opensAt isDelimiter
+  one-delimiter delimiter e = rw e
+
+-- the delimiter test is the rules' own
+pub opens-table : (config : Config) (table : List ℕ) (known : ℕ → Bool) (level : Level) (tag : ℕ) → opens (tableRules config table known) level tag ≡ opensAt table level tag
+unfolding opens tableRules opensAt
+opens-table config table known level tag = refl
+
+module _ (config : Config) (table : List ℕ) (known : ℕ → Bool) (group : Group) (last tag : ℕ) where
+  pub kind-delimiter : opensAt table (group .level) tag ≡ true → kindAt config table known group last tag ≡ ends
+  unfolding kindAt kindOf opens tableRules opensAt
+  kind-delimiter o = rw o
+
+  module _ (o : opensAt table (group .level) tag ≡ false) where
+    pub kind-user : positionOf table (group .level) tag ≡ Nowhere → accepted config known tag ≡ true → kindAt config table known group last tag ≡ joins
+    unfolding kindAt kindOf opens tableRules opensAt declared
+    kind-user p a = rw (o, p, a)
+
+    pub kind-other : positionOf table (group .level) tag ≡ Nowhere → accepted config known tag ≡ false → kindAt config table known group last tag ≡ ends
+    unfolding kindAt kindOf opens tableRules opensAt declared
+    kind-other p a = rw (o, p, a)
+
+    module _ (position : ℕ) (p : positionOf table (group .level) tag ≡ At position) where
+      pub kind-wrong : position ≤ last → kindAt config table known group last tag ≡ wrong
+      unfolding kindAt kindOf opens tableRules opensAt declared
+      kind-wrong h = rw (o, p, le-leb _ _ h)
+
+      pub kind-plain : last < position → groupWithin table (group .level) tag ≡ NoGroup → kindAt config table known group last tag ≡ plain position
+      unfolding kindAt kindOf opens tableRules opensAt declared counting openedBy
+      kind-plain h g = rw (o, p, lt-leb _ _ h, g)
+
+      pub kind-count : last < position → (inner : Level) → groupWithin table (group .level) tag ≡ Within inner → group .depth < 4 → kindAt config table known group last tag ≡ count inner position
+      unfolding kindAt kindOf opens tableRules opensAt declared counting openedBy
+      kind-count h inner g d = rw (o, p, lt-leb _ _ h, g, lt-ltb _ _ d)
+
+      pub kind-deep : last < position → (inner : Level) → groupWithin table (group .level) tag ≡ Within inner → 4 ≤ group .depth → kindAt config table known group last tag ≡ plain position
+      unfolding kindAt kindOf opens tableRules opensAt declared counting openedBy
+      kind-deep h inner g d = rw (o, p, lt-leb _ _ h, g, le-ltb _ _ d)

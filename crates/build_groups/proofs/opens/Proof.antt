@@ -1,0 +1,25 @@
+-- `opens` meets its contract: each answer of the look-up cites its law.
+use mathlib.Core.Path.{sym, _∙_}
+use borrow.Author.Needs.{needs}
+use Rattle.build_groups.proofs.LookUps.{no-delimiter, one-delimiter}
+use Rattle.build_groups.proofs.opens.Statement.{statement}
+use Rattle.build_groups.proofs.opens.Tie as tie
+
+delimiter-requires : tie.Need-delimiter-requires
+delimiter-requires c κs = search needs
+
+enum-known-delimiter : tie.Need-enum-known-delimiter
+enum-known-delimiter c = search needs
+
+enum-told : tie.Need-enum-told
+enum-told c = search needs
+
+returns : tie.Need-returns
+returns c = sym (no-delimiter _ _ _ (sym (c .before .before .delimiter .ensures) ∙ c .enum-told .given .1))
+
+returns-2 : tie.Need-returns-2
+returns-2 c = sym (one-delimiter _ _ _ _ (sym (c .before .before .before .delimiter .ensures) ∙ c .before .delimiter2 .given .1))
+
+pub opens-spec : {M : Type 1} → statement M
+opens-spec =
+    tie.close (tie.spec delimiter-requires enum-known-delimiter enum-told returns returns-2)

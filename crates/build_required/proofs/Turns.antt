@@ -1,0 +1,125 @@
+-- One turn of each check: with what its calls answered, the outcome of what was left before it is the outcome of what is left after it.
+use mathlib.Core.Path.{_≡_, refl, sym, ap, _∙_}
+use mathlib.Core.Bool.{Bool, true, false}
+use mathlib.Core.List.{List}
+use Prim.Native.Nat.{ℕ, suc, _+_, _-_, _/_, _≤_, _<_}
+use native.Mathlib.Omega.{arith}
+use lib.ListN.{length}
+use lib.Dec.{eqb}
+use borrow.Author.Tests.{eqb-true, eqb-false}
+use Rattle.field_tagvalue.specs.Choice.{pick}
+use Rattle.dictionary_layout_rules.specs.Table.{groupWithin}
+use Rattle.dictionary_layout_rules.specs.declared.Level.{Level}
+use Rattle.dictionary_layout_rules.specs.declared.Nested.{Nested}
+use Rattle.dictionary_layout_rules.specs.declared.Nested.the-variants.{Within, NoGroup}
+use Rattle.build_records.specs.Records.{recordsOf, recordAt, between, stride}
+use Rattle.build_records.specs.WordLaws.{records-length}
+use Rattle.build_records.specs.declared.Record.{Record}
+use Rattle.build_groups.specs.Groups.{none, opened}
+use Rattle.build_groups.specs.Reading.{openedBy}
+use Rattle.build_groups.specs.declared.Group.{Group}
+use Rattle.build_required.specs.Required.{orElse, shallow, nestedLack, entriesLack, entryLack, runLack}
+use Rattle.build_required.specs.Checking.{tableDemands, startsAt, countAt, endFrom, lackOfFields, lackOfEntry, lackOfRun}
+use Rattle.build_required.specs.RequiredLaws.{else-missing, else-complete, end-within, entries-over, entries-skip, entries-open, nested-over, nested-deep, nested-plain, nested-run}
+use Rattle.build_required.specs.declared.Lack.{Lack}
+use Rattle.build_required.specs.declared.Lack.the-variants.{Missing, Complete}
+
+-- a record that no run hangs on
+data NoCount (table : List ℕ) (group : Group) (r : Record) : Type 0 where
+  deep : (r .depth ≡ group .depth → ⊥) → NoCount table group r
+  plain : tableDemands table .group (group .level) (r .tag) ≡ none → NoCount table group r
+
+module _ (table : List ℕ) (group : Group) (r : Record) where
+  group-none : groupWithin table (group .level) (r .tag) ≡ NoGroup → tableDemands table .group (group .level) (r .tag) ≡ none
+  unfolding tableDemands openedBy
+  group-none n = rw n
+
+  group-some : (level : Level) → groupWithin table (group .level) (r .tag) ≡ Within level → tableDemands table .group (group .level) (r .tag) ≡ opened level
+  unfolding tableDemands openedBy
+  group-some level n = rw n
+
+  count-none : countAt table group r ≡ NoGroup → NoCount table group r
+  unfolding countAt
+  count-none n = go (eqb (r .depth) (group .depth)) refl n
+    where
+      go : (b : Bool) → eqb (r .depth) (group .depth) ≡ b → pick b (groupWithin table (group .level) (r .tag)) NoGroup ≡ NoGroup → NoCount table group r
+      go true q n = plain (group-none n)
+      go false q n = deep (eqb-false _ _ q)
+
+  count-some : (level : Level) → countAt table group r ≡ Within level → (r .depth ≡ group .depth) × (tableDemands table .group (group .level) (r .tag) ≡ opened level)
+  unfolding countAt
+  count-some level n = go (eqb (r .depth) (group .depth)) refl n
+    where
+      go : (b : Bool) → eqb (r .depth) (group .depth) ≡ b → pick b (groupWithin table (group .level) (r .tag)) NoGroup ≡ Within level → (r .depth ≡ group .depth) × (tableDemands table .group (group .level) (r .tag) ≡ opened level)
+      go true q n = (eqb-true _ _ q, group-some level n)
+      go false q n = let z : _≡_ {A = ℕ} 0 1 = cc in absurd (omega arith)
+
+module _ (table : List ℕ) (group : Group) where
+  -- what is left of an entry's nested runs, and of a run's entries
+  abbrev pub nestedLeft : List Record → Lack
+  nestedLeft rs =
+      nestedLack (λ level tag entries. runLack (tableDemands table) (4 - group .depth) level tag (group .depth + 1) entries) (tableDemands table .group (group .level)) (group .depth) rs
+
+  abbrev pub entriesLeft : List Record → Lack
+  entriesLeft rs = entriesLack (lackOfEntry table group) (startsAt table group) rs
+
+  pub run-deep : (rs : List Record) → 4 < group .depth → lackOfRun table group rs ≡ Complete
+  unfolding lackOfRun runLack
+  run-deep rs h =
+      let none : 5 - group .depth ≡ 0 = omega arith in
+      rw none
+
+  pub run-entries : (rs : List Record) → group .depth ≤ 4 → lackOfRun table group rs ≡ entriesLeft rs
+  unfolding lackOfRun runLack lackOfEntry startsAt
+  run-entries rs h =
+      let more : 5 - group .depth ≡ suc (4 - group .depth) = omega arith in
+      rw more
+
+  entry-parts : (rs : List Record) → lackOfEntry table group rs ≡ orElse (lackOfFields table group rs) (nestedLeft rs)
+  unfolding lackOfEntry entryLack lackOfFields
+  entry-parts rs = refl
+
+  module _ (rs : List Record) (own : Lack) (e : own ≡ lackOfFields table group rs) where
+    pub entry-missing : (tag missing : ℕ) → own ≡ Missing tag missing → own ≡ lackOfEntry table group rs
+    entry-missing tag missing q = sym (entry-parts rs ∙ rw (← e) (else-missing own (nestedLeft rs) tag missing q))
+
+    pub entry-nested : own ≡ Complete → lackOfEntry table group rs ≡ nestedLeft rs
+    entry-nested q = entry-parts rs ∙ rw (← e) (else-complete own (nestedLeft rs) q)
+
+  pub nested-over-all : (at to : ℕ) (rs : List Record) → to ≤ at → nestedLeft (between at to rs) ≡ Complete
+  nested-over-all at to rs h = nested-over _ _ _ at to rs h
+
+  pub entries-over-all : (at to : ℕ) (rs : List Record) → to ≤ at → entriesLeft (between at to rs) ≡ Complete
+  entries-over-all at to rs h = entries-over (startsAt table group) at to rs (lackOfEntry table group) h
+
+  module _ (at to : ℕ) (rs : List Record) (h : at < to) (l : to ≤ length rs) (found : Record) (f : found ≡ recordAt at rs) where
+    pub turn-plain : (count : Nested) → count ≡ countAt table group found → count ≡ NoGroup → nestedLeft (between at to rs) ≡ nestedLeft (between (at + 1) to rs)
+    turn-plain count c n = go (count-none table group (recordAt at rs) (ap (countAt table group) (sym f) ∙ sym c ∙ n))
+      where
+        go : NoCount table group (recordAt at rs) → nestedLeft (between at to rs) ≡ nestedLeft (between (at + 1) to rs)
+        go (deep d) = nested-deep _ _ _ at to rs h l d
+        go (plain g) = nested-plain _ _ _ at to rs h l g
+
+    pub turn-run : (count : Nested) (level : Level) → count ≡ countAt table group found → count ≡ Within level →
+        (end : ℕ) → end ≡ endFrom (shallow (group .depth)) (at + 1) (between (at + 1) to rs) →
+        (lack : Lack) → lack ≡ lackOfRun table (record { level = level; tag = found .tag; depth = group .depth + 1 }) (between (at + 1) end rs) →
+        nestedLeft (between at to rs) ≡ orElse lack (nestedLeft (between (at + 1) to rs))
+    unfolding lackOfRun
+    turn-run count level c n end e lack q =
+        let some = count-some table group (recordAt at rs) level (ap (countAt table group) (sym f) ∙ sym c ∙ n) in
+        let levels : 5 - (group .depth + 1) ≡ 4 - group .depth = omega arith in
+        nested-run _ _ _ at to rs h l (some .0) level (some .1) ∙ rw (q, e, f, levels)
+
+    module _ (opens : Bool) (o : opens ≡ startsAt table group found) where
+      pub turn-skip : opens ≡ false → entriesLeft (between at to rs) ≡ entriesLeft (between (at + 1) to rs)
+      turn-skip n = entries-skip (startsAt table group) at to rs (lackOfEntry table group) h (omega arith) (ap (startsAt table group) (sym f) ∙ sym o ∙ n)
+
+      pub turn-entry : opens ≡ true → (end : ℕ) → end ≡ endFrom (startsAt table group) (at + 1) (between (at + 1) to rs) →
+          (lack : Lack) → lack ≡ lackOfEntry table group (between at end rs) → entriesLeft (between at to rs) ≡ orElse lack (entriesLeft (between (at + 1) to rs))
+      turn-entry y end e lack q =
+          entries-open (startsAt table group) at to rs (lackOfEntry table group) h l (ap (startsAt table group) (sym f) ∙ sym o ∙ y) ∙ rw (q, e)
+
+-- the first of a kind stands within the words
+pub end-fits : (test : Record → Bool) (at to end : ℕ) (words : List ℕ) → at < to → to ≤ length words / stride → end ≡ endFrom test (at + 1) (between (at + 1) to (recordsOf words)) → end ≤ length words / stride
+end-fits test at to end words h l e =
+    omega (arith, end-within test (at + 1) to (recordsOf words) (omega arith) (omega (arith, records-length words)) .1)

@@ -1,0 +1,79 @@
+-- `check_fields` meets its contract. The loop's invariant: the required tags that are left have the outcome of all of them.
+-- The measure is how many they are.
+use mathlib.Core.Path.{_≡_, refl, sym, ap, _∙_}
+use Prim.Native.Nat.{_-_}
+use native.Mathlib.Omega.{arith}
+use borrow.Author.Needs.{needs}
+use lib.ListN.{length}
+use Rattle.dictionary_layout_rules.specs.Table.{siblings, requiredAmong}
+use Rattle.dictionary_layout_rules.specs.RequiredLaws.{NextOf, required-over, required-next}
+use Rattle.build_records.specs.Records.{recordsOf, between}
+use Rattle.build_required.specs.Required.{fieldsLack}
+use Rattle.build_required.specs.Checking.{tableDemands, lackOfFields}
+use Rattle.build_required.specs.RequiredLaws.{has-held, has-not, fields-over, fields-missing, fields-next}
+use Rattle.build_required.proofs.check_fields.Statement.{statement}
+use Rattle.build_required.proofs.check_fields.Tie as tie
+
+abbrev Inv-loop : tie.InvT-loop
+Inv-loop words table group from to rest₀ rest = lackOfFields table group (between from to (recordsOf words)) ≡ fieldsLack (requiredAmong (siblings table rest)) (group .tag) (group .depth) (between from to (recordsOf words))
+
+abbrev μ-loop : tie.MeasureT-loop
+μ-loop words table group from to rest₀ rest = length (requiredAmong (siblings table rest))
+
+loop-holds : tie.Need-loop-holds Inv-loop μ-loop
+loop-holds c = unfold lackOfFields tableDemands in refl
+
+next-required-requires : tie.Need-next-required-requires Inv-loop μ-loop
+next-required-requires c κs = search needs
+
+enum-known-tag : tie.Need-enum-known-tag Inv-loop μ-loop
+enum-known-tag c = search needs
+
+enum-told : tie.Need-enum-told Inv-loop μ-loop
+enum-told c = search needs
+
+returns : tie.Need-returns Inv-loop μ-loop
+returns c = let l = c .before .before .before in
+    sym (l .loop .inv ∙ fields-over _ _ _ _ (required-over _ _ (sym (c .before .before .next-required .ensures) ∙ c .enum-told .given .1)))
+
+-- the next required tag, and what is left
+next-tag : (c : tie.After-known-told Inv-loop μ-loop) → let l = c .before .before .before .before in NextOf (l .before .before .before .before .args .table .now) (l .loop .rest) (c .before .tag .given .0 .0) (c .before .tag .given .0 .1 .0)
+next-tag c = required-next _ _ _ _ (sym (c .before .before .before .next-required .ensures) ∙ c .before .tag .given .1)
+
+held-requires : tie.Need-held-requires Inv-loop μ-loop
+held-requires c κs = search needs
+
+enum-told-2 : tie.Need-enum-told-2 Inv-loop μ-loop
+enum-told-2 c = search needs
+
+enum-told-3 : tie.Need-enum-told-3 Inv-loop μ-loop
+enum-told-3 c = search needs
+
+returns-2 : tie.Need-returns-2 Inv-loop μ-loop
+returns-2 c = let k = c .before .before .before in
+    sym (k .before .before .before .before .loop .inv ∙ fields-missing _ _ _ _ _ _ (next-tag k .all) (has-not _ _ _ _ (sym (c .before .before .held .ensures) ∙ c .enum-told3 .given .1)))
+
+loop-less : tie.Need-loop-less Inv-loop μ-loop
+loop-less c = omega (arith, ap length (next-tag (c .before .before .before) .all))
+
+loop-again : tie.Need-loop-again Inv-loop μ-loop
+loop-again c = let k = c .before .before .before in
+    k .before .before .before .before .loop .inv ∙ fields-next _ _ _ _ _ _ (next-tag k .all) (has-held _ _ _ _ _ (sym (c .before .before .held .ensures) ∙ c .enum-told2 .given .1))
+
+pub check-fields-spec : {M : Type 1} → statement M
+check-fields-spec =
+    tie.close
+    (tie.spec
+    Inv-loop
+    μ-loop
+    loop-holds
+    next-required-requires
+    enum-known-tag
+    enum-told
+    returns
+    held-requires
+    enum-told-2
+    enum-told-3
+    returns-2
+    loop-less
+    loop-again)

@@ -1,0 +1,143 @@
+// build_required: whether the entries of a body group that was read hold their required fields (4).
+// The run check and the entry check call each other, and the depth that is left falls. It only looks at records and tables.
+use dictionary_layout_rules::Level;
+use dictionary_layout_rules::Marked;
+use dictionary_layout_rules::Nested;
+use build_groups::Group;
+use build_records::Record;
+use build_records::Standing;
+ghost use mathlib.Core.Path.{_≡_};
+ghost use Prim.Native.Nat.{_/_, _≤_, _-_};
+ghost use lib.ListN.{length};
+ghost use Rattle.build_records.specs.Records.{recordsOf, between, stride};
+ghost use Rattle.build_required.specs.Required.{shallow};
+ghost use Rattle.build_required.specs.Checking.{startsAt, countAt, endFrom, lackOfFields, lackOfEntry, lackOfRun};
+
+// How deep groups nest.
+const LEVELS: u32 = 4;
+
+// The first required field that an entry lacks: its tag and its group's.
+pub enum Lack {
+    Missing(u32, u32),
+    Complete,
+}
+
+// The record opens an entry of the group.
+fn starts(table: &[u32], group: Group, found: Record) -> bool
+    ensures { λ r. ⌜ r ≡ startsAt (now (table .entry)) group found ⌝ }
+{
+    if found.depth != group.depth {
+        return false;
+    }
+    build_groups::opens(table, group.level, found.tag)
+}
+
+// The level of the run that hangs on a record of an entry's own fields.
+fn count_at(table: &[u32], group: Group, found: Record) -> Nested
+    ensures { λ r. ⌜ r ≡ countAt (now (table .entry)) group found ⌝ }
+{
+    if found.depth != group.depth {
+        return Nested::NoGroup;
+    }
+    dictionary_layout::group_of(table, group.level, found.tag)
+}
+
+// Where the next entry of the group starts.
+fn entry_end(words: &[u32], table: &[u32], group: Group, from: usize, to: usize) -> usize
+    requires { ⌜ to ≤ length (now words) / stride ⌝ }
+    ensures { λ r. ⌜ r ≡ endFrom (startsAt (now (table .entry)) group) from (between from to (recordsOf (now (words .entry)))) ⌝ }
+{
+    let mut at = from;
+    while at < to {
+        if starts(table, group, build_records::record_at(words, at)) {
+            return at;
+        }
+        at += 1;
+    }
+    at
+}
+
+// Where the records of the run end that hangs on the record before.
+fn run_end(words: &[u32], depth: u32, from: usize, to: usize) -> usize
+    requires { ⌜ to ≤ length (now words) / stride ⌝ }
+    ensures { λ r. ⌜ r ≡ endFrom (shallow depth) from (between from to (recordsOf (now (words .entry)))) ⌝ }
+{
+    let mut at = from;
+    while at < to {
+        let found = build_records::record_at(words, at);
+        if found.depth <= depth {
+            return at;
+        }
+        at += 1;
+    }
+    at
+}
+
+// "Its required fields in layout order."
+fn check_fields(words: &[u32], table: &[u32], group: Group, from: usize, to: usize) -> Lack
+    ensures { λ r. ⌜ r ≡ lackOfFields (now (table .entry)) group (between from to (recordsOf (now (words .entry)))) ⌝ }
+{
+    let mut rest = group.level;
+    loop {
+        let Marked::Required(tag, later) = dictionary_layout::next_required(table, rest) else {
+            return Lack::Complete;
+        };
+        let Standing::At(_) = build_records::held(words, from, to, group.depth, tag) else {
+            return Lack::Missing(tag, group.tag);
+        };
+        rest = later;
+    }
+}
+
+// "For each entry": the run's records stand from one index to another.
+pub fn check_run(words: &[u32], table: &[u32], group: Group, from: usize, to: usize) -> Lack
+    requires { ⌜ to ≤ length (now words) / stride ⌝ }
+    ensures { λ r. ⌜ r ≡ lackOfRun (now (table .entry)) group (between from to (recordsOf (now (words .entry)))) ⌝ }
+{
+    if LEVELS < group.depth {
+        return Lack::Complete;
+    }
+    let mut at = from;
+    while at < to {
+        let first = at;
+        at += 1;
+        if starts(table, group, build_records::record_at(words, first)) {
+            let end = entry_end(words, table, group, at, to);
+            let lack = check_entry(words, table, group, first, end);
+            let Lack::Complete = lack else {
+                return lack;
+            };
+        }
+    }
+    Lack::Complete
+}
+
+// "Its required fields in layout order, then its nested runs."
+pub fn check_entry(words: &[u32], table: &[u32], group: Group, from: usize, to: usize) -> Lack
+    requires { ⌜ (to ≤ length (now words) / stride) × (group .depth ≤ 4) ⌝ }
+    ensures { λ r. ⌜ r ≡ lackOfEntry (now (table .entry)) group (between from to (recordsOf (now (words .entry)))) ⌝ }
+{
+    let own = check_fields(words, table, group, from, to);
+    let Lack::Complete = own else {
+        return own;
+    };
+    let mut at = from;
+    while at < to {
+        let found = build_records::record_at(words, at);
+        at += 1;
+        let Nested::Within(level) = count_at(table, group, found) else {
+            continue;
+        };
+        let nested = Group {
+            level,
+            tag: found.tag,
+            depth: group.depth + 1,
+        };
+        let end = run_end(words, group.depth, at, to);
+        let lack = check_run(words, table, nested, at, end);
+        let Lack::Complete = lack else {
+            return lack;
+        };
+    }
+    Lack::Complete
+}

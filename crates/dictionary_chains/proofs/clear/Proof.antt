@@ -1,0 +1,56 @@
+-- `clear` meets its contract. The invariant: the words passed are zero and the others as they were.
+use mathlib.Core.Path.{_≡_, refl}
+use mathlib.Core.List.{_++_}
+use Prim.Native.Nat.{_+_, _≤_, _-_}
+use native.Mathlib.Omega.{arith}
+use borrow.Author.Needs.{needs}
+use lib.ListN.{length, length-set, drop, replicate}
+use Rattle.dictionary_chains.specs.ChainLaws.{clear-step}
+use Rattle.dictionary_chains.proofs.clear.Statement.{statement}
+use Rattle.dictionary_chains.proofs.clear.Tie as tie
+
+abbrev Inv-loop : tie.InvT-loop
+Inv-loop index₀ i₀ index i = (i ≤ 6144) × (length index ≡ 96150) × (index ≡ replicate i 0 ++ drop i index₀)
+
+abbrev μ-loop : tie.MeasureT-loop
+μ-loop index₀ i₀ index i = 6144 - i
+
+loop-holds : tie.Need-loop-holds Inv-loop μ-loop
+loop-holds c = (omega arith, omega arith, refl)
+
+mul-index : tie.Need-mul-index Inv-loop μ-loop
+mul-index c = search needs
+
+slice-write-index : tie.Need-slice-write-index Inv-loop μ-loop
+slice-write-index c = search needs
+
+add-i : tie.Need-add-i Inv-loop μ-loop
+add-i c = search needs
+
+loop-less : tie.Need-loop-less Inv-loop μ-loop
+loop-less c = search needs
+
+loop-again : tie.Need-loop-again Inv-loop μ-loop
+loop-again c = let l = c .before in
+    (omega arith, simp length-set (omega arith), rw (l .loop .inv .2) (clear-step (l .before .args .index .now) (l .loop .i) (omega arith)))
+
+same-length : tie.Need-same-length Inv-loop μ-loop
+same-length c = search needs
+
+returns : tie.Need-returns Inv-loop μ-loop
+returns c = let e : c .before .loop .i ≡ 6144 = omega arith in rw e at (c .before .loop .inv .2)
+
+pub clear-spec : {M : Type 1} → statement M
+clear-spec =
+    tie.close
+    (tie.spec
+    Inv-loop
+    μ-loop
+    loop-holds
+    mul-index
+    slice-write-index
+    add-i
+    loop-less
+    loop-again
+    same-length
+    returns)

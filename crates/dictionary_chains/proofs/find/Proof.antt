@@ -1,0 +1,92 @@
+-- `find` meets its contract. The invariant: following the chain from the link on gives what is found from its head on.
+-- The limit falls with each entry, whatever the links are.
+use mathlib.Core.Path.{_≡_, sym, ap, _∙_}
+use Prim.Native.Nat.{_≤_}
+use native.Mathlib.Omega.{arith}
+use borrow.Author.Needs.{needs}
+use Rattle.dictionary_chains.specs.Chain.{keyOf, nextOf, followed, found}
+use Rattle.dictionary_chains.specs.ChainLaws.{head-small, follow-none, follow-zero, follow-hit, follow-on}
+use Rattle.dictionary_chains.proofs.find.Statement.{statement}
+use Rattle.dictionary_chains.proofs.find.Tie as tie
+
+abbrev Inv-loop : tie.InvT-loop
+Inv-loop index table key head limit₀ link₀ limit link = (limit ≤ 15001) × (found table index key ≡ followed table index key limit link)
+
+abbrev μ-loop : tie.MeasureT-loop
+μ-loop index table key head limit₀ link₀ limit link = limit
+
+head-of-requires : tie.Need-head-of-requires Inv-loop μ-loop
+head-of-requires c κs = search needs
+
+mul-wide : tie.Need-mul-wide Inv-loop μ-loop
+mul-wide c = omega (arith, head-small (c .before .before .args .table) (c .before .before .args .key), c .head-of .ensures)
+
+shared-slice-read-wide : tie.Need-shared-slice-read-wide Inv-loop μ-loop
+shared-slice-read-wide c = omega (arith, head-small (c .before .before .before .args .table) (c .before .before .before .args .key), c .before .head-of .ensures)
+
+wide-requires : tie.Need-wide-requires Inv-loop μ-loop
+wide-requires c κs = search needs
+
+loop-holds : tie.Need-loop-holds Inv-loop μ-loop
+loop-holds c = (omega arith, unfold found in rw (c .wide .ensures, c .before .before .head-of .ensures))
+
+returns : tie.Need-returns Inv-loop μ-loop
+returns c = let l = c .before .before in sym (l .loop .inv .1 ∙ follow-zero _ _ _ _ _ (c .if1 .taken))
+
+entry-at-requires : tie.Need-entry-at-requires Inv-loop μ-loop
+entry-at-requires c κs = search needs
+
+key-of-requires : tie.Need-key-of-requires Inv-loop μ-loop
+key-of-requires c κs = search needs
+
+returns-2 : tie.Need-returns-2 Inv-loop μ-loop
+returns-2 c = let l = c .before .before .before .before .before in sym (l .loop .inv .1 ∙ follow-hit _ _ _ _ _ (c .before .before .before .before .loop-test .taken) (c .before .before .before .if1 .left) (ap (keyOf _) (sym (c .before .before .entry-at .ensures)) ∙ sym (c .before .key-of .ensures) ∙ c .if2 .taken))
+
+mul-wide-2 : tie.Need-mul-wide-2 Inv-loop μ-loop
+mul-wide-2 c = search needs
+
+add-wide : tie.Need-add-wide Inv-loop μ-loop
+add-wide c = search needs
+
+mul-wide-3 : tie.Need-mul-wide-3 Inv-loop μ-loop
+mul-wide-3 c = search needs
+
+shared-slice-read-wide-2 : tie.Need-shared-slice-read-wide-2 Inv-loop μ-loop
+shared-slice-read-wide-2 c = search needs
+
+wide-requires-2 : tie.Need-wide-requires-2 Inv-loop μ-loop
+wide-requires-2 c κs = search needs
+
+loop-less : tie.Need-loop-less Inv-loop μ-loop
+loop-less c = search needs
+
+loop-again : tie.Need-loop-again Inv-loop μ-loop
+loop-again c = let d = c .before .before in let l = d .before .before .before .before .before in
+    (omega arith, l .loop .inv .1 ∙ follow-on _ _ _ _ _ (d .before .before .before .before .loop-test .taken) (d .before .before .before .if1 .left) (λ k. d .if2 .left (d .before .key-of .ensures ∙ ap (keyOf _) (d .before .before .entry-at .ensures) ∙ k)) ∙ unfold nextOf in rw (c .wide2 .ensures))
+
+returns-3 : tie.Need-returns-3 Inv-loop μ-loop
+returns-3 c = sym (c .before .loop .inv .1 ∙ follow-none _ _ _ _ _ (c .loop-test .left))
+
+pub find-spec : {M : Type 1} → statement M
+find-spec =
+    tie.close
+    (tie.spec
+    Inv-loop
+    μ-loop
+    head-of-requires
+    mul-wide
+    shared-slice-read-wide
+    wide-requires
+    loop-holds
+    returns
+    entry-at-requires
+    key-of-requires
+    returns-2
+    mul-wide-2
+    add-wide
+    mul-wide-3
+    shared-slice-read-wide-2
+    wide-requires-2
+    loop-less
+    loop-again
+    returns-3)

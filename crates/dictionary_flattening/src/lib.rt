@@ -1,0 +1,179 @@
+// dictionary_flattening: the layout of a message, written from a dictionary's bytes into a lent table.
+// It trusts the index that the dictionary's check left, but no content of bytes, index or table makes it fail: it then says so.
+pub mod tags;
+
+use dictionary_meaning_rules::Expansion;
+use dictionary_meaning_rules::Laid;
+use dictionary_meaning_rules::MessageTable;
+use dictionary_meaning_rules::MsgTypeName;
+use dictionary_rules::Looked;
+use dictionary_rules::Placed;
+use dictionary_rules::Record;
+use dictionary_rules::RecordRead;
+ghost use mathlib.Core.Path.{_≡_};
+ghost use Prim.Native.Nat.{_≤_, _<_};
+ghost use lib.ListN.{length};
+ghost use Rattle.dictionary_rules.specs.Index.{componentAt};
+ghost use Rattle.dictionary_meaning_rules.specs.Laying.{laying, putRow, layItems, standsAt};
+ghost use Rattle.dictionary_meaning_rules.specs.MsgType.{nameOf};
+ghost use Rattle.dictionary_meaning_rules.specs.MessageTable.{tabling, messageTable};
+
+// An empty component is skipped, and one that only stands for another is passed through, so that each step down adds an item.
+fn stands_at(index: &[u16], number: u16) -> Expansion
+    requires { ⌜ length (now index) ≡ 96150 ⌝ }
+    ensures { λ r. ⌜ r ≡ standsAt (componentAt (now (index .entry))) number ⌝ }
+{
+    let Looked::Closed(component) = dictionary_names::component_of(index, number) else {
+        return Expansion::NoItems;
+    };
+    if component.items == 0 {
+        return Expansion::NoItems;
+    }
+    let Looked::Closed(standing) = dictionary_names::component_of(index, component.stands) else {
+        return Expansion::NoItems;
+    };
+    Expansion::ItemsAt(dictionary_chains::wide(standing.place) as usize + 3)
+}
+
+// One row of the table: tag, required mark, whether it is a group, and the row where what belongs to it ends.
+fn put_row(table: &mut [u32], row: usize, tag: u32, required: bool, is_group: bool, link: usize)
+    requires { ⌜ (4096 ≤ length (now table)) × (row < 1024) × (link ≤ 1024) ⌝ }
+    ensures { λ _. ⌜ now (table .exit) ≡ putRow (now (table .entry)) row tag required «is_group» link ⌝ }
+{
+    let at = 4 * row;
+    table[at] = tag;
+    table[at + 1] = required as u32;
+    table[at + 2] = is_group as u32;
+    table[at + 3] = link as u32;
+}
+
+// The items from a place on up to their close. A group's entries and a component's items are laid by the same function, the open
+// depth falling.
+fn lay_items(
+    bytes: &[u8],
+    index: &[u16],
+    table: &mut [u32],
+    from: usize,
+    first: usize,
+    depth: usize,
+) -> Laid
+    requires { ⌜ (length (now index) ≡ 96150) × (4096 ≤ length (now table)) × (first ≤ 1024) ⌝ }
+    ensures { λ r. ⌜ laying r (now (table .exit)) ≡ layItems depth (now (bytes .entry)) (componentAt (now (index .entry))) from first (now (table .entry)) ⌝ }
+{
+    if depth == 0 {
+        return Laid::Broken;
+    }
+    let mut at = from;
+    let mut row = first;
+    loop {
+        let RecordRead::Whole(record, next) = dictionary_records::record_at(bytes, at) else {
+            return Laid::Broken;
+        };
+        match record {
+            Record::FieldItem(tag, required) => {
+                if 1024 <= row {
+                    return Laid::Broken;
+                }
+                put_row(table, row, tag, required, false, row + 1);
+                at = next;
+                row = row + 1;
+            }
+            Record::OpensGroup(tag, required) => {
+                if 1024 <= row {
+                    return Laid::Broken;
+                }
+                let Laid::Upto(after, end) = lay_items(
+                    bytes,
+                    index,
+                    table,
+                    next,
+                    row + 1,
+                    depth - 1,
+                ) else {
+                    return Laid::Broken;
+                };
+                put_row(table, row, tag, required, true, end);
+                at = after;
+                row = end;
+            }
+            Record::ComponentItem(number, _) => {
+                match stands_at(index, number) {
+                    Expansion::ItemsAt(place) => {
+                        let Laid::Upto(_, end) = lay_items(
+                            bytes,
+                            index,
+                            table,
+                            place,
+                            row,
+                            depth - 1,
+                        ) else {
+                            return Laid::Broken;
+                        };
+                        row = end;
+                    }
+                    Expansion::NoItems => {}
+                }
+                at = next;
+            }
+            Record::Closes => {
+                return Laid::Upto(next, row);
+            }
+            _ => {
+                return Laid::Broken;
+            }
+        }
+    }
+}
+
+fn wide(byte: u8) -> u64
+    ensures { λ r. ⌜ r ≡ byte ⌝ }
+{
+    byte as u64
+}
+
+pub fn name_of(msgtype: &[u8]) -> MsgTypeName
+    ensures { λ r. ⌜ r ≡ nameOf (now (msgtype .entry)) ⌝ }
+{
+    if msgtype.len() == 0 {
+        return MsgTypeName::Unnamed;
+    }
+    if 8 < msgtype.len() {
+        return MsgTypeName::Unnamed;
+    }
+    let mut number: u64 = 0;
+    let mut i = msgtype.len();
+    while 0 < i {
+        i -= 1;
+        let byte = msgtype[i];
+        if byte == 0 {
+            return MsgTypeName::Unnamed;
+        }
+        number = number * 256 + wide(byte);
+    }
+    MsgTypeName::Named(number)
+}
+
+// The layout of a message as a table, from a dictionary that passed its check and the index that the check left.
+pub fn message_table(
+    dictionary: &[u8],
+    index: &[u16; 96150],
+    msgtype: &[u8],
+    table: &mut [u32; 4096],
+) -> MessageTable
+    ensures { λ r. ⌜ tabling r (now (table .exit)) ≡ messageTable (now (dictionary .entry)) (now (index .entry)) (now (msgtype .entry)) (now (table .entry)) ⌝ }
+{
+    // Only where the arrays are made slices does the proof learn their lengths.
+    let entries = &index[..];
+    let rows = &mut table[..];
+    let MsgTypeName::Named(number) = name_of(msgtype) else {
+        return MessageTable::NoMessage;
+    };
+    let Placed::At(opening) = dictionary_names::message_of(entries, number) else {
+        return MessageTable::NoMessage;
+    };
+    let items = dictionary_chains::wide(opening) as usize + 9;
+    let Laid::Upto(_, count) = lay_items(dictionary, entries, rows, items, 0, 2050) else {
+        return MessageTable::Unprepared;
+    };
+    MessageTable::Rows(count)
+}

@@ -1,0 +1,31 @@
+-- `hold` meets its contract: an empty component adds nothing.
+use borrow.Author.Needs.{needs}
+use borrow.Author.Tests.{eq-eqb, ne-eqb}
+use Rattle.dictionary_rules.specs.Step.{heldWith, heldAlso}
+use Rattle.dictionary_steps.proofs.hold.Statement.{statement}
+use Rattle.dictionary_steps.proofs.hold.Tie as tie
+
+returns : tie.Need-returns
+returns c = unfold heldWith in rw (eq-eqb _ _ (c .if1 .taken))
+
+enum-told : tie.Need-enum-told
+enum-told c = search needs
+
+enum-told-2 : tie.Need-enum-told-2
+enum-told-2 c = search needs
+
+enum-told-3 : tie.Need-enum-told-3
+enum-told-3 c = search needs
+
+returns-2 : tie.Need-returns-2
+returns-2 c = unfold heldWith heldAlso in rw (ne-eqb _ _ (c .before .before .if1 .left), c .enum-told .given .1)
+
+returns-3 : tie.Need-returns-3
+returns-3 c = unfold heldWith heldAlso in rw (ne-eqb _ _ (c .before .before .if1 .left), c .enum-told2 .given .1)
+
+returns-4 : tie.Need-returns-4
+returns-4 c = unfold heldWith heldAlso in rw (ne-eqb _ _ (c .before .before .if1 .left), c .enum-told3 .given .1)
+
+pub hold-spec : {M : Type 1} → statement M
+hold-spec =
+    tie.close (tie.spec returns enum-told enum-told-2 enum-told-3 returns-2 returns-3 returns-4)

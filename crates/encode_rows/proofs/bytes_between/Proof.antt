@@ -1,0 +1,55 @@
+-- `bytes_between` meets its contract. The invariant: what is summed and the bytes of the rows that are left are the whole.
+use mathlib.Core.Path.{_≡_, refl, sym, ap, _∙_}
+use mathlib.Core.Logic.{⊎-elim}
+use mathlib.Core.Bool.{Bool, true, false}
+use mathlib.Core.List.{List, [], _∷_, _++_, append-assoc, append-nil}
+use Prim.Native.Nat.{ℕ, zero, suc, _+_, _-_, _*_, _^_, _≤_, _<_}
+use native.Mathlib.Omega.{arith}
+use borrow.Author.Needs.{needs}
+use lib.ListN.{length, getD, take, drop, set, length-set}
+use Rattle.message_maps.specs.Rows.{rowAt, rowsFrom}
+use Rattle.encode_rows.specs.Writing.{rowBytes, bytesIn}
+use Rattle.encode_rows.specs.WritingLaws.{bytes-on, bytes-end}
+use Rattle.encode_rows.proofs.bytes_between.Statement.{statement}
+use Rattle.encode_rows.proofs.bytes_between.Tie as tie
+
+abbrev Inv-loop : tie.InvT-loop
+Inv-loop words from to size₀ i₀ size i = (from ≤ i) × (i ≤ to) × (size + bytesIn (rowsFrom (to - i) i words) ≡ bytesIn (rowsFrom (to - from) from words)) × (size ≤ (i - from) * 8589934592)
+
+abbrev μ-loop : tie.MeasureT-loop
+μ-loop words from to size₀ i₀ size i = to - i
+
+loop-holds : tie.Need-loop-holds Inv-loop μ-loop
+loop-holds c = (omega arith, omega arith, omega arith, omega arith)
+
+row-bytes-requires : tie.Need-row-bytes-requires Inv-loop μ-loop
+row-bytes-requires c κs = omega arith
+
+add-size : tie.Need-add-size Inv-loop μ-loop
+add-size c = omega (arith, c .row-bytes .ensures .1)
+
+add-i : tie.Need-add-i Inv-loop μ-loop
+add-i c = omega arith
+
+loop-less : tie.Need-loop-less Inv-loop μ-loop
+loop-less c = omega arith
+
+loop-again : tie.Need-loop-again Inv-loop μ-loop
+loop-again c = let l = c .before .before in (omega arith, omega arith, omega (arith, l .loop .inv .2, c .row-bytes .ensures .0, bytes-on (l .before .before .args .words .now) (l .loop .i) (l .before .before .args .to) (c .before .loop-test .taken)), omega (arith, l .loop .inv .3, c .row-bytes .ensures .1))
+
+returns : tie.Need-returns Inv-loop μ-loop
+returns c = let l = c .before in (omega (arith, l .loop .inv .2, bytes-end (l .before .before .args .words .now) (l .loop .i) (l .before .before .args .to) (c .loop-test .left)), omega (arith, l .loop .inv .3, l .loop .inv .1, l .before .before .pre .1))
+
+pub bytes-between-spec : {M : Type 1} → statement M
+bytes-between-spec =
+    tie.close
+    (tie.spec
+    Inv-loop
+    μ-loop
+    loop-holds
+    row-bytes-requires
+    add-size
+    add-i
+    loop-less
+    loop-again
+    returns)

@@ -1,0 +1,88 @@
+-- The layer of rows: what is written of rows and their values, one row behind the other.
+use Prim.Native.Nat.{ℕ, zero, suc, _+_, _-_, _*_, _≤_}
+use mathlib.Core.Path.{_≡_}
+use mathlib.Core.Bool.{Bool, true, false}
+use mathlib.Core.List.{List, [], _∷_, _++_}
+use lib.ListN.{length, take, drop}
+use lib.Dec.{eqb, leb, ltb}
+use Rattle.field_tagvalue.specs.Choice.{pick}
+use Rattle.field_tagvalue.specs.Decimal.{decimal}
+use Rattle.field_tagvalue.specs.Field.{fieldBytes}
+use Rattle.message_maps.specs.Rows.{Row, row, rowsFrom, sizeOf, sizes, messageWords, messageRows}
+use Rattle.field_tagvalue.specs.Decimal.{writtenAt}
+use Rattle.message_lent.specs.Lent.{heldBefore, isMessage}
+use Rattle.message_lent.specs.Meaning.{Message, messageIn}
+use Rattle.message_rules.specs.Changes.{placeOf}
+use Rattle.message_rules.specs.declared.Span.{Span}
+use Rattle.encode_rows.specs.declared.Encoded.{Encoded}
+use Rattle.encode_rows.specs.declared.Encoded.the-variants.{Written, NoMessage, NoRoom}
+use Rattle.encode_rules.specs.Encoding.{isRest, sumDigits, summed, messageText}
+
+-- which tags of a map are written: all (0), all but 8, 9 and 35 (1), or one
+unfoldable pub chosen : ℕ → ℕ → Bool
+chosen which tag = pick (eqb which 0) true (pick (eqb which 1) (isRest tag) (eqb tag which))
+
+-- whether a row is written: by its own tag at the map's level, below that as what it hangs on
+unfoldable pub rowOn : ℕ → Bool → Row → Bool
+rowOn which on (row k l t x) = pick (eqb l 1) (chosen which t) on
+
+unfoldable pub rowText : ℕ → Bool → Row → List ℕ → List ℕ
+rowText separator on (row k l t x) values =
+    pick on (pick (eqb k 1) (fieldBytes separator (decimal t) (take x values)) []) []
+
+unfoldable pub rowsText : ℕ → ℕ → Bool → List Row → List ℕ → List ℕ
+rowsText which separator on [] values = []
+rowsText which separator on (r ∷ rows) values =
+    rowText separator (rowOn which on r) r values ++ rowsText which separator (rowOn which on r) rows (drop (sizeOf r) values)
+
+-- "tag digits + value + 2"
+unfoldable pub rowBytes : Row → ℕ
+rowBytes (row k l t x) = pick (eqb k 1) (length (decimal t) + x + 2) 0
+
+unfoldable pub bytesIn : List Row → ℕ
+bytesIn [] = 0
+bytesIn (r ∷ rows) = rowBytes r + bytesIn rows
+
+-- "a run without its count field": an entry before which its map has no field of its start tag
+unfoldable pub isUncounted : List Row → Row → Bool
+isUncounted before (row k l t x) = pick (eqb k 2) (pick (eqb l 0) false (pick (heldBefore 1 l t before) false true)) false
+
+unfoldable pub uncounted : List Row → List Row → Bool
+uncounted before [] = false
+uncounted before (r ∷ rows) = pick (isUncounted before r) true (uncounted (r ∷ before) rows)
+
+-- what is written of a map whose rows stand in a span
+unfoldable pub itemsAt : List ℕ → List ℕ → Span → ℕ → ℕ → List ℕ
+itemsAt words values span which separator =
+    rowsText which separator false (rowsFrom (span .to - span .from) (span .from) words) (drop (placeOf words (span .from)) values)
+
+unfoldable pub textAt : List ℕ → List ℕ → Span → Span → Span → ℕ → List ℕ
+textAt words values head middle tail separator =
+    itemsAt words values head 8 separator
+    ++ (itemsAt words values head 9 separator
+    ++ (itemsAt words values head 35 separator
+    ++ (itemsAt words values head 1 separator ++ (itemsAt words values middle 0 separator ++ itemsAt words values tail 0 separator))))
+
+pub record Spans (words values output : List ℕ) (head middle tail : Span) (separator : ℕ) : Type 0 where
+  pub whole : length words ≡ messageWords
+  pub header : (head .from ≤ head .to) × (head .to ≤ messageRows) × (placeOf words (head .to) ≤ length values)
+  pub body : (middle .from ≤ middle .to) × (middle .to ≤ messageRows) × (placeOf words (middle .to) ≤ length values)
+  pub trailer : (tail .from ≤ tail .to) × (tail .to ≤ messageRows) × (placeOf words (tail .to) ≤ length values)
+  pub room : length (textAt words values head middle tail separator) ≤ length output
+
+-- "the prefix `10=`, three digits and the separator"
+unfoldable pub tailOf : ℕ → List ℕ → List ℕ
+tailOf separator before = 49 ∷ 48 ∷ 61 ∷ (sumDigits before ++ (separator ∷ []))
+
+-- what writing a message answers, and what it leaves of the output
+pub data WritingOutcome : Type 0 where
+  outcome : Encoded → List ℕ → WritingOutcome
+
+-- a message is written at the start of the output where it has room; the rest of the output stays
+unfoldable pub writing : ℕ → List ℕ → List ℕ → List ℕ → WritingOutcome
+writing separator words values output =
+    pick (isMessage words values)
+    (pick (leb (length (summed separator (messageText separator (messageIn words values)))) (length output))
+    (outcome (Written (length (summed separator (messageText separator (messageIn words values))))) (writtenAt 0 (summed separator (messageText separator (messageIn words values))) output))
+    (outcome NoRoom output))
+    (outcome NoMessage output)

@@ -1,0 +1,80 @@
+-- `set_body_length` meets its contract: ten digits have room for every number, and are stored as they are written.
+use mathlib.Core.Path.{_≡_, sym, ap, _∙_}
+use mathlib.Core.List.{List}
+use Prim.Native.Nat.{ℕ, _+_}
+use native.Mathlib.Omega.{arith}
+use borrow.Author.Needs.{needs}
+use lib.ListN.{length}
+use lib.Seq.{length-take-le}
+use Rattle.field_tagvalue.specs.Decimal.{decimal}
+use Rattle.field_tagvalue.specs.DecimalLaws.{decimal-length, written-length}
+use Rattle.message_rules.specs.Changes.{storing}
+use Rattle.message_rules.specs.declared.Part.the-variants.{Header}
+use Rattle.encode_rows.specs.WritingLaws.{next-is, never-full}
+use Rattle.encoder.specs.LeavingLaws.{digits-back}
+use Rattle.encoder.proofs.set_body_length.Statement.{statement}
+use Rattle.encoder.proofs.set_body_length.Tie as tie
+
+slice-aggregate-scratch : tie.Need-slice-aggregate-scratch
+slice-aggregate-scratch c = search needs
+
+write-number-requires : tie.Need-write-number-requires
+write-number-requires c κs = search needs
+
+enum-known-end : tie.Need-enum-known-end
+enum-known-end c = search needs
+
+enum-told : tie.Need-enum-told
+enum-told c = search needs
+
+returns : tie.Need-returns
+returns c =
+    let n = c .before .before .before .before .before .before .before .args .body in
+    absurd (never-full 0 (decimal n) _ (omega (arith, decimal-length n (omega arith) .1)) (sym (c .before .before .before .write-number .ensures .0) ∙ c .enum-told .given .1))
+
+ends : (c : tie.After-known-told) → c .before .end .given .0 .0 ≡ 0 + length (decimal (c .before .before .before .before .before .before .before .before .args .body))
+ends c =
+    let n = c .before .before .before .before .before .before .before .before .args .body in
+    next-is 0 _ (decimal n) _ (omega (arith, decimal-length n (omega arith) .1)) (sym (c .before .before .before .before .write-number .ensures .0) ∙ c .before .end .given .1)
+
+ten : (c : tie.After-known-told) → length (c .before .before .before .before .write-number .last .0) ≡ 10
+ten c = ap length (c .before .before .before .before .write-number .ensures .1) ∙ written-length 0 _ _
+
+array-share-prefix-digits : tie.Need-array-share-prefix-digits
+array-share-prefix-digits c = omega (arith, ends (c .before .before), ten (c .before .before), decimal-length (c .before .before .before .before .before .before .before .before .before .before .args .body) (omega arith) .1)
+
+slice-aggregate-store : tie.Need-slice-aggregate-store
+slice-aggregate-store c = sym (length-take-le _ _ (omega (arith, ends (c .before .before .before), ten (c .before .before .before), decimal-length (c .before .before .before .before .before .before .before .before .before .before .before .args .body) (omega arith) .1)))
+
+store-requires : tie.Need-store-requires
+store-requires c κs = search needs
+
+same-length : tie.Need-same-length
+same-length c = search needs
+
+same-length-2 : tie.Need-same-length-2
+same-length-2 c = search needs
+
+returns-2 : tie.Need-returns-2
+returns-2 c =
+    let k = c .before .before .before .before .before .before .before .before in
+    let n = c .before .before .before .before .before .before .before .before .before .before .before .before .before .before .before .before .args .body in
+    c .before .before .before .before .store .ensures
+    ∙ ap (λ (value : List ℕ). storing Header 9 value (c .before .before .before .before .before .before .before .before .before .before .before .before .before .before .before .before .args .words .now) (c .before .before .before .before .before .before .before .before .before .before .before .before .before .before .before .before .args .values .now))
+    (digits-back (decimal n) _ _ _ (omega (arith, decimal-length n (omega arith) .1)) (ends k) (k .before .before .before .before .write-number .ensures .1))
+
+pub set-body-length-spec : {M : Type 1} → statement M
+set-body-length-spec =
+    tie.close
+    (tie.spec
+    slice-aggregate-scratch
+    write-number-requires
+    enum-known-end
+    enum-told
+    returns
+    array-share-prefix-digits
+    slice-aggregate-store
+    store-requires
+    same-length
+    same-length-2
+    returns-2)

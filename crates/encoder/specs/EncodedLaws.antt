@@ -1,0 +1,80 @@
+-- What encode leaves where it answers 0 is a message again, and holds the new 9 and 10.
+use mathlib.Core.Path.{_≡_, refl, sym, _∙_}
+use mathlib.Core.Bool.{Bool, true, false}
+use mathlib.Core.List.{List}
+use Prim.Native.Nat.{ℕ}
+use native.Mathlib.Omega.{arith}
+use lib.ListN.{length}
+use lib.Dec.{ltb}
+use Rattle.field_tagvalue.specs.Choice.{pick}
+use Rattle.field_tagvalue.specs.Separator.{isRefusedSeparator}
+use Rattle.message_lent.specs.Lent.{isMessage}
+use Rattle.message_lent.specs.Meaning.{Message, wordsOf, valuesOf, messageIn}
+use Rattle.message_lent.specs.Formed.{Formed}
+use Rattle.message_lent.specs.FormedLaws.{lent-formed, Lends, layout-lends}
+use Rattle.message_lent.specs.StoredLaws.{formed-stored, formed-without}
+use Rattle.message_rules.specs.Changes.{fieldTotal, valueTotal}
+use Rattle.encode_rules.specs.Encoding.{dropped, bodyLength, measured, encoding, encodedMessage}
+use Rattle.encode_rules.specs.Encode.{isIncomplete, judging, verdictOf, left, encoded, encodingOf}
+use Rattle.encoder.specs.Leaving.{Encodable}
+use Rattle.encoder.specs.SizeLaws.{encoded-values}
+use Rattle.encoder.specs.VerdictLaws.{fit-to-encode, encodes, refuses}
+use Rattle.encode_rules.specs.declared.Encoding.the-variants.{Written, NoMessage, InvalidSeparator, Incomplete, TooLong, TooManyFields, NoRoom}
+use Rattle.encode_rules.specs.declared.Verdict.{Verdict}
+use Rattle.encode_rules.specs.declared.Verdict.the-variants.{Measured, Refused}
+
+encoded-formed : (separator : ℕ) (m : Message) → Formed m → Formed (encodedMessage separator m)
+unfolding encodedMessage measured dropped
+encoded-formed separator m f =
+    record {
+      header = formed-stored 9 _ (m .header) (λ e. omega arith) (f .header);
+      body = f .body;
+      trailer = formed-stored 10 _ _ (λ e. omega arith) (formed-without 10 (m .trailer) (f .trailer));
+    }
+
+fit-lends : (separator : ℕ) (words values output : List ℕ) (body : ℕ) → Encodable separator words values output body
+    → Lends (wordsOf (encodedMessage separator (messageIn words values))) (valuesOf (encodedMessage separator (messageIn words values))) (encodedMessage separator (messageIn words values))
+fit-lends separator words values output body fit =
+    let m = messageIn words values in
+    layout-lends (encodedMessage separator m)
+    (record {
+      formed = encoded-formed separator m (lent-formed words values (fit .message) .formed);
+      small = unfold valueTotal in omega (arith, encoded-values separator m, fit .short);
+      few = unfold fieldTotal in fit .few;
+    })
+
+-- no refusal says 0
+pub never-written : (separator : ℕ) (words values : List ℕ) (room n : ℕ) → verdictOf separator words values room ≡ Refused (Written n) → ⊥
+unfolding verdictOf judging
+never-written separator words values room n verdict =
+    let m = messageIn words values in
+    by-tests (isMessage words values) (isRefusedSeparator separator) (isIncomplete (dropped m)) (ltb 8192 (length (encoding separator m))) (ltb 1024 (fieldTotal (encodedMessage separator m))) (ltb room (length (encoding separator m))) verdict
+  where
+    by-tests : (a b c d e f : Bool)
+        → pick a (pick b (Refused InvalidSeparator) (pick c (Refused Incomplete) (pick d (Refused TooLong) (pick e (Refused TooManyFields) (pick f (Refused NoRoom) (Measured (bodyLength (dropped (messageIn words values))))))))) (Refused NoMessage) ≡ Refused (Written n)
+        → ⊥
+    by-tests false b c d e f v = let z : _≡_ {A = ℕ} 0 1 = cc in omega arith
+    by-tests true true c d e f v = let z : _≡_ {A = ℕ} 0 1 = cc in omega arith
+    by-tests true false true d e f v = let z : _≡_ {A = ℕ} 0 1 = cc in omega arith
+    by-tests true false false true e f v = let z : _≡_ {A = ℕ} 0 1 = cc in omega arith
+    by-tests true false false false true f v = let z : _≡_ {A = ℕ} 0 1 = cc in omega arith
+    by-tests true false false false false true v = let z : _≡_ {A = ℕ} 0 1 = cc in omega arith
+    by-tests true false false false false false v = let z : _≡_ {A = ℕ} 0 1 = cc in omega arith
+
+left-is : (separator : ℕ) (m : Message) (output : List ℕ) (n : ℕ) (w v o : List ℕ) → encoded separator m output ≡ left (Written n) w v o
+    → (wordsOf (encodedMessage separator m) ≡ w) × (valuesOf (encodedMessage separator m) ≡ v)
+unfolding encoded
+left-is separator m output n w v o e = (cc, cc)
+
+pub encode-lends : (separator : ℕ) (words values output : List ℕ) (n : ℕ) (w v o : List ℕ) → encodingOf separator words values output ≡ left (Written n) w v o → (isMessage words values ≡ true) × Lends w v (encodedMessage separator (messageIn words values))
+encode-lends separator words values output n w v o e = by-verdict (verdictOf separator words values (length output)) refl
+  where
+    by-verdict : (d : Verdict) → verdictOf separator words values (length output) ≡ d → (isMessage words values ≡ true) × Lends w v (encodedMessage separator (messageIn words values))
+    by-verdict (Measured body) d =
+        let fit = fit-to-encode separator words values output body d in
+        let same = left-is separator (messageIn words values) output n w v o (sym (encodes separator words values output body d) ∙ e) in
+        (fit .message, rw (← (same .0), ← (same .1)) (fit-lends separator words values output body fit))
+    by-verdict (Refused refusal) d =
+        let same = sym (refuses separator words values output refusal d) ∙ e in
+        let is-written : Refused refusal ≡ Refused (Written n) = cc in
+        absurd (never-written separator words values (length output) n (d ∙ is-written))

@@ -1,9 +1,0 @@
-pub mod Judging
-pub mod Leaving
-pub mod SizeLaws
-pub mod JudgingLaws
-pub mod FoundLaws
-pub mod CountLaws
-pub mod VerdictLaws
-pub mod LeavingLaws
-pub mod EncodedLaws

@@ -1,0 +1,26 @@
+-- `hunter_reset` meets its contract: a fresh state is told.
+use mathlib.Core.Path.{ap, _∙_}
+use Rattle.frame_hunter_rules.specs.declared.State.{State}
+use Rattle.frame_hunter_rules.specs.declared.Answer.the-variants.{Fine}
+use Rattle.frame_hunter_rules.specs.Bytes.{numberOfHunter}
+use Rattle.face_framers.specs.States.{hunterTold}
+use borrow.Author.Needs.{needs}
+use Rattle.face_framers.proofs.hunter_reset.Statement.{statement}
+use Rattle.face_framers.proofs.hunter_reset.Tie as tie
+
+tell-requires : tie.Need-tell-requires
+tell-requires c κs = search needs
+
+reset-requires : tie.Need-reset-requires
+reset-requires c κs = search needs
+
+hunter-told-requires : tie.Need-hunter-told-requires
+hunter-told-requires c κs = search needs
+
+returns : tie.Need-returns
+unfolding numberOfHunter
+returns c =
+    (c .hunter-told .ensures ∙ ap (λ (s : State). hunterTold s Fine) (c .before .reset .ensures), c .before .before .tell .ensures)
+
+pub hunter-reset-spec : {M : Type 1} → statement M
+hunter-reset-spec = tie.close (tie.spec tell-requires reset-requires hunter-told-requires returns)

@@ -1,0 +1,42 @@
+-- `next_field` meets its contract: past the message's end there is no `=`, and elsewhere the part that starts at the cursor is read.
+use mathlib.Core.Path.{_≡_, sym, _∙_}
+use Prim.Native.Nat.{ℕ, _+_, _-_, _≤_, _<_}
+use native.Mathlib.Omega.{arith}
+use borrow.Author.Needs.{needs}
+use lib.ListN.{length, drop, length-drop}
+use Rattle.field_tagvalue.specs.FindLaws.{rest-part}
+use Rattle.field_tagvalue.specs.Field.{fieldAt}
+use Rattle.field_tagvalue.specs.FieldLaws.{past-end}
+use Rattle.field_tagvalue.proofs.Cursor.next_field.Statement.{statement}
+use Rattle.field_tagvalue.proofs.Cursor.next_field.Tie as tie
+
+returns : tie.Need-returns
+returns c = sym (past-end _ _ _ (omega arith))
+
+sub-field-from : tie.Need-sub-field-from
+sub-field-from c = search needs
+
+part-field-from-start : tie.Need-part-field-from-start
+part-field-from-start c = search needs
+
+part-field-from-end : tie.Need-part-field-from-end
+part-field-from-end c = search needs
+
+field-from-requires : tie.Need-field-from-requires
+field-from-requires c κs = let a = c .before .before .before in
+    rw rest-part (omega (arith, length-drop (a .args .self .at) (a .args .message .now), a .good .1 .0 .1))
+
+returns-2 : tie.Need-returns-2
+unfolding fieldAt
+returns-2 c = rw rest-part at (c .field-from .ensures)
+
+pub next-field-spec : {M : Type 1} → statement M
+next-field-spec =
+    tie.close
+    (tie.spec
+    returns
+    sub-field-from
+    part-field-from-start
+    part-field-from-end
+    field-from-requires
+    returns-2)

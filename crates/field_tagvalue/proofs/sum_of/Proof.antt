@@ -1,0 +1,56 @@
+use native.Mathlib.Nat.{zero-add}
+use mathlib.Core.Path.{_≡_, refl, sym, _∙_}
+use Prim.Native.Nat.{_+_, _-_, _≤_, _<_, _%_}
+use native.Mathlib.Omega.{arith}
+use borrow.Author.Needs.{needs}
+use lib.ListN.{length, drop}
+use Rattle.field_tagvalue.specs.CheckSum.{sumOf}
+use Rattle.field_tagvalue.specs.NumberLaws.{sum-step, sum-end}
+use Rattle.field_tagvalue.proofs.sum_of.Statement.{statement}
+use Rattle.field_tagvalue.proofs.sum_of.Tie as tie
+
+abbrev Inv-loop : tie.InvT-loop
+Inv-loop s t₀ i₀ t i = (i ≤ length s) × ((t + sumOf (drop i s)) % 256 ≡ sumOf s % 256) × (t < 256)
+
+abbrev μ-loop : tie.MeasureT-loop
+μ-loop s t₀ i₀ t i = length s - i
+
+loop-holds : tie.Need-loop-holds Inv-loop μ-loop
+loop-holds c = (omega arith, rw (zero-add), omega arith)
+
+shared-slice-read-wrapping-add-u8 : tie.Need-shared-slice-read-wrapping-add-u8 Inv-loop μ-loop
+shared-slice-read-wrapping-add-u8 c = search needs
+
+wrapping-add-u8-requires : tie.Need-wrapping-add-u8-requires Inv-loop μ-loop
+wrapping-add-u8-requires c κs = search needs
+
+add-i : tie.Need-add-i Inv-loop μ-loop
+add-i c = search needs
+
+loop-less : tie.Need-loop-less Inv-loop μ-loop
+loop-less c = search needs
+
+loop-again : tie.Need-loop-again Inv-loop μ-loop
+loop-again c = let a = c .before .before .before in
+    let s = a .before .before .args .bytes .now in (
+      omega arith,
+      omega (arith, c .wrapping-add-u8 .ensures, sum-step s (a .loop .i) (c .before .before .loop-test .taken), a .loop .inv .1),
+      omega (arith, c .wrapping-add-u8 .ensures),
+    )
+
+returns : tie.Need-returns Inv-loop μ-loop
+returns c = omega (arith, sum-end (c .before .before .before .args .bytes .now) (c .before .loop .i) (c .loop-test .left))
+
+pub sum-of-spec : {M : Type 1} → statement M
+sum-of-spec =
+    tie.close
+    (tie.spec
+    Inv-loop
+    μ-loop
+    loop-holds
+    shared-slice-read-wrapping-add-u8
+    wrapping-add-u8-requires
+    add-i
+    loop-less
+    loop-again
+    returns)

@@ -1,0 +1,30 @@
+-- `tag_of` meets its contract: what `number_of` answers, zero apart.
+use mathlib.Core.Path.{_≡_, sym, _∙_}
+use borrow.Author.Needs.{needs}
+use Rattle.field_tagvalue.specs.NumberLaws.{tag-none, tag-zero, tag-good}
+use Rattle.field_tagvalue.proofs.tag_of.Statement.{statement}
+use Rattle.field_tagvalue.proofs.tag_of.Tie as tie
+
+number-of-requires : tie.Need-number-of-requires
+number-of-requires c κs = search needs
+
+enum-known-tag : tie.Need-enum-known-tag
+enum-known-tag c = search needs
+
+enum-told : tie.Need-enum-told
+enum-told c = search needs
+
+returns : tie.Need-returns
+returns c = sym (tag-none _ (sym (c .before .before .number-of .ensures) ∙ c .enum-told .given .1))
+
+returns-2 : tie.Need-returns-2
+returns-2 c =
+    sym (tag-zero _ _ (sym (c .before .before .before .before .number-of .ensures) ∙ c .before .before .tag .given .1) (c .if1 .taken))
+
+returns-3 : tie.Need-returns-3
+returns-3 c =
+    sym (tag-good _ _ (sym (c .before .before .before .before .number-of .ensures) ∙ c .before .before .tag .given .1) (c .if1 .left))
+
+pub tag-of-spec : {M : Type 1} → statement M
+tag-of-spec =
+    tie.close (tie.spec number-of-requires enum-known-tag enum-told returns returns-2 returns-3)

@@ -1,0 +1,286 @@
+// field_tagvalue: the lowest layer. It finds bytes, reads numbers and tags, sums and writes digits, and reads one field at a cursor.
+// It knows nothing of dictionaries, of messages as a whole or of any tag's meaning, and it demands nothing of its callers.
+ghost use mathlib.Core.Path.{_≡_};
+ghost use mathlib.Core.List.{_++_};
+ghost use Prim.Native.Nat.{_+_, _-_, _<_, _%_, _^_};
+ghost use lib.ListN.{length, take};
+ghost use Rattle.field_tagvalue.specs.Find.{findIn};
+ghost use Rattle.field_tagvalue.specs.Number.{numberIn, tagOf};
+ghost use Rattle.field_tagvalue.specs.Separator.{isRefusedSeparator};
+ghost use Rattle.field_tagvalue.specs.CheckSum.{sumOf, checksumOf, checksumDigits};
+ghost use Rattle.field_tagvalue.specs.Decimal.{decimal, writtenAt, answerAt};
+ghost use Rattle.field_tagvalue.specs.Field.{separatedBy, startAt, fieldFrom, fieldAt, valueOf};
+
+pub enum Found {
+    At(usize),
+    Nothing,
+}
+
+// The first place of a byte.
+pub fn find(bytes: &[u8], wanted: u8) -> Found
+    ensures { λ r. ⌜ r ≡ findIn wanted 0 (now (bytes .entry)) ⌝ }
+{
+    let mut i: usize = 0;
+    while i < bytes.len() {
+        if bytes[i] == wanted {
+            return Found::At(i);
+        }
+        i += 1;
+    }
+    Found::Nothing
+}
+
+// What a text of digits is worth. NoNumber: it is none, or worth more than 4,294,967,295.
+pub enum Number {
+    Worth(u32),
+    NoNumber,
+}
+
+// A number as an index.
+pub fn wide(n: u32) -> usize
+    ensures { λ r. ⌜ r ≡ n ⌝ }
+{
+    n as usize
+}
+
+fn widened(byte: u8) -> u64
+    ensures { λ r. ⌜ r ≡ byte ⌝ }
+{
+    byte as u64
+}
+
+// One or more digits, leading zeros allowed. However long the text, nothing overflows.
+pub fn number_of(text: &[u8]) -> Number
+    ensures { λ r. ⌜ r ≡ numberIn (now (text .entry)) ⌝ }
+{
+    if text.len() == 0 {
+        return Number::NoNumber;
+    }
+    let mut n: u64 = 0;
+    let mut i: usize = 0;
+    while i < text.len() {
+        let digit = text[i];
+        if digit < 48 {
+            return Number::NoNumber;
+        }
+        if 57 < digit {
+            return Number::NoNumber;
+        }
+        n = n * 10 + widened(digit - 48);
+        if 4294967295 < n {
+            return Number::NoNumber;
+        }
+        i += 1;
+    }
+    Number::Worth(n as u32)
+}
+
+// The text of a tag: digits worth 1 to 4,294,967,295.
+pub fn tag_of(text: &[u8]) -> Number
+    ensures { λ r. ⌜ r ≡ tagOf (now (text .entry)) ⌝ }
+{
+    let Number::Worth(tag) = number_of(text) else {
+        return Number::NoNumber;
+    };
+    if tag == 0 {
+        return Number::NoNumber;
+    }
+    Number::Worth(tag)
+}
+
+// 22: the separator is `=` or a digit.
+pub fn is_refused_separator(separator: u8) -> bool
+    ensures { λ r. ⌜ r ≡ isRefusedSeparator separator ⌝ }
+{
+    if separator == 61 {
+        return true;
+    }
+    if separator < 48 {
+        return false;
+    }
+    separator <= 57
+}
+
+// A CheckSum value that is to be compared: exactly three digits.
+pub fn checksum_of(value: &[u8]) -> Number
+    ensures { λ r. ⌜ r ≡ checksumOf (now (value .entry)) ⌝ }
+{
+    if value.len() != 3 {
+        return Number::NoNumber;
+    }
+    number_of(value)
+}
+
+// The sum of the bytes, mod 256.
+pub fn sum_of(bytes: &[u8]) -> u8
+    ensures { λ r. ⌜ r ≡ sumOf (now (bytes .entry)) % 256 ⌝ }
+{
+    let mut sum: u8 = 0;
+    let mut i: usize = 0;
+    while i < bytes.len() {
+        sum = std::num::wrapping_add_u8(sum, bytes[i]);
+        i += 1;
+    }
+    sum
+}
+
+// The three digits of a CheckSum.
+pub fn checksum_digits(sum: u8) -> [u8; 3]
+    ensures { λ r. ⌜ r ≡ checksumDigits sum ⌝ }
+{
+    [48 + sum / 100, 48 + sum / 10 % 10, 48 + sum % 10]
+}
+
+// How many digits a tag or a length has.
+pub fn digit_count(n: u32) -> usize
+    ensures { λ r. ⌜ r ≡ length (decimal n) ⌝ }
+{
+    let mut rest = n;
+    let mut count: usize = 1;
+    while 10 <= rest {
+        rest = rest / 10;
+        count += 1;
+    }
+    count
+}
+
+// Fills the scratch bytes from their end with the digits of n, and answers where the digits begin.
+fn fill_backwards(scratch: &mut [u8; 10], n: u32) -> usize
+    ensures { λ r. ⌜ r ≡ 10 - length (decimal n) ⌝ }
+    ensures { λ _. ⌜ now (scratch .exit) ≡ take (10 - length (decimal n)) (now (scratch .entry)) ++ decimal n ⌝ }
+{
+    // Only where the array is made a slice does the proof learn that it holds ten bytes.
+    let digits = &mut scratch[..];
+    let mut rest = n;
+    let mut at: usize = 9;
+    while 10 <= rest {
+        digits[at] = 48 + (rest % 10) as u8;
+        rest = rest / 10;
+        at -= 1;
+    }
+    digits[at] = 48 + rest as u8;
+    at
+}
+
+// Where writing went on to, or that there was no room and nothing was written.
+pub enum Written {
+    Next(usize),
+    NoRoom,
+}
+
+// The digits of a tag or a length, from a place of the output on.
+pub fn write_number(output: &mut [u8], at: usize, n: u32) -> Written
+    ensures { λ r. ⌜ r ≡ answerAt at (decimal n) (now (output .entry)) ⌝ }
+    ensures { λ _. ⌜ now (output .exit) ≡ writtenAt at (decimal n) (now (output .entry)) ⌝ }
+{
+    let mut scratch = [0u8; 10];
+    let first = fill_backwards(&mut scratch, n);
+    let count = 10 - first;
+    if output.len() < at {
+        return Written::NoRoom;
+    }
+    if output.len() - at < count {
+        return Written::NoRoom;
+    }
+    bytes::copy(&scratch[first..], &mut output[at..]);
+    Written::Next(at + count)
+}
+
+// How fields are read. Whoever reads hands it on whole: what a way of reading must know goes here.
+pub struct Mode {
+    pub separator: u8,
+}
+
+pub fn separated_by(separator: u8) -> Mode
+    ensures { λ r. ⌜ r ≡ separatedBy separator ⌝ }
+{
+    Mode { separator }
+}
+
+// Where reading stands. It is handed on whole: what reading one field must tell the next goes here.
+pub struct Cursor {
+    pub at: usize,
+}
+
+pub fn start_at(at: usize) -> Cursor
+    ensures { λ r. ⌜ r ≡ startAt at ⌝ }
+{
+    Cursor { at }
+}
+
+// One field of a message: where it starts, its tag, the place and length of its value, and where the next one starts.
+pub struct Field {
+    pub first: usize,
+    pub tag: u32,
+    pub place: usize,
+    pub length: usize,
+    pub next: Cursor,
+}
+
+// Why no field can be read, in the order in which the reasons are looked for.
+pub enum Cause {
+    NoEquals,
+    NoSeparator,
+    BadTag,
+}
+
+pub enum FieldRead {
+    Read(Field),
+    Unreadable(Cause, usize),
+}
+
+// The field at the start of a part of the message; `at` is the part's place in the message.
+fn field_from(at: usize, rest: &[u8], mode: Mode) -> FieldRead
+    requires { ⌜ at + length (now rest) < 2 ^ 63 ⌝ }
+    ensures { λ r. ⌜ r ≡ fieldFrom at mode (now (rest .entry)) ⌝ }
+{
+    let Found::At(equals) = find(rest, 61) else {
+        return FieldRead::Unreadable(Cause::NoEquals, at);
+    };
+    let value = equals + 1;
+    let Found::At(length) = find(&rest[value..], mode.separator) else {
+        return FieldRead::Unreadable(Cause::NoSeparator, at);
+    };
+    let Number::Worth(tag) = tag_of(&rest[..equals]) else {
+        return FieldRead::Unreadable(Cause::BadTag, at);
+    };
+    let place = at + value;
+    let next = start_at(place + length + 1);
+    FieldRead::Read(Field {
+        first: at,
+        tag,
+        place,
+        length,
+        next,
+    })
+}
+
+impl Cursor {
+    // The field that starts here.
+    pub fn next_field(self, message: &[u8], mode: Mode) -> FieldRead
+        ensures { λ r. ⌜ r ≡ fieldAt mode (now (message .entry)) self ⌝ }
+    {
+        let at = self.at;
+        if message.len() < at {
+            return FieldRead::Unreadable(Cause::NoEquals, at);
+        }
+        field_from(at, &message[at..], mode)
+    }
+}
+
+// The bytes of a field's value. A field that was not read in this message has what lies within it.
+pub fn value_of(message: &[u8], field: Field) -> &[u8]
+    ensures { λ r. ⌜ now r ≡ valueOf (now (message .entry)) field ⌝ }
+{
+    let place = field.place;
+    let length = field.length;
+    if message.len() < place {
+        return &message[..0];
+    }
+    let left = message.len() - place;
+    if left < length {
+        return &message[place..];
+    }
+    let end = place + length;
+    &message[place..end]
+}

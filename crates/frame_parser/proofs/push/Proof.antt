@@ -1,0 +1,129 @@
+-- `push` meets its contract: the tests stand in the order of the definition.
+-- Each return cites the law of its way, and what the kit's `copy` leaves is the chunk written at the used length.
+use mathlib.Core.Path.{_≡_, sym, _∙_}
+use mathlib.Core.Bool.{false}
+use Prim.Native.Nat.{_+_, _≤_, _<_}
+use native.Mathlib.Omega.{arith}
+use borrow.Author.Needs.{needs}
+use lib.ListN.{length}
+use Rattle.field_tagvalue.specs.DecimalLaws.{written-copied}
+use Rattle.frame_parser_rules.specs.Framer.{unusable, withChunk}
+use Rattle.frame_parser_rules.specs.FramerLaws.{usable-is, push-bad, push-ended, push-over, push-full, push-accepted}
+use Rattle.frame_parser.proofs.push.Statement.{statement}
+use Rattle.frame_parser.proofs.push.Tie as tie
+
+is-unusable-requires : tie.Need-is-unusable-requires
+is-unusable-requires c κs = search needs
+
+usable-at : (c : tie.Else1) → let a = c .before .before .before .before .before .args in
+    unusable (a .state .used) (a .store .now) ≡ false
+usable-at c = sym (c .before .is-unusable .ensures) ∙ c .if1 .left
+
+answers-requires : tie.Need-answers-requires
+answers-requires c κs = search needs
+
+same-length : tie.Need-same-length
+same-length c = search needs
+
+returns : tie.Need-returns
+returns c =
+    let law = push-bad _ _ _ (sym (c .before .before .is-unusable .ensures) ∙ c .before .if1 .taken) in
+    (c .answers .ensures ∙ law .0, law .1)
+
+answers-requires-2 : tie.Need-answers-requires-2
+answers-requires-2 c κs = search needs
+
+same-length-2 : tie.Need-same-length-2
+same-length-2 c = search needs
+
+returns-2 : tie.Need-returns-2
+returns-2 c =
+    let law = push-ended _ _ _ (usable-at (c .before .before)) (c .before .if2 .taken) in
+    (c .answers2 .ensures ∙ law .0, law .1)
+
+answers-requires-3 : tie.Need-answers-requires-3
+answers-requires-3 c κs = search needs
+
+same-length-3 : tie.Need-same-length-3
+same-length-3 c = search needs
+
+returns-3 : tie.Need-returns-3
+returns-3 c =
+    let law = push-over _ _ _ (usable-at (c .before .before .before)) (c .before .before .if2 .left) (c .before .if3 .taken) in
+    (c .answers3 .ensures ∙ law .0, law .1)
+
+sub-if4 : tie.Need-sub-if4
+sub-if4 c = omega (arith, usable-is _ _ (usable-at (c .before .before)))
+
+answers-requires-4 : tie.Need-answers-requires-4
+answers-requires-4 c κs = search needs
+
+same-length-4 : tie.Need-same-length-4
+same-length-4 c = search needs
+
+returns-4 : tie.Need-returns-4
+returns-4 c =
+    let e = c .before .before in
+    let a = e .before .before .before .before .before .before .before .args in
+    let full : 16384 < a .state .used + length (a .chunk .now) = omega arith in
+    let law = push-full _ _ _ (usable-at (e .before .before)) (e .before .if2 .left) (e .if3 .left) full in
+    (c .answers4 .ensures ∙ law .0, law .1)
+
+sub-copy : tie.Need-sub-copy
+sub-copy c = omega (arith, usable-is _ _ (usable-at (c .before .before .before)))
+
+part-copy-start : tie.Need-part-copy-start
+part-copy-start c = omega (arith, usable-is _ _ (usable-at (c .before .before .before)))
+
+part-copy-end : tie.Need-part-copy-end
+part-copy-end c = search needs
+
+copy-requires : tie.Need-copy-requires
+copy-requires c κs = omega (arith, usable-is _ _ (usable-at (c .before .before .before .before)))
+
+add-t14 : tie.Need-add-t14
+add-t14 c = search needs
+
+answers-requires-5 : tie.Need-answers-requires-5
+answers-requires-5 c κs = search needs
+
+same-length-5 : tie.Need-same-length-5
+same-length-5 c = search needs
+
+returns-5 : tie.Need-returns-5
+unfolding withChunk
+returns-5 c =
+    let e = c .before .before .before .before .before in
+    let u = usable-at (e .before .before .before) in
+    let a = e .before .before .before .before .before .before .before .before .args in
+    let room : a .state .used + length (a .chunk .now) ≤ 16384 = omega (arith, usable-is _ _ u) in
+    let written = written-copied (a .state .used) (a .chunk .now) (a .store .now) _ (omega (arith, usable-is _ _ u)) (c .before .before .before .copy .ensures .1) in
+    let law = push-accepted _ _ _ u (e .before .before .if2 .left) (e .before .if3 .left) room in
+    (c .answers5 .ensures ∙ law .0, written ∙ law .1)
+
+pub push-spec : {M : Type 1} → statement M
+push-spec =
+    tie.close
+    (tie.spec
+    is-unusable-requires
+    answers-requires
+    same-length
+    returns
+    answers-requires-2
+    same-length-2
+    returns-2
+    answers-requires-3
+    same-length-3
+    returns-3
+    sub-if4
+    answers-requires-4
+    same-length-4
+    returns-4
+    sub-copy
+    part-copy-start
+    part-copy-end
+    copy-requires
+    add-t14
+    answers-requires-5
+    same-length-5
+    returns-5)

@@ -1,0 +1,116 @@
+-- `hang_in` meets its contract: the rows between its place and where the run on its start tag ends are cut out for it.
+use mathlib.Core.Path.{_≡_, refl, sym, ap, _∙_}
+use mathlib.Core.Logic.{⊎-elim}
+use mathlib.Core.Bool.{Bool, true, false}
+use mathlib.Core.List.{List, [], _∷_, _++_, append-assoc, append-nil}
+use Prim.Native.Nat.{ℕ, zero, suc, _+_, _-_, _*_, _^_, _≤_, _<_}
+use native.Mathlib.Omega.{arith}
+use borrow.Author.Needs.{needs}
+use lib.ListN.{length, getD, take, drop, set, length-set}
+use Rattle.message_maps.specs.Rows.{flat, rowsFrom, runEndFrom, sizes}
+use Rattle.message_lent.specs.Lent.{rowCount, rowsOf, fieldsIn}
+use Rattle.message_rules.specs.Changes.{after, Cuttable, changedAt}
+use Rattle.message_hung_rows.specs.Hanging.{raised, allOf, hungPlace, hungStop, hungCut, replacedFields, hungFields, startOf, delimiterOf, Hangable, hangAt}
+use Rattle.message_hung_rows.specs.RowLaws.{hang-none, hang-some}
+use Rattle.message_hung_rows.proofs.hang_in.Statement.{statement}
+use Rattle.message_hung_rows.proofs.hang_in.Tie as tie
+
+row-count-requires : tie.Need-row-count-requires
+row-count-requires c κs = c .before .before .before .before .pre .run .whole
+
+returns : tie.Need-returns
+returns c = sym (hang-none _ _ _ _ _ _ (sym (c .before .row-count .ensures) ∙ c .if1 .taken))
+
+tag-of-requires : tie.Need-tag-of-requires
+tag-of-requires c κs = (omega arith, c .before .before .before .before .before .before .pre .run .whole)
+
+extra-of-requires : tie.Need-extra-of-requires
+extra-of-requires c κs = (omega arith, c .before .before .before .before .before .before .before .pre .run .whole)
+
+all-of-requires : tie.Need-all-of-requires
+all-of-requires c κs = let l = c .before .before .before .before .before .before .before .before .pre .run in (omega (arith, c .before .before .before .row-count .ensures, l .counted), l .whole)
+
+hung-place-requires : tie.Need-hung-place-requires
+hung-place-requires c κs = let p = c .before .before .before .before .before .before .before .before .before .before .pre in (p .forwards, omega (arith, p .last, p .few), p .whole)
+
+start-at : (c : tie.After-tag-of) → c .tag-of .result ≡ startOf (c .before .before .before .before .before .before .before .args .run-words .now)
+unfolding startOf
+start-at c = c .tag-of .ensures
+
+place-at : (c : tie.After-hung-place) → c .hung-place .result ≡ hungPlace (c .before .before .before .before .before .before .before .before .before .before .before .args .span) (startOf (c .before .before .before .before .before .before .before .before .before .before .before .args .run-words .now)) (c .before .before .before .before .before .before .before .before .before .before .before .args .words .now)
+place-at c = c .hung-place .ensures ∙ ap (λ (t : ℕ). hungPlace (c .before .before .before .before .before .before .before .before .before .before .before .args .span) t (c .before .before .before .before .before .before .before .before .before .before .before .args .words .now)) (start-at (c .before .before .before .before))
+
+run-end-requires : tie.Need-run-end-requires
+run-end-requires c κs = let p = c .before .before .before .before .before .before .before .before .before .before .before .before .pre in (omega (arith, place-at (c .before), p .placed), omega (arith, p .last, p .few), p .whole)
+
+stop-at : (c : tie.After-run-end) → c .run-end .result ≡ hungStop (c .before .before .before .before .before .before .before .before .before .before .before .before .before .args .span) (startOf (c .before .before .before .before .before .before .before .before .before .before .before .before .before .args .run-words .now)) (c .before .before .before .before .before .before .before .before .before .before .before .before .before .args .words .now)
+unfolding hungStop
+stop-at c = rw (place-at (c .before .before), start-at (c .before .before .before .before .before .before)) at (c .run-end .ensures)
+
+ordered : (c : tie.After-hung-place) → (hungPlace (c .before .before .before .before .before .before .before .before .before .before .before .args .span) (startOf (c .before .before .before .before .before .before .before .before .before .before .before .args .run-words .now)) (c .before .before .before .before .before .before .before .before .before .before .before .args .words .now) ≤ hungStop (c .before .before .before .before .before .before .before .before .before .before .before .args .span) (startOf (c .before .before .before .before .before .before .before .before .before .before .before .args .run-words .now)) (c .before .before .before .before .before .before .before .before .before .before .before .args .words .now)) × (hungStop (c .before .before .before .before .before .before .before .before .before .before .before .args .span) (startOf (c .before .before .before .before .before .before .before .before .before .before .before .args .run-words .now)) (c .before .before .before .before .before .before .before .before .before .before .before .args .words .now) ≤ (c .before .before .before .before .before .before .before .before .before .before .before .args .span) .count)
+unfolding hungCut
+ordered c = let a = c .before .before .before .before .before .before .before .before .before .before .before .pre .able in (a .forwards, a .last)
+
+fields-in-requires : tie.Need-fields-in-requires
+fields-in-requires c κs = let p = c .before .before .before .before .before .before .before .before .before .before .before .before .before .before .pre in let z = c .before .before .before in let s = stop-at (c .before) in let o = ordered z in (omega (arith, place-at z, s, o .0), omega (arith, s, o .1, p .few), p .whole)
+
+fields-in-requires-2 : tie.Need-fields-in-requires-2
+fields-in-requires-2 c κs = let l = c .before .before .before .before .before .before .before .before .before .before .before .before .before .before .before .pre .run in (omega arith, omega (arith, c .before .before .before .before .before .before .before .before .before .before .row-count .ensures, l .counted), l .whole)
+
+replaced-at : (c : tie.After-fields-in) → c .fields-in .result ≡ replacedFields (c .before .before .before .before .before .before .before .before .before .before .before .before .before .before .before .args .span) (startOf (c .before .before .before .before .before .before .before .before .before .before .before .before .before .before .before .args .run-words .now)) (c .before .before .before .before .before .before .before .before .before .before .before .before .before .before .before .args .words .now)
+unfolding replacedFields
+replaced-at c = rw (place-at (c .before .before .before .before), stop-at (c .before .before)) at (c .fields-in .ensures)
+
+added-at : (c : tie.After-fields-in2) → c .fields-in2 .result ≡ fieldsIn 0 (rowsOf (c .before .before .before .before .before .before .before .before .before .before .before .before .before .before .before .before .args .run-words .now))
+unfolding rowsOf
+added-at c = rw (c .before .before .before .before .before .before .before .before .before .before .before .row-count .ensures) at (c .fields-in2 .ensures)
+
+whole-at : (c : tie.After-all-of) → c .all-of .result ≡ allOf (startOf (c .before .before .before .before .before .before .before .before .before .args .run-words .now)) (delimiterOf (c .before .before .before .before .before .before .before .before .before .args .run-words .now)) (rowsOf (c .before .before .before .before .before .before .before .before .before .args .run-words .now))
+unfolding rowsOf delimiterOf
+whole-at c = rw (c .before .before .before .before .row-count .ensures, start-at (c .before .before), c .before .extra-of .ensures) at (c .all-of .ensures)
+
+able-at : (c : tie.After-fields-in2) → Cuttable (c .before .before .before .before .before .before .before .before .before .before .before .before .before .before .before .before .args .words .now) (c .before .before .before .before .before .before .before .before .before .before .before .before .before .before .before .before .args .values .now) (record { from = c .before .before .before .before .before .hung-place .result; to = c .before .before .before .run-end .result; kept = c .before .before .before .run-end .result; until = c .before .before .before .run-end .result; count = (c .before .before .before .before .before .before .before .before .before .before .before .before .before .before .before .before .args .span) .count }) (flat (raised (rowsOf (c .before .before .before .before .before .before .before .before .before .before .before .before .before .before .before .before .args .run-words .now)))) (rowCount (c .before .before .before .before .before .before .before .before .before .before .before .before .before .before .before .before .args .run-words .now)) (c .before .before .before .before .before .before .before .before .before .before .before .before .before .before .before .before .args .fields - c .before .fields-in .result + c .fields-in2 .result)
+unfolding hungCut hungFields
+able-at c = rw (place-at (c .before .before .before .before .before), stop-at (c .before .before .before), replaced-at (c .before), added-at c) (c .before .before .before .before .before .before .before .before .before .before .before .before .before .before .before .before .pre .able)
+
+sub-insert-run : tie.Need-sub-insert-run
+sub-insert-run c = let p = c .before .before .before .before .before .before .before .before .before .before .before .before .before .before .before .before .before .before .pre in omega (arith, replaced-at (c .before .before .before), p .replaced)
+
+add-insert-run : tie.Need-add-insert-run
+add-insert-run c = let p = c .before .before .before .before .before .before .before .before .before .before .before .before .before .before .before .before .before .before .pre in omega (arith, p .counted, added-at (c .before .before), p .run .fields)
+
+insert-run-requires : tie.Need-insert-run-requires
+insert-run-requires c κs = (c .before .before .before .before .before .before .before .before .before .before .before .before .before .before .before .before .before .before .pre .run, refl, refl, able-at (c .before .before))
+
+same-length : tie.Need-same-length
+same-length c = search needs
+
+same-length-2 : tie.Need-same-length-2
+same-length-2 c = search needs
+
+done-at : (c : tie.After-insert-run) → after (c .insert-run .result) (c .insert-run .last .0) (c .insert-run .last .1 .0) ≡ changedAt (hungCut (c .before .before .before .before .before .before .before .before .before .before .before .before .before .before .before .before .before .before .before .args .span) (startOf (c .before .before .before .before .before .before .before .before .before .before .before .before .before .before .before .before .before .before .before .args .run-words .now)) (c .before .before .before .before .before .before .before .before .before .before .before .before .before .before .before .before .before .before .before .args .words .now)) (flat (raised (rowsOf (c .before .before .before .before .before .before .before .before .before .before .before .before .before .before .before .before .before .before .before .args .run-words .now)))) (rowCount (c .before .before .before .before .before .before .before .before .before .before .before .before .before .before .before .before .before .before .before .args .run-words .now)) (take (sizes (rowsOf (c .before .before .before .before .before .before .before .before .before .before .before .before .before .before .before .before .before .before .before .args .run-words .now))) (c .before .before .before .before .before .before .before .before .before .before .before .before .before .before .before .before .before .before .before .args .run-values .now)) (allOf (startOf (c .before .before .before .before .before .before .before .before .before .before .before .before .before .before .before .before .before .before .before .args .run-words .now)) (delimiterOf (c .before .before .before .before .before .before .before .before .before .before .before .before .before .before .before .before .before .before .before .args .run-words .now)) (rowsOf (c .before .before .before .before .before .before .before .before .before .before .before .before .before .before .before .before .before .before .before .args .run-words .now))) (hungFields (c .before .before .before .before .before .before .before .before .before .before .before .before .before .before .before .before .before .before .before .args .span) (startOf (c .before .before .before .before .before .before .before .before .before .before .before .before .before .before .before .before .before .before .before .args .run-words .now)) (c .before .before .before .before .before .before .before .before .before .before .before .before .before .before .before .before .before .before .before .args .run-words .now) (c .before .before .before .before .before .before .before .before .before .before .before .before .before .before .before .before .before .before .before .args .fields) (c .before .before .before .before .before .before .before .before .before .before .before .before .before .before .before .before .before .before .before .args .words .now)) (c .before .before .before .before .before .before .before .before .before .before .before .before .before .before .before .before .before .before .before .args .words .now) (c .before .before .before .before .before .before .before .before .before .before .before .before .before .before .before .before .before .before .before .args .values .now)
+unfolding hungCut hungFields
+done-at c = rw (place-at (c .before .before .before .before .before .before .before .before), stop-at (c .before .before .before .before .before .before), replaced-at (c .before .before .before .before), added-at (c .before .before .before), whole-at (c .before .before .before .before .before .before .before .before .before .before)) at (c .insert-run .ensures)
+
+returns-2 : tie.Need-returns-2
+returns-2 c = done-at (c .before .before .before .before) ∙ sym (hang-some _ _ _ _ _ _ (λ e. c .before .before .before .before .before .before .before .before .before .before .before .before .before .before .before .before .before .if1 .left (c .before .before .before .before .before .before .before .before .before .before .before .before .before .before .before .before .before .before .row-count .ensures ∙ e)))
+
+pub hang-in-spec : {M : Type 1} → statement M
+hang-in-spec =
+    tie.close
+    (tie.spec
+    row-count-requires
+    returns
+    tag-of-requires
+    extra-of-requires
+    all-of-requires
+    hung-place-requires
+    run-end-requires
+    fields-in-requires
+    fields-in-requires-2
+    sub-insert-run
+    add-insert-run
+    insert-run-requires
+    same-length
+    same-length-2
+    returns-2)

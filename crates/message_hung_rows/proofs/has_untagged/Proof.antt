@@ -1,0 +1,55 @@
+-- `has_untagged` meets its contract. The invariant: the rows that are left have the outcome of all.
+use mathlib.Core.Path.{_≡_, refl, sym, ap, _∙_}
+use mathlib.Core.Logic.{⊎-elim}
+use mathlib.Core.Bool.{Bool, true, false}
+use mathlib.Core.List.{List, [], _∷_, _++_, append-assoc, append-nil}
+use Prim.Native.Nat.{ℕ, zero, suc, _+_, _-_, _*_, _^_, _≤_, _<_}
+use native.Mathlib.Omega.{arith}
+use borrow.Author.Needs.{needs}
+use lib.ListN.{length, getD, take, drop, set, length-set}
+use Rattle.message_maps.specs.Rows.{Row, row, rowAt, rowsFrom, levelOf}
+use Rattle.message_hung_rows.specs.Hanging.{isUntagged, untaggedIn}
+use Rattle.message_hung_rows.specs.RowLaws.{untagged-here, untagged-on, untagged-end}
+use Rattle.message_hung_rows.proofs.has_untagged.Statement.{statement}
+use Rattle.message_hung_rows.proofs.has_untagged.Tie as tie
+
+abbrev Inv-loop : tie.InvT-loop
+Inv-loop words count i₀ i = (i ≤ count) × (untaggedIn (rowsFrom (count - 0) 0 words) ≡ untaggedIn (rowsFrom (count - i) i words))
+
+abbrev μ-loop : tie.MeasureT-loop
+μ-loop words count i₀ i = count - i
+
+loop-holds : tie.Need-loop-holds Inv-loop μ-loop
+loop-holds c = (omega arith, refl)
+
+is-untagged-requires : tie.Need-is-untagged-requires Inv-loop μ-loop
+is-untagged-requires c κs = let pre = c .before .before .before .pre in (omega (arith, pre .0), pre .1)
+
+returns : tie.Need-returns Inv-loop μ-loop
+returns c = let l = c .before .before .before in sym (l .loop .inv .1 ∙ untagged-here _ _ _ (c .before .before .loop-test .taken) (sym (c .before .is-untagged .ensures) ∙ c .if1 .taken))
+
+add-i : tie.Need-add-i Inv-loop μ-loop
+add-i c = omega arith
+
+loop-less : tie.Need-loop-less Inv-loop μ-loop
+loop-less c = omega arith
+
+loop-again : tie.Need-loop-again Inv-loop μ-loop
+loop-again c = let l = c .before .before .before in (omega arith, l .loop .inv .1 ∙ untagged-on _ _ _ (c .before .before .loop-test .taken) (sym (c .before .is-untagged .ensures) ∙ c .if1 .left))
+
+returns-2 : tie.Need-returns-2 Inv-loop μ-loop
+returns-2 c = let l = c .before in sym (l .loop .inv .1 ∙ untagged-end _ _ _ (c .loop-test .left))
+
+pub has-untagged-spec : {M : Type 1} → statement M
+has-untagged-spec =
+    tie.close
+    (tie.spec
+    Inv-loop
+    μ-loop
+    loop-holds
+    is-untagged-requires
+    returns
+    add-i
+    loop-less
+    loop-again
+    returns-2)

@@ -1,0 +1,189 @@
+-- `insert_run` meets its contract: what is refused is refused whatever rows are inserted, and what is inserted is raised where it stands.
+use mathlib.Core.Path.{_≡_, refl, sym, ap, _∙_}
+use mathlib.Core.Logic.{⊎-elim}
+use mathlib.Core.Bool.{Bool, true, false}
+use mathlib.Core.List.{List, [], _∷_, _++_, append-assoc, append-nil}
+use Prim.Native.Nat.{ℕ, zero, suc, _+_, _-_, _*_, _^_, _≤_, _<_}
+use native.Mathlib.Omega.{arith}
+use borrow.Author.Needs.{needs}
+use lib.ListN.{length, getD, take, drop, set, length-set}
+use lib.Seq.{length-take-le}
+use Rattle.message_maps.specs.Rows.{flat, rowsFrom, sizes, messageRows}
+use Rattle.message_lent.specs.Lent.{rowCount, rowsOf}
+use Rattle.message_lent.specs.MeaningLaws.{flat-length}
+use Rattle.message_rules.specs.Changes.{after, Cuttable, cutWords, cutValues, changedAt}
+use Rattle.message_rules.specs.PlaceLaws.{rows-length}
+use Rattle.message_rules.specs.declared.Change.the-variants.{Made, NoMessage, NotStorable, NoRun, TooManyFields}
+use Rattle.message_hung_rows.specs.Hanging.{raised, raisedFrom, Lent}
+use Rattle.message_hung_rows.specs.RaiseLaws.{raise-cut, low-cut, cut-others, refused-same, made-others, run-rows}
+use Rattle.message_hung_rows.proofs.insert_run.Statement.{statement}
+use Rattle.message_hung_rows.proofs.insert_run.Tie as tie
+
+row-count-requires : tie.Need-row-count-requires
+row-count-requires c κs = c .before .before .before .before .pre .0 .whole
+
+size-between-requires : tie.Need-size-between-requires
+size-between-requires c κs = let l = c .before .before .before .before .before .pre .0 in (omega arith, omega (arith, c .row-count .ensures, l .counted), l .whole)
+
+mul-end : tie.Need-mul-end
+mul-end c = let l = c .before .before .before .before .before .before .pre .0 in omega (arith, c .before .row-count .ensures, l .counted)
+
+add-end : tie.Need-add-end
+add-end c = let l = c .before .before .before .before .before .before .pre .0 in omega (arith, c .before .row-count .ensures, l .counted)
+
+sub-cut-rows : tie.Need-sub-cut-rows
+sub-cut-rows c = search needs
+
+part-cut-rows-start : tie.Need-part-cut-rows-start
+part-cut-rows-start c = let l = c .before .before .before .before .before .before .before .before .pre .0 in omega (arith, c .before .before .before .row-count .ensures, l .counted, l .whole)
+
+part-cut-rows-end : tie.Need-part-cut-rows-end
+part-cut-rows-end c = let l = c .before .before .before .before .before .before .before .before .pre .0 in omega (arith, c .before .before .before .row-count .ensures, l .counted, l .whole)
+
+size-at : (c : tie.After-size-between) → c .size-between .result ≡ sizes (rowsOf (c .before .before .before .before .before .before .args .run-words .now))
+unfolding rowsOf
+size-at c = rw (c .before .row-count .ensures) at (c .size-between .ensures)
+
+rows-at : (c : tie.After-size-between) → take (4 * c .before .row-count .result + 1 - 1) (drop 1 (c .before .before .before .before .before .before .args .run-words .now)) ≡ flat (rowsOf (c .before .before .before .before .before .before .args .run-words .now))
+rows-at c = run-rows (c .before .before .before .before .before .before .args .run-words .now) _ _ (c .before .before .before .before .before .before .pre .0 .whole) (c .before .before .before .before .before .before .pre .0 .counted) (c .before .row-count .ensures) refl
+
+flat-rows : (c : tie.After-size-between) → length (flat (rowsOf (c .before .before .before .before .before .before .args .run-words .now))) ≡ 4 * c .before .row-count .result
+unfolding rowsOf
+flat-rows c = flat-length _ ∙ rw (rows-length, c .before .row-count .ensures) (omega arith)
+
+slice-aggregate-cut-rows : tie.Need-slice-aggregate-cut-rows
+slice-aggregate-cut-rows c = sym (length-take-le _ _ (omega (arith, size-at (c .before .before .before .before), c .before .before .before .before .before .before .before .before .before .before .pre .0 .sized, c .before .before .before .before .before .before .before .before .before .before .pre .0 .store)))
+
+count-at : (c : tie.After-row-count) → length (rowsOf (c .before .before .before .before .before .args .run-words .now)) ≡ c .row-count .result
+unfolding rowsOf
+count-at c = omega (arith, rows-length (rowCount (c .before .before .before .before .before .args .run-words .now) - 0) 0 (c .before .before .before .before .before .args .run-words .now), c .row-count .ensures)
+
+able-at : (c : tie.After-row-count) → Cuttable (c .before .before .before .before .before .args .words .now) (c .before .before .before .before .before .args .values .now) (c .before .before .before .before .before .args .cut) (flat (raised (rowsOf (c .before .before .before .before .before .args .run-words .now)))) (c .row-count .result) (c .before .before .before .before .before .args .fields)
+able-at c = rw (c .row-count .ensures) (c .before .before .before .before .before .pre .3)
+
+cut-rows-requires : tie.Need-cut-rows-requires
+cut-rows-requires c κs = cut-others _ _ _ _ _ _ _ (ap length (rows-at (c .before .before .before .before)) ∙ flat-rows (c .before .before .before .before)) (able-at (c .before .before .before .before .before))
+
+enum-told : tie.Need-enum-told
+enum-told c = search needs
+
+cut-at : (c : tie.After-cut-rows) → after (c .cut-rows .result) (c .cut-rows .last .0) (c .cut-rows .last .1 .0) ≡ changedAt (c .before .before .before .before .before .before .before .before .before .before .before .args .cut) (flat (rowsOf (c .before .before .before .before .before .before .before .before .before .before .before .args .run-words .now))) (rowCount (c .before .before .before .before .before .before .before .before .before .before .before .args .run-words .now)) (take (sizes (rowsOf (c .before .before .before .before .before .before .before .before .before .before .before .args .run-words .now))) (c .before .before .before .before .before .before .before .before .before .before .before .args .run-values .now)) (c .before .before .before .before .before .before .before .before .before .before .before .args .whole) (c .before .before .before .before .before .before .before .before .before .before .before .args .fields) (c .before .before .before .before .before .before .before .before .before .before .before .args .words .now) (c .before .before .before .before .before .before .before .before .before .before .before .args .values .now)
+cut-at c = rw (rows-at (c .before .before .before .before .before), size-at (c .before .before .before .before .before), c .before .before .before .before .before .before .row-count .ensures) at (c .cut-rows .ensures)
+
+made-at : (c : tie.After-enum-told) → (c .before .before .before .before .before .before .cut-rows .last .0 ≡ cutWords (c .before .before .before .before .before .before .before .before .before .before .before .before .before .before .before .before .before .args .cut) (flat (rowsOf (c .before .before .before .before .before .before .before .before .before .before .before .before .before .before .before .before .before .args .run-words .now))) (rowCount (c .before .before .before .before .before .before .before .before .before .before .before .before .before .before .before .before .before .args .run-words .now)) (c .before .before .before .before .before .before .before .before .before .before .before .before .before .before .before .before .before .args .words .now))
+    × (after Made (cutWords (c .before .before .before .before .before .before .before .before .before .before .before .before .before .before .before .before .before .args .cut) (flat (raised (rowsOf (c .before .before .before .before .before .before .before .before .before .before .before .before .before .before .before .before .before .args .run-words .now)))) (rowCount (c .before .before .before .before .before .before .before .before .before .before .before .before .before .before .before .before .before .args .run-words .now)) (c .before .before .before .before .before .before .before .before .before .before .before .before .before .before .before .before .before .args .words .now)) (c .before .before .before .before .before .before .cut-rows .last .1 .0) ≡ changedAt (c .before .before .before .before .before .before .before .before .before .before .before .before .before .before .before .before .before .args .cut) (flat (raised (rowsOf (c .before .before .before .before .before .before .before .before .before .before .before .before .before .before .before .before .before .args .run-words .now)))) (rowCount (c .before .before .before .before .before .before .before .before .before .before .before .before .before .before .before .before .before .args .run-words .now)) (take (sizes (rowsOf (c .before .before .before .before .before .before .before .before .before .before .before .before .before .before .before .before .before .args .run-words .now))) (c .before .before .before .before .before .before .before .before .before .before .before .before .before .before .before .before .before .args .run-values .now)) (c .before .before .before .before .before .before .before .before .before .before .before .before .before .before .before .before .before .args .whole) (c .before .before .before .before .before .before .before .before .before .before .before .before .before .before .before .before .before .args .fields) (c .before .before .before .before .before .before .before .before .before .before .before .before .before .before .before .before .before .args .words .now) (c .before .before .before .before .before .before .before .before .before .before .before .before .before .before .before .before .before .args .values .now))
+    × (c .before .before .before .before .before .before .before .before .before .before .before .before .before .before .before .before .before .args .fields ≤ 1024)
+made-at c = made-others _ _ _ _ _ _ _ _ _ _ _ (rw (c .enum-told .given .1) at (cut-at (c .before .before .before .before .before .before)))
+
+few-at : (c : tie.After-enum-told) → c .before .before .before .before .before .before .before .before .before .before .before .before .before .before .before .before .before .args .cut .from + c .before .before .before .before .before .before .before .before .before .before .before .before .row-count .result ≤ messageRows
+few-at c = let p = c .before .before .before .before .before .before .before .before .before .before .before .before .before .before .before .before .before .pre .3 in omega (arith, p .room (made-at c .2), c .before .before .before .before .before .before .before .before .before .before .before .before .row-count .ensures)
+
+add-raise-rows : tie.Need-add-raise-rows
+add-raise-rows c = omega (arith, few-at (c .before))
+
+raise-rows-requires : tie.Need-raise-rows-requires
+raise-rows-requires c κs = let f = few-at (c .before) in
+    let z = c .before .before .before .before .before .before .before .before .before .before .before .before in (
+      omega arith,
+      omega (arith, f),
+      c .before .before .before .before .before .before .before .cut-rows .kept .0 ∙ c .before .before .before .before .before .before .before .before .before .before .before .before .before .before .before .before .before .before .pre .3 .whole,
+      λ j a b. rw (made-at (c .before) .0) (low-cut _ _ (c .before .before .before .before .before .before .before .before .before .before .before .before .before .before .before .before .before .before .pre .1) (c .before .before .before .before .before .before .before .before .before .before .before .before .before .before .before .before .before .before .pre .2) (rowsOf (c .before .before .before .before .before .before .before .before .before .before .before .before .before .before .before .before .before .before .args .run-words .now)) (c .before .before .before .before .before .before .before .before .before .before .before .before .before .before .before .before .before .before .pre .3 .whole) (omega (arith, f)) messageRows _ j (c .before .before .before .before .before .before .before .before .before .before .before .before .before .before .before .before .before .before .pre .0 .near) a (omega (arith, b, count-at (c .before .before .before .before .before .before .before .before .before .before .before .before .before)))),
+    )
+
+same-length : tie.Need-same-length
+same-length c = search needs
+
+same-length-2 : tie.Need-same-length-2
+same-length-2 c = search needs
+
+returns : tie.Need-returns
+returns c = let t = c .before .before .before .before in
+    let m = made-at t in
+    let n : c .before .before .before .before .before .before .before .before .before .before .before .before .before .before .before .before .before .before .before .before .before .args .cut .from + c .before .before .before .before .before .before .before .before .before .before .before .before .before .before .before .before .row-count .result - c .before .before .before .before .before .before .before .before .before .before .before .before .before .before .before .before .before .before .before .before .before .args .cut .from ≡ length (rowsOf (c .before .before .before .before .before .before .before .before .before .before .before .before .before .before .before .before .before .before .before .before .before .args .run-words .now)) = omega (arith, count-at (c .before .before .before .before .before .before .before .before .before .before .before .before .before .before .before .before)) in
+    ap (λ (w : List ℕ). after Made w (c .before .before .before .before .before .before .before .before .before .before .cut-rows .last .1 .0))
+    (c .before .before .raise-rows .ensures ∙ rw (n, m .0) (raise-cut _ _ (c .before .before .before .before .before .before .before .before .before .before .before .before .before .before .before .before .before .before .before .before .before .pre .1) (c .before .before .before .before .before .before .before .before .before .before .before .before .before .before .before .before .before .before .before .before .before .pre .2) (rowsOf (c .before .before .before .before .before .before .before .before .before .before .before .before .before .before .before .before .before .before .before .before .before .args .run-words .now)) (c .before .before .before .before .before .before .before .before .before .before .before .before .before .before .before .before .before .before .before .before .before .pre .3 .whole) (omega (arith, few-at t)) _))
+    ∙ m .1
+
+enum-told-2 : tie.Need-enum-told-2
+enum-told-2 c = search needs
+
+same-length-3 : tie.Need-same-length-3
+same-length-3 c = search needs
+
+same-length-4 : tie.Need-same-length-4
+same-length-4 c = search needs
+
+returns-2 : tie.Need-returns-2
+returns-2 c = refused-same _ _ _ _ _ _ _ _ _ _ _ NoMessage (λ e. let z : _≡_ {A = ℕ} 0 1 = cc in omega arith) (rw (c .enum-told2 .given .1) at (cut-at (c .before .before .before .before .before .before)))
+
+enum-told-3 : tie.Need-enum-told-3
+enum-told-3 c = search needs
+
+same-length-5 : tie.Need-same-length-5
+same-length-5 c = search needs
+
+same-length-6 : tie.Need-same-length-6
+same-length-6 c = search needs
+
+returns-3 : tie.Need-returns-3
+returns-3 c = refused-same _ _ _ _ _ _ _ _ _ _ _ NotStorable (λ e. let z : _≡_ {A = ℕ} 0 1 = cc in omega arith) (rw (c .enum-told3 .given .1) at (cut-at (c .before .before .before .before .before .before)))
+
+enum-told-4 : tie.Need-enum-told-4
+enum-told-4 c = search needs
+
+same-length-7 : tie.Need-same-length-7
+same-length-7 c = search needs
+
+same-length-8 : tie.Need-same-length-8
+same-length-8 c = search needs
+
+returns-4 : tie.Need-returns-4
+returns-4 c = refused-same _ _ _ _ _ _ _ _ _ _ _ NoRun (λ e. let z : _≡_ {A = ℕ} 0 1 = cc in omega arith) (rw (c .enum-told4 .given .1) at (cut-at (c .before .before .before .before .before .before)))
+
+enum-told-5 : tie.Need-enum-told-5
+enum-told-5 c = search needs
+
+same-length-9 : tie.Need-same-length-9
+same-length-9 c = search needs
+
+same-length-10 : tie.Need-same-length-10
+same-length-10 c = search needs
+
+returns-5 : tie.Need-returns-5
+returns-5 c = refused-same _ _ _ _ _ _ _ _ _ _ _ TooManyFields (λ e. let z : _≡_ {A = ℕ} 0 1 = cc in omega arith) (rw (c .enum-told5 .given .1) at (cut-at (c .before .before .before .before .before .before)))
+
+pub insert-run-spec : {M : Type 1} → statement M
+insert-run-spec =
+    tie.close
+    (tie.spec
+    row-count-requires
+    size-between-requires
+    mul-end
+    add-end
+    sub-cut-rows
+    part-cut-rows-start
+    part-cut-rows-end
+    slice-aggregate-cut-rows
+    cut-rows-requires
+    enum-told
+    add-raise-rows
+    raise-rows-requires
+    same-length
+    same-length-2
+    returns
+    enum-told-2
+    same-length-3
+    same-length-4
+    returns-2
+    enum-told-3
+    same-length-5
+    same-length-6
+    returns-3
+    enum-told-4
+    same-length-7
+    same-length-8
+    returns-4
+    enum-told-5
+    same-length-9
+    same-length-10
+    returns-5)

@@ -1,0 +1,57 @@
+-- `rows_allowed` meets its contract. The invariant: the rows that are left have the outcome of all.
+use mathlib.Core.Path.{_≡_, refl, sym, ap, _∙_}
+use mathlib.Core.Logic.{⊎-elim}
+use mathlib.Core.Bool.{Bool, true, false}
+use mathlib.Core.List.{List, [], _∷_, _++_, append-assoc, append-nil}
+use Prim.Native.Nat.{ℕ, zero, suc, _+_, _-_, _*_, _^_, _≤_, _<_}
+use native.Mathlib.Omega.{arith}
+use borrow.Author.Needs.{needs}
+use lib.ListN.{length, getD, take, drop, set, length-set}
+use borrow.Author.Tests.{not-true, not-false}
+use Rattle.message_maps.specs.Rows.{rowAt, rowsFrom, rowsBefore}
+use Rattle.message_lent.specs.Lent.{rowAllowed, rowsAllowed}
+use Rattle.message_lent.specs.LentLaws.{allowed-not, allowed-on, allowed-end}
+use Rattle.message_lent.proofs.rows_allowed.Statement.{statement}
+use Rattle.message_lent.proofs.rows_allowed.Tie as tie
+
+abbrev Inv-loop : tie.InvT-loop
+Inv-loop words to i₀ i = (i ≤ to) × (rowsAllowed [] (rowsFrom (to - 0) 0 words) ≡ rowsAllowed (rowsBefore i words) (rowsFrom (to - i) i words))
+
+abbrev μ-loop : tie.MeasureT-loop
+μ-loop words to i₀ i = to - i
+
+loop-holds : tie.Need-loop-holds Inv-loop μ-loop
+unfolding rowsBefore
+loop-holds c = (omega arith, refl)
+
+row-allowed-requires : tie.Need-row-allowed-requires Inv-loop μ-loop
+row-allowed-requires c κs = omega arith
+
+returns : tie.Need-returns Inv-loop μ-loop
+returns c = let l = c .before .before .before in sym (l .loop .inv .1 ∙ allowed-not (l .before .before .args .words .now) (l .loop .i) (l .before .before .args .to) (c .before .before .loop-test .taken) (sym (c .before .row-allowed .ensures) ∙ not-true _ (c .if1 .taken)))
+
+add-i : tie.Need-add-i Inv-loop μ-loop
+add-i c = omega arith
+
+loop-less : tie.Need-loop-less Inv-loop μ-loop
+loop-less c = omega arith
+
+loop-again : tie.Need-loop-again Inv-loop μ-loop
+loop-again c = let l = c .before .before .before in (omega arith, l .loop .inv .1 ∙ allowed-on (l .before .before .args .words .now) (l .loop .i) (l .before .before .args .to) (c .before .before .loop-test .taken) (sym (c .before .row-allowed .ensures) ∙ not-false _ (c .if1 .left)))
+
+returns-2 : tie.Need-returns-2 Inv-loop μ-loop
+returns-2 c = sym (c .before .loop .inv .1 ∙ allowed-end _ _ _ (c .loop-test .left))
+
+pub rows-allowed-spec : {M : Type 1} → statement M
+rows-allowed-spec =
+    tie.close
+    (tie.spec
+    Inv-loop
+    μ-loop
+    loop-holds
+    row-allowed-requires
+    returns
+    add-i
+    loop-less
+    loop-again
+    returns-2)

@@ -1,0 +1,56 @@
+-- `entry_in` meets its contract: what is found in the rows that were opened is what the map has that is named.
+use mathlib.Core.Path.{_≡_, refl, sym, ap, _∙_}
+use mathlib.Core.Logic.{⊎-elim}
+use mathlib.Core.Bool.{Bool, true, false}
+use mathlib.Core.List.{List, [], _∷_, _++_, append-assoc, append-nil}
+use Prim.Native.Nat.{ℕ, zero, suc, _+_, _-_, _*_, _^_, _≤_, _<_}
+use native.Mathlib.Omega.{arith}
+use borrow.Author.Needs.{needs}
+use lib.ListN.{length, getD, take, drop, set, length-set}
+use Rattle.message_rules.specs.LookUps.{entryFound}
+use Rattle.message_look_ups.specs.Opening.{openedAt}
+use Rattle.message_look_ups.specs.OpeningLaws.{sized-here}
+use Rattle.message_look_ups.specs.LookUpLaws.{Told, told, entry-none, entry-shut, Ranged, ranged, entry-open}
+use Rattle.message_look_ups.specs.declared.Opened.the-variants.{NoMessage, Absent, Within}
+use Rattle.message_look_ups.proofs.entry_in.Statement.{statement}
+use Rattle.message_look_ups.proofs.entry_in.Tie as tie
+
+open-map-requires : tie.Need-open-map-requires
+open-map-requires c κs = search needs
+
+enum-told : tie.Need-enum-told
+enum-told c = search needs
+
+returns : tie.Need-returns
+returns c = sym (entry-none _ _ _ _ _ (told _ _ _ _ (sym (c .before .before .open-map .ensures) ∙ c .enum-told .given .1)))
+
+enum-told-2 : tie.Need-enum-told-2
+enum-told-2 c = search needs
+
+returns-2 : tie.Need-returns-2
+returns-2 c = sym (entry-shut _ _ _ _ _ (told _ _ _ _ (sym (c .before .before .open-map .ensures) ∙ c .enum-told2 .given .1)))
+
+enum-known-rows : tie.Need-enum-known-rows
+enum-known-rows c = search needs
+
+told-at : (c : tie.After-known-told) → Told (c .before .before .before .before .before .before .args .map) (c .before .before .before .before .before .before .args .words .now) (c .before .before .before .before .before .before .args .values .now) (Within (c .before .rows .given .0 .0))
+told-at c = told _ _ _ _ (sym (c .before .before .before .open-map .ensures) ∙ c .before .rows .given .1)
+
+entry-from-requires : tie.Need-entry-from-requires
+entry-from-requires c κs = let r = ranged _ _ _ _ (told-at c) in (r .forwards, r .few, sized-here _ _ (r .lent) .whole)
+
+returns-3 : tie.Need-returns-3
+returns-3 c = c .entry-from .ensures ∙ entry-open _ _ _ _ _ _ (told-at (c .before))
+
+pub entry-in-spec : {M : Type 1} → statement M
+entry-in-spec =
+    tie.close
+    (tie.spec
+    open-map-requires
+    enum-told
+    returns
+    enum-told-2
+    returns-2
+    enum-known-rows
+    entry-from-requires
+    returns-3)

@@ -1,0 +1,55 @@
+-- `run_end` meets its contract. The invariant: the rows that are left have the outcome of all.
+use mathlib.Core.Path.{_≡_, refl, sym, ap, _∙_}
+use mathlib.Core.Logic.{⊎-elim}
+use mathlib.Core.Bool.{Bool, true, false}
+use mathlib.Core.List.{List, [], _∷_, _++_, append-assoc, append-nil}
+use Prim.Native.Nat.{ℕ, zero, suc, _+_, _-_, _*_, _^_, _≤_, _<_}
+use native.Mathlib.Omega.{arith}
+use borrow.Author.Needs.{needs}
+use lib.ListN.{length, getD, take, drop, set, length-set}
+use borrow.Author.Tests.{not-true, not-false}
+use Rattle.message_maps.specs.Rows.{rowAt, rowsFrom, inRun, runEndFrom}
+use Rattle.message_maps.specs.RowsLaws.{run-end-here, run-end-on, run-end-end}
+use Rattle.message_maps.proofs.run_end.Statement.{statement}
+use Rattle.message_maps.proofs.run_end.Tie as tie
+
+abbrev Inv-loop : tie.InvT-loop
+Inv-loop words level start from to i₀ i = (from ≤ i) × (i ≤ to) × (runEndFrom level start from (rowsFrom (to - from) from words) ≡ runEndFrom level start i (rowsFrom (to - i) i words))
+
+abbrev μ-loop : tie.MeasureT-loop
+μ-loop words level start from to i₀ i = to - i
+
+loop-holds : tie.Need-loop-holds Inv-loop μ-loop
+loop-holds c = (omega arith, omega arith, refl)
+
+in-run-requires : tie.Need-in-run-requires Inv-loop μ-loop
+in-run-requires c κs = omega arith
+
+returns : tie.Need-returns Inv-loop μ-loop
+returns c = let l = c .before .before .before in sym (l .loop .inv .2 ∙ run-end-here _ _ _ (c .before .before .loop-test .taken) _ _ (sym (c .before .in-run .ensures) ∙ not-true _ (c .if1 .taken)))
+
+add-i : tie.Need-add-i Inv-loop μ-loop
+add-i c = omega arith
+
+loop-less : tie.Need-loop-less Inv-loop μ-loop
+loop-less c = omega arith
+
+loop-again : tie.Need-loop-again Inv-loop μ-loop
+loop-again c = let l = c .before .before .before in (omega arith, omega arith, l .loop .inv .2 ∙ run-end-on _ _ _ (c .before .before .loop-test .taken) _ _ (sym (c .before .in-run .ensures) ∙ not-false _ (c .if1 .left)))
+
+returns-2 : tie.Need-returns-2 Inv-loop μ-loop
+returns-2 c = sym (c .before .loop .inv .2 ∙ run-end-end _ _ _ (c .loop-test .left) _ _)
+
+pub run-end-spec : {M : Type 1} → statement M
+run-end-spec =
+    tie.close
+    (tie.spec
+    Inv-loop
+    μ-loop
+    loop-holds
+    in-run-requires
+    returns
+    add-i
+    loop-less
+    loop-again
+    returns-2)

@@ -1,0 +1,92 @@
+-- `add_entry` meets its contract: the head of the entry is inserted behind all rows.
+use mathlib.Core.Path.{_≡_, refl, sym, ap, _∙_}
+use mathlib.Core.Logic.{⊎-elim}
+use mathlib.Core.Bool.{Bool, true, false}
+use mathlib.Core.List.{List, [], _∷_, _++_, append-assoc, append-nil}
+use Prim.Native.Nat.{ℕ, zero, suc, _+_, _-_, _*_, _^_, _≤_, _<_}
+use native.Mathlib.Omega.{arith}
+use borrow.Author.Needs.{needs}
+use lib.ListN.{length, getD, take, drop, set, length-set}
+use borrow.Author.Tests.{not-true, not-false}
+use Rattle.message_maps.specs.Map.{end, entry, joined, fieldCount}
+use Rattle.message_rules.specs.Runs.{isDraft, runIn, judgedRun, entering}
+use Rattle.message_runs.specs.DraftLaws.{Draft, draft-of, draft-no, draft-yes}
+use Rattle.message_runs.specs.EnterLaws.{fields-now, enter-able, enter-done}
+use Rattle.message_runs.proofs.add_entry.Statement.{statement}
+use Rattle.message_runs.proofs.add_entry.Tie as tie
+
+is-draft-requires : tie.Need-is-draft-requires
+is-draft-requires c κs = search needs
+
+same-length : tie.Need-same-length
+same-length c = search needs
+
+same-length-2 : tie.Need-same-length-2
+same-length-2 c = search needs
+
+returns : tie.Need-returns
+returns c = unfold entering in sym (draft-no _ _ _ _ (sym (c .before .is-draft .ensures) ∙ not-true _ (c .if1 .taken)))
+
+is-at : (c : tie.Else1) → isDraft (c .before .before .before .before .before .before .args .words .now) (c .before .before .before .before .before .before .args .values .now) ≡ true
+is-at c = sym (c .before .is-draft .ensures) ∙ not-false _ (c .if1 .left)
+
+draft-at : (c : tie.Else1) → Draft (c .before .before .before .before .before .before .args .words .now) (c .before .before .before .before .before .before .args .values .now) (runIn (c .before .before .before .before .before .before .args .words .now) (c .before .before .before .before .before .before .args .values .now))
+draft-at c = draft-of _ _ (is-at c)
+
+entered-at : (c : tie.Else1) → entering (c .before .before .before .before .before .before .args .start) (c .before .before .before .before .before .before .args .delimiter) (c .before .before .before .before .before .before .args .words .now) (c .before .before .before .before .before .before .args .values .now) ≡ judgedRun (c .before .before .before .before .before .before .args .words .now) (c .before .before .before .before .before .before .args .values .now) true (joined (runIn (c .before .before .before .before .before .before .args .words .now) (c .before .before .before .before .before .before .args .values .now)) (entry (c .before .before .before .before .before .before .args .start) (c .before .before .before .before .before .before .args .delimiter) end end))
+unfolding entering
+entered-at c = draft-yes _ _ _ _ (is-at c)
+
+fields-at : (c : tie.After-fields-in) → c .fields-in .result ≡ fieldCount (runIn (c .before .before .before .before .before .before .before .before .before .before .args .words .now) (c .before .before .before .before .before .before .before .before .before .before .args .values .now))
+fields-at c = c .fields-in .ensures ∙ fields-now _ _ _ (draft-at (c .before .before .before .before)) _ (c .before .before .row-count .ensures)
+
+row-count-requires : tie.Need-row-count-requires
+row-count-requires c κs = draft-at (c .before) .sized .whole
+
+fields-in-requires : tie.Need-fields-in-requires
+fields-in-requires c κs = let d = draft-at (c .before .before .before) in (omega arith, omega (arith, c .before .row-count .ensures, d .sized .counted), d .sized .whole)
+
+slice-aggregate-cut-rows : tie.Need-slice-aggregate-cut-rows
+slice-aggregate-cut-rows c = search needs
+
+array-share-prefix-no-bytes : tie.Need-array-share-prefix-no-bytes
+array-share-prefix-no-bytes c = search needs
+
+slice-aggregate-cut-rows-2 : tie.Need-slice-aggregate-cut-rows-2
+slice-aggregate-cut-rows-2 c = search needs
+
+add-cut-rows : tie.Need-add-cut-rows
+add-cut-rows c = let d = draft-at (c .before .before .before .before .before .before .before .before) in omega (arith, fields-at (c .before .before .before .before), d .few)
+
+cut-rows-requires : tie.Need-cut-rows-requires
+cut-rows-requires c κs = enter-able _ _ _ (draft-at (c .before .before .before .before .before .before .before .before)) _ _ _ _ (c .before .before .before .before .before .before .row-count .ensures) (ap (λ (n : ℕ). n + 1) (fields-at (c .before .before .before .before)))
+
+same-length-3 : tie.Need-same-length-3
+same-length-3 c = search needs
+
+same-length-4 : tie.Need-same-length-4
+same-length-4 c = search needs
+
+returns-2 : tie.Need-returns-2
+returns-2 c = c .before .before .before .before .cut-rows .ensures
+    ∙ enter-done _ _ _ (draft-at (c .before .before .before .before .before .before .before .before .before .before .before .before .before)) _ _ _ _ (c .before .before .before .before .before .before .before .before .before .before .before .row-count .ensures) (ap (λ (n : ℕ). n + 1) (fields-at (c .before .before .before .before .before .before .before .before .before)))
+    ∙ sym (entered-at (c .before .before .before .before .before .before .before .before .before .before .before .before .before))
+
+pub add-entry-spec : {M : Type 1} → statement M
+add-entry-spec =
+    tie.close
+    (tie.spec
+    is-draft-requires
+    same-length
+    same-length-2
+    returns
+    row-count-requires
+    fields-in-requires
+    slice-aggregate-cut-rows
+    array-share-prefix-no-bytes
+    slice-aggregate-cut-rows-2
+    add-cut-rows
+    cut-rows-requires
+    same-length-3
+    same-length-4
+    returns-2)

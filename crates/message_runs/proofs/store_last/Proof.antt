@@ -1,0 +1,144 @@
+-- `store_last` meets its contract: the map of the last entry is judged by what would be left of its run.
+use mathlib.Core.Path.{_≡_, refl, sym, ap, _∙_}
+use mathlib.Core.Logic.{⊎-elim}
+use mathlib.Core.Bool.{Bool, true, false}
+use mathlib.Core.List.{List, [], _∷_, _++_, append-assoc, append-nil}
+use Prim.Native.Nat.{ℕ, zero, suc, _+_, _-_, _*_, _^_, _≤_, _<_}
+use native.Mathlib.Omega.{arith}
+use borrow.Author.Needs.{needs}
+use lib.ListN.{length, getD, take, drop, set, length-set}
+use borrow.Author.Tests.{not-true, not-false}
+use Rattle.message_maps.specs.Rows.{messageRows}
+use Rattle.message_maps.specs.Map.{fieldCount}
+use Rattle.message_rules.specs.Runs.{isDraft, runIn, storingLast}
+use Rattle.message_runs.specs.RunLaws.{LastSplit}
+use Rattle.message_runs.specs.DraftLaws.{Draft, draft-of, draft-no}
+use Rattle.message_runs.specs.EnterLaws.{count-rows}
+use Rattle.message_runs.specs.LastLaws.{LastAt, last-at, HasEntry, some-entry, none-entry, entry-frame, last-fields, front-fields, own-fields, last-ready, last-judged, last-large, store-untagged, store-nowhere, store-last}
+use Rattle.message_rules.specs.FrameLaws as frame
+use Rattle.message_runs.proofs.store_last.Statement.{statement}
+use Rattle.message_runs.proofs.store_last.Tie as tie
+
+is-draft-requires : tie.Need-is-draft-requires
+is-draft-requires c κs = search needs
+
+same-length : tie.Need-same-length
+same-length c = search needs
+
+same-length-2 : tie.Need-same-length-2
+same-length-2 c = search needs
+
+returns : tie.Need-returns
+returns c = unfold storingLast in sym (draft-no _ _ _ _ (sym (c .before .is-draft .ensures) ∙ not-true _ (c .if1 .taken)))
+
+same-length-3 : tie.Need-same-length-3
+same-length-3 c = search needs
+
+same-length-4 : tie.Need-same-length-4
+same-length-4 c = search needs
+
+is-at : (c : tie.Else1) → isDraft (c .before .before .before .before .before .before .before .args .words .now) (c .before .before .before .before .before .before .before .args .values .now) ≡ true
+is-at c = sym (c .before .is-draft .ensures) ∙ not-false _ (c .if1 .left)
+
+draft-at : (c : tie.Else1) → Draft (c .before .before .before .before .before .before .before .args .words .now) (c .before .before .before .before .before .before .before .args .values .now) (runIn (c .before .before .before .before .before .before .before .args .words .now) (c .before .before .before .before .before .before .before .args .values .now))
+draft-at c = draft-of _ _ (is-at c)
+
+returns-2 : tie.Need-returns-2
+returns-2 c = sym (store-untagged _ _ _ _ (is-at (c .before)) (c .if2 .taken))
+
+row-count-requires : tie.Need-row-count-requires
+row-count-requires c κs = draft-at (c .before .before) .sized .whole
+
+last-start-requires : tie.Need-last-start-requires
+last-start-requires c κs = let d = draft-at (c .before .before .before .before) in (omega (arith, c .before .row-count .ensures, d .sized .counted), d .sized .whole)
+
+same-length-5 : tie.Need-same-length-5
+same-length-5 c = search needs
+
+same-length-6 : tie.Need-same-length-6
+same-length-6 c = search needs
+
+told-at : (c : tie.After-last-start) → LastAt (runIn (c .before .before .before .before .before .before .before .before .before .before .before .before .args .words .now) (c .before .before .before .before .before .before .before .before .before .before .before .before .args .values .now)) (c .last-start .result)
+told-at c = last-at _ _ _ (draft-at (c .before .before .before .before .before)) _ _ (c .before .before .row-count .ensures) (c .last-start .ensures)
+
+entry-at : (c : tie.Else3) → HasEntry (runIn (c .before .before .before .before .before .before .before .before .before .before .before .before .before .args .words .now) (c .before .before .before .before .before .before .before .before .before .before .before .before .before .args .values .now)) (c .before .last-start .result)
+entry-at c = some-entry _ _ (told-at (c .before)) (c .if3 .left)
+
+grows-at : (c : tie.Else3) → (c .before .last-start .result ≤ c .before .before .before .row-count .result) × (c .before .before .before .row-count .result ≤ messageRows)
+grows-at c =
+    let e = entry-at c in
+    let g = frame.span-grows _ _ _ _ _ _ (entry-frame _ _ _ (draft-at (c .before .before .before .before .before .before)) (e .split) _ _ (c .before .before .before .row-count .ensures) (e .starts)) in
+    (g .0, g .2)
+
+returns-3 : tie.Need-returns-3
+returns-3 c = sym (store-nowhere _ _ _ _ (is-at (c .before .before .before .before .before .before)) (c .before .before .before .before .before .if2 .left) (none-entry _ _ (told-at (c .before)) (c .if3 .taken)))
+
+same-length-7 : tie.Need-same-length-7
+same-length-7 c = search needs
+
+same-length-8 : tie.Need-same-length-8
+same-length-8 c = search needs
+
+returns-4 : tie.Need-returns-4
+returns-4 c = let k = c .before in let e = entry-at k in sym (store-last _ _ _ _ (is-at (c .before .before .before .before .before .before .before)) (c .before .before .before .before .before .before .if2 .left) (e .split .some) ∙ last-large _ _ _ (draft-at (c .before .before .before .before .before .before .before)) (e .split) _ _ (c .before .before .before .before .row-count .ensures) (e .starts) _ _ (c .if4 .taken))
+
+sub-fields-in : tie.Need-sub-fields-in
+sub-fields-in c = search needs
+
+fields-in-requires : tie.Need-fields-in-requires
+fields-in-requires c κs = let d = draft-at (c .before .before .before .before .before .before .before .before) in let g = grows-at (c .before .before) in (omega arith, omega (arith, g .0, g .1), d .sized .whole)
+
+fields-in-requires-2 : tie.Need-fields-in-requires-2
+fields-in-requires-2 c κs = let d = draft-at (c .before .before .before .before .before .before .before .before .before .before) in let g = grows-at (c .before .before .before .before) in (g .0, g .1, d .sized .whole)
+
+base-at : (c : tie.After-fields-in2) → (c .before .before .fields-in .result + c .fields-in2 .result ≡ fieldCount (entry-at (c .before .before .before .before .before) .split .front) + fieldCount (entry-at (c .before .before .before .before .before) .split .own)) × (c .before .before .fields-in .result + c .fields-in2 .result ≤ 1024)
+base-at c =
+    let e = entry-at (c .before .before .before .before .before) in
+    let d = draft-at (c .before .before .before .before .before .before .before .before .before .before .before) in
+    let n = c .before .before .before .before .before .before .before .before .row-count .ensures in
+    let a = c .before .before .fields-in .ensures ∙ front-fields _ _ _ d (e .split) _ _ n (e .starts) in
+    let b = c .fields-in2 .ensures ∙ own-fields _ _ _ d (e .split) _ _ n (e .starts) in
+    (omega (arith, a, b), omega (arith, a, b, d .few, ap fieldCount (e .split .whole), last-fields _ _ _ d (e .split) _ _ n (e .starts) (e .split .own)))
+
+add-put-field : tie.Need-add-put-field
+add-put-field c = omega (arith, base-at (c .before .before))
+
+put-field-requires : tie.Need-put-field-requires
+put-field-requires c κs = let e = entry-at (c .before .before .before .before .before .before .before) in let b = base-at (c .before .before) in last-ready _ _ _ (draft-at (c .before .before .before .before .before .before .before .before .before .before .before .before .before)) (e .split) _ _ (c .before .before .before .before .before .before .before .before .before .before .row-count .ensures) (e .starts) _ _ _ (b .0) (c .before .before .before .before .before .before .if4 .left) (omega (arith, b .1))
+
+same-length-9 : tie.Need-same-length-9
+same-length-9 c = search needs
+
+same-length-10 : tie.Need-same-length-10
+same-length-10 c = search needs
+
+returns-5 : tie.Need-returns-5
+returns-5 c = let e = entry-at (c .before .before .before .before .before .before .before .before .before .before .before .before) in let b = base-at (c .before .before .before .before .before .before .before) in c .before .before .before .before .put-field .ensures ∙ last-judged _ _ _ (draft-at (c .before .before .before .before .before .before .before .before .before .before .before .before .before .before .before .before .before .before)) (e .split) _ _ (c .before .before .before .before .before .before .before .before .before .before .before .before .before .before .before .row-count .ensures) (e .starts) _ _ _ (b .0) ∙ sym (store-last _ _ _ _ (is-at (c .before .before .before .before .before .before .before .before .before .before .before .before .before .before .before .before .before .before)) (c .before .before .before .before .before .before .before .before .before .before .before .before .before .before .before .before .before .if2 .left) (e .split .some))
+
+pub store-last-spec : {M : Type 1} → statement M
+store-last-spec =
+    tie.close
+    (tie.spec
+    is-draft-requires
+    same-length
+    same-length-2
+    returns
+    same-length-3
+    same-length-4
+    returns-2
+    row-count-requires
+    last-start-requires
+    same-length-5
+    same-length-6
+    returns-3
+    same-length-7
+    same-length-8
+    returns-4
+    sub-fields-in
+    fields-in-requires
+    fields-in-requires-2
+    add-put-field
+    put-field-requires
+    same-length-9
+    same-length-10
+    returns-5)

@@ -1,0 +1,76 @@
+-- "a clean message whose values are non-empty, whose counts equal their entries and whose tags don't repeat across parts is one of the
+-- standard": it is its own encoding, and its records are those of the fields that were read, so no value holds a separator.
+use mathlib.Core.Path.{_≡_, refl, sym, ap, _∙_, subst}
+use mathlib.Core.Bool.{Bool}
+use mathlib.Core.List.{List, [], _∷_, _++_}
+use Prim.Native.Nat.{ℕ, _-_, _≤_}
+use lib.ListN.{length}
+use Rattle.field_tagvalue.specs.Field.{startAt}
+use Rattle.field_tagvalue.specs.Fields.{field}
+use Rattle.field_tagvalue.specs.FieldsLaws.{fields-field}
+use Rattle.field_tagvalue.specs.Standard as standard
+use Rattle.build_integrity.specs.VerifiedLaws.{verified-read}
+use Rattle.build_config.specs.declared.Config.{Config}
+use Rattle.dictionary_layout_rules.specs.Tree.{Dictionary}
+use Rattle.dictionary_meaning_rules.specs.Meaning.{dictionaryOf}
+use Rattle.build_records.specs.declared.Record.{Record}
+use Rattle.build_nesting_laws.specs.Entries.{All, all-append}
+use Rattle.build_parts.specs.Parts.{partRecord}
+use Rattle.build_answers.specs.declared.Answer.the-variants.{Valid}
+use Rattle.builder.specs.Build.{buildOf}
+use Rattle.build_rules.specs.Message.{messageRead}
+use Rattle.encode_rules.specs.Encoding.{encoding}
+use Rattle.message_read_laws.specs.PartReading.{of-field}
+use Rattle.message_read_laws.specs.ShapeLaws.{all-left, all-right}
+use Rattle.promise_records.specs.TakenOver.{build-takes, build-shown}
+use Rattle.build_order_laws.specs.Follows.{no-field, one-field}
+use Rattle.build_order_laws.specs.InOrder.{InOrder}
+use Rattle.encode_rewriting_laws.specs.EncodedBuilt.{encoding-rewritten}
+use Rattle.encode_rewriting_laws.specs.ReadWritten.{Writable, follows-writable}
+use Rattle.encode_rewriting_laws.specs.ReadMessage.{Followed, followed-writable}
+use Rattle.promise_standard.specs.EncodedMaps.{NoPair}
+use Rattle.promise_standard.specs.EncodedRecords.{StandardRecords}
+use Rattle.promise_standard.specs.EncodedClean.{built-standard}
+use Rattle.promise_roundtrip.specs.Clean.{Clean}
+use Rattle.promise_roundtrip.specs.ComesBack.{repeat-free-order, order-built, clean-text}
+
+module _ (dictionary : Dictionary) (config : Config) (message : List ℕ) (o : InOrder dictionary config message) where
+  abbrev check : Record
+  check = partRecord 3 (o .parts .verified .checksum)
+
+  -- the CheckSum's record is that of the field that was verified
+  check-writable : All (Writable (config .mode .separator) message) (check ∷ [])
+  check-writable =
+      let sums = verified-read (config .mode) message (o .parts .verified) (o .parts .sound) .sums in
+      follows-writable (config .mode) message (one-field check (of-field 3 (o .parts .verified .checksum)) no-field) (startAt (length message - 7))
+      (sym (fields-field (config .mode) message (startAt (length message - 7)) (o .parts .verified .checksum) sums))
+
+  -- all that was read can be written
+  order-writable : All (Writable (config .mode .separator) message) (o .parts .header ++ (o .parts .body ++ (check ∷ o .trailer)))
+  order-writable =
+      let read : Followed (config .mode) message (o .parts .header) (o .parts .body) (o .trailer) (o .last) =
+      record { behind-header = field (o .parts .f) (o .parts .rest); behind-body = field (o .parts .g) (o .parts .more); header-follows = o .header-follows; body-follows = o .body-follows; trailer-follows = o .trailer-follows } in
+      let all = followed-writable read in
+      let behind = all-right (o .parts .header) (o .parts .body ++ o .trailer) all in
+      all-append (Writable (config .mode .separator) message) (all-left (o .parts .header) (o .parts .body ++ o .trailer) all)
+      (all-append (Writable (config .mode .separator) message) (all-left (o .parts .body) (o .trailer) behind)
+      (all-append (Writable (config .mode .separator) message) check-writable (all-right (o .parts .body) (o .trailer) behind)))
+
+-- THE STANDARD, clean messages
+pub clean-standard : (dictionary : Dictionary) (config : Config) (message : List ℕ) → config .mode .separator ≡ 1 → Clean dictionary config message → length message ≤ 8192
+    → StandardRecords message (messageRead dictionary config message .records) → standard.Message NoPair message
+clean-standard dictionary config message one c short given =
+    let o = repeat-free-order dictionary config message (c .repeat-free) in
+    let t = build-takes dictionary config message short (c .repeat-free .valid) in
+    let built = order-built dictionary config message o (t .meant) t refl in
+    let same : message ≡ encoding (config .mode .separator) (t .meant) = clean-text dictionary config message o c ∙ sym (encoding-rewritten (config .mode .separator) built) in
+    let starts = ap (λ (l : List Record). l ++ (o .parts .body ++ (partRecord 3 (o .parts .verified .checksum) ∷ o .trailer))) (o .header-starts) in
+    let writable : All (Writable 1 message) (o .parts .header ++ (o .parts .body ++ (partRecord 3 (o .parts .verified .checksum) ∷ o .trailer))) =
+    subst (λ (separator : ℕ). All (Writable separator message) (o .parts .header ++ (o .parts .body ++ (partRecord 3 (o .parts .verified .checksum) ∷ o .trailer)))) one (order-writable dictionary config message o) in
+    built-standard built (subst (All (Writable 1 message)) starts writable) (subst (StandardRecords message) (o .records ∙ starts) given) (same ∙ ap (λ (separator : ℕ). encoding separator (t .meant)) one)
+
+-- and of the call: what build answers with 0 is within 8,192 bytes
+pub clean-message-standard : (message : List ℕ) (config : Config) (dictionary : List ℕ) (lent : ℕ) (before : List ℕ) → config .mode .separator ≡ 1 → buildOf message config dictionary lent before .answer ≡ Valid
+    → Clean (dictionaryOf dictionary) config message → StandardRecords message (messageRead (dictionaryOf dictionary) config message .records) → standard.Message NoPair message
+clean-message-standard message config dictionary lent before one valid c given =
+    clean-standard (dictionaryOf dictionary) config message one c (build-shown message config dictionary lent before valid .short) given

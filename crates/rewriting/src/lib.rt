@@ -1,1 +1,0 @@
-// rewriting: the bytes that records in order come to, as read from a message and as an encoding writes them. Laws alone.

@@ -1,1 +1,0 @@
-// roundtrip: what the buyer was promised, as theorems over the definitions that the contracts cite. No code.

@@ -1,0 +1,59 @@
+-- `lines` is safe and ends: what is left of the table falls.
+use Prim.Native.Nat.{_+_, _-_, _≤_}
+use borrow.Author.Needs.{needs}
+use lib.ListN.{length}
+use Rattle.sample_builds.proofs.telling.lines.Statement.{statement}
+use Rattle.sample_builds.proofs.telling.lines.Tie as tie
+
+abbrev Inv-loop : tie.InvT-loop
+Inv-loop dictionary config given table from₀ from = from ≤ length table + 1
+
+abbrev μ-loop : tie.MeasureT-loop
+μ-loop dictionary config given table from₀ from = length table + 1 - from
+
+loop-holds : tie.Need-loop-holds Inv-loop μ-loop
+loop-holds c = search needs
+
+line-end-requires : tie.Need-line-end-requires Inv-loop μ-loop
+line-end-requires c κs = search needs
+
+sub-line : tie.Need-sub-line Inv-loop μ-loop
+sub-line c = search needs
+
+part-line-start : tie.Need-part-line-start Inv-loop μ-loop
+part-line-start c = search needs
+
+part-line-end : tie.Need-part-line-end Inv-loop μ-loop
+part-line-end c = search needs
+
+line-requires : tie.Need-line-requires Inv-loop μ-loop
+line-requires c κs = search needs
+
+add-from : tie.Need-add-from Inv-loop μ-loop
+add-from c = search needs
+
+loop-less : tie.Need-loop-less Inv-loop μ-loop
+loop-less c = search needs
+
+loop-again : tie.Need-loop-again Inv-loop μ-loop
+loop-again c = search needs
+
+returns : tie.Need-returns Inv-loop μ-loop
+returns c = search needs
+
+pub lines-spec : {M : Type 1} → statement M
+lines-spec =
+    tie.close
+    (tie.spec
+    Inv-loop
+    μ-loop
+    loop-holds
+    line-end-requires
+    sub-line
+    part-line-start
+    part-line-end
+    line-requires
+    add-from
+    loop-less
+    loop-again
+    returns)

@@ -1,0 +1,47 @@
+-- `stays` is safe and ends: what is left of the output falls.
+use Prim.Native.Nat.{_-_, _≤_}
+use borrow.Author.Needs.{needs}
+use lib.ListN.{length}
+use Rattle.sample_messages.proofs.showing.stays.Statement.{statement}
+use Rattle.sample_messages.proofs.showing.stays.Tie as tie
+
+abbrev Inv-loop : tie.InvT-loop
+Inv-loop output place i₀ i = i ≤ length output
+
+abbrev μ-loop : tie.MeasureT-loop
+μ-loop output place i₀ i = length output - i
+
+loop-holds : tie.Need-loop-holds Inv-loop μ-loop
+loop-holds c = search needs
+
+shared-slice-read-if2 : tie.Need-shared-slice-read-if2 Inv-loop μ-loop
+shared-slice-read-if2 c = search needs
+
+returns : tie.Need-returns Inv-loop μ-loop
+returns c = search needs
+
+add-i : tie.Need-add-i Inv-loop μ-loop
+add-i c = search needs
+
+loop-less : tie.Need-loop-less Inv-loop μ-loop
+loop-less c = search needs
+
+loop-again : tie.Need-loop-again Inv-loop μ-loop
+loop-again c = search needs
+
+returns-2 : tie.Need-returns-2 Inv-loop μ-loop
+returns-2 c = search needs
+
+pub stays-spec : {M : Type 1} → statement M
+stays-spec =
+    tie.close
+    (tie.spec
+    Inv-loop
+    μ-loop
+    loop-holds
+    shared-slice-read-if2
+    returns
+    add-i
+    loop-less
+    loop-again
+    returns-2)

@@ -1,0 +1,76 @@
+// Streams for the ported framer, as `CHUNK CHUNK ..`: after each chunk all that is ready is taken.
+use crate::reading;
+use crate::saying;
+use frame_parser_rules::State;
+
+// Behind the frames that were taken: a refusal, or `-` where there was no frame.
+fn last_word(frames: usize, number: u32) {
+    if 0 < number {
+        if 0 < frames {
+            saying::say(b",");
+        }
+        saying::marked(b"!", number);
+    } else if frames == 0 {
+        saying::say(b"-");
+    }
+}
+
+// A frame, behind so many others.
+fn frame(frames: usize, bytes: &[u8]) {
+    if 0 < frames {
+        saying::say(b",");
+    }
+    saying::bytes(bytes);
+}
+
+// A frame has a byte at least, and the store 16,384 at the most.
+fn take_all(fresh: State, store: &mut [u8]) -> State {
+    let mut output = [0u8; 8192];
+    let mut state = fresh;
+    let mut frames: usize = 0;
+    while frames < 16384 {
+        let outcome = frame_parser::take(state, store, &mut output);
+        let answer = outcome.answer;
+        let length = frame_parser::length_of(answer);
+        state = outcome.state;
+        if length == 0 {
+            last_word(frames, frame_parser::number(answer));
+            break;
+        }
+        frame(frames, reading::first(&output, length));
+        frames += 1;
+    }
+    state
+}
+
+fn chunk(state: State, store: &mut [u8], text: &[u8]) -> State {
+    let mut space = [0u8; 2000];
+    let size = reading::bytes(&mut space, text);
+    let outcome = frame_parser::push(state, store, reading::first(&space, size));
+    let answer = outcome.answer;
+    let pushed = outcome.state;
+    let number = frame_parser::number(answer);
+    if 0 < number {
+        saying::marked(b"!", number);
+        return pushed;
+    }
+    take_all(pushed, store)
+}
+
+fn chunks(store: &mut [u8], text: &[u8]) {
+    let mut state = frame_parser::reset();
+    let mut from: usize = 0;
+    while from < text.len() {
+        let end = reading::end_of(text, from, b' ');
+        if 0 < from {
+            saying::say(b" ");
+        }
+        state = chunk(state, store, &text[from..end]);
+        from = end + 1;
+    }
+}
+
+pub fn frames(text: &[u8]) {
+    let mut store = [0u8; 16384];
+    chunks(&mut store, text);
+}

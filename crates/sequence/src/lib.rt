@@ -1,1 +1,0 @@
-// sequence: where no tag is stored twice, records stand in the order in which their fields were read. Laws alone.

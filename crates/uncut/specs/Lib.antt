@@ -1,4 +1,0 @@
-pub mod Small
-pub mod Read
-pub mod Few
-pub mod Theorem
