@@ -1,4 +1,4 @@
--- "Numbers returned": 01's number and values for each answer to a message.
+-- "Numbers returned": the rules' number and values for each answer to a message.
 use Prim.Native.Nat.{ℕ}
 use mathlib.Core.List.{List, [], _∷_}
 use lib.Dec.{eqb}

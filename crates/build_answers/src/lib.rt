@@ -1,7 +1,7 @@
 // build_answers: the answer to a message, with its number and the values returned with it. A new answer is one more case here.
 // It reads nothing and decides nothing: whoever refuses says which answer it is.
-use dictionary_rules::Checked;
 use build_integrity::GarbledReason;
+use dictionary_rules::Checked;
 use field_tagvalue::Cause;
 ghost use mathlib.Core.Path.{_≡_};
 ghost use Rattle.build_integrity.specs.Integrity.{numberOfReason};
@@ -29,7 +29,7 @@ pub struct Values {
     pub second: usize,
 }
 
-// 01's number for a reason why a message is garbled.
+// The rules' number for a reason why a message is garbled.
 fn reason_number(reason: GarbledReason) -> u32
     ensures { λ r. ⌜ r ≡ numberOfReason reason ⌝ }
 {
@@ -42,7 +42,7 @@ fn reason_number(reason: GarbledReason) -> u32
     }
 }
 
-// 01's number for an answer.
+// The rules' number for an answer.
 pub fn number_of(answer: Answer) -> u32
     ensures { λ r. ⌜ r ≡ numberOf answer ⌝ }
 {

@@ -1,4 +1,4 @@
--- Module 5, the body, over what a message's layout says of a tag. How a run is read is a matter of groups: here it is a function.
+-- RULES.md, Header, body, trailer: the body, over what a message's layout says of a tag. How a run is read is a matter of groups: here it is a function.
 use Prim.Native.Nat.{ℕ, zero, suc, _+_, _≤_}
 use mathlib.Core.Path.{_≡_}
 use mathlib.Core.List.{List, [], _∷_, _++_}

@@ -1,4 +1,4 @@
--- What the body's contract means in 01's terms: reading a body through a table is reading it through the layout that the table holds.
+-- What the body's contract means in the rules' terms: reading a body through a table is reading it through the layout that the table holds.
 -- The body looks at nothing but the kind of a tag, the run of a count and the trailer's tags; where these are alike, the readings are the same.
 use mathlib.Core.Path.{_≡_, refl, ap, _∙_}
 use mathlib.Core.Bool.{Bool, true, false}

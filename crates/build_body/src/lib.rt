@@ -1,19 +1,19 @@
 // build_body: the body of a message, its fields and its repeating groups, between header and trailer.
 // It reads through look-ups only and keeps records through `build_records` only; only the builder calls it.
+use build_answers::Answer;
+use build_config::Config;
 use build_groups::Group;
 use build_groups::Reading;
 use build_groups::Refusal;
-use build_config::Config;
-use dictionary_layout_rules::Level;
-use dictionary_layout_rules::Nested;
-use dictionary_layout_rules::Position;
-use build_answers::Answer;
 use build_parts::Next;
 use build_parts::PartRead;
 use build_parts::Progress;
 use build_records::Record;
 use build_records::Standing;
 use build_required::Lack;
+use dictionary_layout_rules::Level;
+use dictionary_layout_rules::Nested;
+use dictionary_layout_rules::Position;
 use field_tagvalue::Field;
 ghost use mathlib.Core.Path.{_≡_};
 ghost use Rattle.dictionary_rules.specs.Index.{tagAt};

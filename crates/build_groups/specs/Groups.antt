@@ -1,4 +1,4 @@
--- Module 6, groups: one field to a step, over a stack of what is open. Stage one's list of fields is taken from the front; the room is
+-- RULES.md, Groups: one field to a step, over a stack of what is open. Stage one's list of fields is taken from the front; the room is
 -- how many fields may still be read. What a level is and how records are kept are parameters: `Rules` look a level up, a `Store` keeps.
 use Prim.Native.Nat.{ℕ, zero, suc, _+_}
 use mathlib.Core.List.{List, [], _∷_}

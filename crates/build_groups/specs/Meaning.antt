@@ -1,4 +1,4 @@
--- What the readers' contracts mean in 01's terms: levels of a table are the layouts that it holds, and words are the list of records laid
+-- What the readers' contracts mean in the rules' terms: levels of a table are the layouts that it holds, and words are the list of records laid
 -- out. So a run that was read from a table into words is the run of the layout, its records as a list.
 use mathlib.Core.Path.{_≡_, refl, sym, ap, _∙_}
 use mathlib.Core.Bool.{Bool, true, false}

@@ -1,5 +1,5 @@
 -- Reading as the code does it: levels are looked up in a table, records are words, and where reading stands is a field with its progress.
--- The same with levels as layouts and records as a list is what a reader of 01 looks at.
+-- The same with levels as layouts and records as a list is what a reader of the rules looks at.
 use Prim.Native.Nat.{ℕ, zero, suc, _+_, _-_, _≤_, _<_, _^_}
 use mathlib.Core.List.{List, [], _∷_, _++_}
 use mathlib.Core.Bool.{Bool, true, false}

@@ -1,12 +1,12 @@
 // build_groups: reading repeating groups. The run reader and the entry reader call each other, and the depth that is left falls.
 // It reads through look-up tables only, counts fields by the room that is left for them, and never compares a count's value.
 use build_config::Config;
+use build_records::Record;
+use build_records::Standing;
 use dictionary_layout_rules::FirstTag;
 use dictionary_layout_rules::Level;
 use dictionary_layout_rules::Nested;
 use dictionary_layout_rules::Position;
-use build_records::Record;
-use build_records::Standing;
 use field_tagvalue::Cause;
 use field_tagvalue::Cursor;
 use field_tagvalue::Field;

@@ -11,7 +11,7 @@ use Rattle.build_integrity.specs.declared.Integrity.{Integrity}
 use Rattle.build_integrity.specs.declared.Integrity.the-variants.{Sound, Garbled}
 use Rattle.build_integrity.specs.Integrity.{numberOfReason, integrityOf, begun, counted, summed, typed, lengthIs, lengthAgrees, sumIs, sumAgrees}
 
--- 0 where the message is sound, else 01's number
+-- 0 where the message is sound, else the rules' number
 unfoldable pub numberOfIntegrity : Integrity → ℕ
 numberOfIntegrity (Sound v) = 0
 numberOfIntegrity (Garbled reason) = numberOfReason reason

@@ -1,4 +1,4 @@
--- Module 4, integrity: one definition to a check, in the order in which they are made. Each takes what was read and goes on to the next.
+-- RULES.md, Integrity: one definition to a check, in the order in which they are made. Each takes what was read and goes on to the next.
 use Prim.Native.Nat.{ℕ, _+_, _-_, _%_}
 use mathlib.Core.List.{List}
 use mathlib.Core.Bool.{Bool, true, false}
@@ -19,7 +19,7 @@ use Rattle.build_integrity.specs.declared.GarbledReason.the-variants.{Ma
 use Rattle.build_integrity.specs.declared.Integrity.{Integrity}
 use Rattle.build_integrity.specs.declared.Integrity.the-variants.{Sound, Garbled}
 
--- 01's number for each reason
+-- The rules' number for each reason
 unfoldable pub numberOfReason : GarbledReason → ℕ
 numberOfReason Malformed = 10
 numberOfReason InvalidBeginString = 11

@@ -1,4 +1,4 @@
--- Each way through the checks of module 4: one law for each way that the code goes.
+-- Each way through the checks of RULES.md, Integrity: one law for each way that the code goes.
 use mathlib.Core.Path.{_≡_, refl, sym, ap, _∙_}
 use mathlib.Core.Bool.{Bool, true, false}
 use mathlib.Core.List.{List}

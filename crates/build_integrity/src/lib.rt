@@ -42,7 +42,8 @@ fn length_agrees(message: &[u8], body_length: Field) -> bool
 {
     let next = body_length.next;
     let after = next.at;
-    let Number::Worth(n) = field_tagvalue::number_of(field_tagvalue::value_of(message, body_length)) else {
+    let Number::Worth(n) = field_tagvalue::number_of(field_tagvalue::value_of(message, body_length))
+    else {
         return false;
     };
     if message.len() < after {
@@ -60,7 +61,8 @@ fn sum_agrees(message: &[u8], checksum: Field) -> bool
     ensures { λ r. ⌜ r ≡ sumAgrees (now (message .entry)) checksum ⌝ }
 {
     let first = checksum.first;
-    let Number::Worth(n) = field_tagvalue::checksum_of(field_tagvalue::value_of(message, checksum)) else {
+    let Number::Worth(n) = field_tagvalue::checksum_of(field_tagvalue::value_of(message, checksum))
+    else {
         return true;
     };
     if message.len() < first {

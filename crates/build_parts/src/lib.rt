@@ -143,7 +143,12 @@ pub fn read_trailer(
             return TrailerRead::TooManyFields;
         }
         room -= 1;
-        records = keep(words, from, records, record_of(build_records::TRAILER, field));
+        records = keep(
+            words,
+            from,
+            records,
+            record_of(build_records::TRAILER, field),
+        );
         let next = field.next;
         let FieldRead::Read(read) = next.next_field(message, config.mode) else {
             return TrailerRead::Unstopped(records);

@@ -1,4 +1,4 @@
--- What the check's contract means in 01's terms: a level of a table asks for what the layout asks for that the table holds there.
+-- What the check's contract means in the rules' terms: a level of a table asks for what the layout asks for that the table holds there.
 use mathlib.Core.Path.{_≡_, refl, ap}
 use mathlib.Core.Bool.{Bool}
 use mathlib.Core.List.{List, [], _∷_}

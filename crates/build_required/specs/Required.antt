@@ -1,4 +1,4 @@
--- The required check of module 6: "After a body group ends: for each entry its required fields in layout order, then its nested runs; the
+-- The required check of RULES.md, Groups: "After a body group ends: for each entry its required fields in layout order, then its nested runs; the
 -- first lack gives 4." A run is its records, in the order in which they stand in the message. What a level is, is a parameter.
 use Prim.Native.Nat.{ℕ, zero, suc, _+_}
 use mathlib.Core.List.{List, [], _∷_}

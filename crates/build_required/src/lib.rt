@@ -1,11 +1,11 @@
 // build_required: whether the entries of a body group that was read hold their required fields (4).
 // The run check and the entry check call each other, and the depth that is left falls. It only looks at records and tables.
-use dictionary_layout_rules::Level;
-use dictionary_layout_rules::Marked;
-use dictionary_layout_rules::Nested;
 use build_groups::Group;
 use build_records::Record;
 use build_records::Standing;
+use dictionary_layout_rules::Level;
+use dictionary_layout_rules::Marked;
+use dictionary_layout_rules::Nested;
 ghost use mathlib.Core.Path.{_≡_};
 ghost use Prim.Native.Nat.{_/_, _≤_, _-_};
 ghost use lib.ListN.{length};

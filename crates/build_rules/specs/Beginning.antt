@@ -50,4 +50,3 @@ startOf tags config message = startedBy tags config message (integrityOf (config
 unfoldable pub msgTypeRecord : List Record → Record
 msgTypeRecord [] = blank
 msgTypeRecord (r ∷ rs) = pick (eqb (r .tag) 35) r (msgTypeRecord rs)
-

@@ -1,4 +1,4 @@
--- P1 to P11 of document 01, one table under one statement: what is read by the dictionary of the examples, as a tree. `builder` carries
+-- P1 to P11 of the rules, one table under one statement: what is read by the dictionary of the examples, as a tree. `builder` carries
 -- the same table through the whole build, with the dictionary in bytes.
 use mathlib.Core.Path.{_≡_, refl}
 use mathlib.Core.List.{List, [], _∷_, _++_, map}

@@ -1,4 +1,4 @@
--- P1 to P11 of document 01, one table under one statement: what a build answers with the dictionary's bytes, whatever words are lent.
+-- P1 to P11 of the rules, one table under one statement: what a build answers with the dictionary's bytes, whatever words are lent.
 use mathlib.Core.Path.{_≡_, refl, ap, _∙_}
 use mathlib.Core.List.{List, [], _∷_, map}
 use mathlib.Core.Bool.{Bool, true, false}

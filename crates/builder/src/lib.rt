@@ -1,18 +1,18 @@
 // builder: from a message's bytes to its answer and its records: integrity, header, MsgType's layout, body and trailer in turn.
 // It reads a dictionary through the index and the tables that are made of it, and keeps records through `build_records` only.
-use dictionary_meaning_rules::MessageTable;
-use dictionary_flattening::tags;
-use dictionary_flattening::tags::TagList;
+use build_answers::Answer;
 use build_config::Config;
 use build_integrity::Integrity;
 use build_integrity::Verified;
-use dictionary_layout_rules::Level;
-use build_answers::Answer;
 use build_parts::PartRead;
 use build_parts::Progress;
 use build_parts::TrailerRead;
-use build_rules::Stop;
 use build_records::Record;
+use build_rules::Stop;
+use dictionary_flattening::tags;
+use dictionary_flattening::tags::TagList;
+use dictionary_layout_rules::Level;
+use dictionary_meaning_rules::MessageTable;
 use field_tagvalue::Field;
 ghost use mathlib.Core.Path.{_≡_};
 ghost use mathlib.Core.List.{[], _++_};

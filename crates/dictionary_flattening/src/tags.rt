@@ -66,5 +66,9 @@ pub fn plain_tags(
     let Looked::Closed(component) = dictionary_names::component_of(entries, number) else {
         return TagList::Unlisted;
     };
-    list_tags(dictionary, dictionary_chains::wide(component.place) as usize + 3, list)
+    list_tags(
+        dictionary,
+        dictionary_chains::wide(component.place) as usize + 3,
+        list,
+    )
 }

@@ -1,5 +1,5 @@
-// dictionary_layout: what a dictionary means, and the tables that reading uses.
-// Look-ups work on lent tables of numbers, have an answer for every content, and never look at a dictionary's bytes.
+// dictionary_layout: look-ups in the tables that reading uses.
+// They work on lent tables of numbers, have an answer for every content, and never look at a dictionary's bytes.
 use dictionary_layout_rules::FirstTag;
 use dictionary_layout_rules::Level;
 use dictionary_layout_rules::Marked;

@@ -1,4 +1,4 @@
--- Worked examples of the check: one table of dictionaries with the number and the values that 01 gives, under one statement that
+-- Worked examples of the check: one table of dictionaries with the number and the values that the rules give, under one statement that
 -- antt computes. A wrong definition is refused here, whatever code is proved against it.
 use mathlib.Core.Path.{_≡_, refl}
 use mathlib.Core.List.{List, [], _∷_, _++_, map}
@@ -54,7 +54,7 @@ joined (r ∷ rs) = r ++ joined rs
 abbrev least : List ℕ
 least = joined (component 0 ∷ close ∷ component 1 ∷ close ∷ [])
 
--- the dictionary of 01's examples: "header 8 9 35 34 49; trailer 93 89 10; message `0` with 112; message `D` with 38, group 78 (79 and
+-- the dictionary of the rules' examples: "header 8 9 35 34 49; trailer 93 89 10; message `0` with 112; message `D` with 38, group 78 (79 and
 -- 80 required; group 539 with 524 required, 525), 58"
 abbrev pub examples : List ℕ
 examples =
@@ -86,7 +86,7 @@ Row = List ℕ × ℕ × List ℕ
 
 abbrev table : List Row
 table =
-    -- passes: the least; 01's; a repeated 1; four deep; a use in the same and in a later component; MsgTypes that differ in length
+    -- passes: the least; the rules'; a repeated 1; four deep; a use in the same and in a later component; MsgTypes that differ in length
     (least, 0, [])
     ∷ (examples, 0, [])
     ∷ (joined (tag 8 ∷ tag 8 ∷ least ∷ []), 0, [])

@@ -1,4 +1,4 @@
--- The flat dictionary's records (01, "Flat dictionary"): "Each record is one byte of kind, then the body. Numbers low byte first."
+-- The flat dictionary's records (RULES.md, Flat dictionary): "Each record is one byte of kind, then the body. Numbers low byte first."
 use Prim.Native.Nat.{ℕ, _+_, _*_}
 use mathlib.Core.List.{List, [], _∷_}
 use mathlib.Core.Bool.{Bool, true, false}

@@ -1,4 +1,4 @@
--- What one record of a dictionary does (01, "Flat dictionary" and "Numbers returned", 31 to 37), "checks in number order".
+-- What one record of a dictionary does (RULES.md, Flat dictionary and Numbers, 31 to 37), "checks in number order".
 use Prim.Native.Nat.{ℕ, _+_}
 use mathlib.Core.Bool.{Bool}
 use lib.Dec.{eqb, ltb}

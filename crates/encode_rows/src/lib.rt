@@ -1,10 +1,10 @@
 // encode_rows: a message as bytes. It writes what a lent message holds in one pass over its rows, with the CheckSum behind it (27, 23); `encoder`
 // judges a message first and sets its BodyLength. It keeps nothing and demands nothing of what is lent.
+use field_tagvalue::Written;
+use field_tagvalue::wide;
 use message_rules::Located;
 use message_rules::Part;
 use message_rules::Span;
-use field_tagvalue::Written;
-use field_tagvalue::wide;
 ghost use mathlib.Core.Path.{_≡_};
 ghost use mathlib.Core.Bool.{true, false};
 ghost use mathlib.Core.List.{[]};

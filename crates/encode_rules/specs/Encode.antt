@@ -16,7 +16,7 @@ use Rattle.encode_rules.specs.declared.Encoding.the-variants.{Written, N
 use Rattle.encode_rules.specs.declared.Verdict.{Verdict}
 use Rattle.encode_rules.specs.declared.Verdict.the-variants.{Measured, Refused}
 
--- 01's number for each answer
+-- The rules' number for each answer
 unfoldable pub numberOfEncoding : Encoding → ℕ
 numberOfEncoding (Written length) = 0
 numberOfEncoding NoMessage = 27

@@ -104,7 +104,7 @@ calls : calling (with-body end) (bytes "..............................") ∷ cal
 unfolding calling heartbeat with-body encodingOf afterVerdict verdictOf encoded wordsOf valuesOf parts laid flat padded valuesIn isMessage isLaid rowsOf rowCount rowsFrom rowAt rowsAllowed rowAllowed fieldAllowed headAllowed heldBefore followsOn continues delimiterIs deepest levelOf sizeOf sizes matches partsFrom nextPart isPart fieldsIn weight ownBelow isOwn messageIn openIn withRow withEntry withField opened outermost thirdOf secondOf partsIn judging isRefusedSeparator isDigit isIncomplete hasUncounted lacksCount encoding summed sumDigits messageText headerText textUnder text isFirst isRest measured dropped bodyLength bytesOf withoutField stored holds holdsAny replaced joined withoutRun runOn decimal decimalWithin sumOf checksumDigits encodedMessage fieldTotal fieldCount
 calls = refl
 
--- 01's numbers
+-- The rules' numbers
 numbers : numberOfEncoding (Written 26) ∷ numberOfEncoding NoMessage ∷ numberOfEncoding InvalidSeparator ∷ numberOfEncoding Incomplete ∷ numberOfEncoding TooLong ∷ numberOfEncoding TooManyFields ∷ numberOfEncoding NoRoom ∷ []
     ≡ 0 ∷ 27 ∷ 22 ∷ 43 ∷ 20 ∷ 21 ∷ 23 ∷ []
 unfolding numberOfEncoding

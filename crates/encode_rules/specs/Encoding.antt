@@ -1,4 +1,4 @@
--- Module 7, encoding: one definition to a sentence, in 01's order.
+-- RULES.md, Encoding: one definition to a sentence, in the rules' order.
 use Prim.Native.Nat.{ℕ, zero, suc, _+_, _%_}
 use mathlib.Core.Bool.{Bool, true, false}
 use mathlib.Core.List.{List, [], _∷_, _++_}

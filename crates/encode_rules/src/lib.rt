@@ -1,4 +1,4 @@
-// encode_rules: definitions and worked encodings alone. What a message is as bytes, by module 7, and what an encode call answers and leaves,
+// encode_rules: definitions and worked encodings alone. What a message is as bytes, by RULES.md, Encoding, and what an encode call answers and leaves,
 // whatever code writes it: `encode_rows` and `encoder` are proved against it. No code stands here, so that a wrong definition is refused in
 // seconds.
 

@@ -1,13 +1,13 @@
 // encoder: the encode operation (27, 22, 43, 20, 21, 23). All is judged by sizes of rows before anything changes; then the message gets its
 // new BodyLength, is written, and gets its new CheckSum. It keeps nothing and demands nothing of what is lent.
 use encode_rows::Encoded;
+use encode_rules::Encoding;
+use encode_rules::Verdict;
+use field_tagvalue::Written;
 use message_rules::Change;
 use message_rules::Located;
 use message_rules::Part;
 use message_rules::Span;
-use field_tagvalue::Written;
-use encode_rules::Encoding;
-use encode_rules::Verdict;
 ghost use mathlib.Core.Path.{_≡_};
 ghost use Prim.Native.Nat.{_+_, _≤_, _<_};
 ghost use Rattle.field_tagvalue.specs.Decimal.{decimal};
@@ -161,7 +161,8 @@ fn write_encoding(
 {
     message::remove(words, values, Part::Trailer, 10);
     set_body_length(words, values, body);
-    let Encoded::Written(length) = encode_rows::write_message(words, values, output, separator) else {
+    let Encoded::Written(length) = encode_rows::write_message(words, values, output, separator)
+    else {
         return Encoding::NoMessage;
     };
     let first = length - 4;

@@ -1,6 +1,6 @@
 -- What a build leaves in the caller's records, and what is told of it.
 -- "A record holds part (1 header, 2 body, 3 trailer), depth, entry number .., tag, and place and length of the value", "all lent past them
--- are zero", and where 01 leaves them blank "as it was".
+-- are zero", and where the rules leave them blank "as it was".
 use Prim.Native.Nat.{ℕ, zero, suc, _%_, _^_}
 use mathlib.Core.Bool.{Bool}
 use mathlib.Core.List.{List, [], _∷_, _++_}

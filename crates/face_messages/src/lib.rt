@@ -1,11 +1,11 @@
-// face_messages: what a caller in another language is told of a core's answer: 01's number, four lent words, and records of twelve bytes.
+// face_messages: what a caller in another language is told of a core's answer: the rules' number, four lent words, and records of twelve bytes.
 // It takes answers and values apart and decides nothing; `gateway` lends what the caller lent.
+use build_records::Record;
 use encode_rules::Encoding;
+use message_rules::Change;
 use message_rules::FoundMap;
 use message_rules::FoundValue;
-use message_rules::Change;
 use message_rules::Part;
-use build_records::Record;
 use message_take_over::Taken;
 ghost use mathlib.Core.Path.{_≡_};
 ghost use Prim.Native.Nat.{_*_, _%_, _^_, _≤_};

@@ -1,4 +1,4 @@
--- The CheckSum: the sum of bytes, the value that is compared with it, and how it is written (01, modules 4 and 7).
+-- The CheckSum: the sum of bytes, the value that is compared with it, and how it is written (RULES.md, Integrity and Encoding).
 use Prim.Native.Nat.{ℕ, _+_, _/_, _%_}
 use mathlib.Core.List.{List, [], _∷_}
 use lib.ListN.{length}

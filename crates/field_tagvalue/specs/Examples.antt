@@ -56,7 +56,7 @@ checksums : Holds checksumOf (("163", Worth 163) ∷ ("007", Worth 7) ∷ ("999"
 unfolding checksumOf numberIn isDigit allDigits worth
 checksums = refl
 
--- P1 and P4 of 01: the bytes before the CheckSum
+-- P1 and P4: the bytes before the CheckSum
 sums : Holds (λ s. sumOf s % 256) (("8=FIX.4.4|9=5|35=0|", 163) ∷ ("8=FIX.4.4|9=0|", 200) ∷ ("", 0) ∷ [])
 unfolding sumOf
 sums = refl

@@ -1,4 +1,4 @@
--- Module 1, field reading: "the first `=`, then the first separator after it. Before `=` is the tag text ..; between them the value,
+-- RULES.md, Field reading: "the first `=`, then the first separator after it. Before `=` is the tag text ..; between them the value,
 -- maybe empty. Else no field." The reasons for none are looked for in the Rust's order.
 use Prim.Native.Nat.{ℕ, _+_}
 use mathlib.Core.List.{List, [], _∷_, _++_}

@@ -1,4 +1,4 @@
--- What a text of digits is worth: tags and BodyLength (01, modules 1 and 4).
+-- What a text of digits is worth: tags and BodyLength (RULES.md, Field reading and Integrity).
 use Prim.Native.Nat.{ℕ, _+_, _*_, _-_}
 use mathlib.Core.List.{List, [], _∷_}
 use mathlib.Core.Bool.{Bool, true, false}

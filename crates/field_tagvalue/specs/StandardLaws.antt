@@ -38,7 +38,7 @@ pub absent-all : {b : ℕ} {P : ℕ → Type 0} (s : List ℕ) → ((x : ℕ) �
 absent-all [] h All.none = find.none
 absent-all (x ∷ s) h (All.also p a) = find.also (h x p) (absent-all s h a)
 
--- an int of the standard is a number of 01, where it is not too large
+-- an int of the standard is a number of the rules, where it is not too large
 pub int-read : (text : List ℕ) (n : ℕ) → standard.Int text n → n ≤ 4294967295 → numberIn text ≡ Worth n
 int-read text n i h = number-good text n (λ e. omega (arith, i .some)) (digits-all text (i .digits)) (worth-same 0 text ∙ i .worth) h
 
@@ -47,7 +47,7 @@ not-nothing d ds n (All.also digit a) =
     let first : (d ≡ 48) → ⊥ = n in
     omega (arith, digit .0, worth-least ds (0 * 10 + (d - 48)), worth-same (0 * 10 + (d - 48)) ds)
 
--- a tag number of the standard is a tag of 01, where it is not too large
+-- a tag number of the standard is a tag of the rules, where it is not too large
 pub tag-read : (text : List ℕ) (tag : ℕ) → standard.TagNum text tag → tag ≤ 4294967295 → tagOf text ≡ Worth tag
 tag-read text tag t h =
     tag-good text tag (int-read text tag (t .int) h)
@@ -63,7 +63,7 @@ pub record ReadAs (mode : Mode) (message : List ℕ) (at tag : ℕ) (value : Lis
   pub next-is : got .next ≡ startAt next
 
 -- THE STANDARD, one field: wherever it stands in a message, a field of the standard is read with its tag and value, and reading goes
--- on right behind it. The standard sets no limit to tags; 01 does.
+-- on right behind it. The standard sets no limit to tags; the rules do.
 pub standard-field : (tag : ℕ) (value bytes before rest : List ℕ) → standard.Field tag value bytes → tag ≤ 4294967295 → ReadAs (separatedBy SOH) (before ++ (bytes ++ rest)) (length before) tag value (length before + length bytes)
 unfolding fieldAt
 standard-field tag value bytes before rest s h =

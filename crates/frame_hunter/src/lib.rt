@@ -205,7 +205,7 @@ pub fn reset() -> State
     }
 }
 
-// The answer's number in 01.
+// The answer's number in the rules.
 pub fn number(answer: Answer) -> u32
     ensures { λ r. ⌜ r ≡ numberOfHunter answer ⌝ }
 {

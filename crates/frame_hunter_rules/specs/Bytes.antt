@@ -16,7 +16,7 @@ use Rattle.frame_hunter_rules.specs.declared.Answer.the-variants.{Fine, 
 use Rattle.frame_hunter_rules.specs.declared.Reply.{Reply}
 use Rattle.frame_hunter_rules.specs.declared.Taken.{Taken}
 
--- 01, "Numbers returned"
+-- RULES.md, Numbers
 unfoldable pub numberOfHunter : Answer → ℕ
 numberOfHunter Fine = 0
 numberOfHunter OutputShort = 23

@@ -1,4 +1,4 @@
--- Demand 3, in the words of 01 and of the contracts alone: frames are `IsFrame`, and the calls are linked by what each of them ensures.
+-- Demand 3, in the words of the rules and of the contracts alone: frames are `IsFrame`, and the calls are linked by what each of them ensures.
 use mathlib.Core.Path.{_≡_}
 use mathlib.Core.Bool.{Bool}
 use mathlib.Core.List.{List, _++_}

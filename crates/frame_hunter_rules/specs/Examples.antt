@@ -1,4 +1,4 @@
--- P12 of 01, hunted: P2 and then P1. The verdicts themselves have their table in `frame_verdict_rules`; here the hunt is computed over them,
+-- P12, hunted: P2 and then P1. The verdicts themselves have their table in `frame_verdict_rules`; here the hunt is computed over them,
 -- from the place where a frame fails on to the one that follows. And the numbers of the answers.
 use mathlib.Core.Path.{_≡_, refl}
 use mathlib.Core.Bool.{false}
@@ -17,7 +17,7 @@ pub examples : takeOne verdictOf (framer (p2 ++ p1) 0 false) ≡ record { frame 
 unfolding takeOne tookBy huntFrom followed actOn verdictOf asVerdict stageOf frameReader bodyReader checksumFor _>>=_ literal withHead any headed textKind text beginString mayBecome digitKind bodyLength isDigit worth sumOf checksumDigits
 examples = refl
 
--- 01, "Numbers returned"
+-- RULES.md, Numbers
 numbers : map numberOfHunter (Fine ∷ OutputShort ∷ StoreFull ∷ AfterEnd ∷ BadStore ∷ []) ≡ 0 ∷ 23 ∷ 25 ∷ 26 ∷ 27 ∷ []
 unfolding numberOfHunter
 numbers = refl

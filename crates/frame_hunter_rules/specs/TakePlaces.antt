@@ -1,4 +1,4 @@
--- What a take over bytes drops: contiguous places, right before its frame or its stop, in the words of 01.
+-- What a take over bytes drops: contiguous places, right before its frame or its stop, in the words of the rules.
 use mathlib.Core.Path.{_≡_, refl, ap, _∙_}
 use mathlib.Core.Logic.{_⊎_, inl, inr, ⊎-elim}
 use mathlib.Core.Bool.{Bool, true, false}

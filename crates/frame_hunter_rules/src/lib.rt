@@ -22,7 +22,7 @@ pub struct State {
     pub ended: bool,
 }
 
-// 01, "Numbers returned": 0, 23, 25, 26 and 27.
+// RULES.md, Numbers: 0, 23, 25, 26 and 27.
 pub enum Answer {
     Fine,
     OutputShort,

@@ -1,12 +1,12 @@
 // frame_parser: the ported framer. Chunks of a stream go in at the end of a lent store, whole messages come out at its front, cut by
 // their announced lengths alone. It never looks for a message's start, checks no CheckSum and knows no field but by its position.
+use field_tagvalue::Found;
 use frame_parser_rules::Announced;
 use frame_parser_rules::Answer;
 use frame_parser_rules::Outcome;
 use frame_parser_rules::Ready;
 use frame_parser_rules::State;
 use frame_parser_rules::Value;
-use field_tagvalue::Found;
 ghost use mathlib.Core.Path.{_≡_};
 ghost use Prim.Native.Nat.{_*_, _%_, _^_, _≤_};
 ghost use lib.ListN.{length, take, drop};
@@ -23,7 +23,7 @@ const STORE_SIZE: usize = 16384;
 
 const CHECKSUM_SIZE: usize = 7;
 
-// The number that 01 gives an answer.
+// The number that the rules give an answer.
 pub fn number(answer: Answer) -> u32
     ensures { λ r. ⌜ r ≡ numberOfParser answer ⌝ }
 {

@@ -1,4 +1,4 @@
--- Module 8, the message end: "After the first `=` and separator, and the second `=` and separator, the length is a 64-bit number ..
+-- RULES.md, Ported framer: the message end: "After the first `=` and separator, and the second `=` and separator, the length is a 64-bit number ..
 -- Message end: second separator + 1 + that + 7, as a plain sum." Each search starts behind what the last one found.
 use Prim.Native.Nat.{ℕ, _+_, _*_, _-_, _%_, _^_}
 use mathlib.Core.List.{List, [], _∷_}

@@ -26,7 +26,7 @@ numbers : Holds (nominal 0) (("5", 5) ∷ ("00023", 23) ∷ ("", 0) ∷ (":", 10
 unfolding nominal digitOf
 numbers = refl
 
--- P1 of 01, what has arrived of it, the limit, numbers that wrap, a sum that passes 2^64, and texts that no message has
+-- P1, what has arrived of it, the limit, numbers that wrap, a sum that passes 2^64, and texts that no message has
 announced : Holds announcedIn (("8=FIX.4.4|9=5|35=0|10=163|", Ends 26) ∷ ("8=FIX.4.4|9=5|", Ends 26) ∷ ("8=FIX.4.4|9=5", Unknown) ∷ ("8=FIX.4.4|9", Unknown) ∷ ("8=FIX.4.4", Unknown) ∷ ("8", Unknown) ∷ ("", Unknown) ∷ ("8=|9=8175|", Ends 8192) ∷ ("8=|9=8176|", Over) ∷ ("8=|9=|", Ends 13) ∷ ("8=|9=/|", Ends 269) ∷ ("8=|9=18446744073709551621|", Ends 38) ∷ ("8=|9=18446744073709551615|", Over) ∷ ("=|=5|", Ends 17) ∷ ("8|=a|9|=1|", Ends 18) ∷ [])
 unfolding announcedIn withFirst withSecond valueFrom withEquals withSeparator findFrom findIn limited messageEnd nominal digitOf
 announced = refl

@@ -1,4 +1,4 @@
--- The ported framer's calls. Each call's answer is the first that 01's order gives; what it leaves of state, store and output
+-- The ported framer's calls. Each call's answer is the first that the rules' order gives; what it leaves of state, store and output
 -- follows from the answer.
 use Prim.Native.Nat.{ℕ, _+_, _-_}
 use mathlib.Core.Bool.{Bool, true, false}

@@ -1,4 +1,4 @@
--- The framing says something: P1 of 01 is a message of the standard that fits, so there is a run that takes it in and hands it out.
+-- The framing says something: P1 is a message of the standard that fits, so there is a run that takes it in and hands it out.
 -- Its digits, values and tags are told by tests that antt computes.
 use mathlib.Core.Path.{_≡_, refl}
 use mathlib.Core.Bool.{Bool, true, false}

@@ -1,4 +1,4 @@
--- Verdicts at the boundaries of the frame: one table under one statement. P1 and P2 of 01 stand first, as later examples cite them.
+-- Verdicts at the boundaries of the frame: one table under one statement. P1 and P2 stand first, as later examples cite them.
 use mathlib.Core.Path.{_≡_, refl}
 use mathlib.Core.List.{List, [], _∷_, _++_}
 use Prim.Native.Nat.{ℕ}

@@ -1,4 +1,4 @@
--- What a frame of the hunting framer is, in the words of 01, "The hunting framer". Nothing here is computed.
+-- What a frame of the hunting framer is, in the words of RULES.md, Hunting framer. Nothing here is computed.
 use mathlib.Core.Path.{_≡_}
 use mathlib.Core.Bool.{true}
 use mathlib.Core.List.{List, [], _∷_, _++_}

@@ -1,4 +1,4 @@
--- The verdict is exact: what it says of a place is what 01 says of it, and what the hunt needs to know of it follows.
+-- The verdict is exact: what it says of a place is what the rules say of it, and what the hunt needs to know of it follows.
 use mathlib.Core.Path.{_≡_, refl, sym, ap}
 use mathlib.Core.Logic.{_↔_}
 use mathlib.Core.List.{List, [], _∷_, _++_, append-nil}

@@ -20,7 +20,12 @@ pub extern "C" fn gateway_check(dictionary: &[u8], out: &mut [u32; 4]) -> u32
 }
 
 // Writes over so many of the lent records: those that the words show, and blank ones behind them.
-fn fill(records: &mut [FieldRecord], words: &[u32; build_records::WORDS], shown: usize, written: usize)
+fn fill(
+    records: &mut [FieldRecord],
+    words: &[u32; build_records::WORDS],
+    shown: usize,
+    written: usize,
+)
     requires { ⌜ written ≤ length (now records) ⌝ }
     ensures { λ _. ⌜ now (records .exit) ≡ filled (now (words .entry)) shown written (now (records .entry)) ⌝ }
 {

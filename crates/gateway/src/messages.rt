@@ -51,7 +51,13 @@ pub extern "C" fn gateway_store(
     ensures { λ _. ⌜ now (values .exit) ≡ changedValues (storing (partNumbered part) tag (now (value .entry)) (now (words .entry)) (now (values .entry))) ⌝ }
     ensures { λ _. ⌜ now (out .exit) ≡ told 0 (0, 0) ⌝ }
 {
-    let change = message::store(words, values, face_messages::part_numbered(part), tag, value);
+    let change = message::store(
+        words,
+        values,
+        face_messages::part_numbered(part),
+        tag,
+        value,
+    );
     face_messages::tell_change(out, change)
 }
 

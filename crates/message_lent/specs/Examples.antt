@@ -6,7 +6,7 @@ use mathlib.Core.List.{List, [], _∷_}
 use Rattle.message_maps.specs.Map.{Map, end, field, entry, joined, holds, withoutField, leading, pastLeading, runOn, withoutRun, stored, hungOnCount, hungAlone, hung}
 use Rattle.message_lent.specs.Formed.{stands, goesOn, isFormed, isRun}
 
--- an entry of group 78 with delimiter 79; 01's P6 with two of them behind their count
+-- an entry of group 78 with delimiter 79; P6 with two of them behind their count
 allocation : Map → Map
 allocation rest = entry 78 79 (field 79 (65 ∷ []) end) rest
 

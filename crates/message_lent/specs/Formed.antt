@@ -1,4 +1,4 @@
--- What module 2 makes of maps: no tag 0; a tag stands once in a map, as a field, as a field with its run right behind it, or as a run
+-- What RULES.md, Field maps, makes of maps: no tag 0; a tag stands once in a map, as a field, as a field with its run right behind it, or as a run
 -- alone; one delimiter to a run. Each entry's own map is made the same way.
 use Prim.Native.Nat.{ℕ, _+_, _≤_}
 use mathlib.Core.Path.{_≡_}

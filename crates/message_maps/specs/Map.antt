@@ -1,4 +1,4 @@
--- Module 2, field maps. A map is its fields in order, each count followed by the entries of its run; a run without its count stands
+-- RULES.md, Field maps. A map is its fields in order, each count followed by the entries of its run; a run without its count stands
 -- where the count stood, or last where it was hung without one. An entry carries the tags of its run, as in the Rust.
 use Prim.Native.Nat.{ℕ, zero, suc, _+_}
 use mathlib.Core.Bool.{Bool, true, false}

@@ -1,4 +1,4 @@
--- Storing a field, and a count with its run, keeps a map formed: it is what module 2 says of storing, where every run has its count.
+-- Storing a field, and a count with its run, keeps a map formed: it is what RULES.md, Field maps, says of storing, where every run has its count.
 use mathlib.Core.Path.{_≡_, refl, sym, ap, _∙_}
 use mathlib.Core.Bool.{Bool, true, false}
 use mathlib.Core.List.{List}
@@ -69,7 +69,7 @@ run-is-formed s d start some (formed-more {s = t} {d = e} {own = own} {rest = re
     let only : stands s (pastLeading s rest) ≡ false = ap (stands s) (run-only s d rest (b .1)) ∙ (unfold stands in refl) in
     rw (t-is, e-is) (formed-entry s d own rest (record { some = ne-eqb s 0 start; delimited = ne-eqb d 0 some; once = only; on = run-goes-on s d rest (b .1); own-formed = f; rest-formed = run-is-formed s d start some more (b .1) }))
 
--- what storing makes of maps, in the words of module 2
+-- what storing makes of maps, in the words of RULES.md, Field maps
 module _ (tag : ℕ) (value : List ℕ) where
   put-held : (m : Map) → holds tag m ≡ true → put tag value m ≡ replaced tag value m
   unfolding put replaced holds

@@ -1,4 +1,4 @@
--- The operations on a message, in 01's words: "27 first", and then "judged by what it would leave: 41, 42, 21".
+-- The operations on a message, in the rules' words: "27 first", and then "judged by what it would leave: 41, 42, 21".
 use Prim.Native.Nat.{ℕ, zero, suc, _+_, _-_, _*_, _≤_, _<_}
 use mathlib.Core.Path.{_≡_}
 use mathlib.Core.Bool.{Bool, true, false}
@@ -19,7 +19,7 @@ use Rattle.message_rules.specs.declared.Cut.{Cut}
 use Rattle.message_rules.specs.declared.Located.{Located}
 use Rattle.message_rules.specs.declared.Located.the-variants.{At, Nowhere}
 
--- 01's number for each answer
+-- The rules' number for each answer
 unfoldable pub numberOfChange : Change → ℕ
 numberOfChange Made = 0
 numberOfChange NoMessage = 27

@@ -1,5 +1,5 @@
 -- A cut of rows with their values is a change of the message. The rows before, taken out, coming back, moved up and behind are given as
--- lists; where the message that is to be left has just these, the cut judges and leaves what 01 says of that message.
+-- lists; where the message that is to be left has just these, the cut judges and leaves what the rules say of that message.
 use mathlib.Core.Path.{_≡_, refl, sym, ap, _∙_}
 use mathlib.Core.Bool.{Bool, true, false}
 use mathlib.Core.List.{List, [], _∷_, _++_, append-assoc, append-nil}
@@ -112,7 +112,7 @@ module _ (words values : List ℕ) (cut : Cut) (a b c d e : List Row) (va vb vc 
   unfolding cutSize
   cut-size bytes = simp length-append (omega (arith, place-from, place-kept, place-to, place-until, place-count))
 
-  -- where a map has the rows and values that the cut leaves, the cut is judged and done as 01 says
+  -- where a map has the rows and values that the cut leaves, the cut is judged and done as the rules say
   module _ (map : Map) (fields : ℕ) (few : fields ≤ 1024 → length (laid 0 map) ≤ messageRows) (x : List Row) (bytes : List ℕ)
       (rows : laid 0 map ≡ a ++ (d ++ (x ++ (c ++ e)))) (texts : valuesIn map ≡ va ++ (vd ++ (bytes ++ (vc ++ ve)))) where
     pub cut-judged : (whole : Bool) → changedAt cut (flat x) (length x) bytes whole fields words values ≡ judgedMap words values whole fields map

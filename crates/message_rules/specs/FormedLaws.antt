@@ -1,4 +1,4 @@
--- What the operations leave is a message again, and means what 01 says: the message before with one part changed.
+-- What the operations leave is a message again, and means what the rules say: the message before with one part changed.
 use mathlib.Core.Path.{_≡_, refl, sym, ap, _∙_}
 use mathlib.Core.Bool.{Bool, true, false}
 use mathlib.Core.List.{List}

@@ -16,7 +16,7 @@ use Rattle.message_rules.specs.declared.FoundValue.the-variants as value
 use Rattle.message_rules.specs.declared.FoundMap.{FoundMap}
 use Rattle.message_rules.specs.declared.FoundMap.the-variants as map
 
--- 01's number for each answer: what is absent is no refusal
+-- The rules' number for each answer: what is absent is no refusal
 unfoldable pub numberOfValue : FoundValue → ℕ
 numberOfValue value.NoMessage = 27
 numberOfValue value.Absent = 0

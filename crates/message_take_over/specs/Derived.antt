@@ -1,4 +1,4 @@
--- The records of a message, as 01 derives them from its maps: part, depth, entry number, tag and value, in part and map order.
+-- The records of a message, as the rules derive them from its maps: part, depth, entry number, tag and value, in part and map order.
 use Prim.Native.Nat.{ℕ, _+_, _≤_}
 use mathlib.Core.Path.{_≡_}
 use mathlib.Core.List.{List, [], _∷_, _++_}

@@ -14,7 +14,7 @@ use Rattle.message_take_over.specs.Derived.{valued, entryNumber, records
 at : ℕ → ℕ → ℕ → ℕ → ℕ → Record
 at part depth number tag place = record { part = part; depth = depth; number = number; tag = tag; place = place; length = 1 }
 
--- 01's P6 with a nested run and a field behind it: two entries, of which the first has one nested
+-- P6 with a nested run and a field behind it: two entries, of which the first has one nested
 order : List Record
 order = at 1 0 0 35 0 ∷ at 2 0 0 78 1 ∷ at 2 1 1 79 2 ∷ at 2 1 1 539 3 ∷ at 2 2 1 524 4 ∷ at 2 1 1 80 5 ∷ at 2 1 2 79 6 ∷ at 2 0 0 58 7 ∷ at 3 0 0 10 0 ∷ []
 

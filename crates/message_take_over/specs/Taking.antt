@@ -18,7 +18,7 @@ use Rattle.message_take_over.specs.declared.Nearest.the-variants.{Is, No
 use Rattle.message_take_over.specs.declared.Joins.{Joins}
 use Rattle.message_take_over.specs.declared.Joins.the-variants.{Open, Entry, Nowhere}
 
--- 01's number for each answer
+-- The rules' number for each answer
 unfoldable pub numberOfTaken : Taken → ℕ
 numberOfTaken Made = 0
 numberOfTaken NoMessage = 27

@@ -36,7 +36,7 @@ use Rattle.promise_standard.specs.EncodedHeader.{holds-without, under-he
 abbrev pub Apart : Map → Map → Type 0
 Apart a b = (tag : ℕ) → holds tag a ≡ true → holds tag b ≡ false
 
--- what encoding asks for: a message of module 2, and not "a header without 8 or 35"
+-- what encoding asks for: a message of RULES.md, Field maps, and not "a header without 8 or 35"
 pub record Complete (m : Message) : Type 0 where
   pub formed : Formed m
   pub begin-string : holds 8 (m .header) ≡ true

@@ -26,7 +26,7 @@ pub data ReadsAs (message : List ℕ) : Fields → List Told → Fields → Type
   no-field : {fields : Fields} → ReadsAs message fields [] fields
   one-field : {f : Field} {t : ℕ} {v : List ℕ} {rest last : Fields} {ts : List Told} → f .tag ≡ t → valueOf message f ≡ v → ReadsAs message rest ts last → ReadsAs message (field f rest) (told t v ∷ ts) last
 
--- tags that 01 reads, and no delimiter in a value
+-- tags that the rules read, and no delimiter in a value
 pub data Readable : List Told → Type 0 where
   none : Readable []
   also : {t : ℕ} {v : List ℕ} {ts : List Told} → t ≤ 4294967295 → All NotDelimiter v → Readable ts → Readable (told t v ∷ ts)

@@ -1,4 +1,4 @@
-// P1 to P11 of 01 and the lines behind them.
+// P1 to P11 and the lines behind them.
 use crate::spelling;
 use crate::telling;
 use crate::writing;

@@ -65,7 +65,7 @@ the body's marks are not checked: 35=K|58=x|
     );
 }
 
-// The messages that the cases name, behind the dictionary of 01's examples.
+// The messages that the cases name, behind the dictionary of the rules' examples.
 fn messages(out: &mut [u8], at: usize) -> usize {
     let a = spelling::spell(
         out,

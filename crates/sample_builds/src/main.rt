@@ -1,5 +1,5 @@
 // sample_builds: builds messages and writes a line for each: the answer's number, how many records are shown, the two values, what became
-// of the lent words behind the shown records, and the records as part/depth/entry/tag/value. The lines of `stdout` were written from 01.
+// of the lent words behind the shown records, and the records as part/depth/entry/tag/value. The lines of `stdout` were written from the rules.
 mod answers;
 mod examples;
 mod garbled;

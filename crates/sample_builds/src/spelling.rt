@@ -140,7 +140,7 @@ pub fn repeat(out: &mut [u8], at: usize, text: &[u8], count: u32) -> usize {
     next
 }
 
-// The dictionary of 01's examples.
+// The dictionary of the rules' examples.
 pub fn example(out: &mut [u8]) -> usize {
     spell(
         out,

@@ -1,8 +1,8 @@
 // Builds a message and writes a line about the answer.
 use crate::writing;
+use build_answers::Answer;
 use build_integrity::Config;
 use build_integrity::GarbledReason;
-use build_answers::Answer;
 use build_records::Record;
 use field_tagvalue::Found;
 ghost use Prim.Native.Nat.{_≤_};
@@ -32,7 +32,7 @@ fn number_of_reason(reason: GarbledReason) -> u32 {
     }
 }
 
-// 01's number of an answer.
+// The rules' number of an answer.
 fn number_of(answer: Answer) -> u32 {
     match answer {
         Answer::Valid => 0,
@@ -50,7 +50,7 @@ fn number_of(answer: Answer) -> u32 {
     }
 }
 
-// The first value that 01 has an answer return, or 0.
+// The first value that the rules have an answer return, or 0.
 fn first_value(answer: Answer) -> u64 {
     match answer {
         Answer::InvalidField(tag) => wide(tag),
@@ -72,7 +72,7 @@ fn second_value(answer: Answer) -> u64 {
     }
 }
 
-// A byte as 01 writes it: `|` for 0x01, and `_` for a zero.
+// A byte as the rules write it: `|` for 0x01, and `_` for a zero.
 fn show_byte(byte: u8) {
     if byte == 1 {
         say(b"|");

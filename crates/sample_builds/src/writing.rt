@@ -1,4 +1,4 @@
-// Writes messages. A text stands as in 01, with `|` for the separator.
+// Writes messages. A text stands as in the rules, with `|` for the separator.
 use field_tagvalue::Written;
 
 pub fn put(out: &mut [u8], at: usize, byte: u8) -> usize {

@@ -1,5 +1,5 @@
-// The hunting framer's samples: what it answers to the streams and the call orders that document 01 tells of. `stdout` holds the lines that
-// must come out, written from 01 by hand.
+// The hunting framer's samples: what it answers to the streams and the call orders that the rules tell of. `stdout` holds the lines that
+// must come out, written from the rules by hand.
 
 // A line starts with what was called and the answer's number.
 fn answered(call: &[u8], answer: frame_hunter_rules::Answer) {
@@ -62,7 +62,7 @@ fn take(
     taken(call, frame_hunter::take(state, store, output))
 }
 
-// The first 26 bytes of an output, as long as P1, on a line; a separator is shown as 01 shows it.
+// The first 26 bytes of an output, as long as P1, on a line; a separator is shown as the rules show it.
 fn frame(output: &[u8; 8192]) {
     let mut i: usize = 0;
     while i < 26 {
@@ -160,7 +160,12 @@ fn cuts(store: &mut [u8; 16384], output: &mut [u8; 8192], stream: &[u8]) {
 // A place that waits holds back the whole frame behind it; after the end it is dropped, and the frame is handed out.
 fn waiting(store: &mut [u8; 16384], output: &mut [u8; 8192]) {
     io::write_all(1, b"waiting\n");
-    let s = push(b"push ", frame_hunter::reset(), store, b"8=FIX.4.4\x019=0003");
+    let s = push(
+        b"push ",
+        frame_hunter::reset(),
+        store,
+        b"8=FIX.4.4\x019=0003",
+    );
     let s = take(b"take ", s, store, output);
     let s = push(b"push ", s, store, b"0\x0135=");
     let s = take(b"take ", s, store, output);
@@ -196,7 +201,12 @@ fn sizes(store: &mut [u8; 16384], output: &mut [u8; 8192]) {
     io::write_all(1, b"sizes\n");
     push(b"push 8193 ", frame_hunter::reset(), store, &chunk[..8193]);
     push(b"push 16385 ", frame_hunter::reset(), store, &chunk);
-    let full = push(b"push 16384 ", frame_hunter::reset(), store, &chunk[..16384]);
+    let full = push(
+        b"push 16384 ",
+        frame_hunter::reset(),
+        store,
+        &chunk[..16384],
+    );
     push(b"push none ", full, store, b"");
     let full = push(b"push one ", full, store, b"x");
     let empty = take(b"take ", full, store, output);
@@ -214,7 +224,10 @@ fn orders(store: &mut [u8; 16384], output: &mut [u8; 8192]) {
 }
 
 fn take_short(store: &mut [u8; 16384], output: &mut [u8; 8191]) {
-    taken(b"take 8191 ", frame_hunter::take(frame_hunter::reset(), store, output));
+    taken(
+        b"take 8191 ",
+        frame_hunter::take(frame_hunter::reset(), store, output),
+    );
 }
 
 fn take_unfit(store: &mut [u8; 16383], output: &mut [u8; 8192]) {

@@ -1,4 +1,4 @@
-// Builds messages with the dictionary of 01's examples, and takes over what was answered.
+// Builds messages with the dictionary of the rules' examples, and takes over what was answered.
 use crate::reading;
 use crate::showing;
 use build_integrity::Config;
@@ -31,7 +31,7 @@ fn byte_of(character: u8) -> u8 {
     character
 }
 
-// A text as 01 writes it, with `|` for 0x01.
+// A text as the rules write it, with `|` for 0x01.
 fn spell(out: &mut [u8], text: &[u8]) {
     let mut i: usize = 0;
     while i < text.len() {

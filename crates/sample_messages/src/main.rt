@@ -1,5 +1,5 @@
 // sample_messages: makes, changes and encodes messages by calls, and writes a line for each script of calls: the numbers that they answered,
-// the messages that they left and what was encoded. The lines of `stdout` were written from 01.
+// the messages that they left and what was encoded. The lines of `stdout` were written from the rules.
 mod building;
 mod calls;
 mod changes;

@@ -5,7 +5,13 @@ fn taken(name: &[u8], records: &[u32], count: usize) {
     let mut words = [0u32; 8205];
     let mut values = [0u8; 8192];
     message::empty(&mut words, &mut values);
-    let taken = message_take_over::take_over(records, count, b"ABCDEFGHIJ", &mut words, &mut values);
+    let taken = message_take_over::take_over(
+        records,
+        count,
+        b"ABCDEFGHIJ",
+        &mut words,
+        &mut values,
+    );
     showing::say(name);
     showing::answer(showing::number_of_taken(taken));
     showing::message(&words, &values);

@@ -1,4 +1,4 @@
-// 27: what is lent is no message that module 2 allows. Each script stores, removes and encodes.
+// 27: what is lent is no message that RULES.md, Field maps, allows. Each script stores, removes and encodes.
 use crate::lines;
 
 fn rows() {

@@ -1,9 +1,9 @@
 // Writes answers, messages and encodings.
 use crate::laying;
 use crate::reading;
+use encode_rules::Encoding;
 use message_rules::Change;
 use message_take_over::Taken;
-use encode_rules::Encoding;
 
 pub fn say(text: &[u8]) {
     io::write_all(1, text);
@@ -18,7 +18,7 @@ pub fn answer(n: u32) {
     decimal(n);
 }
 
-// 01's numbers.
+// The rules' numbers.
 pub fn number_of_change(change: Change) -> u32 {
     match change {
         Change::Made => 0,
@@ -48,7 +48,7 @@ pub fn number_of_encoding(encoding: Encoding) -> u32 {
     }
 }
 
-// A byte as 01 writes it: `|` for 0x01.
+// A byte as the rules write it: `|` for 0x01.
 fn byte(byte: u8) {
     if byte == 1 {
         say(b"|");

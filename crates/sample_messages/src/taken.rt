@@ -1,4 +1,4 @@
-// What builds of 01's examples and others answered, taken over and encoded.
+// What builds of the rules' examples and others answered, taken over and encoded.
 use crate::lines;
 
 pub fn run() {

@@ -2,8 +2,8 @@
 use crate::encoded;
 use crate::reading;
 use crate::saying;
-use build_integrity::Config;
 use build_answers::Answer;
+use build_integrity::Config;
 use build_records::Record;
 
 // Keeps a dictionary and checks it; its size.

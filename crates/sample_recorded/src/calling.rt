@@ -6,7 +6,7 @@ use crate::saying;
 use message_rules::Change;
 use message_rules::Part;
 
-// 01's numbers.
+// The rules' numbers.
 pub fn number_of(change: Change) -> u32 {
     match change {
         Change::Made => 0,

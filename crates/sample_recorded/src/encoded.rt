@@ -5,7 +5,7 @@ use encode_rules::Encoding;
 ghost use mathlib.Core.Path.{_≡_};
 ghost use Prim.Native.Nat.{_<_};
 
-// 01's numbers.
+// The rules' numbers.
 fn number_of(encoding: Encoding) -> u32 {
     match encoding {
         Encoding::Written(_) => 0,

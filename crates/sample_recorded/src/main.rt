@@ -1,5 +1,5 @@
 // sample_recorded: answers the recorded requests on standard input, one a line, in the lines of the comparison (oracle/README.md). `stdout` holds what
-// the Rust answered to them; where its hash order decides, 01's one answer, which is among those that the Rust gave.
+// the Rust answered to them; where its hash order decides, the rules' one answer, which is among those that the Rust gave.
 mod building;
 mod calling;
 mod drafts;

@@ -4,10 +4,10 @@ mod sample;
 mod showing;
 
 use build_integrity::Config;
-use message_rules::Part;
+use encode_rules::Encoding;
 use field_tagvalue::Cursor;
 use field_tagvalue::FieldRead;
-use encode_rules::Encoding;
+use message_rules::Part;
 
 const SEPARATOR: u8 = 1;
 
@@ -61,7 +61,10 @@ fn build(frame: &[u8], words: &mut [u32], values: &mut [u8]) {
     let built = builder::build(frame, config, &sample::DICTIONARY, 1024, &mut records);
     let answer = built.answer;
     let count = built.records;
-    showing::step(b"3. The build answers", build_answers::number_of(answer) as usize);
+    showing::step(
+        b"3. The build answers",
+        build_answers::number_of(answer) as usize,
+    );
     showing::step(b". Fields read:", count_fields(frame));
     showing::step(b", fields held:", count);
     showing::say(b"\n");

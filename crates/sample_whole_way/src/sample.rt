@@ -1,4 +1,4 @@
-// The sample: the message P5 of 01 twice, `6?0` standing in the first for its `600`, and the dictionary that it is read with.
+// The sample: the message P5 twice, `6?0` standing in the first for its `600`, and the dictionary that it is read with.
 
 pub const STREAM: [u8; 92] = *b"\
 8=FIX.4.4\x019=24\x0135=D\x0138=6?0\x0158=x\x0138=800\x0110=139\x01\

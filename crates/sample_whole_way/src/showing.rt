@@ -27,7 +27,7 @@ fn from(bytes: &[u8], place: usize) -> &[u8] {
     &bytes[place..]
 }
 
-// A byte as 01 writes it: `|` for 0x01.
+// A byte as the rules write it: `|` for 0x01.
 fn byte(byte: u8) {
     if byte == 1 {
         say(b"|");
