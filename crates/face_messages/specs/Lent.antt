@@ -24,8 +24,8 @@ unfoldable pub fieldOf : Record → FieldRecord
 fieldOf r = record { part = r .part % 2 ^ 8; depth = r .depth % 2 ^ 8; entry = r .number % 2 ^ 16; tag = r .tag; place = r .place % 2 ^ 16; length = r .length % 2 ^ 16 }
 
 -- record i, where so many are shown
-unfoldable pub fieldAt : List ℕ → ℕ → ℕ → FieldRecord
-fieldAt words shown i = pick (leb shown i) blankField (fieldOf (recordAt i (recordsOf words)))
+unfoldable pub fieldRecordAt : List ℕ → ℕ → ℕ → FieldRecord
+fieldRecordAt words shown i = pick (leb shown i) blankField (fieldOf (recordAt i (recordsOf words)))
 
 -- f 0, f 1, .., f (m - 1)
 unfoldable pub table : {A : Type 0} → (ℕ → A) → ℕ → List A
@@ -42,7 +42,7 @@ toldOf built = told (built .records) (valuesOf (built .answer))
 
 -- the records that words show, over so many of the lent ones; the rest of them stay
 unfoldable pub filled : List ℕ → ℕ → ℕ → List FieldRecord → List FieldRecord
-filled words shown written lent = table (fieldAt words shown) written ++ drop written lent
+filled words shown written lent = table (fieldRecordAt words shown) written ++ drop written lent
 
 -- the caller's records after a build
 unfoldable pub recordsLent : BuildOutcome → List FieldRecord → List FieldRecord

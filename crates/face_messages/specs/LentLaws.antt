@@ -16,16 +16,16 @@ use Rattle.builder.specs.Build.{BuildOutcome, untouched, shown, buildOf}
 use Rattle.face_messages.specs.declared.FieldRecord.{FieldRecord}
 use Rattle.face_messages.specs.declared.Shown.{Shown}
 use Rattle.build_config.specs.Settings.{configOf}
-use Rattle.face_messages.specs.Lent.{blankField, fieldOf, fieldAt, shownOf, toldOf, filled, recordsLent, builtFrom}
+use Rattle.face_messages.specs.Lent.{blankField, fieldOf, fieldRecordAt, shownOf, toldOf, filled, recordsLent, builtFrom}
 
-pub field-past : (words : List ℕ) (shown i : ℕ) → shown ≤ i → blankField ≡ fieldAt words shown i
-unfolding fieldAt
+pub field-past : (words : List ℕ) (shown i : ℕ) → shown ≤ i → blankField ≡ fieldRecordAt words shown i
+unfolding fieldRecordAt
 field-past words shown i h = rw (le-leb shown i h) refl
 
 pub field-shown : (words : List ℕ) (shown i : ℕ) (r : Record) (a b c d e : ℕ) → i < shown → r ≡ recordAt i (recordsOf words)
     → a ≡ r .part % 2 ^ 8 → b ≡ r .depth % 2 ^ 8 → c ≡ r .number % 2 ^ 16 → d ≡ r .place % 2 ^ 16 → e ≡ r .length % 2 ^ 16
-    → _≡_ {A = FieldRecord} (record { part = a; depth = b; entry = c; tag = r .tag; place = d; length = e }) (fieldAt words shown i)
-unfolding fieldAt fieldOf
+    → _≡_ {A = FieldRecord} (record { part = a; depth = b; entry = c; tag = r .tag; place = d; length = e }) (fieldRecordAt words shown i)
+unfolding fieldRecordAt fieldOf
 field-shown words shown i r a b c d e h eq ea eb ec ed ee = rw (lt-leb shown i h, ea, eb, ec, ed, ee, eq) refl
 
 -- a build writes over no more records than are lent

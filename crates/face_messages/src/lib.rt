@@ -18,7 +18,7 @@ ghost use Rattle.message_rules.specs.LookUps.{numberOfValue, numberOfMap};
 ghost use Rattle.builder.specs.Build.{buildOf};
 ghost use Rattle.build_config.specs.Settings.{configOf};
 ghost use Rattle.face_messages.specs.Told.{told, partNumbered, lengthOfEncoding, toldMap, toldValue, takingNumber, takenWords, takenValues};
-ghost use Rattle.face_messages.specs.Lent.{fieldAt, shownOf, toldOf, recordOfLent, readCount};
+ghost use Rattle.face_messages.specs.Lent.{fieldRecordAt, shownOf, toldOf, recordOfLent, readCount};
 
 // A record as it is lent: twelve bytes. Depth and entry are 0 outside groups, else they start from 1.
 #[repr(C)]
@@ -70,7 +70,7 @@ pub fn tell(out: &mut [u32; 4], records: usize, first: usize, second: usize)
 
 // Record i of the words, of which so many are shown; past them there are only blank ones.
 pub fn field_at(words: &[u32; build_records::WORDS], shown: usize, i: usize) -> FieldRecord
-    ensures { λ r. ⌜ r ≡ fieldAt (now (words .entry)) shown i ⌝ }
+    ensures { λ r. ⌜ r ≡ fieldRecordAt (now (words .entry)) shown i ⌝ }
 {
     if shown <= i {
         return FieldRecord {

@@ -7,52 +7,54 @@ use borrow.Fn.Kinds.{Out}
 use Rattle.promise_no_freedom.proofs.Schema.{same, NoFreedom}
 use Rattle.builder.specs.Build.{BuildOutcome, builtTold}
 use Rattle.builder.specs.declared.Built.{Built}
-use Rattle.field_tagvalue.proofs.find.Reads as of-tagvalue-find
-use Rattle.field_tagvalue.proofs.find.Kinds as in-tagvalue-find
-use Rattle.field_tagvalue.proofs.number_of.Reads as of-tagvalue-number-of
-use Rattle.field_tagvalue.proofs.number_of.Kinds as in-tagvalue-number-of
-use Rattle.field_tagvalue.proofs.tag_of.Reads as of-tagvalue-tag-of
-use Rattle.field_tagvalue.proofs.tag_of.Kinds as in-tagvalue-tag-of
-use Rattle.field_tagvalue.proofs.checksum_of.Reads as of-tagvalue-checksum-of
-use Rattle.field_tagvalue.proofs.checksum_of.Kinds as in-tagvalue-checksum-of
-use Rattle.field_tagvalue.proofs.sum_of.Reads as of-tagvalue-sum-of
-use Rattle.field_tagvalue.proofs.sum_of.Kinds as in-tagvalue-sum-of
-use Rattle.field_tagvalue.proofs.checksum_digits.Reads as of-tagvalue-checksum-digits
-use Rattle.field_tagvalue.proofs.checksum_digits.Kinds as in-tagvalue-checksum-digits
-use Rattle.field_tagvalue.proofs.digit_count.Reads as of-tagvalue-digit-count
-use Rattle.field_tagvalue.proofs.digit_count.Kinds as in-tagvalue-digit-count
-use Rattle.field_tagvalue.proofs.write_number.Reads as of-tagvalue-write-number
-use Rattle.field_tagvalue.proofs.write_number.Kinds as in-tagvalue-write-number
-use Rattle.field_tagvalue.proofs.Cursor.next_field.Reads as of-tagvalue-next-field
-use Rattle.field_tagvalue.proofs.Cursor.next_field.Kinds as in-tagvalue-next-field
-use Rattle.field_tagvalue.proofs.value_of.Reads as of-tagvalue-value-of
-use Rattle.field_tagvalue.proofs.value_of.Kinds as in-tagvalue-value-of
-use Rattle.field_tagvalue.proofs.is_refused_separator.Reads as of-tagvalue-is-refused-separator
-use Rattle.field_tagvalue.proofs.is_refused_separator.Kinds as in-tagvalue-is-refused-separator
-use Rattle.build_integrity.proofs.verify.Reads as of-integrity-verify
-use Rattle.build_integrity.proofs.verify.Kinds as in-integrity-verify
-use Rattle.dictionary_check.proofs.check.Reads as of-flat-check
-use Rattle.dictionary_check.proofs.check.Kinds as in-flat-check
-use Rattle.dictionary_check.proofs.number_of.Reads as of-flat-number-of
-use Rattle.dictionary_check.proofs.number_of.Kinds as in-flat-number-of
-use Rattle.dictionary_check.proofs.value_of.Reads as of-flat-value-of
-use Rattle.dictionary_check.proofs.value_of.Kinds as in-flat-value-of
-use Rattle.dictionary_layout.proofs.position_of.Reads as of-layout-position-of
-use Rattle.dictionary_layout.proofs.position_of.Kinds as in-layout-position-of
-use Rattle.dictionary_layout.proofs.group_of.Reads as of-layout-group-of
-use Rattle.dictionary_layout.proofs.group_of.Kinds as in-layout-group-of
-use Rattle.dictionary_layout.proofs.delimiter.Reads as of-layout-delimiter
-use Rattle.dictionary_layout.proofs.delimiter.Kinds as in-layout-delimiter
-use Rattle.dictionary_layout.proofs.next_required.Reads as of-layout-next-required
-use Rattle.dictionary_layout.proofs.next_required.Kinds as in-layout-next-required
-use Rattle.dictionary_layout.proofs.holds.Reads as of-layout-holds
-use Rattle.dictionary_layout.proofs.holds.Kinds as in-layout-holds
+use Rattle.field_tagvalue.proofs.find.Reads as of-field-tagvalue-find
+use Rattle.field_tagvalue.proofs.find.Kinds as in-field-tagvalue-find
+use Rattle.field_tagvalue.proofs.number_of.Reads as of-field-tagvalue-number-of
+use Rattle.field_tagvalue.proofs.number_of.Kinds as in-field-tagvalue-number-of
+use Rattle.field_tagvalue.proofs.tag_of.Reads as of-field-tagvalue-tag-of
+use Rattle.field_tagvalue.proofs.tag_of.Kinds as in-field-tagvalue-tag-of
+use Rattle.field_tagvalue.proofs.checksum_of.Reads as of-field-tagvalue-checksum-of
+use Rattle.field_tagvalue.proofs.checksum_of.Kinds as in-field-tagvalue-checksum-of
+use Rattle.field_tagvalue.proofs.sum_of.Reads as of-field-tagvalue-sum-of
+use Rattle.field_tagvalue.proofs.sum_of.Kinds as in-field-tagvalue-sum-of
+use Rattle.field_tagvalue.proofs.checksum_digits.Reads as of-field-tagvalue-checksum-digits
+use Rattle.field_tagvalue.proofs.checksum_digits.Kinds as in-field-tagvalue-checksum-digits
+use Rattle.field_tagvalue.proofs.digit_count.Reads as of-field-tagvalue-digit-count
+use Rattle.field_tagvalue.proofs.digit_count.Kinds as in-field-tagvalue-digit-count
+use Rattle.field_tagvalue.proofs.write_number.Reads as of-field-tagvalue-write-number
+use Rattle.field_tagvalue.proofs.write_number.Kinds as in-field-tagvalue-write-number
+use Rattle.field_tagvalue.proofs.Cursor.next_field.Reads as of-field-tagvalue-next-field
+use Rattle.field_tagvalue.proofs.Cursor.next_field.Kinds as in-field-tagvalue-next-field
+use Rattle.field_tagvalue.proofs.value_of.Reads as of-field-tagvalue-value-of
+use Rattle.field_tagvalue.proofs.value_of.Kinds as in-field-tagvalue-value-of
+use Rattle.field_tagvalue.proofs.is_refused_separator.Reads as of-field-tagvalue-is-refused-separator
+use Rattle.field_tagvalue.proofs.is_refused_separator.Kinds as in-field-tagvalue-is-refused-separator
+use Rattle.build_config.proofs.config_of.Reads as of-build-config-config-of
+use Rattle.build_config.proofs.config_of.Kinds as in-build-config-config-of
+use Rattle.build_integrity.proofs.verify.Reads as of-build-integrity-verify
+use Rattle.build_integrity.proofs.verify.Kinds as in-build-integrity-verify
+use Rattle.dictionary_check.proofs.check.Reads as of-dictionary-check-check
+use Rattle.dictionary_check.proofs.check.Kinds as in-dictionary-check-check
+use Rattle.dictionary_check.proofs.number_of.Reads as of-dictionary-check-number-of
+use Rattle.dictionary_check.proofs.number_of.Kinds as in-dictionary-check-number-of
+use Rattle.dictionary_check.proofs.value_of.Reads as of-dictionary-check-value-of
+use Rattle.dictionary_check.proofs.value_of.Kinds as in-dictionary-check-value-of
+use Rattle.dictionary_layout.proofs.position_of.Reads as of-dictionary-layout-position-of
+use Rattle.dictionary_layout.proofs.position_of.Kinds as in-dictionary-layout-position-of
+use Rattle.dictionary_layout.proofs.group_of.Reads as of-dictionary-layout-group-of
+use Rattle.dictionary_layout.proofs.group_of.Kinds as in-dictionary-layout-group-of
+use Rattle.dictionary_layout.proofs.delimiter.Reads as of-dictionary-layout-delimiter
+use Rattle.dictionary_layout.proofs.delimiter.Kinds as in-dictionary-layout-delimiter
+use Rattle.dictionary_layout.proofs.next_required.Reads as of-dictionary-layout-next-required
+use Rattle.dictionary_layout.proofs.next_required.Kinds as in-dictionary-layout-next-required
+use Rattle.dictionary_layout.proofs.holds.Reads as of-dictionary-layout-holds
+use Rattle.dictionary_layout.proofs.holds.Kinds as in-dictionary-layout-holds
 use Rattle.builder.proofs.build.Reads as of-builder-build
 use Rattle.builder.proofs.build.Kinds as in-builder-build
-use Rattle.build_answers.proofs.number_of.Reads as of-parts-number-of
-use Rattle.build_answers.proofs.number_of.Kinds as in-parts-number-of
-use Rattle.build_answers.proofs.values_of.Reads as of-parts-values-of
-use Rattle.build_answers.proofs.values_of.Kinds as in-parts-values-of
+use Rattle.build_answers.proofs.number_of.Reads as of-build-answers-number-of
+use Rattle.build_answers.proofs.number_of.Kinds as in-build-answers-number-of
+use Rattle.build_answers.proofs.values_of.Reads as of-build-answers-values-of
+use Rattle.build_answers.proofs.values_of.Kinds as in-build-answers-values-of
 use Rattle.message.proofs.empty.Reads as of-message-empty
 use Rattle.message.proofs.empty.Kinds as in-message-empty
 use Rattle.message.proofs.new.Reads as of-message-new
@@ -61,123 +63,126 @@ use Rattle.message.proofs.store.Reads as of-message-store
 use Rattle.message.proofs.store.Kinds as in-message-store
 use Rattle.message.proofs.remove.Reads as of-message-remove
 use Rattle.message.proofs.remove.Kinds as in-message-remove
-use Rattle.message_look_ups.proofs.part_map.Reads as of-look-ups-part-map
-use Rattle.message_look_ups.proofs.part_map.Kinds as in-look-ups-part-map
-use Rattle.message_look_ups.proofs.field_in.Reads as of-look-ups-field-in
-use Rattle.message_look_ups.proofs.field_in.Kinds as in-look-ups-field-in
-use Rattle.message_look_ups.proofs.entry_in.Reads as of-look-ups-entry-in
-use Rattle.message_look_ups.proofs.entry_in.Kinds as in-look-ups-entry-in
-use Rattle.message_runs.proofs.empty.Reads as of-runs-empty
-use Rattle.message_runs.proofs.empty.Kinds as in-runs-empty
-use Rattle.message_runs.proofs.add_entry.Reads as of-runs-add-entry
-use Rattle.message_runs.proofs.add_entry.Kinds as in-runs-add-entry
-use Rattle.message_runs.proofs.store_last.Reads as of-runs-store-last
-use Rattle.message_runs.proofs.store_last.Kinds as in-runs-store-last
-use Rattle.message_runs.proofs.hang_last.Reads as of-runs-hang-last
-use Rattle.message_runs.proofs.hang_last.Kinds as in-runs-hang-last
-use Rattle.message_runs.proofs.hang.Reads as of-runs-hang
-use Rattle.message_runs.proofs.hang.Kinds as in-runs-hang
-use Rattle.message_take_over.proofs.take_over.Reads as of-taking-take-over
-use Rattle.message_take_over.proofs.take_over.Kinds as in-taking-take-over
-use Rattle.encoder.proofs.encode.Reads as of-encoding-encode
-use Rattle.encoder.proofs.encode.Kinds as in-encoding-encode
-use Rattle.frame_parser.proofs.push.Reads as of-parser-push
-use Rattle.frame_parser.proofs.push.Kinds as in-parser-push
-use Rattle.frame_parser.proofs.end.Reads as of-parser-end
-use Rattle.frame_parser.proofs.end.Kinds as in-parser-end
-use Rattle.frame_parser.proofs.take.Reads as of-parser-take
-use Rattle.frame_parser.proofs.take.Kinds as in-parser-take
-use Rattle.frame_parser.proofs.reset.Reads as of-parser-reset
-use Rattle.frame_parser.proofs.reset.Kinds as in-parser-reset
-use Rattle.frame_parser.proofs.number.Reads as of-parser-number
-use Rattle.frame_parser.proofs.number.Kinds as in-parser-number
-use Rattle.frame_parser.proofs.length_of.Reads as of-parser-length-of
-use Rattle.frame_parser.proofs.length_of.Kinds as in-parser-length-of
-use Rattle.frame_verdict.proofs.verdict_of.Reads as of-verdict-verdict-of
-use Rattle.frame_verdict.proofs.verdict_of.Kinds as in-verdict-verdict-of
-use Rattle.frame_hunter.proofs.push.Reads as of-hunter-push
-use Rattle.frame_hunter.proofs.push.Kinds as in-hunter-push
-use Rattle.frame_hunter.proofs.end.Reads as of-hunter-end
-use Rattle.frame_hunter.proofs.end.Kinds as in-hunter-end
-use Rattle.frame_hunter.proofs.take.Reads as of-hunter-take
-use Rattle.frame_hunter.proofs.take.Kinds as in-hunter-take
-use Rattle.frame_hunter.proofs.reset.Reads as of-hunter-reset
-use Rattle.frame_hunter.proofs.reset.Kinds as in-hunter-reset
-use Rattle.frame_hunter.proofs.number.Reads as of-hunter-number
-use Rattle.frame_hunter.proofs.number.Kinds as in-hunter-number
+use Rattle.message_look_ups.proofs.part_map.Reads as of-message-look-ups-part-map
+use Rattle.message_look_ups.proofs.part_map.Kinds as in-message-look-ups-part-map
+use Rattle.message_look_ups.proofs.field_in.Reads as of-message-look-ups-field-in
+use Rattle.message_look_ups.proofs.field_in.Kinds as in-message-look-ups-field-in
+use Rattle.message_look_ups.proofs.entry_in.Reads as of-message-look-ups-entry-in
+use Rattle.message_look_ups.proofs.entry_in.Kinds as in-message-look-ups-entry-in
+use Rattle.message_runs.proofs.empty.Reads as of-message-runs-empty
+use Rattle.message_runs.proofs.empty.Kinds as in-message-runs-empty
+use Rattle.message_runs.proofs.add_entry.Reads as of-message-runs-add-entry
+use Rattle.message_runs.proofs.add_entry.Kinds as in-message-runs-add-entry
+use Rattle.message_runs.proofs.store_last.Reads as of-message-runs-store-last
+use Rattle.message_runs.proofs.store_last.Kinds as in-message-runs-store-last
+use Rattle.message_runs.proofs.hang_last.Reads as of-message-runs-hang-last
+use Rattle.message_runs.proofs.hang_last.Kinds as in-message-runs-hang-last
+use Rattle.message_runs.proofs.hang.Reads as of-message-runs-hang
+use Rattle.message_runs.proofs.hang.Kinds as in-message-runs-hang
+use Rattle.message_take_over.proofs.take_over.Reads as of-message-take-over-take-over
+use Rattle.message_take_over.proofs.take_over.Kinds as in-message-take-over-take-over
+use Rattle.encoder.proofs.encode.Reads as of-encoder-encode
+use Rattle.encoder.proofs.encode.Kinds as in-encoder-encode
+use Rattle.frame_parser.proofs.push.Reads as of-frame-parser-push
+use Rattle.frame_parser.proofs.push.Kinds as in-frame-parser-push
+use Rattle.frame_parser.proofs.end.Reads as of-frame-parser-end
+use Rattle.frame_parser.proofs.end.Kinds as in-frame-parser-end
+use Rattle.frame_parser.proofs.take.Reads as of-frame-parser-take
+use Rattle.frame_parser.proofs.take.Kinds as in-frame-parser-take
+use Rattle.frame_parser.proofs.reset.Reads as of-frame-parser-reset
+use Rattle.frame_parser.proofs.reset.Kinds as in-frame-parser-reset
+use Rattle.frame_parser.proofs.number.Reads as of-frame-parser-number
+use Rattle.frame_parser.proofs.number.Kinds as in-frame-parser-number
+use Rattle.frame_parser.proofs.length_of.Reads as of-frame-parser-length-of
+use Rattle.frame_parser.proofs.length_of.Kinds as in-frame-parser-length-of
+use Rattle.frame_verdict.proofs.verdict_of.Reads as of-frame-verdict-verdict-of
+use Rattle.frame_verdict.proofs.verdict_of.Kinds as in-frame-verdict-verdict-of
+use Rattle.frame_hunter.proofs.push.Reads as of-frame-hunter-push
+use Rattle.frame_hunter.proofs.push.Kinds as in-frame-hunter-push
+use Rattle.frame_hunter.proofs.end.Reads as of-frame-hunter-end
+use Rattle.frame_hunter.proofs.end.Kinds as in-frame-hunter-end
+use Rattle.frame_hunter.proofs.take.Reads as of-frame-hunter-take
+use Rattle.frame_hunter.proofs.take.Kinds as in-frame-hunter-take
+use Rattle.frame_hunter.proofs.reset.Reads as of-frame-hunter-reset
+use Rattle.frame_hunter.proofs.reset.Kinds as in-frame-hunter-reset
+use Rattle.frame_hunter.proofs.number.Reads as of-frame-hunter-number
+use Rattle.frame_hunter.proofs.number.Kinds as in-frame-hunter-number
 
 -- the code's part of a build's outcome
 abbrev builtOf : BuildOutcome → Built
 builtOf o = record { answer = o .answer; stop = o .stop; records = o .records; written = o .written }
 
-pub tagvalue-find : NoFreedom 1 in-tagvalue-find.ps in-tagvalue-find.r of-tagvalue-find.Post (λ κs x y left other. x ≡ y)
-tagvalue-find κs a x y left other p q = same p q
+pub field-tagvalue-find : NoFreedom 1 in-field-tagvalue-find.ps in-field-tagvalue-find.r of-field-tagvalue-find.Post (λ κs x y left other. x ≡ y)
+field-tagvalue-find κs a x y left other p q = same p q
 
-pub tagvalue-number-of : NoFreedom 1 in-tagvalue-number-of.ps in-tagvalue-number-of.r of-tagvalue-number-of.Post (λ κs x y left other. x ≡ y)
-tagvalue-number-of κs a x y left other p q = same p q
+pub field-tagvalue-number-of : NoFreedom 1 in-field-tagvalue-number-of.ps in-field-tagvalue-number-of.r of-field-tagvalue-number-of.Post (λ κs x y left other. x ≡ y)
+field-tagvalue-number-of κs a x y left other p q = same p q
 
-pub tagvalue-tag-of : NoFreedom 1 in-tagvalue-tag-of.ps in-tagvalue-tag-of.r of-tagvalue-tag-of.Post (λ κs x y left other. x ≡ y)
-tagvalue-tag-of κs a x y left other p q = same p q
+pub field-tagvalue-tag-of : NoFreedom 1 in-field-tagvalue-tag-of.ps in-field-tagvalue-tag-of.r of-field-tagvalue-tag-of.Post (λ κs x y left other. x ≡ y)
+field-tagvalue-tag-of κs a x y left other p q = same p q
 
-pub tagvalue-checksum-of : NoFreedom 1 in-tagvalue-checksum-of.ps in-tagvalue-checksum-of.r of-tagvalue-checksum-of.Post (λ κs x y left other. x ≡ y)
-tagvalue-checksum-of κs a x y left other p q = same p q
+pub field-tagvalue-checksum-of : NoFreedom 1 in-field-tagvalue-checksum-of.ps in-field-tagvalue-checksum-of.r of-field-tagvalue-checksum-of.Post (λ κs x y left other. x ≡ y)
+field-tagvalue-checksum-of κs a x y left other p q = same p q
 
-pub tagvalue-sum-of : NoFreedom 1 in-tagvalue-sum-of.ps in-tagvalue-sum-of.r of-tagvalue-sum-of.Post (λ κs x y left other. x ≡ y)
-tagvalue-sum-of κs a x y left other p q = same p q
+pub field-tagvalue-sum-of : NoFreedom 1 in-field-tagvalue-sum-of.ps in-field-tagvalue-sum-of.r of-field-tagvalue-sum-of.Post (λ κs x y left other. x ≡ y)
+field-tagvalue-sum-of κs a x y left other p q = same p q
 
-pub tagvalue-checksum-digits : NoFreedom 0 in-tagvalue-checksum-digits.ps in-tagvalue-checksum-digits.r of-tagvalue-checksum-digits.Post (λ κs x y left other. x ≡ y)
-tagvalue-checksum-digits κs a x y left other p q = same p q
+pub field-tagvalue-checksum-digits : NoFreedom 0 in-field-tagvalue-checksum-digits.ps in-field-tagvalue-checksum-digits.r of-field-tagvalue-checksum-digits.Post (λ κs x y left other. x ≡ y)
+field-tagvalue-checksum-digits κs a x y left other p q = same p q
 
-pub tagvalue-digit-count : NoFreedom 0 in-tagvalue-digit-count.ps in-tagvalue-digit-count.r of-tagvalue-digit-count.Post (λ κs x y left other. x ≡ y)
-tagvalue-digit-count κs a x y left other p q = same p q
+pub field-tagvalue-digit-count : NoFreedom 0 in-field-tagvalue-digit-count.ps in-field-tagvalue-digit-count.r of-field-tagvalue-digit-count.Post (λ κs x y left other. x ≡ y)
+field-tagvalue-digit-count κs a x y left other p q = same p q
 
-pub tagvalue-write-number : NoFreedom 1 in-tagvalue-write-number.ps in-tagvalue-write-number.r of-tagvalue-write-number.Post (λ κs x y left other. (x ≡ y) × (now (left .0) ≡ now (other .0)))
-tagvalue-write-number κs a x y left other p q = (same (p .0) (q .0), same (p .1) (q .1))
+pub field-tagvalue-write-number : NoFreedom 1 in-field-tagvalue-write-number.ps in-field-tagvalue-write-number.r of-field-tagvalue-write-number.Post (λ κs x y left other. (x ≡ y) × (now (left .0) ≡ now (other .0)))
+field-tagvalue-write-number κs a x y left other p q = (same (p .0) (q .0), same (p .1) (q .1))
 
-pub tagvalue-next-field : NoFreedom 1 in-tagvalue-next-field.ps in-tagvalue-next-field.r of-tagvalue-next-field.Post (λ κs x y left other. x ≡ y)
-tagvalue-next-field κs a x y left other p q = same p q
+pub field-tagvalue-next-field : NoFreedom 1 in-field-tagvalue-next-field.ps in-field-tagvalue-next-field.r of-field-tagvalue-next-field.Post (λ κs x y left other. x ≡ y)
+field-tagvalue-next-field κs a x y left other p q = same p q
 
-pub tagvalue-value-of : NoFreedom 1 in-tagvalue-value-of.ps in-tagvalue-value-of.r of-tagvalue-value-of.Post (λ κs x y left other. now x ≡ now y)
-tagvalue-value-of κs a x y left other p q = same p q
+pub field-tagvalue-value-of : NoFreedom 1 in-field-tagvalue-value-of.ps in-field-tagvalue-value-of.r of-field-tagvalue-value-of.Post (λ κs x y left other. now x ≡ now y)
+field-tagvalue-value-of κs a x y left other p q = same p q
 
-pub tagvalue-is-refused-separator : NoFreedom 0 in-tagvalue-is-refused-separator.ps in-tagvalue-is-refused-separator.r of-tagvalue-is-refused-separator.Post (λ κs x y left other. x ≡ y)
-tagvalue-is-refused-separator κs a x y left other p q = same p q
+pub field-tagvalue-is-refused-separator : NoFreedom 0 in-field-tagvalue-is-refused-separator.ps in-field-tagvalue-is-refused-separator.r of-field-tagvalue-is-refused-separator.Post (λ κs x y left other. x ≡ y)
+field-tagvalue-is-refused-separator κs a x y left other p q = same p q
 
-pub integrity-verify : NoFreedom 1 in-integrity-verify.ps in-integrity-verify.r of-integrity-verify.Post (λ κs x y left other. x ≡ y)
-integrity-verify κs a x y left other p q = same p q
+pub build-config-config-of : NoFreedom 0 in-build-config-config-of.ps in-build-config-config-of.r of-build-config-config-of.Post (λ κs x y left other. x ≡ y)
+build-config-config-of κs a x y left other p q = same p q
 
-pub flat-check : NoFreedom 1 in-flat-check.ps in-flat-check.r of-flat-check.Post (λ κs x y left other. x ≡ y)
-flat-check κs a x y left other p q = same p q
+pub build-integrity-verify : NoFreedom 1 in-build-integrity-verify.ps in-build-integrity-verify.r of-build-integrity-verify.Post (λ κs x y left other. x ≡ y)
+build-integrity-verify κs a x y left other p q = same p q
 
-pub flat-number-of : NoFreedom 0 in-flat-number-of.ps in-flat-number-of.r of-flat-number-of.Post (λ κs x y left other. x ≡ y)
-flat-number-of κs a x y left other p q = same p q
+pub dictionary-check-check : NoFreedom 1 in-dictionary-check-check.ps in-dictionary-check-check.r of-dictionary-check-check.Post (λ κs x y left other. x ≡ y)
+dictionary-check-check κs a x y left other p q = same p q
 
-pub flat-value-of : NoFreedom 0 in-flat-value-of.ps in-flat-value-of.r of-flat-value-of.Post (λ κs x y left other. x ≡ y)
-flat-value-of κs a x y left other p q = same p q
+pub dictionary-check-number-of : NoFreedom 0 in-dictionary-check-number-of.ps in-dictionary-check-number-of.r of-dictionary-check-number-of.Post (λ κs x y left other. x ≡ y)
+dictionary-check-number-of κs a x y left other p q = same p q
 
-pub layout-position-of : NoFreedom 1 in-layout-position-of.ps in-layout-position-of.r of-layout-position-of.Post (λ κs x y left other. x ≡ y)
-layout-position-of κs a x y left other p q = same p q
+pub dictionary-check-value-of : NoFreedom 0 in-dictionary-check-value-of.ps in-dictionary-check-value-of.r of-dictionary-check-value-of.Post (λ κs x y left other. x ≡ y)
+dictionary-check-value-of κs a x y left other p q = same p q
 
-pub layout-group-of : NoFreedom 1 in-layout-group-of.ps in-layout-group-of.r of-layout-group-of.Post (λ κs x y left other. x ≡ y)
-layout-group-of κs a x y left other p q = same p q
+pub dictionary-layout-position-of : NoFreedom 1 in-dictionary-layout-position-of.ps in-dictionary-layout-position-of.r of-dictionary-layout-position-of.Post (λ κs x y left other. x ≡ y)
+dictionary-layout-position-of κs a x y left other p q = same p q
 
-pub layout-delimiter : NoFreedom 1 in-layout-delimiter.ps in-layout-delimiter.r of-layout-delimiter.Post (λ κs x y left other. x ≡ y)
-layout-delimiter κs a x y left other p q = same p q
+pub dictionary-layout-group-of : NoFreedom 1 in-dictionary-layout-group-of.ps in-dictionary-layout-group-of.r of-dictionary-layout-group-of.Post (λ κs x y left other. x ≡ y)
+dictionary-layout-group-of κs a x y left other p q = same p q
 
-pub layout-next-required : NoFreedom 1 in-layout-next-required.ps in-layout-next-required.r of-layout-next-required.Post (λ κs x y left other. x ≡ y)
-layout-next-required κs a x y left other p q = same p q
+pub dictionary-layout-delimiter : NoFreedom 1 in-dictionary-layout-delimiter.ps in-dictionary-layout-delimiter.r of-dictionary-layout-delimiter.Post (λ κs x y left other. x ≡ y)
+dictionary-layout-delimiter κs a x y left other p q = same p q
 
-pub layout-holds : NoFreedom 1 in-layout-holds.ps in-layout-holds.r of-layout-holds.Post (λ κs x y left other. x ≡ y)
-layout-holds κs a x y left other p q = same p q
+pub dictionary-layout-next-required : NoFreedom 1 in-dictionary-layout-next-required.ps in-dictionary-layout-next-required.r of-dictionary-layout-next-required.Post (λ κs x y left other. x ≡ y)
+dictionary-layout-next-required κs a x y left other p q = same p q
+
+pub dictionary-layout-holds : NoFreedom 1 in-dictionary-layout-holds.ps in-dictionary-layout-holds.r of-dictionary-layout-holds.Post (λ κs x y left other. x ≡ y)
+dictionary-layout-holds κs a x y left other p q = same p q
 
 pub builder-build : NoFreedom 3 in-builder-build.ps in-builder-build.r of-builder-build.Post (λ κs x y left other. (x ≡ y) × (now (left .1 .1 .1 .1 .0) ≡ now (other .1 .1 .1 .1 .0)))
 builder-build κs a x y left other p q = let e = same p q in unfold builtTold in (ap builtOf e, ap (λ (o : BuildOutcome). o .words) e)
 
-pub parts-number-of : NoFreedom 0 in-parts-number-of.ps in-parts-number-of.r of-parts-number-of.Post (λ κs x y left other. x ≡ y)
-parts-number-of κs a x y left other p q = same p q
+pub build-answers-number-of : NoFreedom 0 in-build-answers-number-of.ps in-build-answers-number-of.r of-build-answers-number-of.Post (λ κs x y left other. x ≡ y)
+build-answers-number-of κs a x y left other p q = same p q
 
-pub parts-values-of : NoFreedom 0 in-parts-values-of.ps in-parts-values-of.r of-parts-values-of.Post (λ κs x y left other. x ≡ y)
-parts-values-of κs a x y left other p q = ap (λ (v : ℕ × ℕ). record { first = v .0; second = v .1 }) (same p q)
+pub build-answers-values-of : NoFreedom 0 in-build-answers-values-of.ps in-build-answers-values-of.r of-build-answers-values-of.Post (λ κs x y left other. x ≡ y)
+build-answers-values-of κs a x y left other p q = ap (λ (v : ℕ × ℕ). record { first = v .0; second = v .1 }) (same p q)
 
 pub message-empty : NoFreedom 2 in-message-empty.ps in-message-empty.r of-message-empty.Post (λ κs x y left other. (x ≡ y) × (now (left .0) ≡ now (other .0)) × (now (left .1 .0) ≡ now (other .1 .0)))
 message-empty κs a x y left other p q = let e = same p q in (cc, cc, cc)
@@ -191,68 +196,68 @@ message-store κs a x y left other p q = let e = same p q in (cc, cc, cc)
 pub message-remove : NoFreedom 2 in-message-remove.ps in-message-remove.r of-message-remove.Post (λ κs x y left other. (x ≡ y) × (now (left .0) ≡ now (other .0)) × (now (left .1 .0) ≡ now (other .1 .0)))
 message-remove κs a x y left other p q = let e = same p q in (cc, cc, cc)
 
-pub look-ups-part-map : NoFreedom 2 in-look-ups-part-map.ps in-look-ups-part-map.r of-look-ups-part-map.Post (λ κs x y left other. x ≡ y)
-look-ups-part-map κs a x y left other p q = same p q
+pub message-look-ups-part-map : NoFreedom 2 in-message-look-ups-part-map.ps in-message-look-ups-part-map.r of-message-look-ups-part-map.Post (λ κs x y left other. x ≡ y)
+message-look-ups-part-map κs a x y left other p q = same p q
 
-pub look-ups-field-in : NoFreedom 2 in-look-ups-field-in.ps in-look-ups-field-in.r of-look-ups-field-in.Post (λ κs x y left other. x ≡ y)
-look-ups-field-in κs a x y left other p q = same p q
+pub message-look-ups-field-in : NoFreedom 2 in-message-look-ups-field-in.ps in-message-look-ups-field-in.r of-message-look-ups-field-in.Post (λ κs x y left other. x ≡ y)
+message-look-ups-field-in κs a x y left other p q = same p q
 
-pub look-ups-entry-in : NoFreedom 2 in-look-ups-entry-in.ps in-look-ups-entry-in.r of-look-ups-entry-in.Post (λ κs x y left other. x ≡ y)
-look-ups-entry-in κs a x y left other p q = same p q
+pub message-look-ups-entry-in : NoFreedom 2 in-message-look-ups-entry-in.ps in-message-look-ups-entry-in.r of-message-look-ups-entry-in.Post (λ κs x y left other. x ≡ y)
+message-look-ups-entry-in κs a x y left other p q = same p q
 
-pub runs-empty : NoFreedom 2 in-runs-empty.ps in-runs-empty.r of-runs-empty.Post (λ κs x y left other. (x ≡ y) × (now (left .0) ≡ now (other .0)) × (now (left .1 .0) ≡ now (other .1 .0)))
-runs-empty κs a x y left other p q = let e = same p q in (cc, cc, cc)
+pub message-runs-empty : NoFreedom 2 in-message-runs-empty.ps in-message-runs-empty.r of-message-runs-empty.Post (λ κs x y left other. (x ≡ y) × (now (left .0) ≡ now (other .0)) × (now (left .1 .0) ≡ now (other .1 .0)))
+message-runs-empty κs a x y left other p q = let e = same p q in (cc, cc, cc)
 
-pub runs-add-entry : NoFreedom 2 in-runs-add-entry.ps in-runs-add-entry.r of-runs-add-entry.Post (λ κs x y left other. (x ≡ y) × (now (left .0) ≡ now (other .0)) × (now (left .1 .0) ≡ now (other .1 .0)))
-runs-add-entry κs a x y left other p q = let e = same p q in (cc, cc, cc)
+pub message-runs-add-entry : NoFreedom 2 in-message-runs-add-entry.ps in-message-runs-add-entry.r of-message-runs-add-entry.Post (λ κs x y left other. (x ≡ y) × (now (left .0) ≡ now (other .0)) × (now (left .1 .0) ≡ now (other .1 .0)))
+message-runs-add-entry κs a x y left other p q = let e = same p q in (cc, cc, cc)
 
-pub runs-store-last : NoFreedom 3 in-runs-store-last.ps in-runs-store-last.r of-runs-store-last.Post (λ κs x y left other. (x ≡ y) × (now (left .0) ≡ now (other .0)) × (now (left .1 .0) ≡ now (other .1 .0)))
-runs-store-last κs a x y left other p q = let e = same p q in (cc, cc, cc)
+pub message-runs-store-last : NoFreedom 3 in-message-runs-store-last.ps in-message-runs-store-last.r of-message-runs-store-last.Post (λ κs x y left other. (x ≡ y) × (now (left .0) ≡ now (other .0)) × (now (left .1 .0) ≡ now (other .1 .0)))
+message-runs-store-last κs a x y left other p q = let e = same p q in (cc, cc, cc)
 
-pub runs-hang-last : NoFreedom 4 in-runs-hang-last.ps in-runs-hang-last.r of-runs-hang-last.Post (λ κs x y left other. (x ≡ y) × (now (left .0) ≡ now (other .0)) × (now (left .1 .0) ≡ now (other .1 .0)))
-runs-hang-last κs a x y left other p q = let e = same p q in (cc, cc, cc)
+pub message-runs-hang-last : NoFreedom 4 in-message-runs-hang-last.ps in-message-runs-hang-last.r of-message-runs-hang-last.Post (λ κs x y left other. (x ≡ y) × (now (left .0) ≡ now (other .0)) × (now (left .1 .0) ≡ now (other .1 .0)))
+message-runs-hang-last κs a x y left other p q = let e = same p q in (cc, cc, cc)
 
-pub runs-hang : NoFreedom 4 in-runs-hang.ps in-runs-hang.r of-runs-hang.Post (λ κs x y left other. (x ≡ y) × (now (left .0) ≡ now (other .0)) × (now (left .1 .0) ≡ now (other .1 .0)))
-runs-hang κs a x y left other p q = let e = same p q in (cc, cc, cc)
+pub message-runs-hang : NoFreedom 4 in-message-runs-hang.ps in-message-runs-hang.r of-message-runs-hang.Post (λ κs x y left other. (x ≡ y) × (now (left .0) ≡ now (other .0)) × (now (left .1 .0) ≡ now (other .1 .0)))
+message-runs-hang κs a x y left other p q = let e = same p q in (cc, cc, cc)
 
-pub taking-take-over : NoFreedom 4 in-taking-take-over.ps in-taking-take-over.r of-taking-take-over.Post (λ κs x y left other. (x ≡ y) × (now (left .1 .1 .1 .0) ≡ now (other .1 .1 .1 .0)) × (now (left .1 .1 .1 .1 .0) ≡ now (other .1 .1 .1 .1 .0)))
-taking-take-over κs a x y left other p q = let e = same p q in (cc, cc, cc)
+pub message-take-over-take-over : NoFreedom 4 in-message-take-over-take-over.ps in-message-take-over-take-over.r of-message-take-over-take-over.Post (λ κs x y left other. (x ≡ y) × (now (left .1 .1 .1 .0) ≡ now (other .1 .1 .1 .0)) × (now (left .1 .1 .1 .1 .0) ≡ now (other .1 .1 .1 .1 .0)))
+message-take-over-take-over κs a x y left other p q = let e = same p q in (cc, cc, cc)
 
-pub encoding-encode : NoFreedom 3 in-encoding-encode.ps in-encoding-encode.r of-encoding-encode.Post (λ κs x y left other. (x ≡ y) × (now (left .0) ≡ now (other .0)) × (now (left .1 .0) ≡ now (other .1 .0)) × (now (left .1 .1 .0) ≡ now (other .1 .1 .0)))
-encoding-encode κs a x y left other p q = let e = same p q in (cc, cc, cc, cc)
+pub encoder-encode : NoFreedom 3 in-encoder-encode.ps in-encoder-encode.r of-encoder-encode.Post (λ κs x y left other. (x ≡ y) × (now (left .0) ≡ now (other .0)) × (now (left .1 .0) ≡ now (other .1 .0)) × (now (left .1 .1 .0) ≡ now (other .1 .1 .0)))
+encoder-encode κs a x y left other p q = let e = same p q in (cc, cc, cc, cc)
 
-pub parser-push : NoFreedom 2 in-parser-push.ps in-parser-push.r of-parser-push.Post (λ κs x y left other. (x ≡ y) × (now (left .1 .0) ≡ now (other .1 .0)))
-parser-push κs a x y left other p q = (same (p .0) (q .0), same (p .1) (q .1))
+pub frame-parser-push : NoFreedom 2 in-frame-parser-push.ps in-frame-parser-push.r of-frame-parser-push.Post (λ κs x y left other. (x ≡ y) × (now (left .1 .0) ≡ now (other .1 .0)))
+frame-parser-push κs a x y left other p q = (same (p .0) (q .0), same (p .1) (q .1))
 
-pub parser-end : NoFreedom 1 in-parser-end.ps in-parser-end.r of-parser-end.Post (λ κs x y left other. x ≡ y)
-parser-end κs a x y left other p q = same p q
+pub frame-parser-end : NoFreedom 1 in-frame-parser-end.ps in-frame-parser-end.r of-frame-parser-end.Post (λ κs x y left other. x ≡ y)
+frame-parser-end κs a x y left other p q = same p q
 
-pub parser-take : NoFreedom 2 in-parser-take.ps in-parser-take.r of-parser-take.Post (λ κs x y left other. (x ≡ y) × (now (left .1 .0) ≡ now (other .1 .0)) × (now (left .1 .1 .0) ≡ now (other .1 .1 .0)))
-parser-take κs a x y left other p q = (same (p .0) (q .0), same (p .1 .0) (q .1 .0), same (p .1 .1) (q .1 .1))
+pub frame-parser-take : NoFreedom 2 in-frame-parser-take.ps in-frame-parser-take.r of-frame-parser-take.Post (λ κs x y left other. (x ≡ y) × (now (left .1 .0) ≡ now (other .1 .0)) × (now (left .1 .1 .0) ≡ now (other .1 .1 .0)))
+frame-parser-take κs a x y left other p q = (same (p .0) (q .0), same (p .1 .0) (q .1 .0), same (p .1 .1) (q .1 .1))
 
-pub parser-reset : NoFreedom 0 in-parser-reset.ps in-parser-reset.r of-parser-reset.Post (λ κs x y left other. x ≡ y)
-parser-reset κs a x y left other p q = same p q
+pub frame-parser-reset : NoFreedom 0 in-frame-parser-reset.ps in-frame-parser-reset.r of-frame-parser-reset.Post (λ κs x y left other. x ≡ y)
+frame-parser-reset κs a x y left other p q = same p q
 
-pub parser-number : NoFreedom 0 in-parser-number.ps in-parser-number.r of-parser-number.Post (λ κs x y left other. x ≡ y)
-parser-number κs a x y left other p q = same p q
+pub frame-parser-number : NoFreedom 0 in-frame-parser-number.ps in-frame-parser-number.r of-frame-parser-number.Post (λ κs x y left other. x ≡ y)
+frame-parser-number κs a x y left other p q = same p q
 
-pub parser-length-of : NoFreedom 0 in-parser-length-of.ps in-parser-length-of.r of-parser-length-of.Post (λ κs x y left other. x ≡ y)
-parser-length-of κs a x y left other p q = same p q
+pub frame-parser-length-of : NoFreedom 0 in-frame-parser-length-of.ps in-frame-parser-length-of.r of-frame-parser-length-of.Post (λ κs x y left other. x ≡ y)
+frame-parser-length-of κs a x y left other p q = same p q
 
-pub verdict-verdict-of : NoFreedom 1 in-verdict-verdict-of.ps in-verdict-verdict-of.r of-verdict-verdict-of.Post (λ κs x y left other. x ≡ y)
-verdict-verdict-of κs a x y left other p q = same p q
+pub frame-verdict-verdict-of : NoFreedom 1 in-frame-verdict-verdict-of.ps in-frame-verdict-verdict-of.r of-frame-verdict-verdict-of.Post (λ κs x y left other. x ≡ y)
+frame-verdict-verdict-of κs a x y left other p q = same p q
 
-pub hunter-push : NoFreedom 2 in-hunter-push.ps in-hunter-push.r of-hunter-push.Post (λ κs x y left other. (x ≡ y) × (now (left .1 .0) ≡ now (other .1 .0)))
-hunter-push κs a x y left other p q = (same (p .reply-is) (q .reply-is), same (p .store-is) (q .store-is))
+pub frame-hunter-push : NoFreedom 2 in-frame-hunter-push.ps in-frame-hunter-push.r of-frame-hunter-push.Post (λ κs x y left other. (x ≡ y) × (now (left .1 .0) ≡ now (other .1 .0)))
+frame-hunter-push κs a x y left other p q = (same (p .reply-is) (q .reply-is), same (p .store-is) (q .store-is))
 
-pub hunter-end : NoFreedom 1 in-hunter-end.ps in-hunter-end.r of-hunter-end.Post (λ κs x y left other. x ≡ y)
-hunter-end κs a x y left other p q = same (p .reply-is) (q .reply-is)
+pub frame-hunter-end : NoFreedom 1 in-frame-hunter-end.ps in-frame-hunter-end.r of-frame-hunter-end.Post (λ κs x y left other. x ≡ y)
+frame-hunter-end κs a x y left other p q = same (p .reply-is) (q .reply-is)
 
-pub hunter-take : NoFreedom 2 in-hunter-take.ps in-hunter-take.r of-hunter-take.Post (λ κs x y left other. (x ≡ y) × (now (left .1 .0) ≡ now (other .1 .0)) × (now (left .1 .1 .0) ≡ now (other .1 .1 .0)))
-hunter-take κs a x y left other p q = (same (p .taken-is) (q .taken-is), same (p .store-is) (q .store-is), same (p .output-is) (q .output-is))
+pub frame-hunter-take : NoFreedom 2 in-frame-hunter-take.ps in-frame-hunter-take.r of-frame-hunter-take.Post (λ κs x y left other. (x ≡ y) × (now (left .1 .0) ≡ now (other .1 .0)) × (now (left .1 .1 .0) ≡ now (other .1 .1 .0)))
+frame-hunter-take κs a x y left other p q = (same (p .taken-is) (q .taken-is), same (p .store-is) (q .store-is), same (p .output-is) (q .output-is))
 
-pub hunter-reset : NoFreedom 0 in-hunter-reset.ps in-hunter-reset.r of-hunter-reset.Post (λ κs x y left other. x ≡ y)
-hunter-reset κs a x y left other p q = same p q
+pub frame-hunter-reset : NoFreedom 0 in-frame-hunter-reset.ps in-frame-hunter-reset.r of-frame-hunter-reset.Post (λ κs x y left other. x ≡ y)
+frame-hunter-reset κs a x y left other p q = same p q
 
-pub hunter-number : NoFreedom 0 in-hunter-number.ps in-hunter-number.r of-hunter-number.Post (λ κs x y left other. x ≡ y)
-hunter-number κs a x y left other p q = same p q
+pub frame-hunter-number : NoFreedom 0 in-frame-hunter-number.ps in-frame-hunter-number.r of-frame-hunter-number.Post (λ κs x y left other. x ≡ y)
+frame-hunter-number κs a x y left other p q = same p q

@@ -7,7 +7,7 @@ use denote.Struct.Laws as LL
 use Rattle.gateway.proofs.Calling.{asked, answered, One, meets-on}
 use Rattle.gateway.proofs.Counting.{counted}
 use Rattle.gateway.proofs.Words.{Words}
-use Rattle.face_messages.specs.Lent.{blankField, fieldAt, filled}
+use Rattle.face_messages.specs.Lent.{blankField, fieldRecordAt, filled}
 use Rattle.face_messages.specs.declared.FieldRecord.{FieldRecord}
 use Rattle.gateway.specs.Sets.{sets, length-sets, sets-part}
 use Rattle.face_messages.proofs.FieldRecord as T
@@ -48,7 +48,7 @@ module _ {M : Type 1} (𝓤 : URA M) (H : Heap 𝓤) (A : Atoms 𝓤) (W : Given
 
   -- what record i is to be, and the list at exit
   abbrev f : ℕ → FieldRecord
-  f = fieldAt (now s) n
+  f = fieldRecordAt (now s) n
 
   abbrev zs : List FieldRecord
   zs = sets f xs m
