@@ -1,5 +1,5 @@
-/* One sample on its whole way: a damaged stream, the hunting framer, a build, an encoding, a change, an encoding again. Each line that is
- * printed is held against what must come; the exit code is 1 where one differs. */
+/* One sample on its whole way: a damaged stream, the hunting framer, a build, an encoding, a change, an encoding again; and what the settings word
+ * decides. Each line that is printed is held against what must come; the exit code is 1 where one differs. */
 #include "tinkoraba.h"
 
 #include <stdio.h>
@@ -10,6 +10,9 @@
 
 /* P5 of the rules twice; a byte of the first was damaged on the way. */
 static const char STREAM[] = ORDER("6?0") ORDER("600");
+
+/* A user's tag that the dictionary lacks. */
+static const char WITH_5001[] = "8=FIX.4.4" SOH "9=19" SOH "35=D" SOH "38=600" SOH "5001=x" SOH "10=167" SOH;
 
 /* The known tags; header 8 9 35, trailer 10; message `D` with 38 and 58. */
 static const uint8_t DICTIONARY[] = {
@@ -76,13 +79,28 @@ static size_t hunted(uint8_t *frame) {
 static size_t built(const uint8_t *frame, size_t length, FieldRecord *records) {
     static const char *const expected[] = {"header 8=FIX.4.4", "header 9=24", "header 35=D", "body 38=800", "body 58=x", "trailer 10=139"};
     uint32_t out[4];
-    uint32_t answer = gateway_build(frame, length, TINKORABA_SOH, true, DICTIONARY, sizeof DICTIONARY, records, TINKORABA_RECORDS, out);
+    uint32_t answer = gateway_build(frame, length, TINKORABA_SOH, TINKORABA_VALIDATE, DICTIONARY, sizeof DICTIONARY, records, TINKORABA_RECORDS, out);
     number("build answers", answer, TINKORABA_VALID);
     number("records", out[0], 6);
     for (size_t i = 0; i < out[0] && i < 6; i++) {
         record(&records[i], frame, expected[i]);
     }
     return out[0];
+}
+
+static uint32_t built_with(uint32_t settings) {
+    static FieldRecord records[TINKORABA_RECORDS];
+    uint32_t out[4];
+    return gateway_build((const uint8_t *)WITH_5001, sizeof WITH_5001 - 1, TINKORABA_SOH, settings, DICTIONARY, sizeof DICTIONARY, records,
+                         TINKORABA_RECORDS, out);
+}
+
+/* Bit 0 decides, and no other bit. */
+static void settings(void) {
+    number("5001 validated answers", built_with(TINKORABA_VALIDATE), TINKORABA_INVALID_FIELD);
+    number("5001 not validated answers", built_with(0), TINKORABA_VALID);
+    number("every bit answers", built_with(0xffffffffu), TINKORABA_INVALID_FIELD);
+    number("every bit but validation answers", built_with(~TINKORABA_VALIDATE), TINKORABA_VALID);
 }
 
 static void encoded(uint32_t *words, uint8_t *values, const char *expected) {
@@ -118,6 +136,7 @@ int main(void) {
     size_t length = hunted(frame);
     size_t count = built(frame, length, records);
     changed(records, count, frame, length);
+    settings();
     puts(failures ? "something differs" : "all as expected");
     return failures ? 1 : 0;
 }

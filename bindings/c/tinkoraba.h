@@ -13,7 +13,6 @@
 #ifndef TINKORABA_H
 #define TINKORABA_H
 
-#include <stdbool.h>
 #include <stddef.h>
 #include <stdint.h>
 
@@ -31,6 +30,10 @@ extern "C" {
 
 /* FIX's separator. */
 #define TINKORABA_SOH 1
+
+/* The bits of a build's settings word. The others are passed over today, so every word may be given; a later version may give one of them a meaning,
+ * so leave them 0. */
+#define TINKORABA_VALIDATE 1u /* on, it refuses tags of 5000 and above that the dictionary lacks; off, the body takes them */
 
 /* The parts of a message. As a parameter, every number but 1 and 2 is the trailer. */
 enum { TINKORABA_HEADER = 1, TINKORABA_BODY = 2, TINKORABA_TRAILER = 3 };
@@ -112,8 +115,8 @@ uint32_t gateway_message_words(void);
 uint32_t gateway_check(const uint8_t *dictionary, size_t dictionary_length, uint32_t out[4]);
 
 /* Builds a message from its bytes. out[0] is how many records were filled; out[1] and out[2] are the values of 1 to 4 and of 30 to 37. Records
- * past those filled are zero; with 20, 22 and 23 all are as they were. `validate` off lets tags of 5000 and above through that the dictionary lacks. */
-uint32_t gateway_build(const uint8_t *message, size_t message_length, uint8_t separator, bool validate, const uint8_t *dictionary,
+ * past those filled are zero; with 20, 22 and 23 all are as they were. `settings` is TINKORABA_VALIDATE or 0. */
+uint32_t gateway_build(const uint8_t *message, size_t message_length, uint8_t separator, uint32_t settings, const uint8_t *dictionary,
                        size_t dictionary_length, FieldRecord *records, size_t record_count, uint32_t out[4]);
 
 /* ---- A message to change: TINKORABA_WORDS words and TINKORABA_VALUES value bytes ---- */

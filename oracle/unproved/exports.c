@@ -1,12 +1,11 @@
 // The exports over the functions of a program's module, where a slice is a pointer to its pointer and length.
-#include <stdbool.h>
 #include <stddef.h>
 #include <stdint.h>
 
 typedef struct { const void *at; size_t length; } slice;
 
 uint32_t inner_check(const slice *, void *);
-uint32_t inner_build(const slice *, uint8_t, bool, const slice *, const slice *, void *);
+uint32_t inner_build(const slice *, uint8_t, uint32_t, const slice *, const slice *, void *);
 uint32_t inner_empty(const slice *, const slice *, void *);
 uint32_t inner_new(const slice *, const slice *, const slice *, const slice *, void *);
 uint32_t inner_store(const slice *, const slice *, uint8_t, uint32_t, const slice *, void *);
@@ -25,8 +24,8 @@ uint32_t inner_ported_take(void *, const slice *, const slice *, void *);
 #define P(name) &(slice){name, name##_length}
 
 uint32_t gateway_check(S(dictionary), void *out) { return inner_check(P(dictionary), out); }
-uint32_t gateway_build(S(message), uint8_t separator, bool validate, S(dictionary), S(records), void *out) {
-    return inner_build(P(message), separator, validate, P(dictionary), P(records), out);
+uint32_t gateway_build(S(message), uint8_t separator, uint32_t settings, S(dictionary), S(records), void *out) {
+    return inner_build(P(message), separator, settings, P(dictionary), P(records), out);
 }
 uint32_t gateway_empty(S(words), S(values), void *out) { return inner_empty(P(words), P(values), out); }
 uint32_t gateway_new(S(words), S(values), S(begin_string), S(message_type), void *out) {

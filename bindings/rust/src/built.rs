@@ -1,6 +1,6 @@
 //! Building a message from its bytes, and reading what was built.
 use crate::error::answered;
-use crate::{raw, Dictionary, Error, Part, RECORDS, SOH};
+use crate::{raw, Config, Dictionary, Error, Part, RECORDS};
 use std::fmt;
 
 /// One field of a built message, as the library fills it in. Depth and entry are 0 outside groups, else they count from 1; place and length are
@@ -20,21 +20,6 @@ pub struct FieldRecord {
     pub place: u16,
     /// How long its value is.
     pub length: u16,
-}
-
-/// How a message is read.
-#[derive(Debug, Clone, Copy, PartialEq, Eq)]
-pub struct Config {
-    /// The byte behind each field.
-    pub separator: u8,
-    /// Off, it lets tags of 5000 and above through that the dictionary lacks.
-    pub validate: bool,
-}
-
-impl Default for Config {
-    fn default() -> Self {
-        Self { separator: SOH, validate: true }
-    }
 }
 
 /// Room for the records of one message; make it once and use it for every build.
@@ -84,7 +69,7 @@ pub fn build<'a>(bytes: &'a [u8], dictionary: &Dictionary, config: Config, recor
             bytes.as_ptr(),
             bytes.len(),
             config.separator,
-            config.validate,
+            config.settings.word(),
             flat.as_ptr(),
             flat.len(),
             lent.as_mut_ptr(),

@@ -42,13 +42,15 @@
 //! The library has no variable of its own: all state is lent by these values, which own their memory. They may be sent to other threads, and
 //! values of different threads never meet.
 mod built;
+mod config;
 mod dictionary;
 mod error;
 mod framers;
 mod message;
 mod raw;
 
-pub use built::{build, Built, Config, Entries, Field, FieldRecord, Map, NotBuilt, Records};
+pub use built::{build, Built, Entries, Field, FieldRecord, Map, NotBuilt, Records};
+pub use config::{Config, Settings};
 pub use dictionary::{Dictionary, DictionaryWriter};
 pub use error::{Error, Flaw, Garbled};
 pub use framers::{Framer, Hunter};

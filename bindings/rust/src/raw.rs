@@ -28,7 +28,7 @@ extern "C" {
         message: *const u8,
         message_length: usize,
         separator: u8,
-        validate: bool,
+        settings: u32,
         dictionary: *const u8,
         dictionary_length: usize,
         records: *mut FieldRecord,

@@ -17,7 +17,7 @@ fn told(number: u32, values: (u32, u32), built: &Built<'_>) -> String {
 
 fn built_line(bytes: &[u8], dictionary: &Dictionary, validate: bool) -> String {
     let mut records = Records::new();
-    let config = Config { validate, ..Config::default() };
+    let config = Config::default().validating(validate);
     let line = match build(bytes, dictionary, config, &mut records) {
         Ok(built) => told(0, (0, 0), &built),
         Err(refused) => told(refused.number(), refused.error().values(), &refused.header()),

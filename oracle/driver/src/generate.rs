@@ -9,7 +9,7 @@ mod standard;
 mod streams;
 
 use crate::paper::Paper;
-use crate::protocol::{KEPT, Reading, Request};
+use crate::protocol::{KEPT, Reading, Request, VALIDATE};
 pub use exhaustive::exhaustive;
 pub use standard::standard;
 use messages::{Draft, Wrapping};
@@ -21,6 +21,8 @@ pub type Sink<'a> = &'a mut dyn FnMut(Request) -> bool;
 
 pub struct Generator {
     random: Random,
+    /// Draws the bits of settings words that mean nothing, apart from all else: a seed's requests are otherwise the same with and without them.
+    other_bits: Random,
     /// Keeps to 01's domain of equality: what lies outside is made and thrown away.
     domain: bool,
     /// Keeps to small dictionaries and to messages far from the limits, for a sample that is recorded.
@@ -37,7 +39,7 @@ const LONGEST_OF_A_SAMPLE: usize = 700;
 
 impl Generator {
     pub fn new(seed: u64, domain: bool, small: bool) -> Self {
-        Self { random: Random::new(seed), domain, small, paper: Paper::default(), shapes: vec![] }
+        Self { random: Random::new(seed), other_bits: Random::new(!seed), domain, small, paper: Paper::default(), shapes: vec![] }
     }
 
     /// `count` requests: every dictionary first, then messages, calls and streams, and now and then another dictionary.
@@ -63,7 +65,10 @@ impl Generator {
         }
     }
 
-    fn offer(&mut self, request: Request, left: &mut u64, sink: Sink) {
+    fn offer(&mut self, mut request: Request, left: &mut u64, sink: Sink) {
+        if let Request::Build(reading) | Request::Again(reading, _) = &mut request {
+            reading.settings |= self.other_bits();
+        }
         let outside = self.paper.rule(&request).outside;
         let is_dictionary = matches!(request, Request::Dictionary(..));
         let too_long = self.small && !is_dictionary && request.text().len() > LONGEST_OF_A_SAMPLE;
@@ -71,6 +76,18 @@ impl Generator {
             return;
         }
         *left = if sink(request) { *left - 1 } else { 0 };
+    }
+
+    /// In half of the words none, in the others one of them or any number. A sample has none: the program that answers it takes validation alone.
+    fn other_bits(&mut self) -> u32 {
+        if self.small {
+            return 0;
+        }
+        match self.other_bits.below(4) {
+            0 | 1 => 0,
+            2 => 2 << self.other_bits.below(31),
+            _ => self.other_bits.next() as u32 & !VALIDATE,
+        }
     }
 
     fn dictionary(&mut self, number: usize) -> Request {
@@ -118,7 +135,7 @@ impl Generator {
         messages
             .into_iter()
             .map(|message| {
-                let reading = Reading { dictionary, separator: wrapping.separator, validate, message };
+                let reading = Reading { dictionary, separator: wrapping.separator, settings: u32::from(validate), message };
                 let second = if self.random.chance(70) { wrapping.separator } else { messages::separator(&mut self.random) };
                 if self.random.chance(15) { Request::Again(reading, second) } else { Request::Build(reading) }
             })

@@ -11,7 +11,7 @@ use hotfix_message::parsed_message::{GarbledReason, InvalidReason, ParsedMessage
 use hotfix_message::{Part, RepeatingGroup, TagU32, open};
 
 use crate::maps::{Entry, Map, Parts, Run, entries_of};
-use crate::protocol::{Answer, KEPT, Reading, Request, Step, hex, rows_text};
+use crate::protocol::{Answer, KEPT, Reading, Request, Step, VALIDATE, hex, rows_text};
 
 /// Whether the Rust is being asked: its panics are answers and print nothing.
 static ASKING: AtomicBool = AtomicBool::new(false);
@@ -115,7 +115,7 @@ impl Kept {
     }
 
     fn build(&mut self, reading: &Reading, order: usize) -> ParsedMessage {
-        self.builder(reading.separator, reading.validate, order).build(&reading.message)
+        self.builder(reading.separator, reading.settings & VALIDATE != 0, order).build(&reading.message)
     }
 
     /// The line of one build, its number, and the message where it is valid.

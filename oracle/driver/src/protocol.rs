@@ -15,7 +15,7 @@ pub enum Step {
 pub struct Reading {
     pub dictionary: usize,
     pub separator: u8,
-    pub validate: bool,
+    pub settings: u32,
     pub message: Vec<u8>,
 }
 
@@ -27,6 +27,9 @@ pub enum Request {
     Calls(Vec<Step>),
     Frames(Vec<Vec<u8>>),
 }
+
+/// The bit of a settings word that asks for validation. No other bit means anything.
+pub const VALIDATE: u32 = 1;
 
 /// How many dictionaries a side keeps.
 pub const KEPT: usize = 16;
@@ -117,11 +120,11 @@ fn step_text(step: &Step) -> String {
     }
 }
 
-fn reading(number: &str, separator: &str, validate: &str, message: &str) -> Option<Reading> {
+fn reading(number: &str, separator: &str, settings: &str, message: &str) -> Option<Reading> {
     Some(Reading {
         dictionary: number.parse().ok().filter(|n| *n < KEPT)?,
         separator: byte(separator)?,
-        validate: validate == "1",
+        settings: settings.parse().ok()?,
         message: unhex(message)?,
     })
 }
@@ -131,9 +134,9 @@ impl Request {
         let words: Vec<&str> = line.split(' ').collect();
         match words[..] {
             ["dictionary", number, bytes] => Some(Self::Dictionary(number.parse().ok().filter(|n| *n < KEPT)?, unhex(bytes)?)),
-            ["build", number, separator, validate, message] => reading(number, separator, validate, message).map(Self::Build),
-            ["again", number, separator, validate, second, message] => {
-                Some(Self::Again(reading(number, separator, validate, message)?, byte(second)?))
+            ["build", number, separator, settings, message] => reading(number, separator, settings, message).map(Self::Build),
+            ["again", number, separator, settings, second, message] => {
+                Some(Self::Again(reading(number, separator, settings, message)?, byte(second)?))
             }
             ["calls", ref steps @ ..] => steps.iter().map(|text| step(text)).collect::<Option<_>>().map(Self::Calls),
             ["frames", ref chunks @ ..] => chunks.iter().map(|text| unhex(text)).collect::<Option<_>>().map(Self::Frames),
@@ -144,9 +147,9 @@ impl Request {
     pub fn text(&self) -> String {
         match self {
             Self::Dictionary(number, bytes) => format!("dictionary {number} {}", hex(bytes)),
-            Self::Build(r) => format!("build {} {:02x} {} {}", r.dictionary, r.separator, u8::from(r.validate), hex(&r.message)),
+            Self::Build(r) => format!("build {} {:02x} {} {}", r.dictionary, r.separator, r.settings, hex(&r.message)),
             Self::Again(r, second) => {
-                format!("again {} {:02x} {} {second:02x} {}", r.dictionary, r.separator, u8::from(r.validate), hex(&r.message))
+                format!("again {} {:02x} {} {second:02x} {}", r.dictionary, r.separator, r.settings, hex(&r.message))
             }
             Self::Calls(steps) => format!("calls {}", steps.iter().map(step_text).collect::<Vec<_>>().join(" ")),
             Self::Frames(chunks) => format!("frames {}", chunks.iter().map(|c| hex(c)).collect::<Vec<_>>().join(" ")),

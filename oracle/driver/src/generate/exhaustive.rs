@@ -1,7 +1,7 @@
 //! Every short sequence of fields over a few awkward dictionaries, and every short head of a stream.
 use super::Sink;
 use super::shape::{Node, Shape};
-use crate::protocol::{Reading, Request};
+use crate::protocol::{Reading, Request, VALIDATE};
 use Node::{Component, Field, Group};
 
 /// A dictionary, the tags of the sequences, and how long these get.
@@ -121,8 +121,8 @@ pub fn exhaustive(sink: Sink) {
         }
         let user_tags = case.tags.iter().any(|tag| *tag >= 5_000);
         let went_on = sequences(&case.tags, case.longest, &mut |tags| {
-            let reading = Reading { dictionary: number, separator: 1, validate: true, message: wrapped(tags) };
-            let unchecked = Request::Build(Reading { validate: false, ..reading.clone() });
+            let reading = Reading { dictionary: number, separator: 1, settings: VALIDATE, message: wrapped(tags) };
+            let unchecked = Request::Build(Reading { settings: 0, ..reading.clone() });
             let went_on = sink(if tags.len() % 4 == 3 { Request::Again(reading, 1) } else { Request::Build(reading) });
             went_on && (!user_tags || sink(unchecked))
         });

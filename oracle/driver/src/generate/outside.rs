@@ -2,11 +2,11 @@
 use super::messages::{Draft, Wrapping};
 use super::random::Random;
 use super::shape::Shape;
-use crate::protocol::{KEPT, Reading, Request};
+use crate::protocol::{KEPT, Reading, Request, VALIDATE};
 
 fn refused_separator(random: &mut Random, shape: &Shape, dictionary: usize) -> Request {
     let message = Draft::valid(random, shape, false).wrapped(&Wrapping::random(random));
-    Request::Build(Reading { dictionary, separator: random.of(b"=0123456789"), validate: true, message })
+    Request::Build(Reading { dictionary, separator: random.of(b"=0123456789"), settings: VALIDATE, message })
 }
 
 fn item(tag: u32) -> Vec<u8> {
@@ -59,7 +59,7 @@ fn damaged_dictionary(random: &mut Random, shape: &Shape) -> Vec<u8> {
 fn over_a_refused_dictionary(random: &mut Random, shape: &Shape, dictionary: usize) -> Vec<Request> {
     let bytes = if random.chance(50) { refused_dictionary(random, shape) } else { damaged_dictionary(random, shape) };
     let message = Draft::valid(random, shape, false).wrapped(&Wrapping::random(random));
-    let reading = Reading { dictionary, separator: 1, validate: true, message };
+    let reading = Reading { dictionary, separator: 1, settings: VALIDATE, message };
     vec![Request::Dictionary(dictionary, bytes), Request::Build(reading), Request::Dictionary(dictionary, shape.bytes())]
 }
 
@@ -79,7 +79,7 @@ fn strange_text(random: &mut Random, shape: &Shape, dictionary: usize) -> Reques
     let sum = message.iter().map(|byte| u32::from(*byte)).sum::<u32>() % 256;
     let claimed = sum + 256 * random.below(4) as u32;
     message.extend_from_slice(format!("10={:03}\x01", claimed % 1_000).as_bytes());
-    Request::Build(Reading { dictionary, separator: 1, validate: random.chance(50), message })
+    Request::Build(Reading { dictionary, separator: 1, settings: u32::from(random.chance(50)), message })
 }
 
 /// About 1,024 fields read, the trailer stopped by the CheckSum, by an early 10, or by nothing.
@@ -94,7 +94,7 @@ fn field_limit(random: &mut Random, shape: &Shape, dictionary: usize) -> Request
     let mut message = [format!("8=\x019={}\x01", inner.len()).as_bytes(), &inner].concat();
     let sum = message.iter().fold(0u8, |sum, byte| sum.wrapping_add(*byte));
     message.extend_from_slice(format!("10={sum:03}\x01").as_bytes());
-    Request::Build(Reading { dictionary, separator: 1, validate: true, message })
+    Request::Build(Reading { dictionary, separator: 1, settings: VALIDATE, message })
 }
 
 pub fn requests(random: &mut Random, shapes: &[Shape]) -> Vec<Request> {

@@ -2,7 +2,7 @@
 //! docs/COMPARED.md says where they are known from and what each answers.
 use super::Sink;
 use super::shape::{Node, Shape};
-use crate::protocol::{Reading, Request};
+use crate::protocol::{Reading, Request, VALIDATE};
 use Node::{Component, Field, Group};
 
 /// `|` stands for byte 0x01.
@@ -124,8 +124,8 @@ pub fn standard(sink: Sink) {
     let bytes = |text: &str| text.replace('|', "\x01").into_bytes();
     let mut went_on = sink(Request::Dictionary(0, shape().bytes()));
     for text in MESSAGES {
-        let reading = Reading { dictionary: 0, separator: 1, validate: true, message: bytes(text) };
-        let unchecked = Reading { validate: false, ..reading.clone() };
+        let reading = Reading { dictionary: 0, separator: 1, settings: VALIDATE, message: bytes(text) };
+        let unchecked = Reading { settings: 0, ..reading.clone() };
         for request in [Request::Build(reading.clone()), Request::Build(unchecked), Request::Again(reading, 1)] {
             went_on = went_on && sink(request);
         }

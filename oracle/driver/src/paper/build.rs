@@ -186,7 +186,7 @@ impl Reader<'_> {
 
     /// "with validation off, tags of 5000 and above that the dictionary lacks"
     fn is_unknown_user_tag(&self, tag: u32) -> bool {
-        !self.reading.validate && tag >= 5_000 && !self.dictionary.known.contains(&tag)
+        !validates(self.reading.settings) && tag >= 5_000 && !self.dictionary.known.contains(&tag)
     }
 
     fn body(&mut self, layout: &Rc<Layout>, parts: &mut Parts, first: Field) -> Result<Field, Stop> {
@@ -270,6 +270,11 @@ impl Reader<'_> {
         }
         Ok(())
     }
+}
+
+/// Bit 0 of a settings word is validation, and no other bit means anything.
+fn validates(settings: u32) -> bool {
+    settings % 2 == 1
 }
 
 /// "for each entry its required fields in layout order, then its nested runs"

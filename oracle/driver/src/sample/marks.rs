@@ -2,7 +2,7 @@
 use std::collections::BTreeSet;
 
 use crate::maps::Row;
-use crate::protocol::{Reading, Request, Step};
+use crate::protocol::{Reading, Request, Step, VALIDATE};
 
 pub fn marks_of(request: &Request, dictionary: &[u8], line: &str, either: bool) -> BTreeSet<String> {
     match request {
@@ -48,13 +48,14 @@ fn reading_marks(kind: &str, reading: &Reading, dictionary: &[u8], line: &str, e
     seen.extend(refusals(number, &words, reading, &fields));
     seen.extend(in_dictionary(dictionary));
     seen.push(if reading.separator == 1 { "0x01" } else { "another separator" }.to_string());
-    seen.push(if reading.validate { "validated" } else { "not validated" }.to_string());
+    let validated = if reading.settings & VALIDATE != 0 { "validated" } else { "not validated" };
+    seen.push(validated.to_string());
     if either {
         seen.push("either by hash order".to_string());
     }
     if kind == "build" && number == "0" {
         let depth = words.iter().skip(4).filter_map(|record| record.split('.').nth(1)?.parse::<usize>().ok()).max();
-        seen.push(format!("groups {} deep, {}", depth.unwrap_or(0), if reading.validate { "validated" } else { "not validated" }));
+        seen.push(format!("groups {} deep, {validated}", depth.unwrap_or(0)));
         let trailer = words.iter().filter(|record| record.starts_with("3.")).count();
         seen.push(format!("trailer fields {}", some(trailer)));
     }
