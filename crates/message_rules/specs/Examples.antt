@@ -7,7 +7,6 @@ use Prim.Native.Nat.{ℕ, zero, suc}
 use lib.ListN.{replicate}
 use native.Mathlib.Omega.{arith}
 use Rattle.message_maps.specs.Rows.{messageWords}
-use Rattle.build_records.specs.Records.{recordRoom}
 use Rattle.field_tagvalue.specs.Text.{bytes}
 use Rattle.message_maps.specs.Map.{Map, end, field, entry, joined, holds, holdsAny, replaced, withoutField, leading, pastLeading, runOn, withoutRun, stored, fieldCount, valuesIn}
 use Rattle.message_lent.specs.Meaning.{Message, parts, wordsOf, valuesOf}
@@ -52,8 +51,8 @@ cases =
     ∷ (true, inBody (field 1 (replicate 8193 0) end))
     ∷ (false, inBody (field 1 (replicate 8193 0) end))
     ∷ (true, inBody (many 1024))
-    ∷ (true, inBody (many recordRoom))
-    ∷ (false, inBody (many recordRoom))
+    ∷ (true, inBody (many 1025))
+    ∷ (false, inBody (many 1025))
     ∷ []
 
 abbrev number : After → ℕ
