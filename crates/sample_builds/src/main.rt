@@ -1,26 +1,104 @@
 // sample_builds: builds messages and writes a line for each: the answer's number, how many records are shown, the two values, what became
-// of the lent words behind the shown records, and the records as part/depth/entry/tag/value. The lines of `stdout` were written from the rules.
-mod answers;
-mod examples;
-mod garbled;
-mod layouts;
-mod limits;
-mod orders;
-mod parts_of;
-mod runs;
-mod separators;
-mod spelling;
+// of the lent words behind the shown records, and the records as part/depth/entry/tag/value. The lines of `stdout` were written from 01.
+// Its script (see sample_kit) has these words:
+//   s47  v  r1023   the separator is byte 47; validation is off; so many records are lent; for this case
+//   q               the records are not shown
+//   m8=F|9=..       builds the message of these bytes
+//   f35=D|38=1|     builds the message of these fields, with a right BodyLength before and a right CheckSum behind them
 mod telling;
-mod writing;
+
+use sample_kit::dictionaries;
+use sample_kit::messages;
+use sample_kit::saying;
+use sample_kit::scripts;
+use sample_kit::texts;
+
+// The size of the dictionary, and what a case sets.
+struct Case {
+    dictionary: usize,
+    separator: u8,
+    settings: u32,
+    lent: usize,
+    shown: bool,
+}
+
+fn usual(dictionary: usize) -> Case {
+    Case {
+        dictionary,
+        separator: 1,
+        settings: 1,
+        lent: 1024,
+        shown: true,
+    }
+}
+
+fn message(out: &mut [u8], separator: u8, piece: &[u8]) -> usize {
+    let mut fields = [0u8; 8300];
+    let text = texts::from(piece, 1);
+    if texts::first_byte(piece) == b'm' {
+        return messages::spell(out, 0, text, separator);
+    }
+    let size = messages::spell(&mut fields, 0, text, separator);
+    messages::frame(out, texts::first(&fields, size), separator)
+}
+
+fn build(case: Case, dictionary: &[u8], piece: &[u8]) {
+    let mut space = [0u8; 8300];
+    let separator = case.separator;
+    let config = build_config::config_of(case.settings, separator);
+    let size = message(&mut space, separator, piece);
+    telling::told(
+        texts::first(&space, size),
+        config,
+        dictionary,
+        case.lent,
+        case.shown,
+    );
+}
+
+// A word that sets something.
+fn set(case: Case, piece: &[u8]) -> Case {
+    let n = texts::number(texts::from(piece, 1));
+    let mut changed = case;
+    match texts::first_byte(piece) {
+        b's' => changed.separator = (n % 256) as u8,
+        b'v' => changed.settings = 0,
+        b'r' => changed.lent = n as usize,
+        b'q' => changed.shown = false,
+        _ => saying::piece(piece, b":"),
+    }
+    changed
+}
+
+fn step(case: Case, dictionary: &mut [u8], piece: &[u8]) -> Case {
+    let size = case.dictionary;
+    match texts::first_byte(piece) {
+        b'*' => usual(dictionaries::spell(dictionary, size, piece)),
+        b'.' => {
+            saying::piece(piece, b":");
+            usual(size)
+        }
+        b'm' | b'f' => {
+            build(case, texts::first(dictionary, size), piece);
+            case
+        }
+        _ => set(case, piece),
+    }
+}
+
+fn play(script: &[u8], dictionary: &mut [u8]) {
+    let mut case = usual(0);
+    let mut from: usize = 0;
+    while from < script.len() {
+        let end = texts::end_of(script, from, b'\n');
+        case = step(case, dictionary, &script[from..end]);
+        from = end + 1;
+    }
+}
 
 fn main() {
-    examples::run();
-    answers::run();
-    orders::run();
-    runs::run();
-    layouts::run();
-    parts_of::run();
-    garbled::run();
-    limits::run();
-    separators::run();
+    let mut script = scripts::room();
+    let mut dictionary = dictionaries::room();
+    let size = scripts::read(&mut script);
+    play(texts::first(&script, size), &mut dictionary);
 }

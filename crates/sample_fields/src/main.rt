@@ -1,6 +1,5 @@
 // Reads one field from each of a few texts and writes what was read. Its file `stdout` was written from the rules.
 use field_tagvalue::Cause;
-use field_tagvalue::Cursor;
 use field_tagvalue::FieldRead;
 use field_tagvalue::Number;
 use field_tagvalue::Written;
@@ -17,7 +16,8 @@ fn number(label: &[u8], n: usize) {
 // The field at a place of a message, in one line.
 fn field(name: &[u8], message: &[u8], at: usize, separator: u8) {
     io::write_all(1, name);
-    match (Cursor { at }).next_field(message, separator) {
+    let cursor = field_tagvalue::start_at(at);
+    match cursor.next_field(message, field_tagvalue::separated_by(separator)) {
         FieldRead::Read(f) => {
             io::write_all(1, b"  tag ");
             io::print_decimal(1, wide(f.tag));
@@ -105,10 +105,7 @@ fn fields() {
 fn numbers() {
     worth(b"BodyLength 0", field_tagvalue::number_of(b"0"));
     worth(b"BodyLength 0005", field_tagvalue::number_of(b"0005"));
-    worth(
-        b"BodyLength 4294967296",
-        field_tagvalue::number_of(b"4294967296"),
-    );
+    worth(b"BodyLength 4294967296", field_tagvalue::number_of(b"4294967296"));
     worth(
         b"BodyLength 18446744073709551621",
         field_tagvalue::number_of(b"18446744073709551621"),

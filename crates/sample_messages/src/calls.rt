@@ -1,39 +1,32 @@
-// The words of a script, each a call or a look at the message.
-//   h b t  store in header, body or trailer: `b38=600`; remove: `b-38`
-//   x      store a value of so many x in the body: `x58=990`
-//   !  %   encode for an output of so many bytes: `!8192`; with a separator: `%=`
-//   <  @   build the bytes and take the records over; take no record over
-//   0  *   make the message empty; make it new with BeginString and MsgType: `*FIX.4.4,D`
-//   /  &   look a field up in a part: `/b58`; in an entry of a run: `&b78,0,79`
-//   ?      show the message
-// and to lay rows by hand: ~ none, p1 a part's head, f1,38=600 a field at a level, e1,78,79 an entry at a level, n so many fields without a
-// value, g and m so many entries with a field and without, # any row, w the count of rows.
-use crate::building;
+// The words that work on the message or draft in hand.
 use crate::laying;
 use crate::looking;
-use crate::reading;
 use crate::showing;
 use message_rules::Part;
+use sample_kit::dictionaries;
+use sample_kit::messages;
+use sample_kit::saying;
+use sample_kit::texts;
 
-fn change(words: &mut [u32], values: &mut [u8], part: Part, text: &[u8]) {
-    if reading::starts_with(text, b'-') {
-        let tag = reading::number(reading::from(text, 1));
-        let removed = message::remove(words, values, part, tag);
-        showing::answer(showing::number_of_change(removed));
-    } else {
-        let tag = reading::number(reading::before(text, b'='));
-        let value = reading::behind(text, b'=');
-        let stored = message::store(words, values, part, tag, value);
-        showing::answer(showing::number_of_change(stored));
+pub fn part_of(letter: u8) -> Part {
+    match letter {
+        b'h' => Part::Header,
+        b'b' => Part::Body,
+        _ => Part::Trailer,
     }
 }
 
-fn store_long(words: &mut [u32], values: &mut [u8], text: &[u8]) {
-    let value = [b'x'; 8300];
-    let tag = reading::number(reading::before(text, b'='));
-    let size = reading::size(reading::behind(text, b'='));
-    let stored = message::store(words, values, Part::Body, tag, reading::first(&value, size));
-    showing::answer(showing::number_of_change(stored));
+// `b38=600`, `b-38`
+fn change(words: &mut [u32], values: &mut [u8], piece: &[u8]) {
+    let part = part_of(texts::first_byte(piece));
+    if texts::byte_at(piece, 1) == b'-' {
+        let tag = texts::number(texts::from(piece, 2));
+        showing::changed(message::remove(words, values, part, tag));
+    } else {
+        let tag = texts::number(texts::before(texts::from(piece, 1), b'='));
+        let value = texts::behind(piece, b'=');
+        showing::changed(message::store(words, values, part, tag, value));
+    }
 }
 
 fn encode(words: &mut [u32], values: &mut [u8], separator: u8, room: usize) {
@@ -41,43 +34,108 @@ fn encode(words: &mut [u32], values: &mut [u8], separator: u8, room: usize) {
     let output = &mut space[..];
     if room <= output.len() {
         let encoded = encoder::encode(words, values, &mut output[..room], separator);
-        showing::encoding(encoded, output);
+        showing::encoded(encoded, output);
     }
 }
 
-fn take_none(words: &mut [u32], values: &mut [u8]) {
-    let records = [0u32; 6];
-    let taken = message_take_over::take_over(&records[..], 0, b"", words, values);
-    showing::answer(showing::number_of_taken(taken));
+fn take_listed(
+    words: &mut [u32],
+    values: &mut [u8],
+    records: &[u32; 24],
+    size: usize,
+    count: usize,
+) {
+    let listed = laying::first(&records[..], size);
+    showing::taken(message_take_over::take_over(listed, count, b"ABCDEFGHIJ", words, values));
 }
 
-fn empty(words: &mut [u32], values: &mut [u8]) {
-    showing::answer(showing::number_of_change(message::empty(words, values)));
+// `1:2,0,0,38,9,1`
+fn take(words: &mut [u32], values: &mut [u8], text: &[u8]) {
+    let mut records = [0u32; 24];
+    let count = texts::number(texts::before(text, b':')) as usize;
+    let size = laying::numbers(&mut records, texts::behind(text, b':'));
+    take_listed(words, values, &records, size, count);
+}
+
+fn take_over(
+    words: &mut [u32],
+    values: &mut [u8],
+    message: &[u8],
+    records: &[u32; build_records::WORDS],
+    count: usize,
+) {
+    showing::taken(message_take_over::take_over(&records[..], count, message, words, values));
+}
+
+fn take_built(words: &mut [u32], values: &mut [u8], message: &[u8], dictionary: &[u8]) {
+    let config = build_config::config_of(1, 1);
+    let mut records = [0u32; build_records::WORDS];
+    let built = builder::build(message, config, dictionary, 1024, &mut records);
+    let answer = built.answer;
+    let count = built.records;
+    saying::marked(b" ", build_answers::number_of(answer) as u64);
+    take_over(words, values, message, &records, count);
+}
+
+fn build(words: &mut [u32], values: &mut [u8], script: &[u8], text: &[u8]) {
+    let mut spelled = [0u8; 300];
+    let mut message = [0u8; 300];
+    let dictionary_size = dictionaries::spell(&mut spelled, 0, texts::before(script, b'\n'));
+    let size = messages::spell(&mut message, 0, text, 1);
+    take_built(
+        words,
+        values,
+        texts::first(&message, size),
+        texts::first(&spelled, dictionary_size),
+    );
 }
 
 fn new_message(words: &mut [u32], values: &mut [u8], text: &[u8]) {
-    let begin_string = reading::before(text, b',');
-    let message_type = reading::behind(text, b',');
-    let made = message::new(words, values, begin_string, message_type);
-    showing::answer(showing::number_of_change(made));
+    let begin_string = texts::before(text, b',');
+    let message_type = texts::behind(text, b',');
+    showing::changed(message::new(words, values, begin_string, message_type));
 }
 
-pub fn call(words: &mut [u32], values: &mut [u8], word: &[u8]) {
-    let text = reading::from(word, 1);
-    match reading::first_byte(word) {
-        b'h' => change(words, values, Part::Header, text),
-        b'b' => change(words, values, Part::Body, text),
-        b't' => change(words, values, Part::Trailer, text),
-        b'x' => store_long(words, values, text),
-        b'!' => encode(words, values, 1, reading::size(text)),
-        b'%' => encode(words, values, reading::first_byte(text), 8192),
-        b'<' => building::build(words, values, text),
-        b'@' => take_none(words, values),
-        b'0' => empty(words, values),
-        b'*' => new_message(words, values, text),
+fn add_entry(words: &mut [u32], values: &mut [u8], text: &[u8]) {
+    let start = texts::number_at(text, b',', 0);
+    let delimiter = texts::number_at(text, b',', 1);
+    showing::changed(message_runs::add_entry(words, values, start, delimiter));
+}
+
+fn store_last(words: &mut [u32], values: &mut [u8], text: &[u8]) {
+    let tag = texts::number(texts::before(text, b'='));
+    let value = texts::behind(text, b'=');
+    showing::changed(message_runs::store_last(words, values, tag, value));
+}
+
+fn name(words: &mut [u32], values: &mut [u8], piece: &[u8]) {
+    saying::piece(piece, b":");
+    message::empty(words, values);
+}
+
+fn other_call(words: &mut [u32], values: &mut [u8], piece: &[u8]) {
+    let text = texts::from(piece, 1);
+    match texts::first_byte(piece) {
         b'/' => looking::field(words, values, text),
         b'&' => looking::entry(words, values, text),
         b'?' => showing::message(words, values),
-        letter => laying::lay(words, values, letter, text),
+        b'+' => add_entry(words, values, text),
+        b'v' => store_last(words, values, text),
+        _ => laying::lay(words, values, piece),
+    }
+}
+
+pub fn call(words: &mut [u32], values: &mut [u8], script: &[u8], piece: &[u8]) {
+    let text = texts::from(piece, 1);
+    match texts::first_byte(piece) {
+        b':' => name(words, values, piece),
+        b'h' | b'b' | b't' => change(words, values, piece),
+        b'!' => encode(words, values, 1, texts::number(text) as usize),
+        b'%' => encode(words, values, texts::first_byte(text), 8192),
+        b'<' => build(words, values, script, text),
+        b'@' => take(words, values, text),
+        b'0' => showing::changed(message::empty(words, values)),
+        b'n' => new_message(words, values, text),
+        _ => other_call(words, values, piece),
     }
 }

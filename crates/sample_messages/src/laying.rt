@@ -1,154 +1,162 @@
 // Lays rows out by hand, whatever they say, so that messages can be lent that no call would make.
-use crate::reading;
-ghost use mathlib.Core.Path.{_≡_};
+use sample_kit::saying;
+use sample_kit::texts;
 ghost use Prim.Native.Nat.{_<_};
 
-pub fn word_at(words: &[u32], place: usize) -> u32 {
-    if place < words.len() {
-        return words[place];
+pub fn copy(target: &mut [u32], source: &[u32]) {
+    let mut i: usize = 0;
+    while i < source.len() {
+        put(target, i, source[i]);
+        i += 1;
     }
-    0
 }
 
-fn put_word(words: &mut [u32], place: usize, n: u32) {
+// The first words, or none where there are not so many.
+pub fn first(words: &[u32], size: usize) -> &[u32] {
+    if words.len() < size {
+        return &words[..0];
+    }
+    &words[..size]
+}
+
+// The words from a place on.
+pub fn from(words: &[u32], place: usize) -> &[u32] {
+    if words.len() < place {
+        return &words[..0];
+    }
+    &words[place..]
+}
+
+// Keeps the first words behind a place.
+pub fn keep_words(words: &mut [u32], place: usize) {
+    let mut i: usize = 0;
+    while i < message_maps::WORDS {
+        put(words, place % 100000 + i, texts::word_at(words, i));
+        i += 1;
+    }
+}
+
+pub fn keep_bytes(bytes: &mut [u8], place: usize) {
+    let mut i: usize = 0;
+    while i < 8192 {
+        texts::put(bytes, place % 100000 + i, texts::byte_at(bytes, i));
+        i += 1;
+    }
+}
+
+// Puts a word at a place where there is room.
+fn put(words: &mut [u32], place: usize, n: u32) {
     if place < words.len() {
         words[place] = n;
     }
 }
 
-fn put_byte(bytes: &mut [u8], place: usize, byte: u8) {
-    if place < bytes.len() {
-        bytes[place] = byte;
+// The numbers of a text with commas between them; how many they are.
+pub fn numbers(out: &mut [u32; 24], text: &[u8]) -> usize {
+    let mut count: usize = 0;
+    let mut from: usize = 0;
+    while from < text.len() {
+        let end = texts::end_of(text, from, b',');
+        put(&mut out[..], count, texts::number(&text[from..end]));
+        count = count % 24 + 1;
+        from = end + 1;
     }
-}
-
-fn wide(n: u32) -> usize
-    ensures { λ r. ⌜ r ≡ n ⌝ }
-{
-    n as usize
+    count
 }
 
 // A number of a row of the four that it has: kind, level, tag, and the value's length or the delimiter.
-pub fn in_row(words: &[u32], row: u32, place: usize) -> u32 {
-    if row < 3000 {
-        return word_at(words, reading::plus(wide(row) * 4 + 1, place));
-    }
-    0
+pub fn in_row(words: &[u32], row: u32, place: u32) -> u32 {
+    texts::word_at(words, (row % 3000 * 4 + 1 + place % 4) as usize)
 }
 
 // As many rows as are counted, and no more than can be counted here.
 pub fn row_count(words: &[u32]) -> u32
     ensures { λ r. ⌜ r < 3000 ⌝ }
 {
-    word_at(words, 0) % 3000
+    texts::word_at(words, 0) % 3000
 }
 
 fn row(words: &mut [u32], kind: u32, level: u32, tag: u32, extra: u32) {
     let count = row_count(words);
-    let place = wide(count) * 4 + 1;
-    put_word(words, place, kind);
-    put_word(words, place + 1, level);
-    put_word(words, place + 2, tag);
-    put_word(words, place + 3, extra);
-    put_word(words, 0, count + 1);
+    let place = (count * 4 + 1) as usize;
+    put(words, place, kind);
+    put(words, place + 1, level);
+    put(words, place + 2, tag);
+    put(words, place + 3, extra);
+    put(words, 0, count + 1);
 }
 
 // The length of a row's value, 0 where it has none.
-pub fn value_size(words: &[u32], row: u32) -> usize {
+pub fn value_size(words: &[u32], row: u32) -> u32 {
     if in_row(words, row, 0) == 1 {
-        return wide(in_row(words, row, 3));
+        return in_row(words, row, 3);
     }
     0
 }
 
-// How many bytes the values of all rows have.
+// How many bytes the values of all rows have, where they are not too many.
 fn used(words: &[u32]) -> usize {
     let count = row_count(words);
     let mut size: usize = 0;
     let mut i: u32 = 0;
     while i < count {
-        size = reading::plus(size, value_size(words, i));
+        size = size % 100000 + value_size(words, i) as usize;
         i += 1;
     }
     size
 }
 
-fn put_bytes(target: &mut [u8], place: usize, bytes: &[u8]) {
-    let mut i: usize = 0;
-    while i < bytes.len() {
-        put_byte(target, reading::plus(place, i), bytes[i]);
-        i += 1;
+// Puts a value behind those of all rows.
+fn put_value(words: &[u32], values: &mut [u8], value: &[u8]) {
+    if value.len() == 0 {
+        return;
     }
+    texts::copy(values, used(words), value);
 }
 
 // `LEVEL,TAG=VALUE`
 fn field(words: &mut [u32], values: &mut [u8], text: &[u8]) {
-    let level = reading::number(reading::before(text, b','));
-    let rest = reading::behind(text, b',');
-    let tag = reading::number(reading::before(rest, b'='));
-    let value = reading::behind(rest, b'=');
-    put_bytes(values, used(words), value);
+    let level = texts::number_at(text, b',', 0);
+    let tag = texts::number(texts::before(texts::behind(text, b','), b'='));
+    let value = texts::behind(text, b'=');
+    put_value(words, values, value);
     row(words, 1, level, tag, (value.len() % 10000) as u32);
 }
 
 // `LEVEL,START,DELIMITER`
 fn entry(words: &mut [u32], text: &[u8]) {
-    let level = reading::number(reading::before(text, b','));
-    let rest = reading::behind(text, b',');
-    let start = reading::number(reading::before(rest, b','));
-    let delimiter = reading::number(reading::behind(rest, b','));
-    row(words, 2, level, start, delimiter);
+    let level = texts::number_at(text, b',', 0);
+    let start = texts::number_at(text, b',', 1);
+    row(words, 2, level, start, texts::number_at(text, b',', 2));
 }
 
 // `KIND,LEVEL,TAG,LENGTH`
 fn any_row(words: &mut [u32], text: &[u8]) {
-    let kind = reading::number(reading::before(text, b','));
-    let after_kind = reading::behind(text, b',');
-    let level = reading::number(reading::before(after_kind, b','));
-    let after_level = reading::behind(after_kind, b',');
-    let tag = reading::number(reading::before(after_level, b','));
-    let extra = reading::number(reading::behind(after_level, b','));
-    row(words, kind, level, tag, extra);
+    let kind = texts::number_at(text, b',', 0);
+    let level = texts::number_at(text, b',', 1);
+    let tag = texts::number_at(text, b',', 2);
+    row(words, kind, level, tag, texts::number_at(text, b',', 3));
 }
 
-// So many fields of the body.
-fn fields(words: &mut [u32], count: u32) {
-    let mut i: u32 = 0;
-    while i < count {
-        row(words, 1, 1, 1001 + i % 9000, 0);
-        i += 1;
-    }
+fn make_message(words: &mut [u32], values: &mut [u8]) {
+    message::empty(words, values);
 }
 
-// So many entries of one field.
-fn entries(words: &mut [u32], count: u32) {
-    let mut i: u32 = 0;
-    while i < count {
-        row(words, 2, 1, 78, 79);
-        row(words, 1, 2, 79, 0);
-        i += 1;
-    }
+fn make_draft(words: &mut [u32], values: &mut [u8]) {
+    message_runs::empty(words, values);
 }
 
-fn empty_entries(words: &mut [u32], count: u32) {
-    let mut i: u32 = 0;
-    while i < count {
-        row(words, 2, 1, 78, 79);
-        i += 1;
-    }
-}
-
-pub fn lay(words: &mut [u32], values: &mut [u8], letter: u8, text: &[u8]) {
-    match letter {
-        b'~' => put_word(words, 0, 0),
-        b'p' => row(words, 2, 0, reading::number(text), 0),
+pub fn lay(words: &mut [u32], values: &mut [u8], piece: &[u8]) {
+    let text = texts::from(piece, 1);
+    match texts::first_byte(piece) {
+        b';' => make_message(words, values),
+        b'd' => make_draft(words, values),
+        b'~' => put(words, 0, 0),
+        b'p' => row(words, 2, 0, texts::number(text), 0),
         b'f' => field(words, values, text),
         b'e' => entry(words, text),
-        b'n' => fields(words, reading::number(text)),
-        b'g' => entries(words, reading::number(text)),
-        b'm' => empty_entries(words, reading::number(text)),
         b'#' => any_row(words, text),
-        b'w' => put_word(words, 0, reading::number(text)),
-        _ => {}
+        b'w' => put(words, 0, texts::number(text)),
+        _ => saying::piece(piece, b":"),
     }
 }

@@ -1,60 +1,45 @@
-// Looks fields up: `b58` in a part, `b78,0,79` in an entry of the run on 78, the first being 0.
-use crate::reading;
-use crate::showing;
+// Looks fields up.
+use crate::calls;
 use message_rules::FoundMap;
 use message_rules::FoundValue;
-use message_rules::Part;
-
-fn part_of(letter: u8) -> Part {
-    match letter {
-        b'h' => Part::Header,
-        b'b' => Part::Body,
-        _ => Part::Trailer,
-    }
-}
-
-fn value(values: &[u8], place: usize, size: usize) {
-    showing::say(b" =");
-    showing::say(reading::first(reading::from(values, place), size));
-}
+use sample_kit::saying;
+use sample_kit::texts;
 
 fn found(values: &[u8], found: FoundValue) {
     match found {
-        FoundValue::NoMessage => showing::answer(27),
-        FoundValue::Absent => showing::say(b" none"),
-        FoundValue::At(place) => value(values, place.place, place.size),
+        FoundValue::NoMessage => saying::say(b" 27"),
+        FoundValue::Absent => saying::say(b" none"),
+        FoundValue::At(place) => {
+            saying::say(b" =");
+            saying::say(texts::part(values, place.place, place.size));
+        }
     }
 }
 
 fn in_map(words: &[u32], values: &[u8], map: FoundMap, tag: u32) {
     match map {
-        FoundMap::NoMessage => showing::answer(27),
-        FoundMap::Absent => showing::say(b" none"),
+        FoundMap::NoMessage => saying::say(b" 27"),
+        FoundMap::Absent => saying::say(b" none"),
         FoundMap::At(head) => found(values, message_look_ups::field_in(words, values, head, tag)),
     }
 }
 
+// `b58`
 pub fn field(words: &[u32], values: &[u8], text: &[u8]) {
-    let part = message_look_ups::part_map(words, values, part_of(reading::first_byte(text)));
-    in_map(words, values, part, reading::number(reading::from(text, 1)));
+    let part = message_look_ups::part_map(words, values, calls::part_of(texts::first_byte(text)));
+    in_map(words, values, part, texts::number(texts::from(text, 1)));
 }
 
-fn entry_of(words: &[u32], values: &[u8], part: usize, text: &[u8]) {
-    let start = reading::number(reading::before(text, b','));
-    let rest = reading::behind(text, b',');
-    let number = reading::size(reading::before(rest, b','));
-    let tag = reading::number(reading::behind(rest, b','));
-    in_map(
-        words,
-        values,
-        message_look_ups::entry_in(words, values, part, start, number),
-        tag,
-    );
-}
-
+// `b78,0,79`
 pub fn entry(words: &[u32], values: &[u8], text: &[u8]) {
-    match message_look_ups::part_map(words, values, part_of(reading::first_byte(text))) {
-        FoundMap::At(part) => entry_of(words, values, part, reading::from(text, 1)),
-        _ => showing::answer(27),
-    }
+    let part = message_look_ups::part_map(words, values, calls::part_of(texts::first_byte(text)));
+    let FoundMap::At(head) = part else {
+        saying::say(b" 27");
+        return;
+    };
+    let numbers = texts::from(text, 1);
+    let start = texts::number_at(numbers, b',', 0);
+    let number = texts::number_at(numbers, b',', 1) as usize;
+    let map = message_look_ups::entry_in(words, values, head, start, number);
+    in_map(words, values, map, texts::number_at(numbers, b',', 2));
 }

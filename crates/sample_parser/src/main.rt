@@ -1,5 +1,5 @@
 // sample_parser: runs the ported framer on the cases that the rules name and writes what each call answers. The lines of `stdout` come
-// from the rules. A line has the call, its number, a take's length, and the state that is left.
+// from 01. A line has the call, its number, a take's length, and the state that is left.
 use frame_parser_rules::Answer;
 use frame_parser_rules::Outcome;
 use frame_parser_rules::State;
@@ -60,10 +60,7 @@ fn take(state: State, store: &mut [u8]) -> State {
 
 fn take_short(state: State, store: &mut [u8]) -> State {
     let mut output = [0u8; 8191];
-    tell(
-        b"take into 8191",
-        frame_parser::take(state, store, &mut output),
-    )
+    tell(b"take into 8191", frame_parser::take(state, store, &mut output))
 }
 
 fn end(state: State, store: &[u8]) -> State {

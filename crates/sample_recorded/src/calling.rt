@@ -1,10 +1,11 @@
 // Messages made by calls: a step for each, as `STEP STEP ..`.
 use crate::drafts;
 use crate::encoded;
-use crate::reading;
-use crate::saying;
+use crate::hexadecimal;
 use message_rules::Change;
 use message_rules::Part;
+use sample_kit::saying;
+use sample_kit::texts;
 
 // The rules' numbers.
 pub fn number_of(change: Change) -> u32 {
@@ -18,72 +19,66 @@ pub fn number_of(change: Change) -> u32 {
 }
 
 fn changed(change: Change) {
-    saying::marked(b"", number_of(change));
+    saying::marked(b"", number_of(change) as u64);
 }
 
-// `PART..`
+// `STEP.PART..`
 fn part_of(text: &[u8]) -> Part {
-    match reading::first_byte(text) {
+    match texts::first_byte(texts::piece(text, b'.', 1)) {
         b'1' => Part::Header,
         b'2' => Part::Body,
         _ => Part::Trailer,
     }
 }
 
-// `BEGIN.KIND`
+// `new.BEGIN.KIND`
 fn new_message(words: &mut [u32], values: &mut [u8], text: &[u8]) {
     let mut begin = [0u8; 100];
     let mut kind = [0u8; 100];
-    let begin_size = reading::bytes(&mut begin, reading::before(text, b'.'));
-    let kind_size = reading::bytes(&mut kind, reading::behind(text, b'.'));
-    let begin_string = reading::first(&begin, begin_size);
-    let message_type = reading::first(&kind, kind_size);
+    let begin_size = hexadecimal::read(&mut begin, texts::piece(text, b'.', 1));
+    let kind_size = hexadecimal::read(&mut kind, texts::piece(text, b'.', 2));
+    let begin_string = texts::first(&begin, begin_size);
+    let message_type = texts::first(&kind, kind_size);
     changed(message::new(words, values, begin_string, message_type));
 }
 
-// `PART.TAG.VALUE`
+// `store.PART.TAG.VALUE`
 fn store(words: &mut [u32], values: &mut [u8], text: &[u8]) {
     let mut space = [0u8; 2000];
-    let rest = reading::behind(text, b'.');
-    let tag = reading::number(reading::before(rest, b'.'));
-    let size = reading::bytes(&mut space, reading::behind(rest, b'.'));
-    let value = reading::first(&space, size);
+    let tag = texts::number_at(text, b'.', 2);
+    let size = hexadecimal::read(&mut space, texts::piece(text, b'.', 3));
+    let value = texts::first(&space, size);
     changed(message::store(words, values, part_of(text), tag, value));
 }
 
-// `PART.TAG`
+// `remove.PART.TAG`
 fn remove(words: &mut [u32], values: &mut [u8], text: &[u8]) {
-    let tag = reading::number(reading::behind(text, b'.'));
+    let tag = texts::number_at(text, b'.', 2);
     changed(message::remove(words, values, part_of(text), tag));
 }
 
-// `PART.ROWS`: a run is made as a draft and hung.
+// `run.PART.ROWS`: a run is made as a draft and hung.
 fn hang(words: &mut [u32], values: &mut [u8], text: &[u8]) {
-    let mut run_words = [0u32; 8205];
+    let mut run_words = [0u32; message_maps::WORDS];
     let mut run_values = [0u8; 8192];
-    let made = drafts::draft(
-        &mut run_words,
-        &mut run_values,
-        reading::behind(text, b'.'),
-        0,
-    );
+    let rows = texts::behind(texts::behind(text, b'.'), b'.');
+    let made = drafts::draft(&mut run_words, &mut run_values, rows, 0);
     if made == 0 {
         changed(message_runs::hang(words, values, part_of(text), &run_words, &run_values));
     } else {
-        saying::marked(b"", made);
+        saying::marked(b"", made as u64);
     }
 }
 
 // The third letters of the steps' names differ.
 fn step(words: &mut [u32], values: &mut [u8], text: &[u8]) {
-    let rest = reading::behind(text, b'.');
-    match reading::third_byte(text) {
+    match texts::byte_at(text, 2) {
         b'p' => changed(message::empty(words, values)),
-        b'w' => new_message(words, values, rest),
-        b'o' => store(words, values, rest),
-        b'm' => remove(words, values, rest),
-        b'n' => hang(words, values, rest),
-        b'c' => encoded::encode(words, values, reading::byte(rest)),
+        b'w' => new_message(words, values, text),
+        b'o' => store(words, values, text),
+        b'm' => remove(words, values, text),
+        b'n' => hang(words, values, text),
+        b'c' => encoded::encode(words, values, hexadecimal::byte(texts::behind(text, b'.'))),
         _ => saying::say(b"unreadable"),
     }
 }
@@ -91,7 +86,7 @@ fn step(words: &mut [u32], values: &mut [u8], text: &[u8]) {
 fn steps(words: &mut [u32], values: &mut [u8], text: &[u8]) {
     let mut from: usize = 0;
     while from < text.len() {
-        let end = reading::end_of(text, from, b' ');
+        let end = texts::end_of(text, from, b' ');
         if 0 < from {
             saying::say(b" ");
         }
@@ -101,7 +96,7 @@ fn steps(words: &mut [u32], values: &mut [u8], text: &[u8]) {
 }
 
 pub fn calls(text: &[u8]) {
-    let mut words = [0u32; 8205];
+    let mut words = [0u32; message_maps::WORDS];
     let mut values = [0u8; 8192];
     message::empty(&mut words, &mut values);
     steps(&mut words, &mut values, text);

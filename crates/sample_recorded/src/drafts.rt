@@ -1,31 +1,18 @@
 // Runs made by calls, from rows `f.LEVEL.TAG.VALUE` and `h.LEVEL.START.DELIMITER` with commas between: each entry is added and its fields are
 // stored; heads one level deeper that have one start tag and follow each other are a run of their own, made first and hung in the entry.
 use crate::calling;
-use crate::reading;
+use crate::hexadecimal;
+use sample_kit::texts;
 ghost use Prim.Native.Nat.{_≤_};
 ghost use lib.ListN.{length};
 
-// What a row says behind its letter: its level, its tag, and a value or a delimiter.
-fn level_of(row: &[u8]) -> u32 {
-    reading::number(reading::before(reading::behind(row, b'.'), b'.'))
-}
-
 fn tag_of(row: &[u8]) -> u32 {
-    let rest = reading::behind(reading::behind(row, b'.'), b'.');
-    reading::number(reading::before(rest, b'.'))
-}
-
-fn last_of(row: &[u8]) -> &[u8] {
-    reading::behind(reading::behind(reading::behind(row, b'.'), b'.'), b'.')
-}
-
-fn is_head(row: &[u8]) -> bool {
-    reading::first_byte(row) == b'h'
+    texts::number_at(row, b'.', 2)
 }
 
 // By how many levels a row lies deeper.
 fn deeper(row: &[u8], level: u32) -> u32 {
-    let own = level_of(row);
+    let own = texts::number_at(row, b'.', 1);
     if level < own {
         return own - level;
     }
@@ -34,7 +21,7 @@ fn deeper(row: &[u8], level: u32) -> u32 {
 
 // The start tag of the nested run that a row starts, 0 where it starts none.
 fn nested_start(row: &[u8], level: u32) -> u32 {
-    if is_head(row) {
+    if texts::first_byte(row) == b'h' {
         if deeper(row, level) == 1 {
             return tag_of(row);
         }
@@ -58,11 +45,11 @@ fn piece_end(rows: &[u8], from: usize, level: u32) -> usize
     requires { ⌜ from ≤ length (now rows) ⌝ }
     ensures { λ r. ⌜ (from ≤ r) × (r ≤ length (now (rows .entry))) ⌝ }
 {
-    let mut end = reading::end_of(rows, from, b',');
+    let mut end = texts::end_of(rows, from, b',');
     let start = nested_start(&rows[from..end], level);
     while end < rows.len() {
         let next = end + 1;
-        let next_end = reading::end_of(rows, next, b',');
+        let next_end = texts::end_of(rows, next, b',');
         if !goes_on(&rows[next..next_end], level, start) {
             return end;
         }
@@ -71,19 +58,15 @@ fn piece_end(rows: &[u8], from: usize, level: u32) -> usize
     end
 }
 
-fn store(words: &mut [u32], values: &mut [u8], row: &[u8]) -> u32 {
-    let mut space = [0u8; 2000];
-    let size = reading::bytes(&mut space, last_of(row));
-    let value = reading::first(&space, size);
-    calling::number_of(message_runs::store_last(words, values, tag_of(row), value))
-}
-
 fn add(words: &mut [u32], values: &mut [u8], row: &[u8]) -> u32 {
-    if is_head(row) {
-        let delimiter = reading::number(last_of(row));
-        return calling::number_of(message_runs::add_entry(words, values, tag_of(row), delimiter));
+    let mut space = [0u8; 2000];
+    let tag = tag_of(row);
+    let last = texts::piece(row, b'.', 3);
+    if texts::first_byte(row) == b'h' {
+        return calling::number_of(message_runs::add_entry(words, values, tag, texts::number(last)));
     }
-    store(words, values, row)
+    let size = hexadecimal::read(&mut space, last);
+    calling::number_of(message_runs::store_last(words, values, tag, texts::first(&space, size)))
 }
 
 // A row of the draft's own, or a nested run.
@@ -94,7 +77,7 @@ fn piece(words: &mut [u32], values: &mut [u8], text: &[u8], level: u32) -> u32 {
     if 7 < level {
         return 42;
     }
-    let mut run_words = [0u32; 8205];
+    let mut run_words = [0u32; message_maps::WORDS];
     let mut run_values = [0u8; 8192];
     let made = draft(&mut run_words, &mut run_values, text, level + 1);
     if 0 < made {
@@ -106,7 +89,7 @@ fn piece(words: &mut [u32], values: &mut [u8], text: &[u8], level: u32) -> u32 {
 // Makes a draft of rows, `-` for none; the number of the first call that refuses.
 pub fn draft(words: &mut [u32], values: &mut [u8], rows: &[u8], level: u32) -> u32 {
     let mut number = calling::number_of(message_runs::empty(words, values));
-    if reading::first_byte(rows) == b'-' {
+    if texts::first_byte(rows) == b'-' {
         return number;
     }
     let mut from: usize = 0;

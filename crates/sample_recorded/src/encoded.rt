@@ -1,12 +1,12 @@
 // An encoding, and the whole message after it as rows.
-use crate::reading;
-use crate::saying;
+use crate::hexadecimal;
 use encode_rules::Encoding;
-ghost use mathlib.Core.Path.{_≡_};
+use sample_kit::saying;
+use sample_kit::texts;
 ghost use Prim.Native.Nat.{_<_};
 
 // The rules' numbers.
-fn number_of(encoding: Encoding) -> u32 {
+fn number_of(encoding: Encoding) -> u64 {
     match encoding {
         Encoding::Written(_) => 0,
         Encoding::NoMessage => 27,
@@ -18,48 +18,28 @@ fn number_of(encoding: Encoding) -> u32 {
     }
 }
 
-fn word_at(words: &[u32], place: usize) -> u32 {
-    if place < words.len() {
-        return words[place];
-    }
-    0
-}
-
-// The value of a field that starts at a place; where the next one starts.
-fn value(values: &[u8], place: usize, length: usize) -> usize {
-    if values.len() < place {
-        saying::say(b"?");
-        return place;
-    }
-    if values.len() - place < length {
-        saying::say(b"?");
-        return place;
-    }
-    let end = place + length;
-    saying::bytes(&values[place..end]);
-    end
-}
-
 // A row: `h.LEVEL.START.DELIMITER`, or `f.LEVEL.TAG.VALUE` with the value that starts at a place. Where the next value starts.
 fn row(words: &[u32], values: &[u8], from: usize, place: usize) -> usize
     requires { ⌜ from < 100000 ⌝ }
 {
-    if word_at(words, from) == 2 {
-        saying::marked(b"h.", word_at(words, from + 1));
-        saying::marked(b".", word_at(words, from + 2));
-        saying::marked(b".", word_at(words, from + 3));
+    let extra = texts::word_at(words, from + 3);
+    if texts::word_at(words, from) == 2 {
+        saying::marked(b"h.", texts::word_at(words, from + 1) as u64);
+        saying::marked(b".", texts::word_at(words, from + 2) as u64);
+        saying::marked(b".", extra as u64);
         return place;
     }
-    saying::marked(b"f.", word_at(words, from + 1));
-    saying::marked(b".", word_at(words, from + 2));
+    saying::marked(b"f.", texts::word_at(words, from + 1) as u64);
+    saying::marked(b".", texts::word_at(words, from + 2) as u64);
     saying::say(b".");
-    value(values, place, word_at(words, from + 3) as usize)
+    hexadecimal::say(texts::part(values, place, extra as usize));
+    place % 100000 + extra as usize
 }
 
 fn row_count(words: &[u32]) -> usize
     ensures { λ r. ⌜ r < 3000 ⌝ }
 {
-    (word_at(words, 0) % 3000) as usize
+    (texts::word_at(words, 0) % 3000) as usize
 }
 
 fn rows(words: &[u32], values: &[u8]) {
@@ -81,7 +61,7 @@ pub fn encode(words: &mut [u32], values: &mut [u8], separator: u8) {
     saying::marked(b"", number_of(encoding));
     if let Encoding::Written(length) = encoding {
         saying::say(b":");
-        saying::bytes(reading::first(&output, length));
+        hexadecimal::say(texts::first(&output, length));
         saying::say(b":");
         rows(words, values);
     }

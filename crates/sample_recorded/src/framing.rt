@@ -1,26 +1,23 @@
 // Streams for the ported framer, as `CHUNK CHUNK ..`: after each chunk all that is ready is taken.
-use crate::reading;
-use crate::saying;
+use crate::hexadecimal;
 use frame_parser_rules::State;
+use sample_kit::saying;
+use sample_kit::texts;
+
+fn comma(frames: usize) {
+    if 0 < frames {
+        saying::say(b",");
+    }
+}
 
 // Behind the frames that were taken: a refusal, or `-` where there was no frame.
 fn last_word(frames: usize, number: u32) {
     if 0 < number {
-        if 0 < frames {
-            saying::say(b",");
-        }
-        saying::marked(b"!", number);
+        comma(frames);
+        saying::marked(b"!", number as u64);
     } else if frames == 0 {
         saying::say(b"-");
     }
-}
-
-// A frame, behind so many others.
-fn frame(frames: usize, bytes: &[u8]) {
-    if 0 < frames {
-        saying::say(b",");
-    }
-    saying::bytes(bytes);
 }
 
 // A frame has a byte at least, and the store 16,384 at the most.
@@ -37,7 +34,8 @@ fn take_all(fresh: State, store: &mut [u8]) -> State {
             last_word(frames, frame_parser::number(answer));
             break;
         }
-        frame(frames, reading::first(&output, length));
+        comma(frames);
+        hexadecimal::say(texts::first(&output, length));
         frames += 1;
     }
     state
@@ -45,13 +43,13 @@ fn take_all(fresh: State, store: &mut [u8]) -> State {
 
 fn chunk(state: State, store: &mut [u8], text: &[u8]) -> State {
     let mut space = [0u8; 2000];
-    let size = reading::bytes(&mut space, text);
-    let outcome = frame_parser::push(state, store, reading::first(&space, size));
+    let size = hexadecimal::read(&mut space, text);
+    let outcome = frame_parser::push(state, store, texts::first(&space, size));
     let answer = outcome.answer;
     let pushed = outcome.state;
     let number = frame_parser::number(answer);
     if 0 < number {
-        saying::marked(b"!", number);
+        saying::marked(b"!", number as u64);
         return pushed;
     }
     take_all(pushed, store)
@@ -61,7 +59,7 @@ fn chunks(store: &mut [u8], text: &[u8]) {
     let mut state = frame_parser::reset();
     let mut from: usize = 0;
     while from < text.len() {
-        let end = reading::end_of(text, from, b' ');
+        let end = texts::end_of(text, from, b' ');
         if 0 < from {
             saying::say(b" ");
         }

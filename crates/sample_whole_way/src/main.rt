@@ -3,20 +3,21 @@
 mod sample;
 mod showing;
 
-use build_integrity::Config;
 use encode_rules::Encoding;
-use field_tagvalue::Cursor;
-use field_tagvalue::FieldRead;
 use message_rules::Part;
+use sample_kit::saying;
+use sample_kit::texts;
+use field_tagvalue::FieldRead;
 
 const SEPARATOR: u8 = 1;
 
 // How many fields stand in a message, repeated ones among them.
 fn count_fields(message: &[u8]) -> usize {
-    let mut cursor = Cursor { at: 0 };
+    let mode = field_tagvalue::separated_by(SEPARATOR);
+    let mut cursor = field_tagvalue::start_at(0);
     let mut count: usize = 0;
     while count < 1024 {
-        let FieldRead::Read(field) = cursor.next_field(message, SEPARATOR) else {
+        let FieldRead::Read(field) = cursor.next_field(message, mode) else {
             return count;
         };
         cursor = field.next;
@@ -29,20 +30,20 @@ fn count_fields(message: &[u8]) -> usize {
 fn hunt(output: &mut [u8]) -> usize {
     let mut store = [0u8; 16384];
     showing::step(b"1. The stream:", sample::STREAM.len());
-    showing::say(b" bytes, two copies of one order. A byte of the first was damaged on the way:\n");
+    saying::say(b" bytes, two copies of one order. A byte of the first was damaged on the way:\n");
     showing::line(&sample::STREAM);
     let given = frame_hunter::push(frame_hunter::reset(), &mut store, &sample::STREAM);
     let taken = frame_hunter::take(given.state, &mut store, output);
     let state = taken.state;
     showing::step(b"2. The hunting framer drops", state.dropped as usize);
     showing::step(b" places and hands out", taken.length);
-    showing::say(b" bytes:\n");
-    showing::line(showing::first(output, taken.length));
+    saying::say(b" bytes:\n");
+    showing::line(texts::first(output, taken.length));
     taken.length
 }
 
 fn take_over(
-    records: &[u32; 6150],
+    records: &[u32; build_records::WORDS],
     count: usize,
     frame: &[u8],
     words: &mut [u32],
@@ -53,53 +54,47 @@ fn take_over(
 
 // Builds the frame, shows what is held, and takes it over into a lent message.
 fn build(frame: &[u8], words: &mut [u32], values: &mut [u8]) {
-    let config = Config {
-        separator: SEPARATOR,
-        validate: true,
-    };
-    let mut records = [0u32; 6150];
+    let config = build_config::config_of(1, SEPARATOR);
+    let mut records = [0u32; build_records::WORDS];
     let built = builder::build(frame, config, &sample::DICTIONARY, 1024, &mut records);
     let answer = built.answer;
     let count = built.records;
-    showing::step(
-        b"3. The build answers",
-        build_answers::number_of(answer) as usize,
-    );
+    showing::step(b"3. The build answers", build_answers::number_of(answer) as usize);
     showing::step(b". Fields read:", count_fields(frame));
     showing::step(b", fields held:", count);
-    showing::say(b"\n");
+    saying::say(b"\n");
     showing::records(frame, &records, count);
-    showing::say(b"   38 came as 600 and again as 800. 800 took its place, as in the Rust.\n");
+    saying::say(b"   38 came as 600 and again as 800. 800 took its place, as in the Rust.\n");
     take_over(&records, count, frame, words, values);
 }
 
 fn encode(words: &mut [u32], values: &mut [u8], output: &mut [u8]) {
     match encoder::encode(words, values, output, SEPARATOR) {
         Encoding::Written(length) => {
-            let written = showing::first(output, length);
+            let written = texts::first(output, length);
             showing::line(written);
             showing::step(b"   Fields written:", count_fields(written));
         }
-        _ => showing::say(b"   refused"),
+        _ => saying::say(b"   refused"),
     }
 }
 
 fn main() {
     let mut output = [0u8; 8192];
-    let mut words = [0u32; 8205];
+    let mut words = [0u32; message_maps::WORDS];
     let mut values = [0u8; 8192];
     let mut encoded = [0u8; 8192];
     let length = hunt(&mut output);
-    build(showing::first(&output, length), &mut words, &mut values);
-    showing::say(b"4. Encoded as it is held, with its own BodyLength and CheckSum:\n");
+    build(texts::first(&output, length), &mut words, &mut values);
+    saying::say(b"4. Encoded as it is held, with its own BodyLength and CheckSum:\n");
     encode(&mut words, &mut values, &mut encoded);
-    showing::say(b". Every check downstream passes, and nothing shows that it once said 600.\n");
-    showing::say(
+    saying::say(b". Every check downstream passes, and nothing shows that it once said 600.\n");
+    saying::say(
         b"   The count of fields read against fields held does: here the gateway stops it.\n",
     );
     message::store(&mut words, &mut values, Part::Body, 38, b"600");
     message::store(&mut words, &mut values, Part::Body, 58, b"38 came twice");
-    showing::say(b"5. Changed, 38 stored as 600 and 58 as a remark, and encoded again:\n");
+    saying::say(b"5. Changed, 38 stored as 600 and 58 as a remark, and encoded again:\n");
     encode(&mut words, &mut values, &mut encoded);
-    showing::say(b".\n");
+    saying::say(b".\n");
 }

@@ -1,7 +1,6 @@
 // tool_fields: shows the fields of the message on standard input, one to a line, with the place of each. `|` in the input stands for 0x01.
 // A tag that was read before is marked, and BodyLength and CheckSum are held against the bytes. It judges nothing else.
 use field_tagvalue::Cause;
-use field_tagvalue::Cursor;
 use field_tagvalue::Field;
 use field_tagvalue::FieldRead;
 use field_tagvalue::Found;
@@ -139,12 +138,13 @@ fn verify(message: &[u8], f: Field, body: usize, says: Number) {
 
 fn fields(message: &[u8]) {
     let mut tags = [0u32; 1024];
-    let mut cursor = Cursor { at: 0 };
+    let mode = field_tagvalue::separated_by(1);
+    let mut cursor = field_tagvalue::start_at(0);
     let mut body: usize = 0;
     let mut says = Number::NoNumber;
     let mut i: usize = 0;
     while i < 1024 {
-        let read = cursor.next_field(message, 1);
+        let read = cursor.next_field(message, mode);
         let f = match read {
             FieldRead::Read(f) => f,
             FieldRead::Unreadable(cause, place) => {

@@ -1,45 +1,43 @@
--- `answer_all` is safe and ends: it reads so many chunks at the most.
--- The chunk, the line and the dictionary keep their lengths.
+-- `answer_all` is safe and ends.
 use mathlib.Core.Path.{_≡_}
-use Prim.Native.Nat.{_-_, _≤_}
-use lib.ListN.{length}
+use Prim.Native.Nat.{_+_, _-_, _≤_}
 use borrow.Author.Needs.{needs}
+use lib.ListN.{length}
 use Rattle.sample_recorded.proofs.answer_all.Statement.{statement}
 use Rattle.sample_recorded.proofs.answer_all.Tie as tie
-use Rattle.sample_recorded.proofs.answer_all.Reads as reads
 
 abbrev Inv-loop : tie.InvT-loop
-Inv-loop chunk₀ line₀ dictionary₀ held₀ chunks₀ chunk line dictionary held chunks = (chunks ≤ 4294967296) × (length chunk ≡ length chunk₀) × (length line ≡ length line₀) × (length dictionary ≡ length dictionary₀)
+Inv-loop requests dictionary₀ used₀ from₀ t6 dictionary used from = (length dictionary ≡ length dictionary₀) × (from ≤ length requests + 1)
 
 abbrev μ-loop : tie.MeasureT-loop
-μ-loop chunk₀ line₀ dictionary₀ held₀ chunks₀ chunk line dictionary held chunks = 4294967296 - chunks
+μ-loop requests dictionary₀ used₀ from₀ t6 dictionary used from = length requests + 1 - from
 
 loop-holds : tie.Need-loop-holds Inv-loop μ-loop
 loop-holds c = search needs
 
-read-full-requires : tie.Need-read-full-requires Inv-loop μ-loop
-read-full-requires c κs = search needs
+end-of-requires : tie.Need-end-of-requires Inv-loop μ-loop
+end-of-requires c κs = search needs
 
-same-length : tie.Need-same-length Inv-loop μ-loop
-same-length c = search needs
+sub-answer : tie.Need-sub-answer Inv-loop μ-loop
+sub-answer c = search needs
 
-same-length-2 : tie.Need-same-length-2 Inv-loop μ-loop
-same-length-2 c = search needs
+part-answer-start : tie.Need-part-answer-start Inv-loop μ-loop
+part-answer-start c = search needs
 
-same-length-3 : tie.Need-same-length-3 Inv-loop μ-loop
-same-length-3 c = search needs
+part-answer-end : tie.Need-part-answer-end Inv-loop μ-loop
+part-answer-end c = search needs
 
-returns : tie.Need-returns Inv-loop μ-loop
-returns c = search needs
+answer-requires : tie.Need-answer-requires Inv-loop μ-loop
+answer-requires c κs = search needs
 
-first-requires : tie.Need-first-requires Inv-loop μ-loop
-first-requires c κs = search needs
+slice-aggregate-say : tie.Need-slice-aggregate-say Inv-loop μ-loop
+slice-aggregate-say c = search needs
 
-next-bytes-requires : tie.Need-next-bytes-requires Inv-loop μ-loop
-next-bytes-requires c κs = search needs
+say-requires : tie.Need-say-requires Inv-loop μ-loop
+say-requires c κs = search needs
 
-add-chunks : tie.Need-add-chunks Inv-loop μ-loop
-add-chunks c = search needs
+add-from : tie.Need-add-from Inv-loop μ-loop
+add-from c = search needs
 
 loop-less : tie.Need-loop-less Inv-loop μ-loop
 loop-less c = search needs
@@ -47,17 +45,11 @@ loop-less c = search needs
 loop-again : tie.Need-loop-again Inv-loop μ-loop
 loop-again c = search needs
 
-same-length-4 : tie.Need-same-length-4 Inv-loop μ-loop
-same-length-4 c = search needs
+same-length : tie.Need-same-length Inv-loop μ-loop
+same-length c = search needs
 
-same-length-5 : tie.Need-same-length-5 Inv-loop μ-loop
-same-length-5 c = search needs
-
-same-length-6 : tie.Need-same-length-6 Inv-loop μ-loop
-same-length-6 c = search needs
-
-returns-2 : tie.Need-returns-2 Inv-loop μ-loop
-returns-2 c = search needs
+returns : tie.Need-returns Inv-loop μ-loop
+returns c = search needs
 
 pub answer-all-spec : {M : Type 1} → statement M
 answer-all-spec =
@@ -66,17 +58,15 @@ answer-all-spec =
     Inv-loop
     μ-loop
     loop-holds
-    read-full-requires
-    same-length
-    same-length-2
-    same-length-3
-    returns
-    first-requires
-    next-bytes-requires
-    add-chunks
+    end-of-requires
+    sub-answer
+    part-answer-start
+    part-answer-end
+    answer-requires
+    slice-aggregate-say
+    say-requires
+    add-from
     loop-less
     loop-again
-    same-length-4
-    same-length-5
-    same-length-6
-    returns-2)
+    same-length
+    returns)

@@ -1,15 +1,14 @@
--- `all_hold` is safe and ends: what is left of the words falls.
+-- `all_hold` is safe and ends.
 use Prim.Native.Nat.{_-_, _≤_}
 use borrow.Author.Needs.{needs}
-use Rattle.build_records.specs.Records.{recordWords}
 use Rattle.sample_builds.proofs.telling.all_hold.Statement.{statement}
 use Rattle.sample_builds.proofs.telling.all_hold.Tie as tie
 
 abbrev Inv-loop : tie.InvT-loop
-Inv-loop words «record» n i₀ i = i ≤ recordWords
+Inv-loop words «record» n i₀ i = i ≤ 6150
 
 abbrev μ-loop : tie.MeasureT-loop
-μ-loop words «record» n i₀ i = recordWords - i
+μ-loop words «record» n i₀ i = 6150 - i
 
 loop-holds : tie.Need-loop-holds Inv-loop μ-loop
 loop-holds c = search needs

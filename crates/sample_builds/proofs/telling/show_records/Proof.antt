@@ -1,4 +1,4 @@
--- `show_records` is safe and ends: what is left of the records falls.
+-- `show_records` is safe and ends.
 use Prim.Native.Nat.{_-_, _≤_}
 use borrow.Author.Needs.{needs}
 use Rattle.sample_builds.proofs.telling.show_records.Statement.{statement}

@@ -1,4 +1,5 @@
--- `encode` is safe: the output that it lends lies in its space.
+-- `encode` is safe and ends.
+
 use native.Mathlib.Omega.{arith}
 use lib.ListN.{length-take}
 use borrow.Author.Needs.{needs}
@@ -17,8 +18,8 @@ slice-aggregate-encode c = simp length-take (omega arith)
 encode-requires : tie.Need-encode-requires
 encode-requires c κs = search needs
 
-encoding-requires : tie.Need-encoding-requires
-encoding-requires c κs = search needs
+encoded-requires : tie.Need-encoded-requires
+encoded-requires c κs = search needs
 
 same-length : tie.Need-same-length
 same-length c = search needs
@@ -40,7 +41,7 @@ encode-spec =
     slice-relend-prefix-encode
     slice-aggregate-encode
     encode-requires
-    encoding-requires
+    encoded-requires
     same-length
     same-length-2
     returns

@@ -1,11 +1,11 @@
--- `used` is safe and ends: what is left of the rows falls.
-use Prim.Native.Nat.{_-_, _≤_}
+-- `used` is safe and ends.
+use Prim.Native.Nat.{_-_, _≤_, _<_}
 use borrow.Author.Needs.{needs}
 use Rattle.sample_messages.proofs.laying.used.Statement.{statement}
 use Rattle.sample_messages.proofs.laying.used.Tie as tie
 
 abbrev Inv-loop : tie.InvT-loop
-Inv-loop words count size₀ i₀ size i = i ≤ count
+Inv-loop words count size₀ i₀ size i = (i ≤ count) × (size < 5000000000)
 
 abbrev μ-loop : tie.MeasureT-loop
 μ-loop words count size₀ i₀ size i = count - i
@@ -19,8 +19,11 @@ loop-holds c = search needs
 value-size-requires : tie.Need-value-size-requires Inv-loop μ-loop
 value-size-requires c κs = search needs
 
-plus-requires : tie.Need-plus-requires Inv-loop μ-loop
-plus-requires c κs = search needs
+cast-size : tie.Need-cast-size Inv-loop μ-loop
+cast-size c = search needs
+
+add-size : tie.Need-add-size Inv-loop μ-loop
+add-size c = search needs
 
 add-i : tie.Need-add-i Inv-loop μ-loop
 add-i c = search needs
@@ -43,7 +46,8 @@ used-spec =
     row-count-requires
     loop-holds
     value-size-requires
-    plus-requires
+    cast-size
+    add-size
     add-i
     loop-less
     loop-again

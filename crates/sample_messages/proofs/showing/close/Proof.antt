@@ -1,14 +1,14 @@
--- `close` is safe and ends: what is left to close falls.
-use Prim.Native.Nat.{_-_, _≤_}
+-- `close` is safe and ends.
+use Prim.Native.Nat.{_≤_}
 use borrow.Author.Needs.{needs}
 use Rattle.sample_messages.proofs.showing.close.Statement.{statement}
 use Rattle.sample_messages.proofs.showing.close.Tie as tie
 
 abbrev Inv-loop : tie.InvT-loop
-Inv-loop «open» to left₀ t4 t5 left = left ≤ «open»
+Inv-loop opened to left₀ t4 t5 left = left ≤ opened
 
 abbrev μ-loop : tie.MeasureT-loop
-μ-loop «open» to left₀ t4 t5 left = left - to
+μ-loop opened to left₀ t4 t5 left = left
 
 loop-holds : tie.Need-loop-holds Inv-loop μ-loop
 loop-holds c = search needs

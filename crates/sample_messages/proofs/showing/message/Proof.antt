@@ -1,14 +1,14 @@
--- `message` is safe and ends: what is left of the rows falls.
+-- `message` is safe and ends.
 use Prim.Native.Nat.{_-_, _≤_}
 use borrow.Author.Needs.{needs}
 use Rattle.sample_messages.proofs.showing.message.Statement.{statement}
 use Rattle.sample_messages.proofs.showing.message.Tie as tie
 
 abbrev Inv-loop : tie.InvT-loop
-Inv-loop words values count open₀ place₀ i₀ «open» place i = i ≤ count
+Inv-loop words values count opened₀ place₀ i₀ opened place i = i ≤ count
 
 abbrev μ-loop : tie.MeasureT-loop
-μ-loop words values count open₀ place₀ i₀ «open» place i = count - i
+μ-loop words values count opened₀ place₀ i₀ opened place i = count - i
 
 slice-aggregate-say : tie.Need-slice-aggregate-say Inv-loop μ-loop
 slice-aggregate-say c = search needs
@@ -22,23 +22,17 @@ row-count-requires c κs = search needs
 loop-holds : tie.Need-loop-holds Inv-loop μ-loop
 loop-holds c = search needs
 
-in-row-requires : tie.Need-in-row-requires Inv-loop μ-loop
-in-row-requires c κs = search needs
-
-close-requires : tie.Need-close-requires Inv-loop μ-loop
-close-requires c κs = search needs
-
 row-requires : tie.Need-row-requires Inv-loop μ-loop
 row-requires c κs = search needs
-
-opened-requires : tie.Need-opened-requires Inv-loop μ-loop
-opened-requires c κs = search needs
 
 value-size-requires : tie.Need-value-size-requires Inv-loop μ-loop
 value-size-requires c κs = search needs
 
-plus-requires : tie.Need-plus-requires Inv-loop μ-loop
-plus-requires c κs = search needs
+cast-place : tie.Need-cast-place Inv-loop μ-loop
+cast-place c = search needs
+
+add-place : tie.Need-add-place Inv-loop μ-loop
+add-place c = search needs
 
 add-i : tie.Need-add-i Inv-loop μ-loop
 add-i c = search needs
@@ -49,8 +43,8 @@ loop-less c = search needs
 loop-again : tie.Need-loop-again Inv-loop μ-loop
 loop-again c = search needs
 
-close-requires-2 : tie.Need-close-requires-2 Inv-loop μ-loop
-close-requires-2 c κs = search needs
+close-requires : tie.Need-close-requires Inv-loop μ-loop
+close-requires c κs = search needs
 
 returns : tie.Need-returns Inv-loop μ-loop
 returns c = search needs
@@ -65,14 +59,12 @@ message-spec =
     say-requires
     row-count-requires
     loop-holds
-    in-row-requires
-    close-requires
     row-requires
-    opened-requires
     value-size-requires
-    plus-requires
+    cast-place
+    add-place
     add-i
     loop-less
     loop-again
-    close-requires-2
+    close-requires
     returns)

@@ -1,4 +1,4 @@
--- `stays` is safe and ends: what is left of the output falls.
+-- `stays` is safe and ends.
 use Prim.Native.Nat.{_-_, _≤_}
 use borrow.Author.Needs.{needs}
 use lib.ListN.{length}

@@ -1,5 +1,4 @@
 -- `records_of` is safe and ends.
--- What is left of the records falls.
 use Prim.Native.Nat.{_-_, _≤_}
 use borrow.Author.Needs.{needs}
 use Rattle.sample_recorded.proofs.building.records_of.Statement.{statement}

@@ -1,9 +1,8 @@
--- `steps` is safe and ends: the lent words and bytes keep their numbers.
--- What is left of the text falls.
+-- `steps` is safe and ends.
 use mathlib.Core.Path.{_≡_}
 use Prim.Native.Nat.{_+_, _-_, _≤_}
-use lib.ListN.{length}
 use borrow.Author.Needs.{needs}
+use lib.ListN.{length}
 use Rattle.sample_recorded.proofs.calling.steps.Statement.{statement}
 use Rattle.sample_recorded.proofs.calling.steps.Tie as tie
 

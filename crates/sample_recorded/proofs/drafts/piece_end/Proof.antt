@@ -1,8 +1,7 @@
--- `piece_end` is safe and ends: it stands between the place and the rows' end.
--- What is left of the rows falls.
+-- `piece_end` is safe and ends.
 use Prim.Native.Nat.{_-_, _≤_}
-use lib.ListN.{length}
 use borrow.Author.Needs.{needs}
+use lib.ListN.{length}
 use Rattle.sample_recorded.proofs.drafts.piece_end.Statement.{statement}
 use Rattle.sample_recorded.proofs.drafts.piece_end.Tie as tie
 

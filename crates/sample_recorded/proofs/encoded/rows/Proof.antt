@@ -1,12 +1,11 @@
--- `rows` is safe and ends: there are fewer than 3,000 rows.
--- What is left of them falls.
+-- `rows` is safe and ends.
 use Prim.Native.Nat.{_-_, _≤_}
 use borrow.Author.Needs.{needs}
 use Rattle.sample_recorded.proofs.encoded.rows.Statement.{statement}
 use Rattle.sample_recorded.proofs.encoded.rows.Tie as tie
 
 abbrev Inv-loop : tie.InvT-loop
-Inv-loop words values count place₀ i₀ t6 place i = (i ≤ count)
+Inv-loop words values count place₀ i₀ t6 place i = i ≤ count
 
 abbrev μ-loop : tie.MeasureT-loop
 μ-loop words values count place₀ i₀ t6 place i = count - i

@@ -1,9 +1,8 @@
--- `chunks` is safe and ends: the store keeps its length.
--- What is left of the text falls.
+-- `chunks` is safe and ends.
 use mathlib.Core.Path.{_≡_}
 use Prim.Native.Nat.{_+_, _-_, _≤_}
-use lib.ListN.{length}
 use borrow.Author.Needs.{needs}
+use lib.ListN.{length}
 use Rattle.sample_recorded.proofs.framing.chunks.Statement.{statement}
 use Rattle.sample_recorded.proofs.framing.chunks.Tie as tie
 

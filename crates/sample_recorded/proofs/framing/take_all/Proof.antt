@@ -1,9 +1,8 @@
--- `take_all` is safe and ends: it takes 16,384 times at the most.
--- The store and the output keep their lengths.
+-- `take_all` is safe and ends.
 use mathlib.Core.Path.{_≡_}
 use Prim.Native.Nat.{_-_, _≤_}
-use lib.ListN.{length}
 use borrow.Author.Needs.{needs}
+use lib.ListN.{length}
 use Rattle.sample_recorded.proofs.framing.take_all.Statement.{statement}
 use Rattle.sample_recorded.proofs.framing.take_all.Tie as tie
 
@@ -31,14 +30,17 @@ number-requires c κs = search needs
 last-word-requires : tie.Need-last-word-requires Inv-loop μ-loop
 last-word-requires c κs = search needs
 
+comma-requires : tie.Need-comma-requires Inv-loop μ-loop
+comma-requires c κs = search needs
+
 slice-aggregate-first : tie.Need-slice-aggregate-first Inv-loop μ-loop
 slice-aggregate-first c = search needs
 
 first-requires : tie.Need-first-requires Inv-loop μ-loop
 first-requires c κs = search needs
 
-frame-requires : tie.Need-frame-requires Inv-loop μ-loop
-frame-requires c κs = search needs
+say-requires : tie.Need-say-requires Inv-loop μ-loop
+say-requires c κs = search needs
 
 add-frames : tie.Need-add-frames Inv-loop μ-loop
 add-frames c = search needs
@@ -73,9 +75,10 @@ take-all-spec =
     length-of-requires
     number-requires
     last-word-requires
+    comma-requires
     slice-aggregate-first
     first-requires
-    frame-requires
+    say-requires
     add-frames
     loop-less
     loop-again
