@@ -16,6 +16,10 @@ use Rattle.face_messages.specs.declared.Shown.{Shown}
 use Rattle.face_messages.specs.Told.{told}
 use Rattle.build_config.specs.Settings.{configOf}
 
+-- bytes to a lent record: part and depth one each, entry, place and length two each, tag four
+abbrev pub recordBytes : ℕ
+recordBytes = 12
+
 abbrev pub blankField : FieldRecord
 blankField = record { part = 0; depth = 0; entry = 0; tag = 0; place = 0; length = 0 }
 

@@ -105,7 +105,10 @@ fn fields() {
 fn numbers() {
     worth(b"BodyLength 0", field_tagvalue::number_of(b"0"));
     worth(b"BodyLength 0005", field_tagvalue::number_of(b"0005"));
-    worth(b"BodyLength 4294967296", field_tagvalue::number_of(b"4294967296"));
+    worth(
+        b"BodyLength 4294967296",
+        field_tagvalue::number_of(b"4294967296"),
+    );
     worth(
         b"BodyLength 18446744073709551621",
         field_tagvalue::number_of(b"18446744073709551621"),

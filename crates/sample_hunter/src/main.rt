@@ -12,7 +12,12 @@ fn field(name: &[u8], value: usize) {
     io::print_decimal(1, value as u64);
 }
 
-fn push(call: &[u8], state: frame_hunter_rules::State, store: &mut [u8; 16384], chunk: &[u8]) -> frame_hunter_rules::State {
+fn push(
+    call: &[u8],
+    state: frame_hunter_rules::State,
+    store: &mut [u8; 16384],
+    chunk: &[u8],
+) -> frame_hunter_rules::State {
     let reply = frame_hunter::push(state, store, chunk);
     let answer = reply.answer;
     let next = reply.state;
@@ -22,7 +27,11 @@ fn push(call: &[u8], state: frame_hunter_rules::State, store: &mut [u8; 16384], 
     next
 }
 
-fn end(call: &[u8], state: frame_hunter_rules::State, store: &[u8; 16384]) -> frame_hunter_rules::State {
+fn end(
+    call: &[u8],
+    state: frame_hunter_rules::State,
+    store: &[u8; 16384],
+) -> frame_hunter_rules::State {
     let reply = frame_hunter::end(state, store);
     let answer = reply.answer;
     let next = reply.state;
@@ -151,7 +160,12 @@ fn cuts(store: &mut [u8; 16384], output: &mut [u8; 8192], stream: &[u8]) {
 // A place that waits holds back the whole frame behind it; after the end it is dropped, and the frame is handed out.
 fn waiting(store: &mut [u8; 16384], output: &mut [u8; 8192]) {
     io::write_all(1, b"waiting\n");
-    let s = push(b"push ", frame_hunter::reset(), store, b"8=FIX.4.4\x019=0003");
+    let s = push(
+        b"push ",
+        frame_hunter::reset(),
+        store,
+        b"8=FIX.4.4\x019=0003",
+    );
     let s = take(b"take ", s, store, output);
     let s = push(b"push ", s, store, b"0\x0135=");
     let s = take(b"take ", s, store, output);
@@ -187,7 +201,12 @@ fn sizes(store: &mut [u8; 16384], output: &mut [u8; 8192]) {
     io::write_all(1, b"sizes\n");
     push(b"push 8193 ", frame_hunter::reset(), store, &chunk[..8193]);
     push(b"push 16385 ", frame_hunter::reset(), store, &chunk);
-    let full = push(b"push 16384 ", frame_hunter::reset(), store, &chunk[..16384]);
+    let full = push(
+        b"push 16384 ",
+        frame_hunter::reset(),
+        store,
+        &chunk[..16384],
+    );
     push(b"push none ", full, store, b"");
     let full = push(b"push one ", full, store, b"x");
     let empty = take(b"take ", full, store, output);
@@ -205,7 +224,10 @@ fn orders(store: &mut [u8; 16384], output: &mut [u8; 8192]) {
 }
 
 fn take_short(store: &mut [u8; 16384], output: &mut [u8; 8191]) {
-    taken(b"take 8191 ", frame_hunter::take(frame_hunter::reset(), store, output));
+    taken(
+        b"take 8191 ",
+        frame_hunter::take(frame_hunter::reset(), store, output),
+    );
 }
 
 fn take_unfit(store: &mut [u8; 16383], output: &mut [u8; 8192]) {

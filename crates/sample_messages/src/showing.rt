@@ -2,9 +2,9 @@
 use crate::laying;
 use encode_rules::Encoding;
 use message_rules::Change;
+use message_take_over::Taken;
 use sample_kit::saying;
 use sample_kit::texts;
-use message_take_over::Taken;
 
 // The rules' numbers.
 fn number_of_change(change: Change) -> u64 {

@@ -60,7 +60,10 @@ fn take(state: State, store: &mut [u8]) -> State {
 
 fn take_short(state: State, store: &mut [u8]) -> State {
     let mut output = [0u8; 8191];
-    tell(b"take into 8191", frame_parser::take(state, store, &mut output))
+    tell(
+        b"take into 8191",
+        frame_parser::take(state, store, &mut output),
+    )
 }
 
 fn end(state: State, store: &[u8]) -> State {

@@ -43,7 +43,12 @@ fn told(message: &[u8], answer: Answer, words: &[u32; build_records::WORDS], cou
     records_of(message, words, count);
 }
 
-fn encode_built(message: &[u8], records: &[u32; build_records::WORDS], count: usize, separator: u8) {
+fn encode_built(
+    message: &[u8],
+    records: &[u32; build_records::WORDS],
+    count: usize,
+    separator: u8,
+) {
     let mut words = [0u32; message_maps::WORDS];
     let mut values = [0u8; 8192];
     message_take_over::take_over(&records[..], count, message, &mut words, &mut values);

@@ -4,10 +4,10 @@ mod sample;
 mod showing;
 
 use encode_rules::Encoding;
+use field_tagvalue::FieldRead;
 use message_rules::Part;
 use sample_kit::saying;
 use sample_kit::texts;
-use field_tagvalue::FieldRead;
 
 const SEPARATOR: u8 = 1;
 
@@ -59,7 +59,10 @@ fn build(frame: &[u8], words: &mut [u32], values: &mut [u8]) {
     let built = builder::build(frame, config, &sample::DICTIONARY, 1024, &mut records);
     let answer = built.answer;
     let count = built.records;
-    showing::step(b"3. The build answers", build_answers::number_of(answer) as usize);
+    showing::step(
+        b"3. The build answers",
+        build_answers::number_of(answer) as usize,
+    );
     showing::step(b". Fields read:", count_fields(frame));
     showing::step(b", fields held:", count);
     saying::say(b"\n");

@@ -7,7 +7,7 @@ use denote.Struct.Laws as LL
 use Rattle.gateway.proofs.Calling.{asked, answered, One, meets-on}
 use Rattle.gateway.proofs.Counting.{counted}
 use Rattle.gateway.proofs.Words.{Words}
-use Rattle.face_messages.specs.Lent.{blankField, fieldRecordAt, filled}
+use Rattle.face_messages.specs.Lent.{blankField, fieldRecordAt, filled, recordBytes}
 use Rattle.face_messages.specs.declared.FieldRecord.{FieldRecord}
 use Rattle.gateway.specs.Sets.{sets, length-sets, sets-part}
 use Rattle.face_messages.proofs.FieldRecord as T
@@ -129,7 +129,7 @@ module _ {M : Type 1} (𝓤 : URA M) (H : Heap 𝓤) (A : Atoms 𝓤) (W : Given
         land ! (from ! (stop !)) (init ! 6 refl (LL.lawful T.the-type T′.the-laws 𝓤 H A W .typed r _ is .0)) $
         assigns ! (bin ! (load ! (from ! (stop !)) (look ! 4 refl)) (lit ! tt) (record { fits = mul-fits })) (from ! (stop !)) (init ! 7 refl (tt, record { fits = mul-fits })) $
         assigns ! (bin ! (load ! (from ! (fld ! refl (stop !))) (look-in ! 9 (sub ! 0 refl (whole !)))) (load ! (from ! (stop !)) (look ! 7 refl)) tt) (from ! (stop !)) (init ! 8 refl (tt, tt)) $
-        rewrite ! 8 (λ (p : ℕ). ‵ (fat fullShare tyPtr l₉ 0 (vptr b p))) (sym (place-is 12 o i)) refl $
+        rewrite ! 8 (λ (p : ℕ). ‵ (fat fullShare tyPtr l₉ 0 (vptr b p))) (sym (place-is recordBytes o i)) refl $
         move ! (3 ∷ []) $ elem-out ! T.the-row (Is T.the-row) (shows 𝓤 H A T.the-row) (LL.vals T.the-type T′.the-laws) (LL.tells T.the-type T′.the-laws) fullShare (sets f xs i) i blankField b o within (λ _.
         -- [records[i]; what it owns; the others; the record; the token; tags; _4; _5; _6; _7; _8; …]
         assigns ! (of-opd ! (load ! (from ! (stop !)) (look ! 8 refl))) (from ! (hop ! (look ! 10 refl) (stop !))) (store-raw ! 0 refl (LL.lawful T.the-type T′.the-laws 𝓤 H A W .typed r _ is .0)) $
@@ -139,7 +139,7 @@ module _ {M : Type 1} (𝓤 : URA M) (H : Heap 𝓤) (A : Atoms 𝓤) (W : Given
         forget ! 4 refl $ forget ! 5 refl $ forget ! 6 refl $ forget ! 7 refl $
         rewrite ! 3 (λ (j : ℕ). ‵ (fat fullShare word l₅ 0 (vint w64 j))) (add-one i) refl $ rewrite ! 0 (λ (z : FieldRecord). ‵ (row T.the-row fullShare (set (sets f xs i) i z) b o)) e refl $ by ! k)))))
       where
-        bytes : len * 12 < 2 ^ 63
+        bytes : len * recordBytes < 2 ^ 63
         bytes = room .1
 
         i-fits : i < 2 ^ 64
@@ -148,7 +148,7 @@ module _ {M : Type 1} (𝓤 : URA M) (H : Heap 𝓤) (A : Atoms 𝓤) (W : Given
         next-fits : i + 1 < 2 ^ 64
         next-fits = omega (arith, m-fits)
 
-        mul-fits : i * 12 < 2 ^ 64
+        mul-fits : i * recordBytes < 2 ^ 64
         mul-fits = omega (arith, bytes, in-range)
 
         within : i < length (sets f xs i)

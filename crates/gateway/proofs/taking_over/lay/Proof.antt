@@ -8,7 +8,7 @@ use Rattle.gateway.proofs.Calling.{asked, answered, One, meets-on}
 use Rattle.gateway.proofs.Counting.{counted}
 use Rattle.gateway.proofs.Words.{Words, packed, unpacked}
 use Rattle.build_records.specs.Records.{onRecords, replaced}
-use Rattle.face_messages.specs.Lent.{blankField, recordOfLent, putFields}
+use Rattle.face_messages.specs.Lent.{blankField, recordOfLent, putFields, recordBytes}
 use Rattle.gateway.specs.TakingLaws.{put-next}
 use Rattle.face_messages.specs.declared.FieldRecord.{FieldRecord}
 use Rattle.face_messages.proofs.FieldRecord as T
@@ -117,7 +117,7 @@ module _ {M : Type 1} (𝓤 : URA M) (H : Heap 𝓤) (A : Atoms 𝓤) (W : Given
         assigns ! (addr ! (from ! (hop ! (look ! 13 refl) (stop !)))) (from ! (stop !)) (init ! 7 refl (tt, tt)) $
         assigns ! (bin ! (load ! (from ! (stop !)) (look ! 4 refl)) (lit ! tt) (record { fits = mul-fits })) (from ! (stop !)) (init ! 8 refl (tt, record { fits = mul-fits })) $
         assigns ! (bin ! (load ! (from ! (fld ! refl (stop !))) (look-in ! 11 (sub ! 0 refl (whole !)))) (load ! (from ! (stop !)) (look ! 8 refl)) tt) (from ! (stop !)) (init ! 9 refl (tt, tt)) $
-        rewrite ! 9 (λ (z : ℕ). ‵ (fat fullShare tyPtr l₉ 0 (vptr b z))) (sym (place-is 12 o i)) refl $
+        rewrite ! 9 (λ (z : ℕ). ‵ (fat fullShare tyPtr l₉ 0 (vptr b z))) (sym (place-is recordBytes o i)) refl $
         -- record i is read
         move ! (1 ∷ 2 ∷ []) $ looks-slice ! tt T.the-row (Is T.the-row) (shows 𝓤 H A T.the-row) (LL.vals T.the-type T′.the-laws) (LL.tells T.the-type T′.the-laws) (LL.copy T.the-type T′.the-copy 𝓤 H A W) xs b o (λ q′.
         elem-out ! T.the-row (Is T.the-row) (shows 𝓤 H A T.the-row) (LL.vals T.the-type T′.the-laws) (LL.tells T.the-type T′.the-laws) q′ xs i blankField b o within (λ g.
@@ -138,7 +138,7 @@ module _ {M : Type 1} (𝓤 : URA M) (H : Heap 𝓤) (A : Atoms 𝓤) (W : Given
         rewrite ! 4 (λ (j : ℕ). ‵ (fat fullShare word l₄ 0 (vint w64 j))) (add-one i) refl $ rewrite ! 0 (λ (z : List ℕ). ‵ (partAt Words fullShare z wb wo)) (e ∙ put-next xs i cs) refl $
         keep ! (0 ∷ 2 ∷ 1 ∷ 3 ∷ 4 ∷ 5 ∷ 6 ∷ 7 ∷ 8 ∷ 9 ∷ 10 ∷ 11 ∷ 12 ∷ 13 ∷ 14 ∷ 15 ∷ 16 ∷ 17 ∷ 18 ∷ 19 ∷ 20 ∷ 21 ∷ 22 ∷ 23 ∷ 24 ∷ 25 ∷ 26 ∷ 27 ∷ 28 ∷ []) $ by ! k))))))))
       where
-        bytes : length xs * 12 < 2 ^ 63
+        bytes : length xs * recordBytes < 2 ^ 63
         bytes = room .1
 
         i-fits : i < 2 ^ 64
@@ -147,7 +147,7 @@ module _ {M : Type 1} (𝓤 : URA M) (H : Heap 𝓤) (A : Atoms 𝓤) (W : Given
         next-fits : i + 1 < 2 ^ 64
         next-fits = omega (arith, m-fits)
 
-        mul-fits : i * 12 < 2 ^ 64
+        mul-fits : i * recordBytes < 2 ^ 64
         mul-fits = omega (arith, bytes, in-range)
 
         within : i < length xs
