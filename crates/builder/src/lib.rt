@@ -10,9 +10,9 @@ use build_parts::TrailerRead;
 use build_records::Record;
 use build_rules::Stop;
 use dictionary_flattening::tags;
-use dictionary_flattening::tags::TagList;
 use dictionary_layout_rules::Level;
 use dictionary_meaning_rules::MessageTable;
+use dictionary_meaning_rules::TagList;
 use field_tagvalue::Field;
 ghost use mathlib.Core.Path.{_≡_};
 ghost use mathlib.Core.List.{[], _++_};
@@ -324,7 +324,7 @@ fn blank(words: &mut [u32], records: usize)
     requires { ⌜ (length (now words) ≡ recordWords) × (records ≤ recordRoom) ⌝ }
     ensures { λ _. ⌜ now (words .exit) ≡ take (stride * records) (now (words .entry)) ++ replicate (recordWords - stride * records) 0 ⌝ }
 {
-    let mut i = 6 * records;
+    let mut i = build_records::STRIDE * records;
     while i < words.len() {
         words[i] = 0;
         i += 1;

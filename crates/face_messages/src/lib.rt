@@ -166,12 +166,12 @@ pub fn take_over(
 ) -> u32
     requires { ⌜ read ≤ 1024 ⌝ }
     ensures { λ r. ⌜ (r ≡ takingNumber (takingOver (take (stride * read) (now (laid .entry))) count (now (message .entry)) (now (words .entry)) (now (values .entry))))
-        × (now (words .exit) ≡ takenWords (takingOver (take (6 * read) (now (laid .entry))) count (now (message .entry)) (now (words .entry)) (now (values .entry))))
-        × (now (values .exit) ≡ takenValues (takingOver (take (6 * read) (now (laid .entry))) count (now (message .entry)) (now (words .entry)) (now (values .entry))))
+        × (now (words .exit) ≡ takenWords (takingOver (take (stride * read) (now (laid .entry))) count (now (message .entry)) (now (words .entry)) (now (values .entry))))
+        × (now (values .exit) ≡ takenValues (takingOver (take (stride * read) (now (laid .entry))) count (now (message .entry)) (now (words .entry)) (now (values .entry))))
         × (now (out .exit) ≡ told 0 (0, 0)) ⌝ }
 {
     tell(out, 0, 0, 0);
-    let end = 6 * read;
+    let end = build_records::STRIDE * read;
     let records = &laid[..];
     taken_number(message_take_over::take_over(&records[..end], count, message, words, values))
 }
