@@ -27,12 +27,12 @@ fn built_line(bytes: &[u8], dictionary: &Dictionary, validate: bool) -> String {
 
 #[test]
 fn builds_answer_as_the_proved_program_does() {
-    let expected = expected("build_samples");
+    let expected = expected("sample_builds");
     let mut seen = Vec::new();
     let sections = ["the examples of 01", "integrity", "which of two comes first", "groups", "layouts"];
     for (file, section) in ["examples", "garbled", "orders", "runs", "layouts"].into_iter().zip(sections) {
         let dictionary = example(Some(file));
-        for (call, lines) in tables(&format!("build_samples/src/{file}.rt")) {
+        for (call, lines) in tables(&format!("sample_builds/src/{file}.rt")) {
             for line in lines {
                 let (name, given) = line.split_once(": ").expect("a name");
                 let bytes = if call.contains("bytes(") { separated(given) } else { whole(given) };
@@ -45,6 +45,6 @@ fn builds_answer_as_the_proved_program_does() {
     for case in 1..=11 {
         assert!(seen.contains(&format!("P{case}")), "P{case}");
     }
-    println!("{} lines of build_samples were compared", seen.len());
+    println!("{} lines of sample_builds were compared", seen.len());
     assert!(seen.len() >= 80);
 }

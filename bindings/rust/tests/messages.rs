@@ -174,11 +174,11 @@ fn drafted(script: &str) -> Result<Vec<String>, Unplayable> {
 
 #[test]
 fn messages_change_and_encode_as_in_the_proved_program() {
-    let expected = expected("message_samples");
+    let expected = expected("sample_messages");
     let mut section = String::new();
     let (mut played, mut left_out) = (Vec::new(), 0);
     for file in ["changes", "limits", "encodings", "entries", "taken", "hung", "looked_up"] {
-        for line in tables(&format!("message_samples/src/{file}.rt")).into_iter().flat_map(|(_, lines)| lines) {
+        for line in tables(&format!("sample_messages/src/{file}.rt")).into_iter().flat_map(|(_, lines)| lines) {
             if let Some(title) = line.strip_prefix("- ") {
                 section = title.to_string();
                 continue;
@@ -195,6 +195,6 @@ fn messages_change_and_encode_as_in_the_proved_program() {
         }
     }
     assert!(played.contains(&"P5".to_string()) && played.contains(&"P6".to_string()));
-    println!("{} lines of message_samples were compared, {left_out} left out", played.len());
+    println!("{} lines of sample_messages were compared, {left_out} left out", played.len());
     assert!(played.len() >= 76);
 }

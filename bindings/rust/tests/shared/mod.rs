@@ -74,7 +74,7 @@ pub fn spelled(writer: DictionaryWriter, word: &str) -> DictionaryWriter {
 
 /// The dictionary of the examples as `sample_builds` spells it, and behind it what one of its files spells: the texts that end with a space.
 pub fn example(file: Option<&str>) -> Dictionary {
-    let source = ["spelling"].into_iter().chain(file).map(|name| text(&format!("build_samples/src/{name}.rt"))).collect::<String>();
+    let source = ["spelling"].into_iter().chain(file).map(|name| text(&format!("sample_builds/src/{name}.rt"))).collect::<String>();
     let texts = source.split("b\"").skip(1).filter_map(|rest| rest.split('"').next()).filter(|text| text.ends_with(' '));
     texts.flat_map(str::split_whitespace).fold(Dictionary::writer(), spelled).finish().expect("it passes its check")
 }
