@@ -34,7 +34,7 @@ impl Told {
 
     /// The same lines stand in the program's `stdout`, one after the other.
     fn stands(&self) {
-        let expected = text("hunter_samples/stdout");
+        let expected = text("sample_hunter/stdout");
         assert!(expected.contains(&format!("{}\n", self.lines.join("\n"))), "{:#?}", self.lines);
     }
 }

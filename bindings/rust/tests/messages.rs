@@ -1,11 +1,11 @@
-//! Messages that are changed and encoded, played through this crate: the tables are read from the sources of `sample_messages`, the expected lines from its
-//! `stdout`, to which the proved program is held.
+//! Messages that are changed and encoded, played through this crate: the script of `sample_messages`, and the lines of its `stdout`, to which the
+//! proved program is held.
 mod shared;
 
-use shared::{example, expected, number, separated, tables};
-use tinkoraba::{build, Bars, Config, Held, Item, Message, Part, Records, Run};
+use shared::{cases, dictionary, expected, number, separated, Case};
+use tinkoraba::{build, Bars, Config, Dictionary, Held, Item, Message, Part, Records, Run};
 
-/// A message, draft or script that this crate can't make: rows that are laid by hand, or a run of mixed tags.
+/// What this crate can't be asked for: rows laid by hand, records that no build answered, a run of mixed tags.
 struct Unplayable;
 
 fn part(letter: &str) -> Part {
@@ -60,9 +60,9 @@ fn changed(message: &mut Message, part: Part, text: &str) -> String {
     number(&message.store(part, tag.parse().expect("a tag"), value)).to_string()
 }
 
-fn taken_over(message: &mut Message, text: &str) -> String {
+fn taken_over(message: &mut Message, dictionary: &Dictionary, text: &str) -> String {
     let (bytes, mut records) = (separated(text), Records::new());
-    let answer = build(&bytes, &example(None), Config::default(), &mut records);
+    let answer = build(&bytes, dictionary, Config::default(), &mut records);
     let (first, built) = answer.map_or_else(|refused| (refused.number(), refused.header()), |built| (0, built));
     let taken = Message::from_built(&built);
     let second = number(&taken);
@@ -88,113 +88,106 @@ fn looked_up(message: &Message, text: &str) -> String {
     }
 }
 
-fn play(message: &mut Message, script: &str) -> Result<Vec<String>, Unplayable> {
-    let mut words = Vec::new();
-    for word in script.split_whitespace() {
-        let rest = &word[1..];
-        words.push(match &word[..1] {
-            letter @ ("h" | "b" | "t") => changed(message, part(letter), rest),
-            "x" => {
-                let (tag, size) = rest.split_once('=').expect("a size");
-                number(&message.store(Part::Body, tag.parse().expect("a tag"), vec![b'x'; size.parse().expect("a size")])).to_string()
-            }
-            "!" => encoded(message, 1, rest.parse().expect("a size")),
-            "%" => encoded(message, rest.as_bytes()[0], 8_192),
-            "<" => taken_over(message, rest),
-            "0" => {
-                *message = Message::empty();
-                "0".to_string()
-            }
-            "*" => {
-                let (begin, kind) = rest.split_once(',').expect("two texts");
-                let made = Message::new(begin, kind);
-                let answer = number(&made).to_string();
-                made.into_iter().for_each(|made| *message = made);
-                answer
-            }
-            "/" | "&" => looked_up(message, rest),
-            "?" => shown(message),
-            _ => return Err(Unplayable),
-        });
-    }
-    Ok(words)
+/// A word on a message.
+fn called(message: &mut Message, dictionary: &Dictionary, word: &str) -> Result<String, Unplayable> {
+    let rest = &word[1..];
+    Ok(match &word[..1] {
+        letter @ ("h" | "b" | "t") => changed(message, part(letter), rest),
+        "!" => encoded(message, 1, rest.parse().expect("a size")),
+        "%" => encoded(message, rest.as_bytes()[0], 8_192),
+        "<" => taken_over(message, dictionary, rest),
+        "0" => {
+            *message = Message::empty();
+            "0".to_string()
+        }
+        "n" => {
+            let (begin, kind) = rest.split_once(',').expect("two texts");
+            let made = Message::new(begin, kind);
+            let answer = number(&made).to_string();
+            made.into_iter().for_each(|made| *message = made);
+            answer
+        }
+        "/" | "&" => looked_up(message, rest),
+        "?" => shown(message),
+        _ => return Err(Unplayable),
+    })
 }
 
-/// A draft's script; the run of its first entry's tags.
-fn draft(script: &str, into: Option<Run>) -> Result<(Run, Vec<String>), Unplayable> {
-    let tags: Vec<&str> = script.split_whitespace().filter_map(|word| word.strip_prefix('+')).collect();
-    if tags.windows(2).any(|pair| pair[0] != pair[1]) || (into.is_some() && !tags.is_empty() && tags[0] != "78,79") {
+/// A word on a draft.
+fn drafted(run: &mut Run, word: &str) -> Result<String, Unplayable> {
+    let answer = match &word[..1] {
+        "+" => run.add_entry(),
+        "v" => {
+            let (tag, value) = word[1..].split_once('=').expect("a field");
+            run.store(tag.parse().expect("a tag"), value)
+        }
+        _ => return Err(Unplayable),
+    };
+    Ok(number(&answer).to_string())
+}
+
+/// What is in hand between one `;` and the next.
+enum Hand {
+    Message(Message),
+    Draft(Run),
+}
+
+/// A draft of the tags that its entries have; any tags where it has none.
+fn draft(words: &[String]) -> Result<Run, Unplayable> {
+    let tags: Vec<&str> = words.iter().filter_map(|word| word.strip_prefix('+')).collect();
+    if tags.windows(2).any(|pair| pair[0] != pair[1]) {
         return Err(Unplayable);
     }
     let (start, delimiter) = tags.first().copied().unwrap_or("78,79").split_once(',').expect("two tags");
-    let mut run = into.unwrap_or_else(|| Run::new(start.parse().expect("a tag"), delimiter.parse().expect("a tag")));
-    let mut words = Vec::new();
-    for word in script.split_whitespace() {
-        let field = || word[1..].split_once('=').map(|(tag, value)| (tag.parse::<u32>().expect("a tag"), value)).expect("a field");
-        let answer = match &word[..1] {
-            "+" => run.add_entry(),
-            "d" => run.store(field().0, field().1),
-            "X" => run.store(field().0, vec![b'x'; field().1.parse().expect("a size")]),
-            _ => return Err(Unplayable),
-        };
-        words.push(number(&answer).to_string());
-    }
-    Ok((run, words))
+    Ok(Run::new(start.parse().expect("a tag"), delimiter.parse().expect("a tag")))
 }
 
-fn hung(part: Part, run: &Run, before: &str, behind: &str) -> Result<Vec<String>, Unplayable> {
-    let mut message = Message::empty();
-    let mut words = play(&mut message, before)?;
-    words.push(format!("hung {}", number(&message.hang(part, run))));
-    words.extend(play(&mut message, behind)?);
-    Ok(words)
+/// Hangs what was laid aside, on a part or in a draft's last entry.
+fn hung(hand: &mut Hand, aside: Option<&Run>, to: &str) -> Result<String, Unplayable> {
+    let run = aside.ok_or(Unplayable)?;
+    Ok(match hand {
+        Hand::Message(message) => format!("hung {}", number(&message.hang(part(to), run))),
+        Hand::Draft(draft) => format!("nested {}", number(&draft.hang(run))),
+    })
 }
 
-fn drafted(script: &str) -> Result<Vec<String>, Unplayable> {
-    let scripts: Vec<&str> = script.split(';').collect();
-    match scripts[..] {
-        ["n", inner, outer, further, before, behind] => {
-            let (inner, mut words) = draft(inner, None)?;
-            let (mut outer, more) = draft(outer, None)?;
-            words.extend(more);
-            words.push(format!("nested {}", number(&outer.hang(&inner))));
-            let (outer, more) = draft(further, Some(outer))?;
-            words.extend(more);
-            words.extend(hung(Part::Body, &outer, before, behind)?);
-            Ok(words)
+fn played(case: &Case) -> Result<String, Unplayable> {
+    let dictionary = dictionary(&case.dictionary).expect("it is written").expect("it passes its check");
+    let (mut aside, mut told) = (None, Vec::new());
+    for words in case.words.split(|word| word == ";") {
+        let mut hand = Hand::Message(Message::empty());
+        for word in words {
+            told.push(match (&word[..1], &mut hand) {
+                ("d", _) => {
+                    hand = Hand::Draft(draft(words)?);
+                    continue;
+                }
+                ("^", hand) => hung(hand, aside.as_ref(), &word[1..])?,
+                (_, Hand::Message(message)) => called(message, &dictionary, word)?,
+                (_, Hand::Draft(run)) => drafted(run, word)?,
+            });
         }
-        [letter, entries, before, behind] => {
-            let (run, mut words) = draft(entries, None)?;
-            words.extend(hung(part(letter), &run, before, behind)?);
-            Ok(words)
+        if let Hand::Draft(run) = hand {
+            aside = Some(run);
         }
-        _ => panic!("scripts: {script}"),
     }
+    Ok(told.join(" "))
 }
 
 #[test]
 fn messages_change_and_encode_as_in_the_proved_program() {
-    let expected = expected("message_samples");
-    let mut section = String::new();
-    let (mut played, mut left_out) = (Vec::new(), 0);
-    for file in ["changes", "limits", "encodings", "entries", "taken", "hung", "looked_up"] {
-        for line in tables(&format!("message_samples/src/{file}.rt")).into_iter().flat_map(|(_, lines)| lines) {
-            if let Some(title) = line.strip_prefix("- ") {
-                section = title.to_string();
-                continue;
+    let expected = expected("sample_messages");
+    let (mut seen, mut left_out) = (Vec::new(), 0);
+    for case in cases("sample_messages") {
+        match played(&case) {
+            Ok(line) => {
+                assert_eq!(Some(&line), expected.get(&format!("{}: {}", case.section, case.name)), "{}: {}", case.section, case.name);
+                seen.push(case.name);
             }
-            let (name, script) = line.split_once(": ").expect("a name");
-            let words = if script.contains(';') { drafted(script) } else { play(&mut Message::empty(), script) };
-            match words {
-                Ok(words) => {
-                    assert_eq!(Some(&words.join(" ")), expected.get(&format!("{section}: {name}")), "{section}: {name}: {script}");
-                    played.push(name.to_string());
-                }
-                Err(Unplayable) => left_out += 1,
-            }
+            Err(Unplayable) => left_out += 1,
         }
     }
-    assert!(played.contains(&"P5".to_string()) && played.contains(&"P6".to_string()));
-    println!("{} lines of message_samples were compared, {left_out} left out", played.len());
-    assert!(played.len() >= 76);
+    assert!(seen.contains(&"P5".to_string()) && seen.contains(&"P6".to_string()));
+    println!("{} lines of sample_messages were compared, {left_out} left out", seen.len());
+    assert!(seen.len() >= 76);
 }

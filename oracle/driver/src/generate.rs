@@ -78,7 +78,7 @@ impl Generator {
         *left = if sink(request) { *left - 1 } else { 0 };
     }
 
-    /// In half of the words none, in the others one of them or any number. A sample has none: the program that answers it takes validation alone.
+    /// In half of the words none, in the others one of them or any number. A sample has none, so that it stays as it was recorded.
     fn other_bits(&mut self) -> u32 {
         if self.small {
             return 0;
