@@ -46,5 +46,5 @@ pub extern "C" fn gateway_most_dictionary_bytes() -> u32
 pub extern "C" fn gateway_message_words() -> u32
     ensures { λ r. ⌜ r ≡ messageWords ⌝ }
 {
-    message_maps::WORDS
+    message_maps::WORDS as u32
 }
