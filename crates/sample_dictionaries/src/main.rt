@@ -1,5 +1,5 @@
 // sample_dictionaries: checks dictionaries at the edges of every answer, and writes the number and the value of each. Its script (see sample_kit) has
-// nothing but dictionaries, each checked as it stands. The lines of `stdout` were written from 01.
+// nothing but dictionaries, each checked as it stands. The lines of `stdout` were written from the rules.
 use sample_kit::dictionaries;
 use sample_kit::saying;
 use sample_kit::scripts;

@@ -6,10 +6,16 @@ use Rattle.sample_whole_way.proofs.count_fields.Statement.{statement}
 use Rattle.sample_whole_way.proofs.count_fields.Tie as tie
 
 abbrev Inv-loop : tie.InvT-loop
-Inv-loop message cursor₀ count₀ cursor count = count ≤ 1024
+Inv-loop message mode cursor₀ count₀ cursor count = count ≤ 1024
 
 abbrev μ-loop : tie.MeasureT-loop
-μ-loop message cursor₀ count₀ cursor count = 1024 - count
+μ-loop message mode cursor₀ count₀ cursor count = 1024 - count
+
+separated-by-requires : tie.Need-separated-by-requires Inv-loop μ-loop
+separated-by-requires c κs = search needs
+
+start-at-requires : tie.Need-start-at-requires Inv-loop μ-loop
+start-at-requires c κs = search needs
 
 loop-holds : tie.Need-loop-holds Inv-loop μ-loop
 loop-holds c = search needs
@@ -44,6 +50,8 @@ count-fields-spec =
     (tie.spec
     Inv-loop
     μ-loop
+    separated-by-requires
+    start-at-requires
     loop-holds
     next-field-requires
     enum-known-field

@@ -7,10 +7,16 @@ use Rattle.tool_fields.proofs.fields.Statement.{statement}
 use Rattle.tool_fields.proofs.fields.Tie as tie
 
 abbrev Inv-loop : tie.InvT-loop
-Inv-loop message tags₀ cursor₀ body₀ says₀ i₀ tags cursor body says i = (i ≤ 1024) × (length tags ≡ 1024)
+Inv-loop message tags₀ mode cursor₀ body₀ says₀ i₀ tags cursor body says i = (i ≤ 1024) × (length tags ≡ 1024)
 
 abbrev μ-loop : tie.MeasureT-loop
-μ-loop message tags₀ cursor₀ body₀ says₀ i₀ tags cursor body says i = 1024 - i
+μ-loop message tags₀ mode cursor₀ body₀ says₀ i₀ tags cursor body says i = 1024 - i
+
+separated-by-requires : tie.Need-separated-by-requires Inv-loop μ-loop
+separated-by-requires c κs = search needs
+
+start-at-requires : tie.Need-start-at-requires Inv-loop μ-loop
+start-at-requires c κs = search needs
 
 loop-holds : tie.Need-loop-holds Inv-loop μ-loop
 loop-holds c = search needs
@@ -69,6 +75,8 @@ fields-spec =
     (tie.spec
     Inv-loop
     μ-loop
+    separated-by-requires
+    start-at-requires
     loop-holds
     next-field-requires
     enum-known-read

@@ -44,7 +44,7 @@ use denote.Triple.Walked.{says, Stays, gave-ref, gave-slice, stay-none, stay-non
 use denote.Exit.{yes}
 use Rattle.build_records.specs.Records.{recordWords}
 use Rattle.builder.specs.Build.{BuildOutcome, buildOf}
-use Rattle.build_parts.specs.Answer.{numberOf, valuesOf}
+use Rattle.build_answers.specs.Answer.{numberOf, valuesOf}
 use Rattle.build_config.specs.Settings.{configOf}
 use Rattle.face_messages.specs.Told.{told}
 use Rattle.face_messages.specs.Lent.{shownOf, toldOf, filled, recordsLent, builtFrom}
