@@ -3,7 +3,7 @@ use Prim.Native.Nat.{ℕ}
 use mathlib.Core.List.{List, [], _∷_}
 use lib.Dec.{eqb}
 use lib.ListN.{getD}
-use Rattle.field_tagvalue.specs.Choice.{pick}
+use Rattle.field_rules.specs.Choice.{pick}
 use Rattle.dictionary_rules.specs.Check.{numberOfCheck, valuesOfCheck}
 use Rattle.build_integrity.specs.Integrity.{numberOfReason}
 use Rattle.build_answers.specs.declared.Answer.{Answer}

@@ -2,7 +2,7 @@
 // It reads nothing and decides nothing: whoever refuses says which answer it is.
 use build_integrity::GarbledReason;
 use dictionary_rules::Checked;
-use field_tagvalue::Cause;
+use field_rules::Cause;
 ghost use mathlib.Core.Path.{_≡_};
 ghost use Rattle.build_integrity.specs.Integrity.{numberOfReason};
 ghost use Rattle.build_answers.specs.Answer.{numberOf, valuesOf};

@@ -5,9 +5,9 @@ use mathlib.Core.List.{List, [], _∷_}
 use Prim.Native.Nat.{ℕ, zero, suc, _+_, _-_, _/_, _≤_, _<_}
 use native.Mathlib.Omega.{arith}
 use lib.ListN.{length}
-use Rattle.field_tagvalue.specs.declared.Mode.{Mode}
-use Rattle.field_tagvalue.specs.Fields.{Fields, unreadable, field, fieldsFrom, Each, each-end, each-field}
-use Rattle.field_tagvalue.specs.declared.Field.{Field}
+use Rattle.field_rules.specs.declared.Mode.{Mode}
+use Rattle.field_rules.specs.Fields.{Fields, unreadable, field, fieldsFrom, Each, each-end, each-field}
+use Rattle.field_rules.specs.declared.Field.{Field}
 use Rattle.dictionary_layout_rules.specs.Tree.{holdsTag}
 use Rattle.build_records.specs.Records.{stored}
 use Rattle.build_records.specs.declared.Record.{Record}

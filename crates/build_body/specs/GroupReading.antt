@@ -6,9 +6,9 @@ use Prim.Native.Nat.{ℕ, zero, suc, _+_, _-_, _/_, _≤_, _<_, _^_}
 use native.Mathlib.Omega.{arith}
 use lib.ListN.{length, take, drop, length-append, length-drop, take-append-drop}
 use lib.Seq.{length-take-le, take-take, take-append-seam}
-use Rattle.field_tagvalue.specs.Fields.{Fields, fieldsFrom, Inside}
-use Rattle.field_tagvalue.specs.declared.Cursor.{Cursor}
-use Rattle.field_tagvalue.specs.declared.Field.{Field}
+use Rattle.field_rules.specs.Fields.{Fields, fieldsFrom, Inside}
+use Rattle.field_rules.specs.declared.Cursor.{Cursor}
+use Rattle.field_rules.specs.declared.Field.{Field}
 use Rattle.build_config.specs.declared.Config.{Config}
 use Rattle.dictionary_layout_rules.specs.declared.Level.{Level}
 use Rattle.build_records.specs.Records.{recordsOf, between, stride}

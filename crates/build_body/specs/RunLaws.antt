@@ -8,7 +8,7 @@ use lib.ListN.{length, getD, take, drop, set, length-append, length-set, length-
 use lib.Seq.{drop-drop, take-add, take-at, drop-at, length-take-le}
 use lib.Dec.{eqb}
 use borrow.Author.Tests.{eq-eqb, ne-eqb}
-use Rattle.field_tagvalue.specs.Choice.{pick}
+use Rattle.field_rules.specs.Choice.{pick}
 use Rattle.build_records.specs.Records.{recordsOf, onRecords, blank, recordAt, between, heldFrom, storedBetween, removed, stored, stride}
 use Rattle.build_records.specs.WordLaws.{records-length, records-on}
 use Rattle.build_records.specs.RecordLaws.{between-on, between-past, between-end, between-parts, removed-parts, stored-held, stored-new}

@@ -9,9 +9,9 @@ use lib.ListN.{length, take, drop, length-append, length-set, length-drop, take-
 use lib.Seq.{take-append-seam, take-all, length-take-le}
 use lib.Dec.{eqb, leb}
 use borrow.Author.Tests.{leb-true, leb-false}
-use Rattle.field_tagvalue.specs.Choice.{pick}
-use Rattle.field_tagvalue.specs.Fields.{Fields, unreadable, field}
-use Rattle.field_tagvalue.specs.declared.Field.{Field}
+use Rattle.field_rules.specs.Choice.{pick}
+use Rattle.field_rules.specs.Fields.{Fields, unreadable, field}
+use Rattle.field_rules.specs.declared.Field.{Field}
 use Rattle.build_records.specs.Records.{recordsOf, onRecords, between, heldFrom, inserted, storedBetween, stored}
 use Rattle.build_records.specs.WordLaws.{records-on, on-same}
 use Rattle.build_records.specs.RecordLaws.{inserted-parts, between-parts, between-end, between-new, stored-held, stored-new, stored-parts-held, stored-parts-new}

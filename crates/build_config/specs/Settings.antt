@@ -2,7 +2,7 @@
 use Prim.Native.Nat.{ℕ, _%_}
 use mathlib.Core.Bool.{Bool}
 use lib.Dec.{eqb}
-use Rattle.field_tagvalue.specs.Field.{separatedBy}
+use Rattle.field_rules.specs.Field.{separatedBy}
 use Rattle.build_config.specs.declared.Config.{Config}
 
 unfoldable pub validates : ℕ → Bool

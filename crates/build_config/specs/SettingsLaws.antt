@@ -5,7 +5,7 @@ use mathlib.Core.List.{List, [], _∷_, map}
 use Prim.Native.Nat.{ℕ, _+_, _*_, _%_}
 use native.Mathlib.Omega.{arith}
 use lib.Dec.{eqb}
-use Rattle.field_tagvalue.specs.Field.{separatedBy}
+use Rattle.field_rules.specs.Field.{separatedBy}
 use Rattle.build_config.specs.Settings.{validates, configOf}
 use Rattle.build_config.specs.declared.Config.{Config}
 

@@ -1,6 +1,6 @@
 // build_config: how a message is built, in one value that every reader hands on whole. A new mode or setting is one more field of it.
 // It decides nothing: what a setting means is said where it is asked.
-use field_tagvalue::Mode;
+use field_rules::Mode;
 ghost use mathlib.Core.Path.{_≡_};
 ghost use Rattle.build_config.specs.Settings.{validates, configOf};
 

@@ -5,11 +5,11 @@ use mathlib.Core.List.{List, [], _∷_, map}
 use mathlib.Core.Bool.{Bool, true, false}
 use Prim.Native.Nat.{ℕ, _-_}
 use Prim.Native.String.{String}
-use Rattle.field_tagvalue.specs.Computing.{reading-fields}
-use Rattle.field_tagvalue.specs.Text.{bytes}
-use Rattle.field_tagvalue.specs.Field.{separatedBy, startAt}
+use Rattle.field_rules.specs.Computing.{reading-fields}
+use Rattle.field_rules.specs.Text.{bytes}
+use Rattle.field_rules.specs.Field.{separatedBy, startAt}
 use Rattle.build_config.specs.Settings.{validating}
-use Rattle.field_tagvalue.specs.Fields.{fieldsFrom}
+use Rattle.field_rules.specs.Fields.{fieldsFrom}
 use Rattle.dictionary_layout_rules.specs.Layout.{Layout, end, field, group, firstOf, positionFrom, positionIn, groupSince, groupOf, delimiterOf}
 use lib.Dec.{eqb}
 use Rattle.build_records.specs.Records.{stored}

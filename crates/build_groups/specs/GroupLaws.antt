@@ -7,10 +7,10 @@ use Prim.Native.Nat.{ℕ, zero, suc, _+_}
 use native.Mathlib.Omega.{arith}
 use lib.Dec.{eqb}
 use borrow.Author.Tests.{eq-eqb, ne-eqb}
-use Rattle.field_tagvalue.specs.Choice.{pick}
-use Rattle.field_tagvalue.specs.Fields.{Fields, unreadable, field, Each, each-field}
-use Rattle.field_tagvalue.specs.declared.Cause.{Cause}
-use Rattle.field_tagvalue.specs.declared.Field.{Field}
+use Rattle.field_rules.specs.Choice.{pick}
+use Rattle.field_rules.specs.Fields.{Fields, unreadable, field, Each, each-field}
+use Rattle.field_rules.specs.declared.Cause.{Cause}
+use Rattle.field_rules.specs.declared.Field.{Field}
 use Rattle.build_records.specs.declared.Record.{Record}
 use Rattle.build_groups.specs.Groups.{Rules, opens, Kind, plain, count, joins, wrong, ends, kindOf, Frame, run, entry, Move, adds, joinsAt, disorders, leaves, inEntry, decide, entryRecord, Store, ended, refused, moved, walk, taking, andThen}
 use Rattle.build_groups.specs.declared.Refusal.the-variants.{Malformed, TooManyFields, InvalidOrderInGroup}

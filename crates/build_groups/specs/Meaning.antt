@@ -9,8 +9,8 @@ use lib.ListN.{length, take, drop, length-append, drop-of-length-le, take-append
 use lib.Dec.{ltb}
 use lib.Seq.{length-take-le, take-append-seam, drop-append-le}
 use borrow.Author.Tests.{ltb-true, ltb-false}
-use Rattle.field_tagvalue.specs.Fields.{Fields, fieldsFrom}
-use Rattle.field_tagvalue.specs.declared.Cursor.{Cursor}
+use Rattle.field_rules.specs.Fields.{Fields, fieldsFrom}
+use Rattle.field_rules.specs.declared.Cursor.{Cursor}
 use Rattle.build_config.specs.declared.Config.{Config}
 use Rattle.dictionary_layout_rules.specs.Layout.{Layout, Group as LayoutGroup}
 use Rattle.dictionary_layout_rules.specs.Tabled.{Tabled, Opens, neither, both, position-means, delimiter-means, group-means}

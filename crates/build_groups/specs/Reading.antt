@@ -5,13 +5,13 @@ use mathlib.Core.List.{List, [], _∷_, _++_}
 use mathlib.Core.Bool.{Bool, true, false}
 use lib.ListN.{length, take, drop}
 use lib.Dec.{ltb}
-use Rattle.field_tagvalue.specs.declared.Mode.{Mode}
-use Rattle.field_tagvalue.specs.Choice.{pick}
-use Rattle.field_tagvalue.specs.Fields.{fieldsFrom, Inside}
-use Rattle.field_tagvalue.specs.declared.Cursor.{Cursor}
-use Rattle.field_tagvalue.specs.declared.Field.{Field}
-use Rattle.field_tagvalue.specs.declared.FieldRead.{FieldRead}
-use Rattle.field_tagvalue.specs.declared.FieldRead.the-variants.{Read, Unreadable}
+use Rattle.field_rules.specs.declared.Mode.{Mode}
+use Rattle.field_rules.specs.Choice.{pick}
+use Rattle.field_rules.specs.Fields.{fieldsFrom, Inside}
+use Rattle.field_rules.specs.declared.Cursor.{Cursor}
+use Rattle.field_rules.specs.declared.Field.{Field}
+use Rattle.field_rules.specs.declared.FieldRead.{FieldRead}
+use Rattle.field_rules.specs.declared.FieldRead.the-variants.{Read, Unreadable}
 use Rattle.build_config.specs.declared.Config.{Config}
 use Rattle.build_answers.specs.declared.Answer.{Answer}
 use Rattle.build_answers.specs.declared.Answer.the-variants.{Malformed as malformed, TooManyFields as too-many-fields, InvalidOrderInGroup as invalid-order}

@@ -7,14 +7,14 @@ use dictionary_layout_rules::FirstTag;
 use dictionary_layout_rules::Level;
 use dictionary_layout_rules::Nested;
 use dictionary_layout_rules::Position;
-use field_tagvalue::Cause;
-use field_tagvalue::Cursor;
-use field_tagvalue::Field;
-use field_tagvalue::FieldRead;
+use field_rules::Cause;
+use field_rules::Cursor;
+use field_rules::Field;
+use field_rules::FieldRead;
 ghost use mathlib.Core.Path.{_≡_};
 ghost use Rattle.dictionary_rules.specs.Index.{tagAt};
 ghost use Prim.Native.Nat.{_<_, _^_};
-ghost use Rattle.field_tagvalue.specs.Field.{fieldAt};
+ghost use Rattle.field_rules.specs.Field.{fieldAt};
 ghost use Rattle.build_groups.specs.Groups.{entryRecord};
 ghost use Rattle.build_records.specs.Records.{onRecords, inserted, storedBetween};
 ghost use Rattle.build_groups.specs.Reading.{accepted, opensAt, kindAt, meant, nextOf, further, makes, standingIn, toldBy, runOf, entryOf, Fits, FitsAt};
@@ -122,7 +122,7 @@ fn kind_of(
 pub fn next_field(message: &[u8], config: Config, cursor: Cursor, progress: Progress) -> Reading
     ensures { λ r. ⌜ r ≡ nextOf (fieldAt (config .mode) (now (message .entry)) cursor) progress ⌝ }
 {
-    match cursor.next_field(message, config.mode) {
+    match field_tagvalue::next_field(cursor, message, config.mode) {
         FieldRead::Unreadable(cause, place) => Reading::Refused(Refusal::Malformed(cause, place)),
         FieldRead::Read(field) => {
             if progress.room == 0 {

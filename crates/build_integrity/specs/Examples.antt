@@ -3,10 +3,10 @@ use mathlib.Core.Path.{_≡_, refl}
 use mathlib.Core.List.{List, [], _∷_, map}
 use Prim.Native.Nat.{ℕ}
 use Prim.Native.String.{String}
-use Rattle.field_tagvalue.specs.Computing.{reading-fields}
-use Rattle.field_tagvalue.specs.Text.{bytes}
-use Rattle.field_tagvalue.specs.CheckSum.{sumOf, checksumOf}
-use Rattle.field_tagvalue.specs.Field.{separatedBy}
+use Rattle.field_rules.specs.Computing.{reading-fields}
+use Rattle.field_rules.specs.Text.{bytes}
+use Rattle.field_rules.specs.CheckSum.{sumOf, checksumOf}
+use Rattle.field_rules.specs.Field.{separatedBy}
 use Rattle.build_integrity.specs.declared.Integrity.{Integrity}
 use Rattle.build_integrity.specs.declared.Integrity.the-variants.{Sound, Garbled}
 use Rattle.build_integrity.specs.Integrity.{numberOfReason, integrityOf, begun, counted, summed, typed, lengthIs, lengthAgrees, sumIs, sumAgrees}

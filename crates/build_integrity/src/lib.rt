@@ -1,9 +1,9 @@
 // build_integrity: whether a message's frame is sound, before anything else is read (11 to 14).
 // It looks at four fields and knows no dictionary; what it answers is all that later reading needs of them.
-use field_tagvalue::Field;
-use field_tagvalue::FieldRead;
-use field_tagvalue::Mode;
-use field_tagvalue::Number;
+use field_rules::Field;
+use field_rules::FieldRead;
+use field_rules::Mode;
+use field_rules::Number;
 use field_tagvalue::wide;
 ghost use mathlib.Core.Path.{_≡_};
 ghost use Rattle.build_integrity.specs.Integrity.{integrityOf, lengthAgrees, sumAgrees};
@@ -76,14 +76,14 @@ pub fn verify(message: &[u8], mode: Mode) -> Integrity
     ensures { λ r. ⌜ r ≡ integrityOf mode (now (message .entry)) ⌝ }
 {
     let start = field_tagvalue::start_at(0);
-    let FieldRead::Read(begin_string) = start.next_field(message, mode) else {
+    let FieldRead::Read(begin_string) = field_tagvalue::next_field(start, message, mode) else {
         return Integrity::Garbled(GarbledReason::InvalidBeginString);
     };
     if begin_string.tag != 8 {
         return Integrity::Garbled(GarbledReason::InvalidBeginString);
     }
     let second = begin_string.next;
-    let FieldRead::Read(body_length) = second.next_field(message, mode) else {
+    let FieldRead::Read(body_length) = field_tagvalue::next_field(second, message, mode) else {
         return Integrity::Garbled(GarbledReason::InvalidBodyLength);
     };
     if body_length.tag != 9 {
@@ -93,7 +93,7 @@ pub fn verify(message: &[u8], mode: Mode) -> Integrity
         return Integrity::Garbled(GarbledReason::InvalidBodyLength);
     }
     let last = field_tagvalue::start_at(message.len() - 7);
-    let FieldRead::Read(checksum) = last.next_field(message, mode) else {
+    let FieldRead::Read(checksum) = field_tagvalue::next_field(last, message, mode) else {
         return Integrity::Garbled(GarbledReason::InvalidChecksum);
     };
     if checksum.tag != 10 {
@@ -103,7 +103,7 @@ pub fn verify(message: &[u8], mode: Mode) -> Integrity
         return Integrity::Garbled(GarbledReason::InvalidChecksum);
     }
     let third = body_length.next;
-    let FieldRead::Read(msg_type) = third.next_field(message, mode) else {
+    let FieldRead::Read(msg_type) = field_tagvalue::next_field(third, message, mode) else {
         return Integrity::Garbled(GarbledReason::InvalidMsgType);
     };
     if msg_type.tag != 35 {

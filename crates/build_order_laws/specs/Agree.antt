@@ -2,8 +2,8 @@
 use Prim.Native.Nat.{ℕ, zero, suc}
 use mathlib.Core.Path.{_≡_}
 use mathlib.Core.List.{List, [], _∷_}
-use Rattle.field_tagvalue.specs.Fields.{Fields, field}
-use Rattle.field_tagvalue.specs.declared.Field.{Field}
+use Rattle.field_rules.specs.Fields.{Fields, field}
+use Rattle.field_rules.specs.declared.Field.{Field}
 use Rattle.build_records.specs.declared.Record.{Record}
 
 -- the first so many fields have the same tags

@@ -5,7 +5,7 @@ use mathlib.Core.List.{List}
 use Prim.Native.Nat.{ℕ, zero, suc, _+_, _≤_}
 use native.Mathlib.Omega.{arith}
 use lib.ListN.{length}
-use Rattle.field_tagvalue.specs.Fields.{Fields}
+use Rattle.field_rules.specs.Fields.{Fields}
 use Rattle.build_records.specs.declared.Record.{Record}
 use Rattle.build_order_laws.specs.Follows.{Follows, no-field, one-field}
 use Rattle.build_order_laws.specs.Agree.{Agree, enough, same, Similar, none, more}

@@ -5,13 +5,13 @@ use mathlib.Core.List.{List}
 use Prim.Native.Nat.{ℕ, zero, suc, _≤_}
 use native.Mathlib.Omega.{arith}
 use borrow.Author.Tests.{eq-eqb, ne-eqb}
-use Rattle.field_tagvalue.specs.declared.Mode.{Mode}
-use Rattle.field_tagvalue.specs.Field.{startAt}
-use Rattle.field_tagvalue.specs.Fields.{Fields, unreadable, field, fieldsFrom}
-use Rattle.field_tagvalue.specs.FieldsLaws.{step-lies, by-fields}
-use Rattle.field_tagvalue.specs.declared.Cause.{Cause}
-use Rattle.field_tagvalue.specs.declared.Cursor.{Cursor}
-use Rattle.field_tagvalue.specs.declared.Field.{Field}
+use Rattle.field_rules.specs.declared.Mode.{Mode}
+use Rattle.field_rules.specs.Field.{startAt}
+use Rattle.field_rules.specs.Fields.{Fields, unreadable, field, fieldsFrom}
+use Rattle.field_rules.specs.FieldsLaws.{step-lies, by-fields}
+use Rattle.field_rules.specs.declared.Cause.{Cause}
+use Rattle.field_rules.specs.declared.Cursor.{Cursor}
+use Rattle.field_rules.specs.declared.Field.{Field}
 use Rattle.build_rules.specs.declared.Stop.{Stop}
 use Rattle.build_order_laws.specs.Counted.{countedTo, countedAll, countedFields, fieldsCounted}
 use Rattle.build_order_laws.specs.Follows.{Reaches, here, further}

@@ -5,8 +5,8 @@ use mathlib.Core.List.{List, [], _∷_, _++_}
 use Prim.Native.Nat.{ℕ, zero, suc, _+_, _≤_, _<_}
 use native.Mathlib.Omega.{arith}
 use lib.ListN.{length}
-use Rattle.field_tagvalue.specs.Fields.{Fields, unreadable, field, Each, each-end, each-field}
-use Rattle.field_tagvalue.specs.declared.Field.{Field}
+use Rattle.field_rules.specs.Fields.{Fields, unreadable, field, Each, each-end, each-field}
+use Rattle.field_rules.specs.declared.Field.{Field}
 use Rattle.build_records.specs.declared.Record.{Record}
 use Rattle.build_groups.specs.Groups.{Rules, Frame, Move, adds, joinsAt, disorders, leaves, decide, moved, walk}
 use Rattle.build_groups.specs.Groups.{ended as ran, entryRecord}

@@ -6,12 +6,12 @@ use mathlib.Core.List.{List, [], _∷_, _++_}
 use Prim.Native.Nat.{ℕ, suc}
 use native.Mathlib.Omega.{arith}
 use Rattle.build_records.specs.Records.{valueAt}
-use Rattle.field_tagvalue.specs.declared.Mode.{Mode}
+use Rattle.field_rules.specs.declared.Mode.{Mode}
 use Rattle.build_config.specs.declared.Config.{Config}
-use Rattle.field_tagvalue.specs.Field.{startAt}
-use Rattle.field_tagvalue.specs.Fields.{Fields, field, fieldsFrom}
-use Rattle.field_tagvalue.specs.FieldsLaws.{fields-field}
-use Rattle.field_tagvalue.specs.declared.Field.{Field}
+use Rattle.field_rules.specs.Field.{startAt}
+use Rattle.field_rules.specs.Fields.{Fields, field, fieldsFrom}
+use Rattle.field_rules.specs.FieldsLaws.{fields-field}
+use Rattle.field_rules.specs.declared.Field.{Field}
 use Rattle.build_integrity.specs.Integrity.{integrityOf}
 use Rattle.build_integrity.specs.VerifiedLaws.{VerifiedRead}
 use Rattle.build_integrity.specs.declared.Integrity.{Integrity}

@@ -7,10 +7,10 @@ use Prim.Native.Nat.{ℕ, zero, suc}
 use native.Mathlib.Omega.{arith}
 use lib.Dec.{eqb}
 use borrow.Author.Tests.{eqb-true}
-use Rattle.field_tagvalue.specs.Choice.{pick}
-use Rattle.field_tagvalue.specs.Fields.{Fields, unreadable, field}
-use Rattle.field_tagvalue.specs.declared.Cause.{Cause}
-use Rattle.field_tagvalue.specs.declared.Field.{Field}
+use Rattle.field_rules.specs.Choice.{pick}
+use Rattle.field_rules.specs.Fields.{Fields, unreadable, field}
+use Rattle.field_rules.specs.declared.Cause.{Cause}
+use Rattle.field_rules.specs.declared.Field.{Field}
 use Rattle.build_records.specs.Records.{stored}
 use Rattle.build_records.specs.declared.Record.{Record}
 use Rattle.build_nesting_laws.specs.Entries.{All, all-stored}

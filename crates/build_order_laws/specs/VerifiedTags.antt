@@ -7,8 +7,8 @@ use Prim.Native.Nat.{ℕ}
 use native.Mathlib.Omega.{arith}
 use lib.Dec.{eqb}
 use borrow.Author.Tests.{eqb-true}
-use Rattle.field_tagvalue.specs.declared.Mode.{Mode}
-use Rattle.field_tagvalue.specs.Choice.{pick}
+use Rattle.field_rules.specs.declared.Mode.{Mode}
+use Rattle.field_rules.specs.Choice.{pick}
 use Rattle.build_integrity.specs.Integrity.{integrityOf, begun, counted, summed, typed, lengthAgrees, sumAgrees}
 use Rattle.build_integrity.specs.VerifiedLaws.{verified-read}
 use Rattle.build_integrity.specs.declared.Integrity.{Integrity}

@@ -2,8 +2,8 @@
 use Prim.Native.Nat.{ℕ, zero, suc}
 use mathlib.Core.List.{List}
 use mathlib.Core.Bool.{Bool, true, false}
-use Rattle.field_tagvalue.specs.Choice.{pick}
-use Rattle.field_tagvalue.specs.Fields.{Fields, unreadable, field}
+use Rattle.field_rules.specs.Choice.{pick}
+use Rattle.field_rules.specs.Fields.{Fields, unreadable, field}
 use Rattle.dictionary_layout_rules.specs.Tree.{holdsTag}
 use Rattle.build_records.specs.Records.{stored}
 use Rattle.build_records.specs.declared.Record.{Record}

@@ -4,14 +4,14 @@ use mathlib.Core.Bool.{Bool, true, false}
 use mathlib.Core.List.{List}
 use Prim.Native.Nat.{ℕ, zero, suc, _-_}
 use native.Mathlib.Omega.{arith}
-use Rattle.field_tagvalue.specs.declared.Mode.{Mode}
-use Rattle.field_tagvalue.specs.Field.{fieldAt}
-use Rattle.field_tagvalue.specs.Fields.{Fields, field, fieldsFrom}
-use Rattle.field_tagvalue.specs.FieldsLaws.{fields-field, fields-end}
-use Rattle.field_tagvalue.specs.declared.Cursor.{Cursor}
-use Rattle.field_tagvalue.specs.declared.Field.{Field}
-use Rattle.field_tagvalue.specs.declared.FieldRead.{FieldRead}
-use Rattle.field_tagvalue.specs.declared.FieldRead.the-variants.{Read, Unreadable}
+use Rattle.field_rules.specs.declared.Mode.{Mode}
+use Rattle.field_rules.specs.Field.{fieldAt}
+use Rattle.field_rules.specs.Fields.{Fields, field, fieldsFrom}
+use Rattle.field_rules.specs.FieldsLaws.{fields-field, fields-end}
+use Rattle.field_rules.specs.declared.Cursor.{Cursor}
+use Rattle.field_rules.specs.declared.Field.{Field}
+use Rattle.field_rules.specs.declared.FieldRead.{FieldRead}
+use Rattle.field_rules.specs.declared.FieldRead.the-variants.{Read, Unreadable}
 use Rattle.dictionary_layout_rules.specs.Tree.{holdsTag}
 use Rattle.build_records.specs.Records.{stored}
 use Rattle.build_records.specs.declared.Record.{Record}

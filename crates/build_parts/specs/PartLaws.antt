@@ -6,15 +6,15 @@ use Prim.Native.Nat.{ℕ, zero, suc, _+_, _-_, _/_, _≤_, _<_}
 use native.Mathlib.Omega.{arith}
 use lib.ListN.{length, getD, take, drop, set, length-append, length-set, length-drop, take-append-drop}
 use lib.Seq.{drop-cons, drop-drop, length-take-le}
-use Rattle.field_tagvalue.specs.declared.Mode.{Mode}
-use Rattle.field_tagvalue.specs.Field.{fieldAt}
-use Rattle.field_tagvalue.specs.Fields.{field, fieldsFrom, Inside}
-use Rattle.field_tagvalue.specs.FieldsLaws.{fields-field, step-inside}
-use Rattle.field_tagvalue.specs.declared.Cursor.{Cursor}
-use Rattle.field_tagvalue.specs.declared.Cause.{Cause}
-use Rattle.field_tagvalue.specs.declared.Field.{Field}
-use Rattle.field_tagvalue.specs.declared.FieldRead.{FieldRead}
-use Rattle.field_tagvalue.specs.declared.FieldRead.the-variants.{Read, Unreadable}
+use Rattle.field_rules.specs.declared.Mode.{Mode}
+use Rattle.field_rules.specs.Field.{fieldAt}
+use Rattle.field_rules.specs.Fields.{field, fieldsFrom, Inside}
+use Rattle.field_rules.specs.FieldsLaws.{fields-field, step-inside}
+use Rattle.field_rules.specs.declared.Cursor.{Cursor}
+use Rattle.field_rules.specs.declared.Cause.{Cause}
+use Rattle.field_rules.specs.declared.Field.{Field}
+use Rattle.field_rules.specs.declared.FieldRead.{FieldRead}
+use Rattle.field_rules.specs.declared.FieldRead.the-variants.{Read, Unreadable}
 use Rattle.build_records.specs.Records.{recordsOf, onRecords, blank, between, heldFrom, storedBetween, stored, stride}
 use Rattle.build_records.specs.WordLaws.{records-length, records-on}
 use Rattle.build_records.specs.RecordLaws.{between-end, between-parts, stored-held, stored-new, stored-parts-held, stored-parts-new}

@@ -3,11 +3,11 @@ use Prim.Native.Nat.{ℕ, zero, suc, _+_, _/_, _≤_, _<_}
 use mathlib.Core.Path.{_≡_}
 use mathlib.Core.List.{List}
 use lib.ListN.{length}
-use Rattle.field_tagvalue.specs.Fields.{Fields, fieldsFrom, Inside}
-use Rattle.field_tagvalue.specs.declared.Mode.{Mode}
-use Rattle.field_tagvalue.specs.declared.Field.{Field}
-use Rattle.field_tagvalue.specs.declared.FieldRead.{FieldRead}
-use Rattle.field_tagvalue.specs.declared.FieldRead.the-variants.{Read, Unreadable}
+use Rattle.field_rules.specs.Fields.{Fields, fieldsFrom, Inside}
+use Rattle.field_rules.specs.declared.Mode.{Mode}
+use Rattle.field_rules.specs.declared.Field.{Field}
+use Rattle.field_rules.specs.declared.FieldRead.{FieldRead}
+use Rattle.field_rules.specs.declared.FieldRead.the-variants.{Read, Unreadable}
 use Rattle.build_records.specs.Records.{recordsOf, between, stored, stride}
 use Rattle.build_records.specs.declared.Record.{Record}
 use Rattle.build_answers.specs.declared.Answer.{Answer}

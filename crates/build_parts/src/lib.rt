@@ -4,15 +4,15 @@ use build_answers::Answer;
 use build_config::Config;
 use build_records::Record;
 use build_records::Standing;
-use field_tagvalue::Cursor;
-use field_tagvalue::Field;
-use field_tagvalue::FieldRead;
+use field_rules::Cursor;
+use field_rules::Field;
+use field_rules::FieldRead;
 ghost use mathlib.Core.Path.{_≡_};
 ghost use Prim.Native.Nat.{_+_, _≤_, _<_, _/_, _^_};
 ghost use lib.ListN.{length};
 ghost use Rattle.build_records.specs.Records.{stride};
-ghost use Rattle.field_tagvalue.specs.Fields.{field, fieldsFrom, Inside};
-ghost use Rattle.field_tagvalue.specs.Field.{fieldAt};
+ghost use Rattle.field_rules.specs.Fields.{field, fieldsFrom, Inside};
+ghost use Rattle.field_rules.specs.Field.{fieldAt};
 ghost use Rattle.build_parts.specs.Parts.{partRecord, partOf, Kept, nextOf, partTold, Stays};
 ghost use Rattle.build_parts.specs.Header.{headerFrom};
 ghost use Rattle.build_parts.specs.Trailer.{trailerFrom, trailerTold, trailerCounts};
@@ -74,7 +74,7 @@ pub fn keep(words: &mut [u32], from: usize, records: usize, stored: Record) -> u
 pub fn next_field(message: &[u8], config: Config, cursor: Cursor, room: usize) -> Next
     ensures { λ r. ⌜ r ≡ nextOf room (fieldAt (config .mode) (now (message .entry)) cursor) ⌝ }
 {
-    match cursor.next_field(message, config.mode) {
+    match field_tagvalue::next_field(cursor, message, config.mode) {
         FieldRead::Unreadable(cause, place) => Next::Missing(Answer::Malformed(cause, place)),
         FieldRead::Read(field) => {
             if room == 0 {
@@ -150,7 +150,7 @@ pub fn read_trailer(
             record_of(build_records::TRAILER, field),
         );
         let next = field.next;
-        let FieldRead::Read(read) = next.next_field(message, config.mode) else {
+        let FieldRead::Read(read) = field_tagvalue::next_field(next, message, config.mode) else {
             return TrailerRead::Unstopped(records);
         };
         field = read;

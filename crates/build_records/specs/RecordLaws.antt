@@ -9,7 +9,7 @@ use lib.ListN.{length, getD, take, drop, set, length-append, drop-of-length-le, 
 use lib.Seq.{take-suc-set, drop-set-lt, drop-cons, take-nil, getD-drop, set-split, take-at, drop-at, take-append-seam, drop-append-seam, set-append-seam, set-append-left, getD-append-seam}
 use lib.Dec.{eqb, leb}
 use borrow.Author.Tests.{eq-eqb, ne-eqb, lt-ltb, le-ltb, le-leb, lt-leb}
-use Rattle.field_tagvalue.specs.Choice.{pick, pick-same}
+use Rattle.field_rules.specs.Choice.{pick, pick-same}
 use Rattle.build_records.specs.Records.{blank, recordAt, replaced, pushed, inserted, pulled, removed, between, heldFrom, storedAt, storedBetween, stored}
 use Rattle.build_records.specs.declared.Record.{Record}
 use Rattle.build_records.specs.declared.Standing.{Standing}

@@ -8,7 +8,7 @@ use lib.ListN.{length, take, drop, length-drop}
 use lib.Seq.{take-take, length-take-le}
 use lib.Dec.{eqb}
 use borrow.Author.Tests.{eq-eqb, ne-eqb, le-leb, lt-leb}
-use Rattle.field_tagvalue.specs.Choice.{pick, pick-same}
+use Rattle.field_rules.specs.Choice.{pick, pick-same}
 use Rattle.build_records.specs.Records.{recordAt, between, heldFrom}
 use Rattle.build_records.specs.RecordLaws.{between-on, between-end}
 use Rattle.build_records.specs.declared.Record.{Record}

@@ -4,9 +4,9 @@ use mathlib.Core.List.{List, [], _∷_}
 use mathlib.Core.Bool.{Bool, true, false}
 use lib.ListN.{take, drop}
 use lib.Dec.{eqb}
-use Rattle.field_tagvalue.specs.Choice.{pick}
-use Rattle.field_tagvalue.specs.Fields.{Fields, fieldsFrom}
-use Rattle.field_tagvalue.specs.declared.Field.{Field}
+use Rattle.field_rules.specs.Choice.{pick}
+use Rattle.field_rules.specs.Fields.{Fields, fieldsFrom}
+use Rattle.field_rules.specs.declared.Field.{Field}
 use Rattle.build_config.specs.declared.Config.{Config}
 use Rattle.build_integrity.specs.Integrity.{integrityOf}
 use Rattle.build_integrity.specs.declared.Integrity.{Integrity}

@@ -5,10 +5,10 @@ use mathlib.Core.List.{List}
 use Prim.Native.Nat.{ℕ, _-_, _<_, _^_}
 use native.Mathlib.Omega.{arith}
 use lib.ListN.{length}
-use Rattle.field_tagvalue.specs.declared.Mode.{Mode}
+use Rattle.field_rules.specs.declared.Mode.{Mode}
 use Rattle.build_config.specs.declared.Config.{Config}
-use Rattle.field_tagvalue.specs.Fields.{fieldsFrom}
-use Rattle.field_tagvalue.specs.declared.Field.{Field}
+use Rattle.field_rules.specs.Fields.{fieldsFrom}
+use Rattle.field_rules.specs.declared.Field.{Field}
 use Rattle.build_integrity.specs.Integrity.{integrityOf}
 use Rattle.build_integrity.specs.VerifiedLaws.{verified-read}
 use Rattle.build_integrity.specs.declared.Integrity.the-variants.{Sound, Garbled}
@@ -21,7 +21,7 @@ use Rattle.build_parts.specs.declared.Progress.{Progress}
 use Rattle.build_parts.specs.declared.PartRead.{PartRead}
 use Rattle.build_parts.specs.declared.PartRead.the-variants.{At, Refused}
 use Rattle.build_parts.specs.Parts.{ended, partRecord, partOf, partTold, Kept}
-use Rattle.field_tagvalue.specs.FieldsLaws.{step-inside}
+use Rattle.field_rules.specs.FieldsLaws.{step-inside}
 use Rattle.build_parts.specs.Header.{headerFrom}
 use Rattle.builder.specs.declared.Headed.{Headed}
 use Rattle.builder.specs.declared.Begun.the-variants.{Header, Refused as RefusedStart}

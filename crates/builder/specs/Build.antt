@@ -4,8 +4,8 @@ use Prim.Native.Nat.{ℕ, _-_}
 use mathlib.Core.List.{List, [], _++_}
 use lib.ListN.{length, replicate}
 use lib.Dec.{eqb, ltb}
-use Rattle.field_tagvalue.specs.Choice.{pick}
-use Rattle.field_tagvalue.specs.Separator.{isRefusedSeparator}
+use Rattle.field_rules.specs.Choice.{pick}
+use Rattle.field_rules.specs.Separator.{isRefusedSeparator}
 use Rattle.build_config.specs.declared.Config.{Config}
 use Rattle.dictionary_rules.specs.Check.{checkOf, numberOfCheck}
 use Rattle.dictionary_rules.specs.declared.Checked.{Checked}

@@ -8,10 +8,10 @@ use lib.Dec.{leb}
 use borrow.Author.Tests.{leb-true}
 use native.Mathlib.Omega.{arith}
 use Rattle.build_config.specs.Settings.{validating}
-use Rattle.field_tagvalue.specs.Number.{isDigit}
-use Rattle.field_tagvalue.specs.Separator.{isRefusedSeparator}
-use Rattle.field_tagvalue.specs.CheckSum.{sumOf, checksumDigits}
-use Rattle.field_tagvalue.specs.Decimal.{decimalWithin}
+use Rattle.field_rules.specs.Number.{isDigit}
+use Rattle.field_rules.specs.Separator.{isRefusedSeparator}
+use Rattle.field_rules.specs.CheckSum.{sumOf, checksumDigits}
+use Rattle.field_rules.specs.Decimal.{decimalWithin}
 use Rattle.dictionary_layout_rules.specs.Tree.{Dictionary}
 use Rattle.build_answers.specs.Answer.{numberOf, valuesOf}
 use Rattle.dictionary_rules.specs.Check.{checkOf}

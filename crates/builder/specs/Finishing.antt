@@ -4,9 +4,9 @@ use mathlib.Core.List.{List, [], _∷_, _++_, append-assoc}
 use Prim.Native.Nat.{ℕ, suc, _+_, _-_, _/_, _≤_, _<_}
 use native.Mathlib.Omega.{arith}
 use lib.ListN.{length}
-use Rattle.field_tagvalue.specs.declared.Mode.{Mode}
-use Rattle.field_tagvalue.specs.Fields.{field, fieldsFrom}
-use Rattle.field_tagvalue.specs.declared.Field.{Field}
+use Rattle.field_rules.specs.declared.Mode.{Mode}
+use Rattle.field_rules.specs.Fields.{field, fieldsFrom}
+use Rattle.field_rules.specs.declared.Field.{Field}
 use Rattle.build_records.specs.Records.{recordsOf, stored}
 use Rattle.build_records.specs.RecordLaws.{between-end}
 use Rattle.build_records.specs.declared.Record.{Record}

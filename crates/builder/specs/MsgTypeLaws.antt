@@ -7,12 +7,12 @@ use Prim.Native.Nat.{ℕ, zero, suc, _+_, _-_, _≤_}
 use native.Mathlib.Omega.{arith}
 use lib.Dec.{eqb}
 use lib.ListN.{length}
-use Rattle.field_tagvalue.specs.FieldsLaws.{step-inside, all-inside}
-use Rattle.field_tagvalue.specs.declared.Mode.{Mode}
+use Rattle.field_rules.specs.FieldsLaws.{step-inside, all-inside}
+use Rattle.field_rules.specs.declared.Mode.{Mode}
 use Rattle.build_config.specs.declared.Config.{Config}
-use Rattle.field_tagvalue.specs.Choice.{pick}
-use Rattle.field_tagvalue.specs.Fields.{Fields, unreadable, field, Each, each-end, each-field, Inside}
-use Rattle.field_tagvalue.specs.declared.Field.{Field}
+use Rattle.field_rules.specs.Choice.{pick}
+use Rattle.field_rules.specs.Fields.{Fields, unreadable, field, Each, each-end, each-field, Inside}
+use Rattle.field_rules.specs.declared.Field.{Field}
 use Rattle.build_integrity.specs.Integrity.{integrityOf}
 use Rattle.build_integrity.specs.declared.Integrity.the-variants.{Sound}
 use Rattle.build_integrity.specs.declared.Verified.{Verified}

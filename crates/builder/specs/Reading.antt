@@ -6,9 +6,9 @@ use mathlib.Core.Bool.{Bool, true, false}
 use lib.ListN.{length}
 use lib.Dec.{eqb, leb}
 use Rattle.build_records.specs.Records.{stride}
-use Rattle.field_tagvalue.specs.Choice.{pick}
-use Rattle.field_tagvalue.specs.Fields.{fieldsFrom, Inside}
-use Rattle.field_tagvalue.specs.declared.Mode.{Mode}
+use Rattle.field_rules.specs.Choice.{pick}
+use Rattle.field_rules.specs.Fields.{fieldsFrom, Inside}
+use Rattle.field_rules.specs.declared.Mode.{Mode}
 use Rattle.build_integrity.specs.declared.Verified.{Verified}
 use Rattle.dictionary_rules.specs.Check.{checkOf, storeOf, preparedOf}
 use Rattle.dictionary_rules.specs.declared.Checked.the-variants.{Passes}

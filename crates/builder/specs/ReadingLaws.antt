@@ -9,9 +9,9 @@ use lib.ListN.{length, take, replicate}
 use lib.Dec.{eqb, leb, ltb}
 use borrow.Author.Tests.{le-ltb, lt-ltb}
 use Rattle.build_records.specs.Records.{recordWords, recordRoom, stride, valueAt}
-use Rattle.field_tagvalue.specs.Choice.{pick}
-use Rattle.field_tagvalue.specs.Separator.{isRefusedSeparator}
-use Rattle.field_tagvalue.specs.Fields.{fieldsFrom}
+use Rattle.field_rules.specs.Choice.{pick}
+use Rattle.field_rules.specs.Separator.{isRefusedSeparator}
+use Rattle.field_rules.specs.Fields.{fieldsFrom}
 use Rattle.build_config.specs.declared.Config.{Config}
 use Rattle.dictionary_rules.specs.Check.{outcome, checkOf, preparedOf, storeOf, numberOfCheck}
 use Rattle.dictionary_rules.specs.declared.Checked.{Checked}

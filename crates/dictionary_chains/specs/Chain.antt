@@ -4,7 +4,7 @@ use Prim.Native.Nat.{ℕ, zero, suc, _+_, _*_, _/_, _%_}
 use mathlib.Core.List.{List}
 use lib.ListN.{getD, set}
 use lib.Dec.{eqb, leb, ltb}
-use Rattle.field_tagvalue.specs.Choice.{pick}
+use Rattle.field_rules.specs.Choice.{pick}
 use Rattle.dictionary_chains.specs.declared.Table.{Table}
 use Rattle.dictionary_chains.specs.declared.Table.the-variants.{Tags, Components, MsgTypes}
 use Rattle.dictionary_chains.specs.declared.Entry.{Entry}

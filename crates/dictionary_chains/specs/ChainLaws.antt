@@ -10,7 +10,7 @@ use lib.ListN.{length, getD, set, take, drop, replicate, length-set, length-repl
 use lib.Seq.{sets-eq, length-take-le, getD-append-add, getD-take, getD-set-same, getD-set-other, drop-cons, set-at, append-snoc}
 use lib.Dec.{eqb, ltb}
 use borrow.Author.Tests.{eq-eqb, ne-eqb, eqb-true, eqb-false, le-ltb, lt-ltb, ltb-true, le-leb, lt-leb}
-use Rattle.field_tagvalue.specs.Choice.{pick, pick-same}
+use Rattle.field_rules.specs.Choice.{pick, pick-same}
 use Rattle.dictionary_chains.specs.Chain.{keyOf, rankOf, headOf, wordAt, nextOf, entryAt, chased, followed, found, placed, numberAt, enteredAt, entered}
 use Rattle.dictionary_chains.specs.declared.Table.{Table}
 use Rattle.dictionary_chains.specs.declared.Table.the-variants.{Tags, Components, MsgTypes}

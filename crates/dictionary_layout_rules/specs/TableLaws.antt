@@ -8,7 +8,7 @@ use native.Mathlib.Omega.{arith}
 use lib.ListN.{length, getD}
 use lib.Dec.{eqb, ltb}
 use borrow.Author.Tests.{eq-eqb, ne-eqb, lt-ltb, le-ltb, ltb-true, ltb-false}
-use Rattle.field_tagvalue.specs.Choice.{pick, pick-same}
+use Rattle.field_rules.specs.Choice.{pick, pick-same}
 use Rattle.dictionary_layout_rules.specs.Layout.{firstOf}
 use Rattle.dictionary_layout_rules.specs.Table.{Row, tagAt, requiredAt, groupAt, linkAt, nextSibling, rowAt, siblingsWithin, siblingsFrom, stopOf, siblings, positionAmong, positionOf, inside, laterGroup, groupAmong, groupWithin, firstAmong, delimiterAt, requiredAmong, firstRequired, nextRequired}
 use Rattle.dictionary_layout_rules.specs.declared.Level.{Level}

@@ -9,7 +9,7 @@ use lib.ListN.{length, getD, length-append}
 use lib.Seq.{getD-append-add}
 use lib.Dec.{eqb, ltb}
 use borrow.Author.Tests.{eq-eqb, ne-eqb}
-use Rattle.field_tagvalue.specs.Choice.{pick, pick-same}
+use Rattle.field_rules.specs.Choice.{pick, pick-same}
 use Rattle.dictionary_layout_rules.specs.Layout.{Layout, end, field, group, items, positionFrom, positionIn, Group, none, entries, groupSince, groupOf, delimiterOf, requiredTags}
 use Rattle.dictionary_layout_rules.specs.Table.{mark, rowsFrom, Row, tagAt, requiredAt, groupAt, linkAt, nextSibling, rowAt, siblingsFrom, stopOf, siblings, positionAmong, positionOf, inside, laterGroup, groupAmong, groupWithin, firstAmong, delimiterAt, requiredAmong, firstRequired, nextRequired}
 use Rattle.dictionary_layout_rules.specs.TableLaws.{sibling-link, walk-on, walk-end, stop-level}

@@ -6,8 +6,8 @@ use mathlib.Core.Bool.{Bool, true, false}
 use Prim.Native.Nat.{ℕ, _+_, _/_, _%_}
 use lib.Dec.{eqb}
 use lib.ListN.{replicate}
-use Rattle.field_tagvalue.specs.Choice.{pick}
-use Rattle.field_tagvalue.specs.Text.{bytes}
+use Rattle.field_rules.specs.Choice.{pick}
+use Rattle.field_rules.specs.Text.{bytes}
 use Rattle.dictionary_layout_rules.specs.Tree.{Nodes, nothing, fieldItem, componentItem, groupItem, Message, Dictionary}
 use Rattle.dictionary_layout_rules.specs.Table.{mark}
 use Rattle.dictionary_rules.specs.Record.{lowFirst, zeroFilled, bodyLength, withTag, withMark, knownTag, opensComponent, opensMessage, bodyOf, withBody, withKind, recordFrom, recordAt}

@@ -5,7 +5,7 @@ use mathlib.Core.List.{List}
 use mathlib.Core.Bool.{Bool, true, false}
 use lib.ListN.{length, set}
 use lib.Dec.{eqb, leb}
-use Rattle.field_tagvalue.specs.Choice.{pick}
+use Rattle.field_rules.specs.Choice.{pick}
 use Rattle.dictionary_layout_rules.specs.Table.{mark}
 use Rattle.dictionary_rules.specs.declared.Component.{Component}
 use Rattle.dictionary_rules.specs.declared.Looked.{Looked}

@@ -8,7 +8,7 @@ use native.Mathlib.Omega.{arith}
 use lib.ListN.{length, set, length-set}
 use lib.Dec.{eqb, leb}
 use borrow.Author.Tests.{eq-eqb, ne-eqb, le-leb, lt-leb, leb-true, leb-false}
-use Rattle.field_tagvalue.specs.Choice.{pick}
+use Rattle.field_rules.specs.Choice.{pick}
 use Rattle.dictionary_rules.specs.declared.Component.{Component}
 use Rattle.dictionary_rules.specs.declared.Looked.{Looked}
 use Rattle.dictionary_rules.specs.declared.Looked.the-variants.{Closed, Missing}

@@ -4,7 +4,7 @@ use Prim.Native.Nat.{ℕ, zero, suc, _+_, _/_, _%_}
 use mathlib.Core.List.{List, [], _∷_}
 use mathlib.Core.Bool.{Bool, true, false}
 use lib.Dec.{eqb}
-use Rattle.field_tagvalue.specs.Choice.{pick}
+use Rattle.field_rules.specs.Choice.{pick}
 use Rattle.dictionary_layout_rules.specs.Tree.{Nodes, nothing, fieldItem, componentItem, groupItem, Message, Dictionary}
 use Rattle.dictionary_rules.specs.Records.{Records, ends, bad, whole, recordsFrom}
 use Rattle.dictionary_rules.specs.declared.Record.{Record}

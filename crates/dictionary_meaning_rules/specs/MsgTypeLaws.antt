@@ -8,7 +8,7 @@ use lib.ListN.{length, getD, drop, drop-of-length-le}
 use lib.Seq.{drop-cons}
 use lib.Dec.{eqb, ltb}
 use borrow.Author.Tests.{eq-eqb, ne-eqb, lt-ltb, le-ltb}
-use Rattle.field_tagvalue.specs.Choice.{pick, pick-same}
+use Rattle.field_rules.specs.Choice.{pick, pick-same}
 use Rattle.dictionary_rules.specs.Record.{lowFirst}
 use Rattle.dictionary_meaning_rules.specs.MsgType.{noZero, nameOf}
 use Rattle.dictionary_meaning_rules.specs.declared.MsgTypeName.the-variants.{Named, Unnamed}

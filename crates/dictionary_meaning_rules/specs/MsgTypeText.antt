@@ -8,7 +8,7 @@ use native.Mathlib.Omega.{arith}
 use lib.ListN.{length, getD}
 use lib.Dec.{eqb, ltb}
 use borrow.Author.Tests.{eq-eqb, ne-eqb, eqb-true, eqb-false, le-ltb, ltb-false}
-use Rattle.field_tagvalue.specs.Choice.{pick, pick-same}
+use Rattle.field_rules.specs.Choice.{pick, pick-same}
 use Rattle.dictionary_layout_rules.specs.Tree.{sameBytes}
 use Rattle.dictionary_rules.specs.Record.{lowFirst, zeroFilled}
 use Rattle.dictionary_meaning_rules.specs.Meaning.{bytesWithin, msgTypeBytes}

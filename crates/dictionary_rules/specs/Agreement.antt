@@ -8,7 +8,7 @@ use native.Mathlib.Omega.{arith}
 use lib.ListN.{length, drop, replicate, length-append, length-drop, length-replicate}
 use lib.Dec.{eqb}
 use borrow.Author.Tests.{eqb-true, eqb-false}
-use Rattle.field_tagvalue.specs.Choice.{pick}
+use Rattle.field_rules.specs.Choice.{pick}
 use Rattle.dictionary_chains.specs.Chain.{keyOf, found, entered, numberAt}
 use Rattle.dictionary_chains.specs.ChainLaws.{Bounded, found-bounded, enter-length, enter-entry, enter-older, enter-bounded, enter-found, enter-elsewhere, clear-bounded, clear-found}
 use Rattle.dictionary_chains.specs.declared.Table.{Table}

@@ -4,7 +4,7 @@ use mathlib.Core.Bool.{Bool}
 use mathlib.Core.List.{List, [], _∷_, _++_}
 use lib.ListN.{length, drop, replicate}
 use lib.Dec.{ltb}
-use Rattle.field_tagvalue.specs.Choice.{pick}
+use Rattle.field_rules.specs.Choice.{pick}
 use Rattle.dictionary_rules.specs.Records.{Records, ends, bad, whole, recordsFrom}
 use Rattle.dictionary_rules.specs.Step.{stepOf, atEnd}
 use Rattle.dictionary_rules.specs.declared.Checked.{Checked}

@@ -6,7 +6,7 @@ use Prim.Native.Nat.{ℕ, _+_, _/_, _%_}
 use Prim.Native.String.{String}
 use native.Mathlib.Omega.{arith}
 use lib.ListN.{take, replicate, length-replicate}
-use Rattle.field_tagvalue.specs.Text.{bytes}
+use Rattle.field_rules.specs.Text.{bytes}
 use Rattle.dictionary_rules.specs.Record.{lowFirst, bodyLength, withTag, withMark, zeroFilled, knownTag, opensComponent, opensMessage, fieldItem, componentItem, opensGroup, bodyOf, withBody, withKind, recordFrom, recordAt}
 use Rattle.dictionary_rules.specs.Records.{followedBy, recordsWithin, recordsFrom}
 use Rattle.dictionary_rules.specs.Step.{depthOf, opened, opens, deeper, grown, heldAlso, heldWith, standsFor, atTop, inside, closedBefore, knownBefore, notEmpty, notTooDeep, onceComponent, onceMessage, notTooMany, onTag, onComponent, onMessage, onField, onItem, onGroup, closesOwner, closesGroup, closesInnermost, onClose, stepOf, present, atEnd}

@@ -7,7 +7,7 @@ use native.Mathlib.Omega.{arith}
 use lib.ListN.{length, drop, replicate}
 use lib.Dec.{eqb, ltb}
 use borrow.Author.Tests.{lt-ltb, le-ltb, ltb-false}
-use Rattle.field_tagvalue.specs.Choice.{pick}
+use Rattle.field_rules.specs.Choice.{pick}
 use Rattle.dictionary_chains.specs.Chain.{numberAt}
 use Rattle.dictionary_rules.specs.Records.{Records, recordsFrom}
 use Rattle.dictionary_rules.specs.RecordsLaws.{sizeOf, Spaced, at-last, at-bad, at-next, spaced}

@@ -4,7 +4,7 @@ use mathlib.Core.List.{List, [], _∷_}
 use mathlib.Core.Bool.{Bool, true, false}
 use lib.ListN.{length, take, drop, getD}
 use lib.Dec.{eqb, ltb}
-use Rattle.field_tagvalue.specs.Choice.{pick}
+use Rattle.field_rules.specs.Choice.{pick}
 use Rattle.dictionary_rules.specs.declared.Record.{Record}
 use Rattle.dictionary_rules.specs.declared.Record.the-variants.{KnownTag, OpensComponent, OpensMessage, FieldItem, ComponentItem, OpensGroup, Closes}
 use Rattle.dictionary_rules.specs.declared.Body.{Body}

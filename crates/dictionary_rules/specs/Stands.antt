@@ -7,7 +7,7 @@ use Prim.Native.Nat.{ℕ, _+_, _≤_}
 use native.Mathlib.Omega.{arith}
 use lib.Dec.{eqb, ltb}
 use borrow.Author.Tests.{eq-eqb, eqb-true, eqb-false, ltb-false, le-ltb}
-use Rattle.field_tagvalue.specs.Choice.{pick}
+use Rattle.field_rules.specs.Choice.{pick}
 use Rattle.dictionary_rules.specs.Records.{Records, ends, bad, whole, recordsFrom}
 use Rattle.dictionary_rules.specs.declared.Record.{Record}
 use Rattle.dictionary_rules.specs.declared.Record.the-variants.{KnownTag, OpensComponent, OpensMessage, FieldItem, ComponentItem, OpensGroup, Closes}

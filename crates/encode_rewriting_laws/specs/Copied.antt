@@ -10,14 +10,14 @@ use lib.ListN.{length, drop, length-append}
 use lib.Seq.{drop-append-seam}
 use borrow.Author.Tests.{le-leb}
 use Rattle.build_records.specs.Records.{valueAt}
-use Rattle.field_tagvalue.specs.SpelledLaws.{text-value, text-fields}
-use Rattle.field_tagvalue.specs.declared.Mode.{Mode}
-use Rattle.field_tagvalue.specs.Decimal.{decimal}
-use Rattle.field_tagvalue.specs.DecimalLaws.{decimal-digits, decimal-reads}
-use Rattle.field_tagvalue.specs.Field.{startAt, fieldBytes, valueOf}
-use Rattle.field_tagvalue.specs.FieldTextLaws.{spelt}
-use Rattle.field_tagvalue.specs.Fields.{Fields, field, fieldsFrom}
-use Rattle.field_tagvalue.specs.declared.Field.{Field}
+use Rattle.field_rules.specs.SpelledLaws.{text-value, text-fields}
+use Rattle.field_rules.specs.declared.Mode.{Mode}
+use Rattle.field_rules.specs.Decimal.{decimal}
+use Rattle.field_rules.specs.DecimalLaws.{decimal-digits, decimal-reads}
+use Rattle.field_rules.specs.Field.{startAt, fieldBytes, valueOf}
+use Rattle.field_rules.specs.FieldTextLaws.{spelt}
+use Rattle.field_rules.specs.Fields.{Fields, field, fieldsFrom}
+use Rattle.field_rules.specs.declared.Field.{Field}
 use Rattle.build_records.specs.declared.Record.{Record}
 use Rattle.build_nesting_laws.specs.Entries.{All, all-none, all-more}
 use Rattle.encode_rewriting_laws.specs.ReadWritten.{Writable}

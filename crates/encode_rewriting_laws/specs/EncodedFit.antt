@@ -16,7 +16,7 @@ use Rattle.build_nesting_laws.specs.Entries.{All}
 use Rattle.message_read_laws.specs.ShapeLaws.{all-first, all-rest}
 use Rattle.message_take_over.specs.Derived.{Stands, no-more as stands-none, own as stands-own, in-entry as stands-entry}
 use Rattle.encode_rules.specs.Encoding.{dropped, encodedMessage}
-use Rattle.field_tagvalue.specs.Separator.{isRefusedSeparator}
+use Rattle.field_rules.specs.Separator.{isRefusedSeparator}
 use Rattle.encode_rules.specs.Encode.{hasUncounted, isIncomplete, left, encoded, encodingOf}
 use Rattle.encoder.specs.SizeLaws.{encoded-fields}
 use Rattle.encoder.specs.CountLaws.{gone-once, dropped-uncounted}

@@ -4,7 +4,7 @@ use mathlib.Core.Path.{_≡_, refl, sym, _∙_}
 use mathlib.Core.List.{List, [], _∷_, _++_}
 use Prim.Native.Nat.{ℕ, _+_}
 use native.Mathlib.Omega.{arith}
-use Rattle.field_tagvalue.specs.Fields.{Fields}
+use Rattle.field_rules.specs.Fields.{Fields}
 use Rattle.build_records.specs.declared.Record.{Record}
 use Rattle.message_maps.specs.Map.{Map}
 use Rattle.message_lent.specs.Meaning.{Message}

@@ -9,9 +9,9 @@ use lib.ListN.{length, length-append}
 use lib.Dec.{eqb}
 use borrow.Author.Tests.{eqb-false, eq-eqb}
 use Rattle.build_records.specs.Records.{valueAt}
-use Rattle.field_tagvalue.specs.Choice.{pick}
-use Rattle.field_tagvalue.specs.Decimal.{decimal}
-use Rattle.field_tagvalue.specs.Field.{fieldBytes}
+use Rattle.field_rules.specs.Choice.{pick}
+use Rattle.field_rules.specs.Decimal.{decimal}
+use Rattle.field_rules.specs.Field.{fieldBytes}
 use Rattle.build_records.specs.declared.Record.{Record}
 use Rattle.message_maps.specs.Map.{Map, field, holds, holdsAny, fieldCount}
 use Rattle.message_lent.specs.Formed.{isFormed}

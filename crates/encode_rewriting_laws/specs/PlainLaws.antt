@@ -10,12 +10,12 @@ use lib.ListN.{length, getD, drop}
 use lib.Seq.{getD-drop}
 use lib.Dec.{eqb, leb}
 use borrow.Author.Tests.{eqb-true, eqb-false, leb-true}
-use Rattle.field_tagvalue.specs.Choice.{pick}
-use Rattle.field_tagvalue.specs.Number.{allDigits, worth, numberIn, nonZero, tagOf}
-use Rattle.field_tagvalue.specs.Decimal.{decimal}
-use Rattle.field_tagvalue.specs.DecimalLaws.{all-digits-first, decimal-small, decimal-unique}
-use Rattle.field_tagvalue.specs.declared.Number.{Number}
-use Rattle.field_tagvalue.specs.declared.Number.the-variants.{Worth, NoNumber}
+use Rattle.field_rules.specs.Choice.{pick}
+use Rattle.field_rules.specs.Number.{allDigits, worth, numberIn, nonZero, tagOf}
+use Rattle.field_rules.specs.Decimal.{decimal}
+use Rattle.field_rules.specs.DecimalLaws.{all-digits-first, decimal-small, decimal-unique}
+use Rattle.field_rules.specs.declared.Number.{Number}
+use Rattle.field_rules.specs.declared.Number.the-variants.{Worth, NoNumber}
 use Rattle.encode_rewriting_laws.specs.Plain.{isPlain}
 
 -- "one or more digits", worth a number

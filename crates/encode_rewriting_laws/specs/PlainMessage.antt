@@ -7,11 +7,11 @@ use Prim.Native.Nat.{ℕ, _-_}
 use native.Mathlib.Omega.{arith}
 use lib.ListN.{length, drop}
 use Rattle.build_records.specs.Records.{valueAt}
-use Rattle.field_tagvalue.specs.declared.Mode.{Mode}
-use Rattle.field_tagvalue.specs.Decimal.{decimal}
-use Rattle.field_tagvalue.specs.Field.{startAt, fieldBytes, valueOf}
-use Rattle.field_tagvalue.specs.Fields.{Fields, field, fieldsFrom}
-use Rattle.field_tagvalue.specs.declared.Field.{Field}
+use Rattle.field_rules.specs.declared.Mode.{Mode}
+use Rattle.field_rules.specs.Decimal.{decimal}
+use Rattle.field_rules.specs.Field.{startAt, fieldBytes, valueOf}
+use Rattle.field_rules.specs.Fields.{Fields, field, fieldsFrom}
+use Rattle.field_rules.specs.declared.Field.{Field}
 use Rattle.build_integrity.specs.Integrity.{integrityOf}
 use Rattle.build_integrity.specs.declared.Integrity.the-variants.{Sound}
 use Rattle.build_integrity.specs.declared.Verified.{Verified}
@@ -24,8 +24,8 @@ use Rattle.encode_rewriting_laws.specs.Plain.{plainTags, plainLength, th
 use Rattle.encode_rewriting_laws.specs.PlainRewritten.{clean-rewritten}
 use Rattle.encode_rewriting_laws.specs.ReadMessage.{Followed}
 use Rattle.encode_rewriting_laws.specs.ReadPlaces.{follows-cursor, stop-verified}
-use Rattle.field_tagvalue.specs.Fields.{startOf}
-use Rattle.field_tagvalue.specs.PlaceLaws.{fields-start}
+use Rattle.field_rules.specs.Fields.{startOf}
+use Rattle.field_rules.specs.PlaceLaws.{fields-start}
 use Rattle.encode_rewriting_laws.specs.ReadWritten.{follows-written}
 use Rattle.encode_rewriting_laws.specs.Written.{written, rewritten}
 

@@ -7,13 +7,13 @@ use Prim.Native.Nat.{ℕ, _-_, _≤_}
 use native.Mathlib.Omega.{arith}
 use lib.ListN.{length, take, drop, length-append, length-drop}
 use lib.Seq.{take-at}
-use Rattle.field_tagvalue.specs.declared.Mode.{Mode}
-use Rattle.field_tagvalue.specs.Decimal.{decimal}
-use Rattle.field_tagvalue.specs.Field.{startAt, fieldAt, fieldBytes, valueOf}
-use Rattle.field_tagvalue.specs.Fields.{fieldsFrom}
-use Rattle.field_tagvalue.specs.declared.Cursor.{Cursor}
-use Rattle.field_tagvalue.specs.declared.Field.{Field}
-use Rattle.field_tagvalue.specs.declared.FieldRead.the-variants.{Read}
+use Rattle.field_rules.specs.declared.Mode.{Mode}
+use Rattle.field_rules.specs.Decimal.{decimal}
+use Rattle.field_rules.specs.Field.{startAt, fieldAt, fieldBytes, valueOf}
+use Rattle.field_rules.specs.Fields.{fieldsFrom}
+use Rattle.field_rules.specs.declared.Cursor.{Cursor}
+use Rattle.field_rules.specs.declared.Field.{Field}
+use Rattle.field_rules.specs.declared.FieldRead.the-variants.{Read}
 use Rattle.build_integrity.specs.Integrity.{integrityOf}
 use Rattle.build_integrity.specs.VerifiedLaws.{verified-read}
 use Rattle.build_integrity.specs.declared.Integrity.the-variants.{Sound}
@@ -23,7 +23,7 @@ use Rattle.build_order_laws.specs.VerifiedTags.{verified-checked}
 use Rattle.encode_rewriting_laws.specs.Plain.{plainLength, threeDigits}
 use Rattle.encode_rewriting_laws.specs.PlainSound.{right-length, plain-second, plain-value}
 use Rattle.encode_rewriting_laws.specs.PlainSum.{last-seven}
-use Rattle.field_tagvalue.specs.SpelledLaws.{value-ends}
+use Rattle.field_rules.specs.SpelledLaws.{value-ends}
 use Rattle.encode_rewriting_laws.specs.ReadSound.{tagged, placed, placed-read, placed-next}
 
 -- the last seven bytes are those of the sum: so all is the text that is summed

@@ -7,24 +7,24 @@ use native.Mathlib.Omega.{arith}
 use lib.ListN.{length}
 use lib.Dec.{eqb}
 use borrow.Author.Tests.{eqb-true}
-use Rattle.field_tagvalue.specs.declared.Mode.{Mode}
-use Rattle.field_tagvalue.specs.Number.{numberIn}
-use Rattle.field_tagvalue.specs.Decimal.{decimal}
-use Rattle.field_tagvalue.specs.Field.{startAt, fieldAt, valueOf}
-use Rattle.field_tagvalue.specs.FieldsLaws.{fields-field}
-use Rattle.field_tagvalue.specs.Fields.{fieldsFrom}
-use Rattle.field_tagvalue.specs.declared.Cursor.{Cursor}
-use Rattle.field_tagvalue.specs.declared.Field.{Field}
-use Rattle.field_tagvalue.specs.declared.FieldRead.the-variants.{Read}
-use Rattle.field_tagvalue.specs.declared.Number.{Number}
-use Rattle.field_tagvalue.specs.declared.Number.the-variants.{Worth, NoNumber}
+use Rattle.field_rules.specs.declared.Mode.{Mode}
+use Rattle.field_rules.specs.Number.{numberIn}
+use Rattle.field_rules.specs.Decimal.{decimal}
+use Rattle.field_rules.specs.Field.{startAt, fieldAt, valueOf}
+use Rattle.field_rules.specs.FieldsLaws.{fields-field}
+use Rattle.field_rules.specs.Fields.{fieldsFrom}
+use Rattle.field_rules.specs.declared.Cursor.{Cursor}
+use Rattle.field_rules.specs.declared.Field.{Field}
+use Rattle.field_rules.specs.declared.FieldRead.the-variants.{Read}
+use Rattle.field_rules.specs.declared.Number.{Number}
+use Rattle.field_rules.specs.declared.Number.the-variants.{Worth, NoNumber}
 use Rattle.build_integrity.specs.Integrity.{integrityOf, lengthIs, lengthAgrees}
 use Rattle.build_integrity.specs.VerifiedLaws.{verified-read}
 use Rattle.build_integrity.specs.declared.Integrity.the-variants.{Sound}
 use Rattle.build_integrity.specs.declared.Verified.{Verified}
 use Rattle.encode_rewriting_laws.specs.Plain.{isPlain, plainLength}
 use Rattle.encode_rewriting_laws.specs.PlainLaws.{number-digits, plain-digits, plain-leads}
-use Rattle.field_tagvalue.specs.SpelledLaws.{value-stands, value-size}
+use Rattle.field_rules.specs.SpelledLaws.{value-stands, value-size}
 
 -- a BodyLength that is right
 pub record RightLength (message : List ℕ) (f : Field) : Type 0 where

@@ -9,24 +9,24 @@ use lib.ListN.{length, getD, take, drop, length-append, length-drop}
 use lib.Seq.{getD-drop}
 use lib.Dec.{eqb}
 use borrow.Author.Tests.{eqb-true}
-use Rattle.field_tagvalue.specs.declared.Mode.{Mode}
-use Rattle.field_tagvalue.specs.Choice.{pick}
-use Rattle.field_tagvalue.specs.CheckSum.{sumOf, checksumOf, checksumDigits}
-use Rattle.field_tagvalue.specs.Number.{isDigit, allDigits, worth}
-use Rattle.field_tagvalue.specs.NumberLaws.{number-good, checksum-three}
-use Rattle.field_tagvalue.specs.DecimalLaws.{all-digits-first}
-use Rattle.field_tagvalue.specs.Field.{startAt, fieldAt, fieldBytes, valueOf}
-use Rattle.field_tagvalue.specs.FieldTextLaws.{bytes-size}
-use Rattle.field_tagvalue.specs.FieldsLaws.{step-lies}
-use Rattle.field_tagvalue.specs.declared.Field.{Field}
-use Rattle.field_tagvalue.specs.declared.FieldRead.the-variants.{Read}
-use Rattle.field_tagvalue.specs.declared.Number.the-variants.{Worth}
+use Rattle.field_rules.specs.declared.Mode.{Mode}
+use Rattle.field_rules.specs.Choice.{pick}
+use Rattle.field_rules.specs.CheckSum.{sumOf, checksumOf, checksumDigits}
+use Rattle.field_rules.specs.Number.{isDigit, allDigits, worth}
+use Rattle.field_rules.specs.NumberLaws.{number-good, checksum-three}
+use Rattle.field_rules.specs.DecimalLaws.{all-digits-first}
+use Rattle.field_rules.specs.Field.{startAt, fieldAt, fieldBytes, valueOf}
+use Rattle.field_rules.specs.FieldTextLaws.{bytes-size}
+use Rattle.field_rules.specs.FieldsLaws.{step-lies}
+use Rattle.field_rules.specs.declared.Field.{Field}
+use Rattle.field_rules.specs.declared.FieldRead.the-variants.{Read}
+use Rattle.field_rules.specs.declared.Number.the-variants.{Worth}
 use Rattle.build_integrity.specs.Integrity.{sumAgrees}
 use Rattle.build_integrity.specs.IntegrityLaws.{sum-is}
 use Rattle.encode_rules.specs.Encoding.{sumDigits}
 use Rattle.encode_rewriting_laws.specs.Plain.{threeDigits}
 use Rattle.encode_rewriting_laws.specs.PlainLaws.{Digits, tag-text}
-use Rattle.field_tagvalue.specs.SpelledLaws.{spells, value-is, value-stands, value-size}
+use Rattle.field_rules.specs.SpelledLaws.{spells, value-is, value-stands, value-size}
 
 -- three digits are those of the number that they are worth
 record Three (s : List ℕ) (n : ℕ) : Type 0 where

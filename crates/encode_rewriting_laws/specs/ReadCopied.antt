@@ -6,10 +6,10 @@ use Prim.Native.Nat.{ℕ}
 use native.Mathlib.Omega.{arith}
 use lib.ListN.{length}
 use Rattle.build_records.specs.Records.{valueAt}
-use Rattle.field_tagvalue.specs.declared.Mode.{Mode}
-use Rattle.field_tagvalue.specs.Field.{valueOf}
-use Rattle.field_tagvalue.specs.Fields.{Fields, field}
-use Rattle.field_tagvalue.specs.declared.Field.{Field}
+use Rattle.field_rules.specs.declared.Mode.{Mode}
+use Rattle.field_rules.specs.Field.{valueOf}
+use Rattle.field_rules.specs.Fields.{Fields, field}
+use Rattle.field_rules.specs.declared.Field.{Field}
 use Rattle.build_records.specs.declared.Record.{Record}
 use Rattle.message_read_laws.specs.Counting.{Of}
 use Rattle.build_order_laws.specs.Follows.{Follows, no-field, one-field}

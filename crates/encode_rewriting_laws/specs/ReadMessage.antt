@@ -5,10 +5,10 @@ use mathlib.Core.Bool.{false}
 use mathlib.Core.List.{List, _∷_, _++_}
 use Prim.Native.Nat.{ℕ, _≤_}
 use lib.ListN.{length}
-use Rattle.field_tagvalue.specs.declared.Mode.{Mode}
-use Rattle.field_tagvalue.specs.Field.{startAt}
-use Rattle.field_tagvalue.specs.Number.{isDigit}
-use Rattle.field_tagvalue.specs.Fields.{Fields, fieldsFrom}
+use Rattle.field_rules.specs.declared.Mode.{Mode}
+use Rattle.field_rules.specs.Field.{startAt}
+use Rattle.field_rules.specs.Number.{isDigit}
+use Rattle.field_rules.specs.Fields.{Fields, fieldsFrom}
 use Rattle.build_records.specs.declared.Record.{Record}
 use Rattle.build_nesting_laws.specs.Entries.{All, all-more, all-append}
 use Rattle.build_order_laws.specs.Follows.{Follows}

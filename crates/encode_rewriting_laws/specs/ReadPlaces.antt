@@ -5,12 +5,12 @@ use mathlib.Core.List.{List}
 use Prim.Native.Nat.{ℕ, _+_, _-_, _≤_}
 use native.Mathlib.Omega.{arith}
 use lib.ListN.{length, take, drop}
-use Rattle.field_tagvalue.specs.PlaceLaws.{first-read, one-read}
-use Rattle.field_tagvalue.specs.declared.Mode.{Mode}
-use Rattle.field_tagvalue.specs.Fields.{Fields, field, fieldsFrom}
-use Rattle.field_tagvalue.specs.FieldsLaws.{step-lies, step-falls}
-use Rattle.field_tagvalue.specs.declared.Cursor.{Cursor}
-use Rattle.field_tagvalue.specs.declared.Field.{Field}
+use Rattle.field_rules.specs.PlaceLaws.{first-read, one-read}
+use Rattle.field_rules.specs.declared.Mode.{Mode}
+use Rattle.field_rules.specs.Fields.{Fields, field, fieldsFrom}
+use Rattle.field_rules.specs.FieldsLaws.{step-lies, step-falls}
+use Rattle.field_rules.specs.declared.Cursor.{Cursor}
+use Rattle.field_rules.specs.declared.Field.{Field}
 use Rattle.build_integrity.specs.Integrity.{integrityOf}
 use Rattle.build_integrity.specs.VerifiedLaws.{verified-read}
 use Rattle.build_integrity.specs.declared.Integrity.the-variants.{Sound}

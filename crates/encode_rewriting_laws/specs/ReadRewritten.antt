@@ -8,25 +8,25 @@ use native.Mathlib.Omega.{arith}
 use lib.ListN.{length, length-append}
 use lib.Dec.{eqb}
 use Rattle.build_records.specs.Records.{valueAt}
-use Rattle.field_tagvalue.specs.declared.Mode.{Mode}
-use Rattle.field_tagvalue.specs.Choice.{pick}
-use Rattle.field_tagvalue.specs.CheckSum.{sumOf, checksumOf, checksumDigits}
-use Rattle.field_tagvalue.specs.Number.{isDigit, allDigits, numberIn}
-use Rattle.field_tagvalue.specs.Decimal.{decimal, decimalWithin}
-use Rattle.field_tagvalue.specs.DecimalLaws.{digit-byte, last-digit, decimal-digits, number-reads, checksum-reads}
-use Rattle.field_tagvalue.specs.Field.{startAt, valueOf}
-use Rattle.field_tagvalue.specs.Fields.{Fields, field, fieldsFrom}
-use Rattle.field_tagvalue.specs.declared.Field.{Field}
-use Rattle.field_tagvalue.specs.declared.Number.the-variants.{Worth}
+use Rattle.field_rules.specs.declared.Mode.{Mode}
+use Rattle.field_rules.specs.Choice.{pick}
+use Rattle.field_rules.specs.CheckSum.{sumOf, checksumOf, checksumDigits}
+use Rattle.field_rules.specs.Number.{isDigit, allDigits, numberIn}
+use Rattle.field_rules.specs.Decimal.{decimal, decimalWithin}
+use Rattle.field_rules.specs.DecimalLaws.{digit-byte, last-digit, decimal-digits, number-reads, checksum-reads}
+use Rattle.field_rules.specs.Field.{startAt, valueOf}
+use Rattle.field_rules.specs.Fields.{Fields, field, fieldsFrom}
+use Rattle.field_rules.specs.declared.Field.{Field}
+use Rattle.field_rules.specs.declared.Number.the-variants.{Worth}
 use Rattle.build_integrity.specs.Integrity.{integrityOf}
 use Rattle.build_integrity.specs.declared.Integrity.the-variants.{Sound}
 use Rattle.build_integrity.specs.declared.Verified.{Verified}
 use Rattle.build_records.specs.declared.Record.{Record}
 use Rattle.build_nesting_laws.specs.Entries.{All}
 use Rattle.encode_rules.specs.Encoding.{summed, sumDigits}
-use Rattle.field_tagvalue.specs.Separator.{isRefusedSeparator}
+use Rattle.field_rules.specs.Separator.{isRefusedSeparator}
 use Rattle.encode_rewriting_laws.specs.Copied.{onto, Copied, CopiedAt, copied-read}
-use Rattle.field_tagvalue.specs.SpelledLaws.{digits-absent}
+use Rattle.field_rules.specs.SpelledLaws.{digits-absent}
 use Rattle.encode_rewriting_laws.specs.ReadSound.{tagged, placed, framed, framedFields, Unseparated, framed-sound, framed-start, framed-end, framed-begin, framed-type, framed-size, placed-tag, placed-first}
 use Rattle.encode_rewriting_laws.specs.ReadWritten.{Writable}
 use Rattle.encode_rewriting_laws.specs.Written.{written, rewritten}

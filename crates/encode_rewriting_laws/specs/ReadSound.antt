@@ -8,24 +8,24 @@ use native.Mathlib.Omega.{arith}
 use lib.ListN.{length, take, length-append}
 use lib.Seq.{take-append-seam}
 use borrow.Author.Tests.{eq-eqb}
-use Rattle.field_tagvalue.specs.declared.Mode.{Mode}
-use Rattle.field_tagvalue.specs.CheckSum.{sumOf, checksumOf}
-use Rattle.field_tagvalue.specs.Number.{numberIn}
-use Rattle.field_tagvalue.specs.Decimal.{decimal, decimalWithin}
-use Rattle.field_tagvalue.specs.DecimalLaws.{decimal-digits, decimal-reads}
-use Rattle.field_tagvalue.specs.FindLaws.{Absent}
-use Rattle.field_tagvalue.specs.Field.{startAt, fieldAt, fieldBytes, valueOf}
-use Rattle.field_tagvalue.specs.FieldTextLaws.{spelt, bytes-size}
-use Rattle.field_tagvalue.specs.Fields.{Fields, field, fieldsFrom}
-use Rattle.field_tagvalue.specs.declared.Cursor.{Cursor}
-use Rattle.field_tagvalue.specs.declared.Field.{Field}
-use Rattle.field_tagvalue.specs.declared.FieldRead.the-variants.{Read}
-use Rattle.field_tagvalue.specs.declared.Number.the-variants.{Worth}
+use Rattle.field_rules.specs.declared.Mode.{Mode}
+use Rattle.field_rules.specs.CheckSum.{sumOf, checksumOf}
+use Rattle.field_rules.specs.Number.{numberIn}
+use Rattle.field_rules.specs.Decimal.{decimal, decimalWithin}
+use Rattle.field_rules.specs.DecimalLaws.{decimal-digits, decimal-reads}
+use Rattle.field_rules.specs.FindLaws.{Absent}
+use Rattle.field_rules.specs.Field.{startAt, fieldAt, fieldBytes, valueOf}
+use Rattle.field_rules.specs.FieldTextLaws.{spelt, bytes-size}
+use Rattle.field_rules.specs.Fields.{Fields, field, fieldsFrom}
+use Rattle.field_rules.specs.declared.Cursor.{Cursor}
+use Rattle.field_rules.specs.declared.Field.{Field}
+use Rattle.field_rules.specs.declared.FieldRead.the-variants.{Read}
+use Rattle.field_rules.specs.declared.Number.the-variants.{Worth}
 use Rattle.build_integrity.specs.Integrity.{integrityOf, lengthAgrees, sumAgrees}
 use Rattle.build_integrity.specs.IntegrityLaws.{begun-on, counted-on, summed-on, typed-on, length-is, sum-is}
 use Rattle.build_integrity.specs.declared.Integrity.the-variants.{Sound}
 use Rattle.build_integrity.specs.declared.Verified.{Verified}
-use Rattle.field_tagvalue.specs.SpelledLaws.{text-read, text-value, text-fields}
+use Rattle.field_rules.specs.SpelledLaws.{text-read, text-value, text-fields}
 
 -- a field as bytes under its tag's own digits, kept shut so that no proof computes the digits
 unfoldable pub tagged : ℕ → ℕ → List ℕ → List ℕ

@@ -9,16 +9,16 @@ use lib.ListN.{length, drop}
 use lib.Dec.{eqb}
 use borrow.Author.Tests.{eqb-true}
 use Rattle.build_records.specs.Records.{valueAt}
-use Rattle.field_tagvalue.specs.declared.Mode.{Mode}
-use Rattle.field_tagvalue.specs.Choice.{pick}
-use Rattle.field_tagvalue.specs.Decimal.{decimal}
-use Rattle.field_tagvalue.specs.FindLaws.{Absent}
-use Rattle.field_tagvalue.specs.Field.{fieldAt, fieldBytes, valueOf}
-use Rattle.field_tagvalue.specs.Fields.{Fields, field, fieldsFrom}
-use Rattle.field_tagvalue.specs.FieldsLaws.{step-lies, step-falls}
-use Rattle.field_tagvalue.specs.declared.Cursor.{Cursor}
-use Rattle.field_tagvalue.specs.declared.Field.{Field}
-use Rattle.field_tagvalue.specs.declared.FieldRead.the-variants.{Read}
+use Rattle.field_rules.specs.declared.Mode.{Mode}
+use Rattle.field_rules.specs.Choice.{pick}
+use Rattle.field_rules.specs.Decimal.{decimal}
+use Rattle.field_rules.specs.FindLaws.{Absent}
+use Rattle.field_rules.specs.Field.{fieldAt, fieldBytes, valueOf}
+use Rattle.field_rules.specs.Fields.{Fields, field, fieldsFrom}
+use Rattle.field_rules.specs.FieldsLaws.{step-lies, step-falls}
+use Rattle.field_rules.specs.declared.Cursor.{Cursor}
+use Rattle.field_rules.specs.declared.Field.{Field}
+use Rattle.field_rules.specs.declared.FieldRead.the-variants.{Read}
 use Rattle.build_records.specs.declared.Record.{Record}
 use Rattle.build_nesting_laws.specs.Entries.{All, all-none, all-more}
 use Rattle.message_read_laws.specs.Counting.{Of}
@@ -26,8 +26,8 @@ use Rattle.build_order_laws.specs.Follows.{Follows, no-field, one-field}
 use Rattle.encode_rewriting_laws.specs.Plain.{isPlain, plainTags}
 use Rattle.encode_rewriting_laws.specs.PlainLaws.{tag-text, plain-leads, plain-digits}
 use Rattle.encode_rewriting_laws.specs.ReadPlaces.{follows-cursor}
-use Rattle.field_tagvalue.specs.PlaceLaws.{first-read, one-place}
-use Rattle.field_tagvalue.specs.SpelledLaws.{spells, value-is, value-ends, behind-text}
+use Rattle.field_rules.specs.PlaceLaws.{first-read, one-place}
+use Rattle.field_rules.specs.SpelledLaws.{spells, value-is, value-ends, behind-text}
 use Rattle.encode_rewriting_laws.specs.Written.{written}
 
 -- a record whose text reads as it was written

@@ -3,8 +3,8 @@ use Prim.Native.Nat.{ℕ}
 use mathlib.Core.List.{List, [], _∷_, _++_}
 use lib.ListN.{length}
 use Rattle.build_records.specs.Records.{valueAt}
-use Rattle.field_tagvalue.specs.Decimal.{decimal}
-use Rattle.field_tagvalue.specs.Field.{fieldBytes}
+use Rattle.field_rules.specs.Decimal.{decimal}
+use Rattle.field_rules.specs.Field.{fieldBytes}
 use Rattle.build_records.specs.declared.Record.{Record}
 use Rattle.encode_rules.specs.Encoding.{summed}
 

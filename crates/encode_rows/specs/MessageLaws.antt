@@ -9,11 +9,11 @@ use lib.ListN.{length, take, drop, length-append, take-append-drop}
 use lib.Seq.{take-at, drop-at, length-take-le}
 use lib.Dec.{leb, eqb}
 use borrow.Author.Tests.{eqb-true, le-leb, lt-leb}
-use Rattle.field_tagvalue.specs.Choice.{pick, pick-same}
-use Rattle.field_tagvalue.specs.Decimal.{decimal, writtenAt}
-use Rattle.field_tagvalue.specs.DecimalLaws.{written-fits}
-use Rattle.field_tagvalue.specs.CheckSum.{checksumDigits}
-use Rattle.field_tagvalue.specs.Field.{fieldBytes}
+use Rattle.field_rules.specs.Choice.{pick, pick-same}
+use Rattle.field_rules.specs.Decimal.{decimal, writtenAt}
+use Rattle.field_rules.specs.DecimalLaws.{written-fits}
+use Rattle.field_rules.specs.CheckSum.{checksumDigits}
+use Rattle.field_rules.specs.Field.{fieldBytes}
 use Rattle.message_maps.specs.Map.{Map, end, field, entry, valuesIn}
 use Rattle.message_maps.specs.Rows.{Row, row, laid, rowsFrom, sizes, messageRows}
 use Rattle.message_lent.specs.Lent.{rowCount, rowsOf, isMessage}

@@ -5,11 +5,11 @@ use mathlib.Core.Bool.{Bool, true, false}
 use mathlib.Core.List.{List, [], _∷_, _++_}
 use lib.ListN.{length, take, drop}
 use lib.Dec.{eqb, leb, ltb}
-use Rattle.field_tagvalue.specs.Choice.{pick}
-use Rattle.field_tagvalue.specs.Decimal.{decimal}
-use Rattle.field_tagvalue.specs.Field.{fieldBytes}
+use Rattle.field_rules.specs.Choice.{pick}
+use Rattle.field_rules.specs.Decimal.{decimal}
+use Rattle.field_rules.specs.Field.{fieldBytes}
 use Rattle.message_maps.specs.Rows.{Row, row, rowsFrom, sizeOf, sizes, messageWords, messageRows}
-use Rattle.field_tagvalue.specs.Decimal.{writtenAt}
+use Rattle.field_rules.specs.Decimal.{writtenAt}
 use Rattle.message_lent.specs.Lent.{heldBefore, isMessage}
 use Rattle.message_lent.specs.Meaning.{Message, messageIn}
 use Rattle.message_rules.specs.Changes.{placeOf}

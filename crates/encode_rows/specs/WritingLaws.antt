@@ -8,11 +8,11 @@ use lib.ListN.{length, take, drop, length-append, take-append-drop}
 use lib.Seq.{take-at, drop-at, drop-drop, length-take-le}
 use lib.Dec.{leb, ltb, eqb}
 use borrow.Author.Tests.{eq-eqb, ne-eqb}
-use Rattle.field_tagvalue.specs.Choice.{pick, pick-same}
-use Rattle.field_tagvalue.specs.Decimal.{decimal, writtenAt, answerAt}
-use Rattle.field_tagvalue.specs.declared.Written.the-variants.{Next, NoRoom}
-use Rattle.field_tagvalue.specs.DecimalLaws.{written-fits, written-length, written-copied, answer-fits}
-use Rattle.field_tagvalue.specs.Field.{fieldBytes}
+use Rattle.field_rules.specs.Choice.{pick, pick-same}
+use Rattle.field_rules.specs.Decimal.{decimal, writtenAt, answerAt}
+use Rattle.field_rules.specs.declared.Written.the-variants.{Next, NoRoom}
+use Rattle.field_rules.specs.DecimalLaws.{written-fits, written-length, written-copied, answer-fits}
+use Rattle.field_rules.specs.Field.{fieldBytes}
 use Rattle.message_maps.specs.Map.{Map, end, field, entry, valuesIn}
 use Rattle.message_maps.specs.Rows.{Row, row, laid, rowAt, rowsFrom, rowsBefore, sizeOf, sizes, levelOf}
 use Rattle.message_maps.specs.RowsLaws.{rows-step, rows-none, before-step}

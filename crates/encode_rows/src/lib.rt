@@ -1,6 +1,6 @@
 // encode_rows: a message as bytes. It writes what a lent message holds in one pass over its rows, with the CheckSum behind it (27, 23); `encoder`
 // judges a message first and sets its BodyLength. It keeps nothing and demands nothing of what is lent.
-use field_tagvalue::Written;
+use field_rules::Written;
 use field_tagvalue::wide;
 use message_rules::Located;
 use message_rules::Part;
@@ -10,9 +10,9 @@ ghost use mathlib.Core.Bool.{true, false};
 ghost use mathlib.Core.List.{[]};
 ghost use Prim.Native.Nat.{_+_, _-_, _*_, _%_, _≤_, _<_};
 ghost use lib.ListN.{length, take, drop};
-ghost use Rattle.field_tagvalue.specs.Decimal.{decimal, writtenAt};
-ghost use Rattle.field_tagvalue.specs.CheckSum.{sumOf};
-ghost use Rattle.field_tagvalue.specs.Field.{fieldBytes};
+ghost use Rattle.field_rules.specs.Decimal.{decimal, writtenAt};
+ghost use Rattle.field_rules.specs.CheckSum.{sumOf};
+ghost use Rattle.field_rules.specs.Field.{fieldBytes};
 ghost use Rattle.message_maps.specs.Rows.{rowAt, rowsFrom, rowsBefore, sizeOf, sizes, messageWords, messageRows};
 ghost use Rattle.message_rules.specs.Changes.{placeOf};
 ghost use Rattle.encode_rows.specs.Writing.{chosen, rowOn, rowText, rowsText, rowBytes, bytesIn, isUncounted, uncounted, itemsAt, textAt, Spans, tailOf, WritingOutcome, outcome, writing};

@@ -4,8 +4,8 @@ use mathlib.Core.Bool.{Bool, true, false}
 use mathlib.Core.List.{List, _++_}
 use lib.ListN.{length, drop}
 use lib.Dec.{ltb}
-use Rattle.field_tagvalue.specs.Choice.{pick}
-use Rattle.field_tagvalue.specs.Separator.{isRefusedSeparator}
+use Rattle.field_rules.specs.Choice.{pick}
+use Rattle.field_rules.specs.Separator.{isRefusedSeparator}
 use Rattle.message_maps.specs.Map.{Map, end, field, entry, holds}
 use Rattle.message_lent.specs.Lent.{isMessage}
 use Rattle.message_lent.specs.Meaning.{Message, wordsOf, valuesOf, messageIn}

@@ -4,11 +4,11 @@ use mathlib.Core.Path.{_≡_, refl}
 use mathlib.Core.List.{List, [], _∷_}
 use Prim.Native.Nat.{ℕ, zero, suc}
 use lib.ListN.{replicate}
-use Rattle.field_tagvalue.specs.Text.{bytes}
-use Rattle.field_tagvalue.specs.Number.{isDigit}
-use Rattle.field_tagvalue.specs.Decimal.{decimal, decimalWithin}
-use Rattle.field_tagvalue.specs.CheckSum.{sumOf, checksumDigits}
-use Rattle.field_tagvalue.specs.Separator.{isRefusedSeparator}
+use Rattle.field_rules.specs.Text.{bytes}
+use Rattle.field_rules.specs.Number.{isDigit}
+use Rattle.field_rules.specs.Decimal.{decimal, decimalWithin}
+use Rattle.field_rules.specs.CheckSum.{sumOf, checksumDigits}
+use Rattle.field_rules.specs.Separator.{isRefusedSeparator}
 use Rattle.message_maps.specs.Map.{Map, end, field, entry, joined, holds, holdsAny, replaced, withoutField, runOn, withoutRun, stored, fieldCount, valuesIn}
 use Rattle.message_maps.specs.Rows.{laid, flat, padded, rowAt, rowsFrom, levelOf, sizeOf, matches, sizes}
 use Rattle.message_lent.specs.Lent.{heldBefore, delimiterIs, continues, followsOn, deepest, fieldAllowed, headAllowed, rowAllowed, rowsAllowed, isPart, nextPart, partsFrom, isOwn, ownBelow, weight, fieldsIn, rowCount, rowsOf, isLaid, isMessage}

@@ -5,9 +5,9 @@ use mathlib.Core.List.{List, [], _∷_, _++_}
 use mathlib.Core.Bool.{Bool, true, false}
 use Prim.Native.Nat.{ℕ}
 use lib.ListN.{length}
-use Rattle.field_tagvalue.specs.Text.{bytes}
-use Rattle.field_tagvalue.specs.Decimal.{decimal, decimalWithin}
-use Rattle.field_tagvalue.specs.CheckSum.{sumOf, checksumDigits}
+use Rattle.field_rules.specs.Text.{bytes}
+use Rattle.field_rules.specs.Decimal.{decimal, decimalWithin}
+use Rattle.field_rules.specs.CheckSum.{sumOf, checksumDigits}
 use Rattle.message_maps.specs.Map.{Map, end, field, entry, joined, holds, holdsAny, replaced, withoutField, leading, pastLeading, runOn, withoutRun, stored, hungOnCount, hungAlone, hung, Looked, none, some, valueUnder, fieldCount, valuesIn}
 use Rattle.message_lent.specs.Meaning.{Message}
 use Rattle.encode_rules.specs.Encoding.{text, textUnder, isFirst, isRest, headerText, messageText, bytesOf, dropped, bodyLength, measured, sumDigits, summed, encoding, encodedMessage}

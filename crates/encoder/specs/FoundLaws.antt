@@ -7,8 +7,8 @@ use native.Mathlib.Omega.{arith}
 use lib.ListN.{length, length-append}
 use lib.Dec.{ltb, eqb}
 use borrow.Author.Tests.{eq-eqb, lt-ltb, le-ltb}
-use Rattle.field_tagvalue.specs.Choice.{pick}
-use Rattle.field_tagvalue.specs.Decimal.{decimal}
+use Rattle.field_rules.specs.Choice.{pick}
+use Rattle.field_rules.specs.Decimal.{decimal}
 use Rattle.message_maps.specs.Map.{Map, end, field, entry, holds}
 use Rattle.message_maps.specs.Rows.{Row, row, laid, rowAt, rowsFrom, matches, findFrom}
 use Rattle.message_lent.specs.Lent.{rowCount}

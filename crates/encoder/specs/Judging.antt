@@ -5,7 +5,7 @@ use mathlib.Core.Bool.{Bool, true}
 use mathlib.Core.List.{List, []}
 use lib.ListN.{length}
 use lib.Dec.{ltb}
-use Rattle.field_tagvalue.specs.Choice.{pick}
+use Rattle.field_rules.specs.Choice.{pick}
 use Rattle.message_maps.specs.Rows.{rowAt, rowsFrom, messageWords, messageRows}
 use Rattle.message_lent.specs.Lent.{fieldsIn}
 use Rattle.message_rules.specs.Changes.{fieldPlace, runPlace}

@@ -7,7 +7,7 @@ use native.Mathlib.Omega.{arith}
 use lib.ListN.{length}
 use lib.Dec.{ltb, eqb}
 use borrow.Author.Tests.{lt-ltb, le-ltb}
-use Rattle.field_tagvalue.specs.Choice.{pick}
+use Rattle.field_rules.specs.Choice.{pick}
 use Rattle.message_maps.specs.Rows.{Row, row, rowAt, rowsFrom, findFrom}
 use Rattle.message_lent.specs.Lent.{ownBelow, weight, fieldsIn}
 use Rattle.message_rules.specs.Changes.{fieldPlace}

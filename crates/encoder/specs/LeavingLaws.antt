@@ -8,8 +8,8 @@ use native.Mathlib.Omega.{arith}
 use lib.ListN.{length, take, drop, length-append}
 use lib.Seq.{take-at, drop-at}
 use borrow.Author.Tests.{le-leb}
-use Rattle.field_tagvalue.specs.Decimal.{decimal, writtenAt}
-use Rattle.field_tagvalue.specs.DecimalLaws.{written-fits}
+use Rattle.field_rules.specs.Decimal.{decimal, writtenAt}
+use Rattle.field_rules.specs.DecimalLaws.{written-fits}
 use Rattle.message_maps.specs.Map.{holds, withoutField, stored}
 use Rattle.message_lent.specs.Meaning.{Message, wordsOf, valuesOf, messageIn}
 use Rattle.message_lent.specs.FormedLaws.{lent-formed, Lends}

@@ -8,9 +8,9 @@ use native.Mathlib.Omega.{arith}
 use lib.ListN.{length, length-append}
 use lib.Dec.{eqb}
 use borrow.Author.Tests.{eqb-true}
-use Rattle.field_tagvalue.specs.Choice.{pick}
-use Rattle.field_tagvalue.specs.Decimal.{decimal, decimalWithin}
-use Rattle.field_tagvalue.specs.CheckSum.{checksumDigits}
+use Rattle.field_rules.specs.Choice.{pick}
+use Rattle.field_rules.specs.Decimal.{decimal, decimalWithin}
+use Rattle.field_rules.specs.CheckSum.{checksumDigits}
 use Rattle.message_maps.specs.Map.{Map, end, field, entry, joined, holds, replaced, withoutField, runOn, withoutRun, stored, fieldCount, valuesIn}
 use Rattle.message_lent.specs.Meaning.{Message}
 use Rattle.message_rules.specs.Changes.{fieldTotal, valueTotal}

@@ -7,9 +7,9 @@ use native.Mathlib.Omega.{arith}
 use lib.ListN.{length}
 use lib.Dec.{ltb}
 use borrow.Author.Tests.{lt-ltb, le-ltb, ltb-false}
-use Rattle.field_tagvalue.specs.Choice.{pick}
-use Rattle.field_tagvalue.specs.Decimal.{decimal}
-use Rattle.field_tagvalue.specs.Separator.{isRefusedSeparator}
+use Rattle.field_rules.specs.Choice.{pick}
+use Rattle.field_rules.specs.Decimal.{decimal}
+use Rattle.field_rules.specs.Separator.{isRefusedSeparator}
 use Rattle.message_maps.specs.Rows.{rowsFrom}
 use Rattle.message_lent.specs.Lent.{rowsOf, isMessage}
 use Rattle.message_lent.specs.Meaning.{messageIn}

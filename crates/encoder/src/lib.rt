@@ -3,14 +3,14 @@
 use encode_rows::Encoded;
 use encode_rules::Encoding;
 use encode_rules::Verdict;
-use field_tagvalue::Written;
+use field_rules::Written;
 use message_rules::Change;
 use message_rules::Located;
 use message_rules::Part;
 use message_rules::Span;
 ghost use mathlib.Core.Path.{_≡_};
 ghost use Prim.Native.Nat.{_+_, _≤_, _<_};
-ghost use Rattle.field_tagvalue.specs.Decimal.{decimal};
+ghost use Rattle.field_rules.specs.Decimal.{decimal};
 ghost use Rattle.message_lent.specs.Meaning.{messageIn};
 ghost use Rattle.message_rules.specs.declared.Part.the-variants.{Header};
 ghost use Rattle.message_rules.specs.Changes.{after, storing};

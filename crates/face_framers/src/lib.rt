@@ -1,7 +1,7 @@
 // face_framers: the framers' calls over states as a caller lends them: plain numbers, where a mark is set if its byte isn't 0, so that every
 // content of a state is one. Each call hands the state to its framer and tells the answer; it decides nothing.
 ghost use mathlib.Core.Path.{_≡_};
-ghost use Rattle.field_tagvalue.specs.Choice.{pick};
+ghost use Rattle.field_rules.specs.Choice.{pick};
 ghost use Rattle.face_messages.specs.Told.{told};
 ghost use Rattle.frame_parser_rules.specs.Framer.{valueOf, pushed, pushedStore, finished, taken, takenStore, takenOutput};
 ghost use Rattle.frame_hunter_rules.specs.Bytes.{pushed as hunterPushed, finished as hunterFinished, tookFrom};

@@ -6,7 +6,7 @@ use mathlib.Core.Bool.{Bool}
 use mathlib.Core.List.{List, [], _∷_, _++_}
 use lib.ListN.{drop, getD, replicate}
 use lib.Dec.{leb, ltb}
-use Rattle.field_tagvalue.specs.Choice.{pick}
+use Rattle.field_rules.specs.Choice.{pick}
 use Rattle.build_records.specs.declared.Record.{Record}
 use Rattle.build_records.specs.Records.{laid, recordsOf, recordAt, onRecords, replaced, recordWords}
 use Rattle.build_answers.specs.Answer.{numberOf, valuesOf}

@@ -7,8 +7,8 @@ use native.Mathlib.Numerals.{add-one}
 use native.Mathlib.Omega.{arith}
 use lib.ListN.{length, take, drop, set, length-append, length-drop, length-set, drop-of-length-le, take-append-drop}
 use lib.Seq.{take-take, take-set-le, set-split, drop-at, length-take-le, take-length}
-use Rattle.field_tagvalue.specs.Decimal.{decimal}
-use Rattle.field_tagvalue.specs.DecimalLaws.{decimal-small, decimal-step, decimal-some, decimal-length, decimal-length-step}
+use Rattle.field_rules.specs.Decimal.{decimal}
+use Rattle.field_rules.specs.DecimalLaws.{decimal-small, decimal-step, decimal-some, decimal-length, decimal-length-step}
 
 -- the digits from behind `at` on are written, those of `rest` aren't yet, and what stands up to `at` is as it was
 pub record Filled (entry : List ℕ) (n : ℕ) (scratch : List ℕ) (rest at : ℕ) : Type 0 where

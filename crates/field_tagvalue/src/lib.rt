@@ -1,20 +1,23 @@
 // field_tagvalue: the lowest layer. It finds bytes, reads numbers and tags, sums and writes digits, and reads one field at a cursor.
 // It knows nothing of dictionaries, of messages as a whole or of any tag's meaning, and it demands nothing of its callers.
+use field_rules::Cause;
+use field_rules::Cursor;
+use field_rules::Field;
+use field_rules::FieldRead;
+use field_rules::Found;
+use field_rules::Mode;
+use field_rules::Number;
+use field_rules::Written;
 ghost use mathlib.Core.Path.{_≡_};
 ghost use mathlib.Core.List.{_++_};
 ghost use Prim.Native.Nat.{_+_, _-_, _<_, _%_, _^_};
 ghost use lib.ListN.{length, take};
-ghost use Rattle.field_tagvalue.specs.Find.{findIn};
-ghost use Rattle.field_tagvalue.specs.Number.{numberIn, tagOf};
-ghost use Rattle.field_tagvalue.specs.Separator.{isRefusedSeparator};
-ghost use Rattle.field_tagvalue.specs.CheckSum.{sumOf, checksumOf, checksumDigits};
-ghost use Rattle.field_tagvalue.specs.Decimal.{decimal, writtenAt, answerAt};
-ghost use Rattle.field_tagvalue.specs.Field.{separatedBy, startAt, fieldFrom, fieldAt, valueOf};
-
-pub enum Found {
-    At(usize),
-    Nothing,
-}
+ghost use Rattle.field_rules.specs.Find.{findIn};
+ghost use Rattle.field_rules.specs.Number.{numberIn, tagOf};
+ghost use Rattle.field_rules.specs.Separator.{isRefusedSeparator};
+ghost use Rattle.field_rules.specs.CheckSum.{sumOf, checksumOf, checksumDigits};
+ghost use Rattle.field_rules.specs.Decimal.{decimal, writtenAt, answerAt};
+ghost use Rattle.field_rules.specs.Field.{separatedBy, startAt, fieldFrom, fieldAt, valueOf};
 
 // The first place of a byte.
 pub fn find(bytes: &[u8], wanted: u8) -> Found
@@ -28,12 +31,6 @@ pub fn find(bytes: &[u8], wanted: u8) -> Found
         i += 1;
     }
     Found::Nothing
-}
-
-// What a text of digits is worth. NoNumber: it is none, or worth more than 4,294,967,295.
-pub enum Number {
-    Worth(u32),
-    NoNumber,
 }
 
 // A number as an index.
@@ -162,12 +159,6 @@ fn fill_backwards(scratch: &mut [u8; 10], n: u32) -> usize
     at
 }
 
-// Where writing went on to, or that there was no room and nothing was written.
-pub enum Written {
-    Next(usize),
-    NoRoom,
-}
-
 // The digits of a tag or a length, from a place of the output on.
 pub fn write_number(output: &mut [u8], at: usize, n: u32) -> Written
     ensures { λ r. ⌜ r ≡ answerAt at (decimal n) (now (output .entry)) ⌝ }
@@ -186,47 +177,18 @@ pub fn write_number(output: &mut [u8], at: usize, n: u32) -> Written
     Written::Next(at + count)
 }
 
-// How fields are read. Whoever reads hands it on whole: what a way of reading must know goes here.
-pub struct Mode {
-    pub separator: u8,
-}
-
+// How fields are read where nothing but their separator is asked for.
 pub fn separated_by(separator: u8) -> Mode
     ensures { λ r. ⌜ r ≡ separatedBy separator ⌝ }
 {
     Mode { separator }
 }
 
-// Where reading stands. It is handed on whole: what reading one field must tell the next goes here.
-pub struct Cursor {
-    pub at: usize,
-}
-
+// The cursor at a place.
 pub fn start_at(at: usize) -> Cursor
     ensures { λ r. ⌜ r ≡ startAt at ⌝ }
 {
     Cursor { at }
-}
-
-// One field of a message: where it starts, its tag, the place and length of its value, and where the next one starts.
-pub struct Field {
-    pub first: usize,
-    pub tag: u32,
-    pub place: usize,
-    pub length: usize,
-    pub next: Cursor,
-}
-
-// Why no field can be read, in the order in which the reasons are looked for.
-pub enum Cause {
-    NoEquals,
-    NoSeparator,
-    BadTag,
-}
-
-pub enum FieldRead {
-    Read(Field),
-    Unreadable(Cause, usize),
 }
 
 // The field at the start of a part of the message; `at` is the part's place in the message.
@@ -255,17 +217,15 @@ fn field_from(at: usize, rest: &[u8], mode: Mode) -> FieldRead
     })
 }
 
-impl Cursor {
-    // The field that starts here.
-    pub fn next_field(self, message: &[u8], mode: Mode) -> FieldRead
-        ensures { λ r. ⌜ r ≡ fieldAt mode (now (message .entry)) self ⌝ }
-    {
-        let at = self.at;
-        if message.len() < at {
-            return FieldRead::Unreadable(Cause::NoEquals, at);
-        }
-        field_from(at, &message[at..], mode)
+// The field that starts at a cursor.
+pub fn next_field(cursor: Cursor, message: &[u8], mode: Mode) -> FieldRead
+    ensures { λ r. ⌜ r ≡ fieldAt mode (now (message .entry)) cursor ⌝ }
+{
+    let at = cursor.at;
+    if message.len() < at {
+        return FieldRead::Unreadable(Cause::NoEquals, at);
     }
+    field_from(at, &message[at..], mode)
 }
 
 // The bytes of a field's value. A field that was not read in this message has what lies within it.

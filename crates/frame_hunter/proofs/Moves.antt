@@ -7,7 +7,7 @@ use native.Mathlib.Numerals.{add-one}
 use native.Mathlib.Omega.{arith}
 use lib.ListN.{length, take, drop, getD, set, length-append, length-drop, take-append-drop, drop-of-length-le}
 use lib.Seq.{length-take-le, drop-cons, take-suc, getD-append-add, getD-drop, set-at, append-snoc, take-length, drop-drop}
-use Rattle.field_tagvalue.specs.FindLaws.{rest-part}
+use Rattle.field_rules.specs.FindLaws.{rest-part}
 use Rattle.frame_hunter_rules.specs.Hunt.{actOn, huntFrom}
 use Rattle.frame_hunter_rules.specs.TakeLaws.{first-none, first-hand, first-pass, first-stop}
 use Rattle.frame_verdict_rules.specs.declared.Verdict.{Verdict}

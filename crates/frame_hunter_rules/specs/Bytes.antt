@@ -6,7 +6,7 @@ use mathlib.Core.List.{List, _++_}
 use Prim.Native.Nat.{ℕ}
 use lib.Dec.{eqb, ltb}
 use lib.ListN.{length, take, drop}
-use Rattle.field_tagvalue.specs.Choice.{pick}
+use Rattle.field_rules.specs.Choice.{pick}
 use Rattle.frame_verdict_rules.specs.Frame.{frameMost}
 use Rattle.frame_verdict_rules.specs.Verdict.{verdictOf}
 use Rattle.frame_hunter_rules.specs.Hunt.{Framer, framer, freshFramer, storeSize, Took, takeOne, Given, accepted, refused, giveChunk, giveEnd}

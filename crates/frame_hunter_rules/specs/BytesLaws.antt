@@ -8,7 +8,7 @@ use lib.Dec.{eqb, ltb}
 use lib.ListN.{length, take, drop, length-append, length-drop, take-append-drop}
 use lib.Seq.{length-take-le, take-append-le, drop-append-le, take-at}
 use borrow.Author.Tests.{eqb-true, ltb-false, eq-eqb, le-ltb, lt-ltb}
-use Rattle.field_tagvalue.specs.Choice.{pick}
+use Rattle.field_rules.specs.Choice.{pick}
 use Rattle.frame_verdict_rules.specs.Frame.{frameMost}
 use Rattle.frame_verdict_rules.specs.Verdict.{verdictOf}
 use Rattle.frame_verdict_rules.specs.VerdictLaws.{verdict-laws}

@@ -3,8 +3,8 @@
 use mathlib.Core.Path.{_≡_, refl}
 use mathlib.Core.Bool.{false}
 use mathlib.Core.List.{[], _∷_, _++_, map}
-use Rattle.field_tagvalue.specs.Number.{isDigit, worth}
-use Rattle.field_tagvalue.specs.CheckSum.{sumOf, checksumDigits}
+use Rattle.field_rules.specs.Number.{isDigit, worth}
+use Rattle.field_rules.specs.CheckSum.{sumOf, checksumDigits}
 use Rattle.frame_verdict_rules.specs.Readers.{_>>=_, literal, withHead, any, headed, textKind, text, beginString, mayBecome, digitKind, bodyLength}
 use Rattle.frame_verdict_rules.specs.Verdict.{checksumFor, bodyReader, frameReader, stageOf, asVerdict, verdictOf}
 use Rattle.frame_verdict_rules.specs.Examples.{p1, p2}

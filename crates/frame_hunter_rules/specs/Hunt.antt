@@ -6,7 +6,7 @@ use mathlib.Core.List.{List, [], _∷_, _++_}
 use Prim.Native.Nat.{ℕ, suc, _+_, _%_, _≤_, _<_}
 use lib.Dec.{ltb}
 use lib.ListN.{length, take, drop}
-use Rattle.field_tagvalue.specs.Choice.{pick}
+use Rattle.field_rules.specs.Choice.{pick}
 use Rattle.frame_verdict_rules.specs.Frame.{frameMost}
 use Rattle.frame_verdict_rules.specs.declared.Verdict.{Verdict}
 use Rattle.frame_verdict_rules.specs.declared.Verdict.the-variants.{Frame, Never, Wait}

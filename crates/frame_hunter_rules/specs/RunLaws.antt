@@ -10,7 +10,7 @@ use lib.Dec.{ltb, lit<}
 use lib.ListN.{length, take, drop, length-append, length-drop}
 use lib.Seq.{take-append-le, drop-append-le, length-take-le}
 use borrow.Author.Tests.{le-ltb}
-use Rattle.field_tagvalue.specs.Choice.{pick}
+use Rattle.field_rules.specs.Choice.{pick}
 use Rattle.frame_verdict_rules.specs.Frame.{frameMost}
 use Rattle.frame_hunter_rules.specs.Hunt.{actOn, Framer, framer, countWrap, storeSize, Took, takeOne, accepted, refused, giveChunk, giveEnd, Drained, dry, more, Run, reset, chunk, Ended, ends, Hunt, h-empty, h-stop, h-hand, h-pass, joined}
 use Rattle.frame_verdict_rules.specs.VerdictLaws.{Laws}

@@ -1,6 +1,6 @@
 // frame_parser: the ported framer. Chunks of a stream go in at the end of a lent store, whole messages come out at its front, cut by
 // their announced lengths alone. It never looks for a message's start, checks no CheckSum and knows no field but by its position.
-use field_tagvalue::Found;
+use field_rules::Found;
 use frame_parser_rules::Announced;
 use frame_parser_rules::Answer;
 use frame_parser_rules::Outcome;

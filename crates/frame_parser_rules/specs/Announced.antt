@@ -4,10 +4,10 @@ use Prim.Native.Nat.{ℕ, _+_, _*_, _-_, _%_, _^_}
 use mathlib.Core.List.{List, [], _∷_}
 use lib.ListN.{take, drop}
 use lib.Dec.{leb}
-use Rattle.field_tagvalue.specs.Choice.{pick}
-use Rattle.field_tagvalue.specs.Find.{findIn}
-use Rattle.field_tagvalue.specs.declared.Found.{Found}
-use Rattle.field_tagvalue.specs.declared.Found.the-variants.{At, Nothing}
+use Rattle.field_rules.specs.Choice.{pick}
+use Rattle.field_rules.specs.Find.{findIn}
+use Rattle.field_rules.specs.declared.Found.{Found}
+use Rattle.field_rules.specs.declared.Found.the-variants.{At, Nothing}
 use Rattle.frame_parser_rules.specs.declared.Value.{Value}
 use Rattle.frame_parser_rules.specs.declared.Value.the-variants.{Between, NoValue}
 use Rattle.frame_parser_rules.specs.declared.Announced.{Announced}

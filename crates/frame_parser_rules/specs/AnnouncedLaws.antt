@@ -12,14 +12,14 @@ use lib.ListN.{length, getD, take, drop, length-append, length-drop, drop-of-len
 use lib.Seq.{drop-cons, drop-append-le, take-append-le, drop-at}
 use lib.Dec.{eqb, leb}
 use borrow.Author.Tests.{le-leb, lt-leb, leb-true}
-use Rattle.field_tagvalue.specs.Choice.{pick}
-use Rattle.field_tagvalue.specs.Find.{findIn}
-use Rattle.field_tagvalue.specs.FindLaws.{Absent, Splits, find-splits, find-joins}
-use Rattle.field_tagvalue.specs.Number.{worth, allDigits}
-use Rattle.field_tagvalue.specs.NumberLaws.{worth-least}
-use Rattle.field_tagvalue.specs.DecimalLaws.{all-digits-first}
-use Rattle.field_tagvalue.specs.declared.Found.{Found}
-use Rattle.field_tagvalue.specs.declared.Found.the-variants.{At, Nothing}
+use Rattle.field_rules.specs.Choice.{pick}
+use Rattle.field_rules.specs.Find.{findIn}
+use Rattle.field_rules.specs.FindLaws.{Absent, Splits, find-splits, find-joins}
+use Rattle.field_rules.specs.Number.{worth, allDigits}
+use Rattle.field_rules.specs.NumberLaws.{worth-least}
+use Rattle.field_rules.specs.DecimalLaws.{all-digits-first}
+use Rattle.field_rules.specs.declared.Found.{Found}
+use Rattle.field_rules.specs.declared.Found.the-variants.{At, Nothing}
 use Rattle.frame_parser_rules.specs.Announced.{digitOf, nominal, findFrom, withSeparator, withEquals, valueFrom, messageEnd, limited, withSecond, withFirst, announcedIn}
 use Rattle.frame_parser_rules.specs.declared.Value.{Value}
 use Rattle.frame_parser_rules.specs.declared.Value.the-variants.{Between, NoValue}

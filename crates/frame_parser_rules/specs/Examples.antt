@@ -6,9 +6,9 @@ use mathlib.Core.List.{List, [], _∷_, _++_, map}
 use Prim.Native.Nat.{ℕ, _-_}
 use Prim.Native.String.{String}
 use lib.ListN.{length, take, replicate}
-use Rattle.field_tagvalue.specs.Text.{bytes}
-use Rattle.field_tagvalue.specs.Find.{findIn}
-use Rattle.field_tagvalue.specs.Decimal.{writtenAt}
+use Rattle.field_rules.specs.Text.{bytes}
+use Rattle.field_rules.specs.Find.{findIn}
+use Rattle.field_rules.specs.Decimal.{writtenAt}
 use Rattle.frame_parser_rules.specs.Announced.{digitOf, nominal, findFrom, withSeparator, withEquals, valueFrom, messageEnd, limited, withSecond, withFirst, announcedIn}
 use Rattle.frame_parser_rules.specs.Framer.{numberOfParser, valueOf, whereAccepted, fresh, onlyMark, held, unusable, pushAnswer, withChunk, pushed, pushedStore, endAnswer, readyOf, readyAnswer, takeAnswer, takeState, taken, movedToFront, takenStore, takenOutput}
 use Rattle.frame_parser_rules.specs.declared.Announced.the-variants.{Ends, Over, Unknown}

@@ -5,8 +5,8 @@ use mathlib.Core.Bool.{Bool, true, false}
 use mathlib.Core.List.{List, _++_}
 use lib.ListN.{length, take, drop}
 use lib.Dec.{leb, ltb, eqb}
-use Rattle.field_tagvalue.specs.Choice.{pick}
-use Rattle.field_tagvalue.specs.Decimal.{writtenAt}
+use Rattle.field_rules.specs.Choice.{pick}
+use Rattle.field_rules.specs.Decimal.{writtenAt}
 use Rattle.frame_parser_rules.specs.Announced.{announcedIn}
 use Rattle.frame_parser_rules.specs.declared.Announced.{Announced}
 use Rattle.frame_parser_rules.specs.declared.Announced.the-variants.{Ends, Over, Unknown}

@@ -9,8 +9,8 @@ use lib.ListN.{length, take, drop, take-append-drop}
 use lib.Seq.{length-take-le}
 use lib.Dec.{leb, ltb, eqb}
 use borrow.Author.Tests.{eq-eqb, ne-eqb, eqb-true, le-leb, lt-leb, leb-true, lt-ltb, le-ltb, ltb-false}
-use Rattle.field_tagvalue.specs.Choice.{pick}
-use Rattle.field_tagvalue.specs.Decimal.{writtenAt}
+use Rattle.field_rules.specs.Choice.{pick}
+use Rattle.field_rules.specs.Decimal.{writtenAt}
 use Rattle.frame_parser_rules.specs.Announced.{announcedIn}
 use Rattle.frame_parser_rules.specs.Framer.{numberOfParser, valueOf, whereAccepted, answersWith, onlyMark, held, unusable, pushAnswer, withChunk, pushed, pushedStore, endAnswer, withEnd, finished, readyOf, readyAnswer, takeAnswer, takeState, taken, movedToFront, takenStore, takenOutput}
 use Rattle.frame_parser_rules.specs.declared.Announced.{Announced}

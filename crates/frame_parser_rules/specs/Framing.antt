@@ -10,7 +10,7 @@ use native.Mathlib.Omega.{arith}
 use lib.ListN.{length, take, drop, length-append, take-append-drop}
 use lib.Dec.{leb}
 use borrow.Author.Tests.{leb-true, leb-false}
-use Rattle.field_tagvalue.specs.Decimal.{writtenAt}
+use Rattle.field_rules.specs.Decimal.{writtenAt}
 use Rattle.frame_parser_rules.specs.Announced.{announcedIn}
 use Rattle.frame_parser_rules.specs.Framer.{fresh, held, pushAnswer, withChunk, pushed, readyOf, readyAnswer, takeAnswer, takeState, movedToFront}
 use Rattle.frame_parser_rules.specs.FramerLaws.{take-judges}

@@ -10,10 +10,10 @@ use lib.ListN.{length, take, drop, length-append, length-drop}
 use lib.Seq.{length-take-le, take-at, drop-append-seam, drop-append-le}
 use lib.Dec.{ltb}
 use borrow.Author.Tests.{ltb-true, ltb-false}
-use Rattle.field_tagvalue.specs.Decimal.{writtenAt}
-use Rattle.field_tagvalue.specs.DecimalLaws.{written-fits, written-length}
+use Rattle.field_rules.specs.Decimal.{writtenAt}
+use Rattle.field_rules.specs.DecimalLaws.{written-fits, written-length}
 use Rattle.frame_parser_rules.specs.Announced.{announcedIn, withFirst, valueFrom, withEquals, findFrom}
-use Rattle.field_tagvalue.specs.Find.{findIn}
+use Rattle.field_rules.specs.Find.{findIn}
 use Rattle.frame_parser_rules.specs.Framer.{answersWith, held, unusable, withChunk, pushed, pushedStore, readyOf, takeState, taken, movedToFront, takenOutput}
 use Rattle.frame_parser_rules.specs.FramerLaws.{usable, push-accepted, take-short, take-message, ready-whole, ready-short}
 use Rattle.frame_parser_rules.specs.MessageLaws.{head-announced, whole-announced}

@@ -7,11 +7,11 @@ use Prim.Native.Nat.{ℕ, _+_, _-_, _≤_}
 use native.Mathlib.Omega.{arith}
 use lib.ListN.{length, getD, take, drop, length-append, take-append-drop}
 use lib.Seq.{drop-at, take-append-le, take-append-seam}
-use Rattle.field_tagvalue.specs.Decimal.{decimal, decimalWithin}
-use Rattle.field_tagvalue.specs.DecimalLaws.{decimal-unique}
-use Rattle.field_tagvalue.specs.Standard as standard
-use Rattle.field_tagvalue.specs.Standard.{Message, SOH, equals}
-use Rattle.field_tagvalue.specs.StandardLaws.{digits-all, worth-same, absent-all}
+use Rattle.field_rules.specs.Decimal.{decimal, decimalWithin}
+use Rattle.field_rules.specs.DecimalLaws.{decimal-unique}
+use Rattle.field_rules.specs.Standard as standard
+use Rattle.field_rules.specs.Standard.{Message, SOH, equals}
+use Rattle.field_rules.specs.StandardLaws.{digits-all, worth-same, absent-all}
 use Rattle.frame_parser_rules.specs.Announced.{nominal, findFrom, valueFrom, messageEnd, limited, announcedIn}
 use Rattle.frame_parser_rules.specs.AnnouncedLaws.{nominal-worth, from-joins, value-between, announced-second, announced-stays, limit-ends}
 use Rattle.frame_parser_rules.specs.declared.Value.the-variants.{Between}

@@ -9,12 +9,12 @@ use native.Mathlib.Omega.{arith}
 use lib.ListN.{length, replicate, length-replicate}
 use lib.Dec.{eqb}
 use borrow.Author.Tests.{eqb-false}
-use Rattle.field_tagvalue.specs.Choice.{pick}
-use Rattle.field_tagvalue.specs.Text.{bytes}
-use Rattle.field_tagvalue.specs.Number.{isDigit, allDigits}
-use Rattle.field_tagvalue.specs.DecimalLaws.{all-digits-first}
-use Rattle.field_tagvalue.specs.Standard.{All, Digit, Int, Field, Fields, Distinct, Members}
-use Rattle.field_tagvalue.specs.Standard as standard
+use Rattle.field_rules.specs.Choice.{pick}
+use Rattle.field_rules.specs.Text.{bytes}
+use Rattle.field_rules.specs.Number.{isDigit, allDigits}
+use Rattle.field_rules.specs.DecimalLaws.{all-digits-first}
+use Rattle.field_rules.specs.Standard.{All, Digit, Int, Field, Fields, Distinct, Members}
+use Rattle.field_rules.specs.Standard as standard
 use Rattle.frame_parser_rules.specs.Stream.{Fits, begins}
 use Rattle.frame_parser_rules.specs.Stream as stream
 use Rattle.frame_parser_rules.specs.Framing.{Further, framing-goes-on, framing-whole}

@@ -4,7 +4,7 @@ use mathlib.Core.Path.{_≡_}
 use mathlib.Core.List.{List, [], _∷_, _++_}
 use Prim.Native.Nat.{ℕ, suc, _≤_, _<_}
 use lib.ListN.{length, take}
-use Rattle.field_tagvalue.specs.Standard.{Message}
+use Rattle.field_rules.specs.Standard.{Message}
 use Rattle.frame_parser_rules.specs.Framer.{answersWith, fresh, held, pushAnswer, pushed, pushedStore, takeAnswer, taken, takenStore, takenOutput}
 use Rattle.frame_parser_rules.specs.declared.State.{State}
 use Rattle.frame_parser_rules.specs.declared.Answer.the-variants as answer

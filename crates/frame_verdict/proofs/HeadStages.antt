@@ -5,7 +5,7 @@ use mathlib.Core.List.{List, [], _∷_, _++_, append-assoc}
 use Prim.Native.Nat.{ℕ, _+_, _-_, _≤_}
 use native.Mathlib.Omega.{arith}
 use lib.ListN.{length, take, drop, length-append}
-use Rattle.field_tagvalue.specs.Number.{worth}
+use Rattle.field_rules.specs.Number.{worth}
 use Rattle.frame_verdict_rules.specs.Frame.{separator, beginTag, lengthTag, frameMost, IsBeginString, lead}
 use Rattle.frame_verdict_rules.specs.Readers.{Out, bad, short, Reader, _>>=_, literal, beginString, bodyLength}
 use Rattle.frame_verdict_rules.specs.Verdict.{framing, bodyReader, frameReader, stageOf, lengthOf, asVerdict, verdictOf}

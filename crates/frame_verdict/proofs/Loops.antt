@@ -9,8 +9,8 @@ use lib.ListN.{length, drop, getD, drop-of-length-le, length-drop}
 use lib.Seq.{drop-cons}
 use lib.Dec.{leb, ltb}
 use borrow.Author.Tests.{eq-eqb, ne-eqb, le-leb, lt-leb, ltb-true, leb-true}
-use Rattle.field_tagvalue.specs.Choice.{pick}
-use Rattle.field_tagvalue.specs.Number.{isDigit, worth}
+use Rattle.field_rules.specs.Choice.{pick}
+use Rattle.field_rules.specs.Number.{isDigit, worth}
 use Rattle.frame_verdict_rules.specs.Readers.{Out, on, bad, short, Reader, literal, withHead, Kind, ends, goes, wrong, headed, textKind, text, mayBecome, digitKind, bodyLength}
 use Rattle.frame_verdict_rules.specs.Verdict.{stageOf, lengthOf}
 use Rattle.frame_verdict_rules.specs.declared.Stage.the-variants.{On, Bad, Short}

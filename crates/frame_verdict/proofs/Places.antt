@@ -8,7 +8,7 @@ use lib.ListN.{length, take, drop, length-append, length-drop, take-append-drop}
 use lib.Seq.{drop-drop, take-add, drop-append-seam, take-append-seam, length-take-le}
 use types.Run.{OneOf}
 use denote.Enum.Declared.{tagOf}
-use Rattle.field_tagvalue.specs.Number.{worth}
+use Rattle.field_rules.specs.Number.{worth}
 use Rattle.frame_verdict_rules.specs.Readers.{Out, on, bad, short, Reader, _>>=_, literal, withHead, any, bodyLength}
 use Rattle.frame_verdict_rules.specs.Verdict.{stageOf, lengthOf}
 use Rattle.frame_verdict_rules.specs.Exact.{Exact, bind-on, bind-bad, bind-short}

@@ -5,8 +5,8 @@ use mathlib.Core.List.{List, [], _∷_, _++_}
 use mathlib.Core.Logic.{_≢_}
 use Prim.Native.Nat.{ℕ, _%_, _≤_}
 use lib.ListN.{length, take}
-use Rattle.field_tagvalue.specs.Number.{allDigits, worth}
-use Rattle.field_tagvalue.specs.CheckSum.{sumOf}
+use Rattle.field_rules.specs.Number.{allDigits, worth}
+use Rattle.field_rules.specs.CheckSum.{sumOf}
 
 -- "Separator 0x01"
 abbrev pub separator : ℕ

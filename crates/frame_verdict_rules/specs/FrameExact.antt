@@ -6,8 +6,8 @@ use Prim.Native.Nat.{ℕ, _+_, _-_, _/_, _%_, _≤_, _<_}
 use native.Mathlib.Omega.{arith}
 use lib.ListN.{length, length-append}
 use borrow.Author.Tests.{le-leb}
-use Rattle.field_tagvalue.specs.Number.{isDigit, allDigits, worth}
-use Rattle.field_tagvalue.specs.CheckSum.{sumOf, checksumDigits}
+use Rattle.field_rules.specs.Number.{isDigit, allDigits, worth}
+use Rattle.field_rules.specs.CheckSum.{sumOf, checksumDigits}
 use Rattle.frame_verdict_rules.specs.Frame.{separator, beginTag, lengthTag, typeTag, sumTag, frameMost, All, all-none, all-more, Byte, IsBeginString, lead, IsFrame}
 use Rattle.frame_verdict_rules.specs.Readers.{mayBecome}
 use Rattle.frame_verdict_rules.specs.Verdict.{framing, checksumFor, bodyReader, frameReader}

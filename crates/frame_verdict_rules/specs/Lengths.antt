@@ -8,9 +8,9 @@ use native.Mathlib.Omega.{arith}
 use lib.Dec.{eqb, leb, ltb}
 use lib.ListN.{length}
 use borrow.Author.Tests.{ltb-true, ltb-false, leb-true, leb-false, eqb-true, eqb-false}
-use Rattle.field_tagvalue.specs.Choice.{pick}
-use Rattle.field_tagvalue.specs.Number.{isDigit, allDigits, worth}
-use Rattle.field_tagvalue.specs.NumberLaws.{worth-least}
+use Rattle.field_rules.specs.Choice.{pick}
+use Rattle.field_rules.specs.Number.{isDigit, allDigits, worth}
+use Rattle.field_rules.specs.NumberLaws.{worth-least}
 use Rattle.frame_verdict_rules.specs.Frame.{separator, All, all-none, all-more, Byte}
 use Rattle.frame_verdict_rules.specs.Readers.{ends, goes, wrong, mayBecome, digitKind, bodyLength}
 use Rattle.frame_verdict_rules.specs.Exact.{Exact, exact-same}

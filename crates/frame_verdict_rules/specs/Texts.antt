@@ -8,7 +8,7 @@ use native.Mathlib.Omega.{arith}
 use lib.Dec.{eqb}
 use lib.ListN.{length, replicate, length-replicate}
 use borrow.Author.Tests.{eqb-true, eqb-false}
-use Rattle.field_tagvalue.specs.Choice.{pick}
+use Rattle.field_rules.specs.Choice.{pick}
 use Rattle.frame_verdict_rules.specs.Frame.{separator, All, all-none, all-more, Byte, NoSeparator, IsBeginString}
 use Rattle.frame_verdict_rules.specs.Readers.{on, bad, short, Reader, withHead, Kind, ends, goes, wrong, headed, textKind, text, beginString}
 use Rattle.frame_verdict_rules.specs.Exact.{Exact, all-append, exact-same, bad-on, short-on, short-bad, on-value, on-rest}

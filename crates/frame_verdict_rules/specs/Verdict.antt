@@ -2,8 +2,8 @@
 use mathlib.Core.List.{List, [], _∷_, _++_}
 use Prim.Native.Nat.{ℕ, _+_, _-_, _%_}
 use lib.ListN.{length}
-use Rattle.field_tagvalue.specs.Number.{worth}
-use Rattle.field_tagvalue.specs.CheckSum.{sumOf, checksumDigits}
+use Rattle.field_rules.specs.Number.{worth}
+use Rattle.field_rules.specs.CheckSum.{sumOf, checksumDigits}
 use Rattle.frame_verdict_rules.specs.Frame.{separator, beginTag, lengthTag, typeTag, sumTag, frameMost, lead}
 use Rattle.frame_verdict_rules.specs.Readers.{Out, on, bad, short, Reader, _>>=_, literal, any, beginString, bodyLength}
 use Rattle.frame_verdict_rules.specs.declared.Verdict.{Verdict}

@@ -10,7 +10,7 @@ use lib.Dec.{eqb, leb, ltb}
 use lib.ListN.{length, take, drop, getD, set, replicate, length-replicate}
 use lib.Seq.{take-at, take-take, length-take-le}
 use Rattle.message_maps.specs.Rows.{messageWords}
-use Rattle.field_tagvalue.specs.Choice.{pick, pick-same}
+use Rattle.field_rules.specs.Choice.{pick, pick-same}
 use Rattle.build_records.specs.declared.Record.{Record}
 use Rattle.build_records.specs.Records.{laid, recordsOf, leftover, onRecords, replaced, between, recordWords, stride}
 use Rattle.build_records.specs.WordLaws.{words-whole, records-laid, records-on, records-length, laid-append, laid-length}

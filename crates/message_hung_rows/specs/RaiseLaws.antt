@@ -11,7 +11,7 @@ use lib.Seq.{set-at, getD-append-add, drop-cons}
 use lib.Dec.{leb}
 use native.Mathlib.Decide.{decLe}
 use borrow.Author.Tests.{leb-true}
-use Rattle.field_tagvalue.specs.Choice.{pick}
+use Rattle.field_rules.specs.Choice.{pick}
 use Rattle.message_maps.specs.Rows.{Row, row, flat, part, padded, spliced, levelOf, rowsFrom, messageWords, messageRows}
 use Rattle.message_maps.specs.RowsLaws.{part-length}
 use Rattle.message_lent.specs.Lent.{rowCount, rowsOf}

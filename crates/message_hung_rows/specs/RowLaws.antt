@@ -7,7 +7,7 @@ use native.Mathlib.Omega.{arith}
 use lib.ListN.{length, getD, set, take}
 use lib.Dec.{eqb}
 use borrow.Author.Tests.{eq-eqb, ne-eqb, lt-ltb, le-ltb}
-use Rattle.field_tagvalue.specs.Choice.{pick}
+use Rattle.field_rules.specs.Choice.{pick}
 use Rattle.message_maps.specs.Rows.{Row, row, flat, rowAt, rowsFrom, levelOf, sizes}
 use Rattle.message_maps.specs.RowsLaws.{rows-step, rows-none}
 use Rattle.message_lent.specs.Lent.{rowCount, rowsOf}

@@ -7,7 +7,7 @@ use mathlib.Core.List.{List}
 use Prim.Native.Nat.{ℕ}
 use lib.Dec.{eqb}
 use borrow.Author.Tests.{eqb-true, eqb-false, ne-eqb}
-use Rattle.field_tagvalue.specs.Choice.{pick, pick-same}
+use Rattle.field_rules.specs.Choice.{pick, pick-same}
 use Rattle.message_maps.specs.Map.{Map, end, field, entry, joined, holds, pastLeading, hungOnCount, hungAlone, hung}
 use Rattle.message_lent.specs.LentLaws.{both}
 use Rattle.message_lent.specs.Formed.{stands, goesOn, isFormed, isRun}

@@ -7,7 +7,7 @@ use mathlib.Core.List.{List}
 use Prim.Native.Nat.{ℕ}
 use lib.Dec.{eqb}
 use borrow.Author.Tests.{eqb-true, eq-eqb}
-use Rattle.field_tagvalue.specs.Choice.{pick, pick-same}
+use Rattle.field_rules.specs.Choice.{pick, pick-same}
 use Rattle.message_maps.specs.Map.{Map, end, field, entry, joined, replaced, withoutField, leading, pastLeading, runOn, withoutRun}
 use Rattle.message_lent.specs.Formed.{stands, goesOn, isFormed}
 use Rattle.message_lent.specs.StandLaws.{either, nor, field-formed, formed-field, entry-formed, formed-entry, past-none, goes-none, behind-field, past-field, past-entry, past-same}

@@ -7,7 +7,7 @@ use native.Mathlib.Omega.{arith}
 use lib.ListN.{length, length-append}
 use lib.Dec.{leb}
 use borrow.Author.Tests.{leb-true, lt-leb, le-leb, eq-eqb, ne-eqb, le-ltb}
-use Rattle.field_tagvalue.specs.Choice.{pick}
+use Rattle.field_rules.specs.Choice.{pick}
 use Rattle.message_maps.specs.Map.{Map, end, field, entry, valuesIn, fieldCount, holdsAny}
 use Rattle.message_maps.specs.Rows.{Row, row, laid, sizes, sizeOf, levelOf}
 use Rattle.message_lent.specs.Lent.{isOwn, ownBelow, weight, fieldsIn}

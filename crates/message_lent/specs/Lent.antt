@@ -5,7 +5,7 @@ use mathlib.Core.Bool.{Bool, true, false}
 use mathlib.Core.List.{List, [], _∷_, _++_}
 use lib.ListN.{length, getD, take, drop}
 use lib.Dec.{eqb, leb, ltb}
-use Rattle.field_tagvalue.specs.Choice.{pick}
+use Rattle.field_rules.specs.Choice.{pick}
 use Rattle.message_maps.specs.Map.{Map, end, field, entry}
 use Rattle.message_maps.specs.Rows.{Row, row, rowAt, rowsFrom, rowsBefore, levelOf, sizeOf, matches, sizes, messageWords, messageRows}
 

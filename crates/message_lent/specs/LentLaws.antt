@@ -7,7 +7,7 @@ use native.Mathlib.Omega.{arith}
 use lib.ListN.{length, getD}
 use lib.Dec.{leb, ltb, eqb}
 use borrow.Author.Tests.{le-leb, lt-leb, lt-ltb, le-ltb, eq-eqb, ne-eqb, eqb-true, leb-true}
-use Rattle.field_tagvalue.specs.Choice.{pick}
+use Rattle.field_rules.specs.Choice.{pick}
 use Rattle.message_maps.specs.Rows.{Row, row, rowAt, rowsFrom, rowsBefore, levelOf, matches, sizes, messageWords, messageRows}
 use Rattle.message_maps.specs.RowsLaws.{rows-step, rows-none, before-step}
 use Rattle.message_lent.specs.Lent.{heldBefore, delimiterIs, continues, followsOn, deepest, fieldAllowed, headAllowed, rowAllowed, rowsAllowed, isPart, nextPart, partsFrom, isOwn, ownBelow, weight, fieldsIn, rowCount, rowsOf, isLaid, isMessage}

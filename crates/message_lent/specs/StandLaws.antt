@@ -7,7 +7,7 @@ use Prim.Native.Nat.{ℕ}
 use native.Mathlib.Omega.{arith}
 use lib.Dec.{eqb}
 use borrow.Author.Tests.{eq-eqb}
-use Rattle.field_tagvalue.specs.Choice.{pick}
+use Rattle.field_rules.specs.Choice.{pick}
 use Rattle.message_maps.specs.Map.{Map, end, field, entry, pastLeading}
 use Rattle.message_lent.specs.Formed.{stands, goesOn, isFormed}
 use Rattle.message_lent.specs.LentLaws.{both}

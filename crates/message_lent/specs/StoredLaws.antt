@@ -6,7 +6,7 @@ use mathlib.Core.List.{List}
 use Prim.Native.Nat.{ℕ}
 use lib.Dec.{eqb}
 use borrow.Author.Tests.{eqb-true, ne-eqb}
-use Rattle.field_tagvalue.specs.Choice.{pick}
+use Rattle.field_rules.specs.Choice.{pick}
 use Rattle.message_maps.specs.Map.{Map, end, field, entry, joined, holds, replaced, withoutField, leading, pastLeading, runOn, withoutRun, stored}
 use Rattle.message_lent.specs.Formed.{stands, isFormed}
 use Rattle.message_lent.specs.StandLaws.{never, nor, not-so, field-formed, formed-field, entry-formed, past-same}

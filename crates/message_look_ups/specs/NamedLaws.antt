@@ -8,7 +8,7 @@ use native.Mathlib.Omega.{arith}
 use lib.ListN.{length, length-append}
 use lib.Dec.{leb, ltb, eqb}
 use borrow.Author.Tests.{eqb-true, eqb-false, eq-eqb, ne-eqb, le-leb, lt-leb, leb-true, leb-false}
-use Rattle.field_tagvalue.specs.Choice.{pick}
+use Rattle.field_rules.specs.Choice.{pick}
 use Rattle.message_maps.specs.Map.{Map, end, field, entry, Looked, none, some, valuesIn}
 use Rattle.message_maps.specs.Rows.{Row, row, laid, levelOf, sizeOf, sizes}
 use Rattle.message_rules.specs.LayoutLaws.{sizes-append, sizes-laid}

@@ -8,7 +8,7 @@ use native.Mathlib.Nat.{sub-zero}
 use lib.ListN.{length, take, length-append}
 use lib.Dec.{leb, ltb, eqb}
 use borrow.Author.Tests.{ltb-true, ltb-false, lt-ltb, le-ltb, eq-eqb, ne-eqb, leb-true, lt-leb}
-use Rattle.field_tagvalue.specs.Choice.{pick, pick-same}
+use Rattle.field_rules.specs.Choice.{pick, pick-same}
 use Rattle.message_maps.specs.Map.{Map, Looked, none, some, valuesIn}
 use Rattle.message_maps.specs.Rows.{Row, row, laid, rowAt, rowsFrom, levelOf, sizeOf, sizes, matches, endFrom, messageRows}
 use Rattle.message_maps.specs.RowsLaws.{rows-step, rows-none}

@@ -8,7 +8,7 @@ use native.Mathlib.Nat.{sub-zero}
 use lib.ListN.{length, take, drop, length-append}
 use lib.Dec.{leb, ltb, eqb}
 use borrow.Author.Tests.{eqb-true, eq-eqb, ne-eqb, le-leb, lt-leb, leb-true, lt-ltb, le-ltb}
-use Rattle.field_tagvalue.specs.Choice.{pick, pick-same}
+use Rattle.field_rules.specs.Choice.{pick, pick-same}
 use Rattle.message_maps.specs.Map.{Map, end, field, entry, Looked, none, some, valuesIn}
 use Rattle.message_maps.specs.Rows.{Row, row, laid, rowAt, rowsFrom, levelOf, sizeOf, sizes, matches, endFrom}
 use Rattle.message_maps.specs.RowsLaws.{rows-step, rows-none}

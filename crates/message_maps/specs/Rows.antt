@@ -6,7 +6,7 @@ use mathlib.Core.Bool.{Bool, true, false}
 use mathlib.Core.List.{List, [], _∷_, _++_}
 use lib.ListN.{length, getD, take, drop, replicate}
 use lib.Dec.{eqb, leb, ltb}
-use Rattle.field_tagvalue.specs.Choice.{pick}
+use Rattle.field_rules.specs.Choice.{pick}
 use Rattle.message_maps.specs.Map.{Map, end, field, entry}
 
 -- rows to a message: one for each field and entry, of which there are 1,024 each, and one for each part

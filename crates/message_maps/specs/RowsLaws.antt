@@ -10,9 +10,9 @@ use native.Mathlib.Numerals.{add-one}
 use native.Mathlib.Nat.{sub-zero}
 use lib.Dec.{leb, ltb, eqb}
 use borrow.Author.Tests.{le-leb, lt-leb}
-use Rattle.field_tagvalue.specs.Choice.{pick}
-use Rattle.field_tagvalue.specs.Decimal.{writtenAt}
-use Rattle.field_tagvalue.specs.DecimalLaws.{written-fits, written-copied}
+use Rattle.field_rules.specs.Choice.{pick}
+use Rattle.field_rules.specs.Decimal.{writtenAt}
+use Rattle.field_rules.specs.DecimalLaws.{written-fits, written-copied}
 use Rattle.message_maps.specs.Rows.{Row, row, rowAt, rowsFrom, rowsBefore, levelOf, sizeOf, matches, findFrom, endFrom, inRun, runEndFrom, sizes, padded, part, spliced, messageRows, messageWords}
 
 pub rows-step : (words : List ℕ) (i to : ℕ) → i < to → rowsFrom (to - i) i words ≡ rowAt words i ∷ rowsFrom (to - (i + 1)) (i + 1) words

@@ -6,7 +6,7 @@ ghost use mathlib.Core.List.{_++_, []};
 ghost use mathlib.Core.Bool.{true, false};
 ghost use Prim.Native.Nat.{_+_, _-_, _*_, _≤_, _<_};
 ghost use lib.ListN.{length, getD, take, drop};
-ghost use Rattle.field_tagvalue.specs.Decimal.{writtenAt};
+ghost use Rattle.field_rules.specs.Decimal.{writtenAt};
 ghost use Rattle.message_maps.specs.Rows.{rowAt, rowsFrom, rowsBefore, levelOf, sizeOf, matches, findFrom, endFrom, inRun, runEndFrom, sizes, padded, part, spliced, messageWords, messageRows};
 
 // Rows to a message: one for each field and entry, of which there are 1,024 each, and one for each part.

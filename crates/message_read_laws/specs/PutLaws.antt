@@ -6,7 +6,7 @@ use Prim.Native.Nat.{ℕ}
 use native.Mathlib.Omega.{arith}
 use lib.Dec.{eqb}
 use borrow.Author.Tests.{eqb-true, eq-eqb, ne-eqb}
-use Rattle.field_tagvalue.specs.Choice.{pick}
+use Rattle.field_rules.specs.Choice.{pick}
 use Rattle.message_maps.specs.Map.{Map, end, field, entry, joined, holds, replaced, pastLeading, hungOnCount, hung}
 use Rattle.message_lent.specs.Formed.{stands, goesOn, isFormed, isRun}
 use Rattle.message_lent.specs.LentLaws.{both}

@@ -7,7 +7,7 @@ use native.Mathlib.Omega.{arith}
 use lib.ListN.{length, set}
 use lib.Dec.{leb, ltb, eqb}
 use borrow.Author.Tests.{le-leb, lt-leb, eq-eqb, ne-eqb, lt-ltb, le-ltb}
-use Rattle.field_tagvalue.specs.Choice.{pick}
+use Rattle.field_rules.specs.Choice.{pick}
 use Rattle.message_maps.specs.Map.{Map, end, entry, valuesIn, holds, withoutField, stored}
 use Rattle.message_maps.specs.Rows.{laid, flat, part, padded, spliced, rowsFrom, findFrom, runEndFrom, messageWords}
 use Rattle.message_lent.specs.Lent.{isMessage}

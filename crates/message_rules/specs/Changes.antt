@@ -5,7 +5,7 @@ use mathlib.Core.Bool.{Bool, true, false}
 use mathlib.Core.List.{List, [], _∷_, _++_}
 use lib.ListN.{length, set}
 use lib.Dec.{eqb, leb, ltb}
-use Rattle.field_tagvalue.specs.Choice.{pick}
+use Rattle.field_rules.specs.Choice.{pick}
 use Rattle.message_maps.specs.Map.{Map, end, field, entry, holds, withoutField, stored, hung, fieldCount, valuesIn}
 use Rattle.message_maps.specs.Rows.{laid, flat, rowsFrom, findFrom, runEndFrom, sizes, padded, spliced, messageWords, messageRows}
 use Rattle.message_lent.specs.Lent.{isMessage}

@@ -7,7 +7,7 @@ use Prim.Native.Nat.{ℕ, zero, suc}
 use lib.ListN.{replicate}
 use native.Mathlib.Omega.{arith}
 use Rattle.message_maps.specs.Rows.{messageWords}
-use Rattle.field_tagvalue.specs.Text.{bytes}
+use Rattle.field_rules.specs.Text.{bytes}
 use Rattle.message_maps.specs.Map.{Map, end, field, entry, joined, holds, holdsAny, replaced, withoutField, leading, pastLeading, runOn, withoutRun, stored, fieldCount, valuesIn}
 use Rattle.message_lent.specs.Meaning.{Message, parts, wordsOf, valuesOf}
 use Rattle.message_lent.specs.Formed.{stands, goesOn, isFormed, Within}

@@ -8,7 +8,7 @@ use lib.ListN.{length}
 use lib.Dec.{leb, eqb}
 use borrow.Author.Tests.{leb-true, eqb-true, eqb-false}
 use Rattle.message_maps.specs.Rows.{messageWords}
-use Rattle.field_tagvalue.specs.Choice.{pick}
+use Rattle.field_rules.specs.Choice.{pick}
 use Rattle.message_maps.specs.Map.{Map, holds, withoutField, stored, fieldCount, valuesIn}
 use Rattle.message_lent.specs.Lent.{isMessage}
 use Rattle.message_lent.specs.Meaning.{Message, parts, wordsOf, valuesOf, messageIn}

@@ -8,7 +8,7 @@ use native.Mathlib.Omega.{arith}
 use lib.ListN.{length, length-append}
 use lib.Dec.{eqb}
 use borrow.Author.Tests.{ne-eqb, lt-leb, lt-ltb}
-use Rattle.field_tagvalue.specs.Choice.{pick-same}
+use Rattle.field_rules.specs.Choice.{pick-same}
 use Rattle.message_maps.specs.Map.{Map, end, field, entry, joined, fieldCount, valuesIn}
 use Rattle.message_maps.specs.Rows.{Row, row, laid, levelOf, matches, findFrom, endFrom, inRun, runEndFrom}
 pub use Rattle.message_lent.specs.MeantLaws.{joined-end}

@@ -5,7 +5,7 @@ use mathlib.Core.Bool.{Bool, true, false}
 use mathlib.Core.List.{List, [], _∷_}
 use lib.ListN.{length}
 use lib.Dec.{eqb, leb}
-use Rattle.field_tagvalue.specs.Choice.{pick}
+use Rattle.field_rules.specs.Choice.{pick}
 use Rattle.message_maps.specs.Map.{Map, end, field, entry, Looked, none, some, valuesIn}
 use Rattle.message_lent.specs.Lent.{isMessage}
 use Rattle.message_lent.specs.Meaning.{Message, parts, messageIn}

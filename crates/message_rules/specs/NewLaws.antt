@@ -8,7 +8,7 @@ use lib.ListN.{length, getD, take, drop, replicate, length-append}
 use lib.Seq.{take-at, drop-at}
 use lib.Dec.{leb, ltb, eqb}
 use borrow.Author.Tests.{le-leb, lt-leb, eq-eqb, ne-eqb}
-use Rattle.field_tagvalue.specs.Choice.{pick}
+use Rattle.field_rules.specs.Choice.{pick}
 use Rattle.message_maps.specs.Map.{Map, end, field, entry, joined, holds, replaced, withoutRun, runOn, stored, fieldCount, holdsAny, valuesIn}
 use Rattle.message_maps.specs.Rows.{Row, row, laid, flat, padded, rowAt, rowsFrom, sizes, sizeOf, levelOf, matches, messageWords, messageRows}
 use Rattle.message_maps.specs.RowsLaws.{padded-length}

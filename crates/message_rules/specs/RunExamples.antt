@@ -4,7 +4,7 @@ use mathlib.Core.Path.{_≡_, refl}
 use mathlib.Core.List.{List, [], _∷_}
 use mathlib.Core.Bool.{Bool, true, false}
 use Prim.Native.Nat.{ℕ}
-use Rattle.field_tagvalue.specs.Text.{bytes}
+use Rattle.field_rules.specs.Text.{bytes}
 use Rattle.message_maps.specs.Map.{Map, end, field, entry, joined, holds, holdsAny, replaced, leading, pastLeading, runOn, withoutRun, stored, hungOnCount, hungAlone, hung, fieldCount}
 use Rattle.message_lent.specs.Formed.{isRun}
 use Rattle.message_rules.specs.Runs.{isEmpty, inLast, hasUntagged, isWhole, hungRun}

@@ -5,7 +5,7 @@ use mathlib.Core.Bool.{Bool, true, false}
 use mathlib.Core.List.{List, [], _∷_}
 use lib.ListN.{length}
 use lib.Dec.{eqb, leb}
-use Rattle.field_tagvalue.specs.Choice.{pick}
+use Rattle.field_rules.specs.Choice.{pick}
 use Rattle.message_maps.specs.Rows.{Row, levelOf}
 use Rattle.message_maps.specs.Map.{Map, end, field, entry, joined, stored, hung, fieldCount}
 use Rattle.message_lent.specs.Lent.{rowsOf, fieldsIn, isLaid}

@@ -7,7 +7,7 @@ use native.Mathlib.Omega.{arith}
 use lib.ListN.{length, take, drop, length-append}
 use lib.Dec.{leb, ltb, eqb}
 use borrow.Author.Tests.{eqb-true, eq-eqb, ne-eqb, lt-leb, le-leb, lt-ltb, le-ltb, eqb-false}
-use Rattle.field_tagvalue.specs.Choice.{pick, pick-same}
+use Rattle.field_rules.specs.Choice.{pick, pick-same}
 use Rattle.message_maps.specs.Map.{Map, end, field, entry, joined, holds, holdsAny, replaced, withoutField, leading, pastLeading, runOn, withoutRun, stored, hungOnCount, hungAlone, Looked, none, some, valueUnder, fieldCount, valuesIn}
 use Rattle.message_maps.specs.Rows.{Row, row, laid, levelOf, matches, findFrom, inRun, runEndFrom}
 use Rattle.message_rules.specs.LayoutLaws.{joined-end, laid-joined, find-below, run-end-below}

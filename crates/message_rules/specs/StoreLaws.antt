@@ -8,7 +8,7 @@ use native.Mathlib.Nat.{sub-zero}
 use lib.ListN.{length, take, length-append}
 use lib.Dec.{leb, ltb, eqb}
 use borrow.Author.Tests.{lt-leb, ltb-true, ltb-false}
-use Rattle.field_tagvalue.specs.Choice.{pick}
+use Rattle.field_rules.specs.Choice.{pick}
 use Rattle.message_maps.specs.Map.{Map, end, field, entry, joined, holds, replaced, withoutField, runOn, withoutRun, stored, fieldCount, valuesIn}
 use Rattle.message_maps.specs.Rows.{Row, laid, rowsFrom, sizes, findFrom, messageRows}
 use Rattle.message_lent.specs.Lent.{rowCount, rowsOf, isMessage, fieldsIn}

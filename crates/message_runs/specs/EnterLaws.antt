@@ -6,7 +6,7 @@ use Prim.Native.Nat.{ℕ, zero, suc, _+_, _-_, _*_, _≤_, _<_}
 use native.Mathlib.Omega.{arith}
 use native.Mathlib.Nat.{sub-zero}
 use lib.ListN.{length, take}
-use Rattle.field_tagvalue.specs.Choice.{pick}
+use Rattle.field_rules.specs.Choice.{pick}
 use Rattle.message_maps.specs.Map.{Map, end, field, entry, joined, holdsAny, fieldCount, valuesIn}
 use Rattle.message_maps.specs.Rows.{Row, row, laid, flat, rowsFrom, sizes}
 use Rattle.message_lent.specs.Lent.{rowCount, rowsOf, fieldsIn}

@@ -8,7 +8,7 @@ use native.Mathlib.Omega.{arith}
 use lib.ListN.{length, take, length-append}
 use lib.Dec.{leb, ltb, eqb}
 use borrow.Author.Tests.{ltb-true, ltb-false}
-use Rattle.field_tagvalue.specs.Choice.{pick}
+use Rattle.field_rules.specs.Choice.{pick}
 use Rattle.message_maps.specs.Map.{Map, end, field, entry, joined, holds, holdsAny, leading, pastLeading, hungOnCount, hungAlone, hung, fieldCount, valuesIn}
 use Rattle.message_maps.specs.Rows.{Row, row, laid, flat, rowsFrom, findFrom, runEndFrom, sizes}
 use Rattle.message_lent.specs.Lent.{rowCount, rowsOf, fieldsIn}

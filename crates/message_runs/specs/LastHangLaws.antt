@@ -7,7 +7,7 @@ use native.Mathlib.Omega.{arith}
 use lib.ListN.{length}
 use lib.Dec.{leb}
 use borrow.Author.Tests.{le-leb}
-use Rattle.field_tagvalue.specs.Choice.{pick}
+use Rattle.field_rules.specs.Choice.{pick}
 use Rattle.message_maps.specs.Map.{Map, end, entry, joined, holdsAny, fieldCount, valuesIn}
 use Rattle.message_maps.specs.Rows.{laid, sizes}
 use Rattle.message_lent.specs.Lent.{rowCount, rowsOf}

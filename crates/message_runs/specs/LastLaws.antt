@@ -8,7 +8,7 @@ use native.Mathlib.Nat.{sub-zero}
 use lib.ListN.{length, take, length-append}
 use lib.Dec.{leb, eqb}
 use borrow.Author.Tests.{eq-eqb, ne-eqb, lt-leb}
-use Rattle.field_tagvalue.specs.Choice.{pick}
+use Rattle.field_rules.specs.Choice.{pick}
 use Rattle.message_maps.specs.Map.{Map, end, field, entry, joined, holds, holdsAny, replaced, withoutRun, runOn, stored, fieldCount, valuesIn}
 use Rattle.message_maps.specs.Rows.{Row, row, laid, rowsFrom}
 use Rattle.message_lent.specs.Lent.{rowCount, rowsOf, fieldsIn}

@@ -7,7 +7,7 @@ use native.Mathlib.Omega.{arith}
 use lib.ListN.{length, getD, set}
 use lib.Dec.{leb, eqb}
 use borrow.Author.Tests.{eq-eqb, ne-eqb, le-leb, lt-leb}
-use Rattle.field_tagvalue.specs.Choice.{pick}
+use Rattle.field_rules.specs.Choice.{pick}
 use Rattle.message_maps.specs.Rows.{Row, row, rowAt, rowsFrom, levelOf}
 use Rattle.message_maps.specs.RowsLaws.{rows-step, rows-none}
 use Rattle.message_lent.specs.Lent.{rowsOf, fieldsIn, isLaid}

@@ -7,7 +7,7 @@ use native.Mathlib.Omega.{arith}
 use lib.ListN.{length, length-append}
 use lib.Dec.{leb, eqb}
 use borrow.Author.Tests.{eq-eqb, ne-eqb, le-leb}
-use Rattle.field_tagvalue.specs.Choice.{pick}
+use Rattle.field_rules.specs.Choice.{pick}
 use Rattle.message_maps.specs.Map.{Map, end, field, entry, joined}
 use Rattle.message_maps.specs.Rows.{Row, row, laid, levelOf}
 use Rattle.message_lent.specs.Lent.{deepest, fieldAllowed, rowAllowed, rowsAllowed}

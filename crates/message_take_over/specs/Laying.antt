@@ -5,7 +5,7 @@ use mathlib.Core.Bool.{Bool, true, false}
 use mathlib.Core.List.{List, [], _∷_, _++_}
 use lib.ListN.{length}
 use Rattle.build_records.specs.Records.{valueAt}
-use Rattle.field_tagvalue.specs.Choice.{pick}
+use Rattle.field_rules.specs.Choice.{pick}
 use Rattle.build_records.specs.declared.Record.{Record}
 use Rattle.message_maps.specs.Rows.{Row, flat, padded, messageWords, messageRows}
 use Rattle.message_take_over.specs.declared.Laying.{Laying}

@@ -4,8 +4,8 @@ use mathlib.Core.List.{List, [], _∷_, _++_, append-assoc, append-nil}
 use Prim.Native.Nat.{ℕ, zero, suc, _+_, _-_, _*_, _≤_, _<_}
 use native.Mathlib.Omega.{arith}
 use lib.ListN.{length, length-append}
-use Rattle.field_tagvalue.specs.Decimal.{writtenAt}
-use Rattle.field_tagvalue.specs.DecimalLaws.{written-length}
+use Rattle.field_rules.specs.Decimal.{writtenAt}
+use Rattle.field_rules.specs.DecimalLaws.{written-length}
 use Rattle.message_maps.specs.Rows.{Row, row, flat, padded, messageWords, messageRows}
 use Rattle.message_maps.specs.Rows.{part as partOf}
 use Rattle.message_maps.specs.RowsLaws.{written-next, part-all}

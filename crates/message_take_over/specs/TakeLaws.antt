@@ -7,9 +7,9 @@ use native.Mathlib.Omega.{arith}
 use lib.ListN.{length, drop-of-length-le}
 use lib.Dec.{eqb, leb}
 use borrow.Author.Tests.{le-leb, lt-leb, eq-eqb, ne-eqb}
-use Rattle.field_tagvalue.specs.Choice.{pick, pick-same}
-use Rattle.field_tagvalue.specs.Decimal.{writtenAt}
-use Rattle.field_tagvalue.specs.DecimalLaws.{written-fits}
+use Rattle.field_rules.specs.Choice.{pick, pick-same}
+use Rattle.field_rules.specs.Decimal.{writtenAt}
+use Rattle.field_rules.specs.DecimalLaws.{written-fits}
 use Rattle.build_records.specs.Records.{recordsOf, between, stride}
 use Rattle.build_records.specs.WordLaws.{records-length}
 use Rattle.message_maps.specs.Rows.{part, messageWords}

@@ -9,9 +9,9 @@ use native.Mathlib.Omega.{arith}
 use lib.Dec.{leb}
 use lib.ListN.{length}
 use Rattle.build_config.specs.declared.Config.{Config}
-use Rattle.field_tagvalue.specs.Choice.{pick}
-use Rattle.field_tagvalue.specs.Fields.{Fields, unreadable, field, fieldsFrom}
-use Rattle.field_tagvalue.specs.declared.Field.{Field}
+use Rattle.field_rules.specs.Choice.{pick}
+use Rattle.field_rules.specs.Fields.{Fields, unreadable, field, fieldsFrom}
+use Rattle.field_rules.specs.declared.Field.{Field}
 use Rattle.build_integrity.specs.Integrity.{integrityOf}
 use Rattle.build_integrity.specs.declared.Integrity.{Integrity}
 use Rattle.build_integrity.specs.declared.Integrity.the-variants.{Sound, Garbled}

@@ -9,8 +9,8 @@ use native.Mathlib.Omega.{arith}
 use borrow.Author.Tests.{lt-leb, ltb-false}
 use lib.Dec.{eqb, ltb}
 use lib.ListN.{length, replicate, List·getD-append}
-use Rattle.field_tagvalue.specs.Separator.{isRefusedSeparator}
-use Rattle.field_tagvalue.specs.Choice.{pick}
+use Rattle.field_rules.specs.Separator.{isRefusedSeparator}
+use Rattle.field_rules.specs.Choice.{pick}
 use Rattle.build_config.specs.declared.Config.{Config}
 use Rattle.dictionary_rules.specs.Check.{checkOf, numberOfCheck}
 use Rattle.dictionary_rules.specs.declared.Checked.{Checked}

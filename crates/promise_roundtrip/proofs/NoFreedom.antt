@@ -23,8 +23,8 @@ use Rattle.field_tagvalue.proofs.digit_count.Reads as of-field-tagvalue-digit-c
 use Rattle.field_tagvalue.proofs.digit_count.Kinds as in-field-tagvalue-digit-count
 use Rattle.field_tagvalue.proofs.write_number.Reads as of-field-tagvalue-write-number
 use Rattle.field_tagvalue.proofs.write_number.Kinds as in-field-tagvalue-write-number
-use Rattle.field_tagvalue.proofs.Cursor.next_field.Reads as of-field-tagvalue-next-field
-use Rattle.field_tagvalue.proofs.Cursor.next_field.Kinds as in-field-tagvalue-next-field
+use Rattle.field_tagvalue.proofs.next_field.Reads as of-field-tagvalue-next-field
+use Rattle.field_tagvalue.proofs.next_field.Kinds as in-field-tagvalue-next-field
 use Rattle.field_tagvalue.proofs.value_of.Reads as of-field-tagvalue-value-of
 use Rattle.field_tagvalue.proofs.value_of.Kinds as in-field-tagvalue-value-of
 use Rattle.field_tagvalue.proofs.is_refused_separator.Reads as of-field-tagvalue-is-refused-separator

@@ -7,8 +7,8 @@ use Prim.Native.Nat.{ℕ, suc, _+_}
 use native.Mathlib.Omega.{arith}
 use lib.ListN.{length}
 use Rattle.build_config.specs.declared.Config.{Config}
-use Rattle.field_tagvalue.specs.Field.{startAt}
-use Rattle.field_tagvalue.specs.Fields.{Fields, field, fieldsFrom}
+use Rattle.field_rules.specs.Field.{startAt}
+use Rattle.field_rules.specs.Fields.{Fields, field, fieldsFrom}
 use Rattle.dictionary_layout_rules.specs.Tree.{Dictionary}
 use Rattle.build_records.specs.declared.Record.{Record}
 use Rattle.build_nesting_laws.specs.Entries.{all-more}

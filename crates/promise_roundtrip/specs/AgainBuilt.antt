@@ -20,7 +20,7 @@ use Rattle.message_take_over.specs.declared.Taken.the-variants.{Made}
 use Rattle.message_take_over.specs.Derived.{derived, given}
 use Rattle.promise_records.specs.TakenOver.{Shown, build-shown, shown-build, build-of-taken}
 use Rattle.encode_rules.specs.Encoding.{encoding, encodedMessage}
-use Rattle.field_tagvalue.specs.Separator.{isRefusedSeparator}
+use Rattle.field_rules.specs.Separator.{isRefusedSeparator}
 use Rattle.encode_rules.specs.Encode.{left, encodingOf}
 use Rattle.encode_rules.specs.declared.Encoding.the-variants.{Written, TooLong}
 use Rattle.build_order_laws.specs.SimilarLaws.{similar-length}

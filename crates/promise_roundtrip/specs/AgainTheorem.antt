@@ -17,7 +17,7 @@ use Rattle.message_read_laws.specs.PartReading.{of-field, own-field}
 use Rattle.message_read_laws.specs.Parted.{Takes}
 use Rattle.build_order_laws.specs.InOrder.{InOrder}
 use Rattle.encode_rules.specs.Encoding.{encoding, encodedMessage}
-use Rattle.field_tagvalue.specs.Separator.{isRefusedSeparator}
+use Rattle.field_rules.specs.Separator.{isRefusedSeparator}
 use Rattle.encode_rules.specs.Encode.{left, encodingOf}
 use Rattle.encode_rules.specs.declared.Encoding.the-variants.{Written, TooLong}
 use Rattle.encode_rewriting_laws.specs.Written.{rewritten}

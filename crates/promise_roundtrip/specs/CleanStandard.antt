@@ -5,10 +5,10 @@ use mathlib.Core.Bool.{Bool}
 use mathlib.Core.List.{List, [], _∷_, _++_}
 use Prim.Native.Nat.{ℕ, _-_, _≤_}
 use lib.ListN.{length}
-use Rattle.field_tagvalue.specs.Field.{startAt}
-use Rattle.field_tagvalue.specs.Fields.{field}
-use Rattle.field_tagvalue.specs.FieldsLaws.{fields-field}
-use Rattle.field_tagvalue.specs.Standard as standard
+use Rattle.field_rules.specs.Field.{startAt}
+use Rattle.field_rules.specs.Fields.{field}
+use Rattle.field_rules.specs.FieldsLaws.{fields-field}
+use Rattle.field_rules.specs.Standard as standard
 use Rattle.build_integrity.specs.VerifiedLaws.{verified-read}
 use Rattle.build_config.specs.declared.Config.{Config}
 use Rattle.dictionary_layout_rules.specs.Tree.{Dictionary}

@@ -7,8 +7,8 @@ use Prim.Native.Nat.{ℕ, _-_, _≤_}
 use native.Mathlib.Omega.{arith}
 use lib.ListN.{length, drop}
 use Rattle.message_maps.specs.Rows.{messageWords}
-use Rattle.field_tagvalue.specs.Field.{startAt}
-use Rattle.field_tagvalue.specs.Fields.{Fields, field, fieldsFrom}
+use Rattle.field_rules.specs.Field.{startAt}
+use Rattle.field_rules.specs.Fields.{Fields, field, fieldsFrom}
 use Rattle.dictionary_layout_rules.specs.Tree.{Dictionary}
 use Rattle.build_records.specs.declared.Record.{Record}
 use Rattle.build_nesting_laws.specs.Entries.{all-more}
@@ -18,7 +18,7 @@ use Rattle.build_rules.specs.declared.Stop.{Stop}
 use Rattle.build_rules.specs.declared.Stop.the-variants.{At}
 use Rattle.message_lent.specs.Meaning.{Message, wordsOf, valuesOf}
 use Rattle.encode_rules.specs.Encoding.{encodedMessage}
-use Rattle.field_tagvalue.specs.Separator.{isRefusedSeparator}
+use Rattle.field_rules.specs.Separator.{isRefusedSeparator}
 use Rattle.encode_rules.specs.Encode.{left, encodingOf}
 use Rattle.encode_rules.specs.declared.Encoding.the-variants.{Written}
 use Rattle.build_config.specs.declared.Config.{Config}

@@ -10,9 +10,9 @@ use lib.ListN.{length, length-append}
 use lib.Dec.{eqb}
 use borrow.Author.Tests.{eqb-true, eq-eqb}
 use Rattle.build_config.specs.declared.Config.{Config}
-use Rattle.field_tagvalue.specs.Choice.{pick, pick-same}
-use Rattle.field_tagvalue.specs.Fields.{Fields, unreadable, field, fieldsFrom}
-use Rattle.field_tagvalue.specs.declared.Field.{Field}
+use Rattle.field_rules.specs.Choice.{pick, pick-same}
+use Rattle.field_rules.specs.Fields.{Fields, unreadable, field, fieldsFrom}
+use Rattle.field_rules.specs.declared.Field.{Field}
 use Rattle.build_integrity.specs.declared.Verified.{Verified}
 use Rattle.dictionary_layout_rules.specs.Tree.{Dictionary, headerTags, holdsTag}
 use Rattle.build_records.specs.Records.{stored}

@@ -9,16 +9,16 @@ use lib.ListN.{length, drop}
 use lib.Dec.{eqb}
 use Rattle.message_maps.specs.Rows.{messageWords}
 use Rattle.build_config.specs.Settings.{validating}
-use Rattle.field_tagvalue.specs.Computing.{reading-fields}
-use Rattle.field_tagvalue.specs.Choice.{pick}
-use Rattle.field_tagvalue.specs.Text.{bytes}
-use Rattle.field_tagvalue.specs.Fields.{Fields, unreadable, field}
-use Rattle.field_tagvalue.specs.Decimal.{decimal}
-use Rattle.field_tagvalue.specs.Number.{isDigit}
-use Rattle.field_tagvalue.specs.CheckSum.{sumOf, checksumOf, checksumDigits}
-use Rattle.field_tagvalue.specs.Decimal.{decimalWithin}
-use Rattle.field_tagvalue.specs.Field.{startAt, valueOf, separatedBy}
-use Rattle.field_tagvalue.specs.Fields.{fieldsFrom}
+use Rattle.field_rules.specs.Computing.{reading-fields}
+use Rattle.field_rules.specs.Choice.{pick}
+use Rattle.field_rules.specs.Text.{bytes}
+use Rattle.field_rules.specs.Fields.{Fields, unreadable, field}
+use Rattle.field_rules.specs.Decimal.{decimal}
+use Rattle.field_rules.specs.Number.{isDigit}
+use Rattle.field_rules.specs.CheckSum.{sumOf, checksumOf, checksumDigits}
+use Rattle.field_rules.specs.Decimal.{decimalWithin}
+use Rattle.field_rules.specs.Field.{startAt, valueOf, separatedBy}
+use Rattle.field_rules.specs.Fields.{fieldsFrom}
 use Rattle.build_integrity.specs.Integrity.{integrityOf, begun, counted, summed, typed, lengthIs, lengthAgrees, sumIs, sumAgrees}
 use Rattle.dictionary_layout_rules.specs.Layout.{followedBy as layoutThen, firstOf, positionFrom, positionIn, groupSince, groupOf}
 use Rattle.dictionary_layout_rules.specs.Tree.{holdsTag, knows, plainFields, headerTags, trailerTags, flattened, sameBytes, messageOf, layoutOf}
@@ -41,7 +41,7 @@ use Rattle.build_nesting_laws.specs.Entries.{all-none, all-more}
 use Rattle.message_lent.specs.Meaning.{wordsOf, valuesOf}
 use Rattle.message_read_laws.specs.Parted.{Takes}
 use Rattle.encode_rules.specs.Encoding.{sumDigits, summed as withSum, encoding, encodedMessage}
-use Rattle.field_tagvalue.specs.Separator.{isRefusedSeparator}
+use Rattle.field_rules.specs.Separator.{isRefusedSeparator}
 use Rattle.encode_rules.specs.Encode.{left, encodingOf}
 use Rattle.encode_rules.specs.declared.Encoding.the-variants.{Written}
 use Rattle.build_order_laws.specs.Counted.{countedTo, countedFields, fieldsCounted}

@@ -6,12 +6,12 @@ use Prim.Native.Nat.{ℕ, _-_}
 use lib.ListN.{length}
 use lib.Dec.{eqb}
 use Rattle.build_config.specs.Settings.{validating}
-use Rattle.field_tagvalue.specs.Computing.{reading-fields}
-use Rattle.field_tagvalue.specs.Text.{bytes}
-use Rattle.field_tagvalue.specs.CheckSum.{sumOf, checksumOf, checksumDigits}
-use Rattle.field_tagvalue.specs.Decimal.{decimalWithin}
-use Rattle.field_tagvalue.specs.Field.{startAt, separatedBy}
-use Rattle.field_tagvalue.specs.Fields.{fieldsFrom}
+use Rattle.field_rules.specs.Computing.{reading-fields}
+use Rattle.field_rules.specs.Text.{bytes}
+use Rattle.field_rules.specs.CheckSum.{sumOf, checksumOf, checksumDigits}
+use Rattle.field_rules.specs.Decimal.{decimalWithin}
+use Rattle.field_rules.specs.Field.{startAt, separatedBy}
+use Rattle.field_rules.specs.Fields.{fieldsFrom}
 use Rattle.build_integrity.specs.Integrity.{integrityOf, begun, counted, summed, typed, lengthIs, lengthAgrees, sumIs, sumAgrees}
 use Rattle.dictionary_layout_rules.specs.Layout.{followedBy as layoutThen, firstOf, positionFrom, positionIn, groupSince, groupOf, delimiterOf, requiredTags}
 use Rattle.dictionary_layout_rules.specs.Tree.{holdsTag, knows, plainFields, headerTags, trailerTags, flattened, sameBytes, messageOf, layoutOf}

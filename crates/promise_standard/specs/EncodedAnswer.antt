@@ -7,15 +7,15 @@ use Prim.Native.Nat.{ℕ}
 use native.Mathlib.Omega.{arith}
 use lib.ListN.{length, take, drop}
 use lib.Seq.{take-at}
-use Rattle.field_tagvalue.specs.Choice.{pick}
-use Rattle.field_tagvalue.specs.Number.{isDigit}
-use Rattle.field_tagvalue.specs.Standard as standard
+use Rattle.field_rules.specs.Choice.{pick}
+use Rattle.field_rules.specs.Number.{isDigit}
+use Rattle.field_rules.specs.Standard as standard
 use Rattle.message_maps.specs.Map.{holds}
 use Rattle.message_lent.specs.Meaning.{Message, messageIn}
 use Rattle.message_lent.specs.FormedLaws.{lent-formed}
 use Rattle.message_lent.specs.StandLaws.{never, not-so}
 use Rattle.encode_rules.specs.Encoding.{dropped, encoding}
-use Rattle.field_tagvalue.specs.Separator.{isRefusedSeparator}
+use Rattle.field_rules.specs.Separator.{isRefusedSeparator}
 use Rattle.encode_rules.specs.Encode.{hasUncounted, isIncomplete, verdictOf, left, encoded, encodingOf}
 use Rattle.encoder.specs.EncodedLaws.{never-written, encode-lends}
 use Rattle.encoder.specs.VerdictLaws.{refused-incomplete, encodes, refuses}

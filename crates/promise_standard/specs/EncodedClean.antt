@@ -7,8 +7,8 @@ use Prim.Native.Nat.{ℕ, _+_, _-_}
 use native.Mathlib.Omega.{arith}
 use lib.Dec.{eqb}
 use borrow.Author.Tests.{eqb-true}
-use Rattle.field_tagvalue.specs.Choice.{pick}
-use Rattle.field_tagvalue.specs.Standard as standard
+use Rattle.field_rules.specs.Choice.{pick}
+use Rattle.field_rules.specs.Standard as standard
 use Rattle.build_records.specs.declared.Record.{Record}
 use Rattle.message_maps.specs.Map.{Map, holds}
 use Rattle.message_lent.specs.Meaning.{Message}

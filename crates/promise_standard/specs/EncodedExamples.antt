@@ -8,11 +8,11 @@ use Prim.Native.Nat.{ℕ}
 use native.Mathlib.Omega.{arith}
 use lib.Dec.{eqb}
 use borrow.Author.Tests.{eqb-true, eqb-false}
-use Rattle.field_tagvalue.specs.Choice.{pick}
-use Rattle.field_tagvalue.specs.CheckSum.{sumOf, checksumDigits}
-use Rattle.field_tagvalue.specs.Decimal.{decimal, decimalWithin}
-use Rattle.field_tagvalue.specs.Standard as standard
-use Rattle.field_tagvalue.specs.Standard.{All, Int, Value}
+use Rattle.field_rules.specs.Choice.{pick}
+use Rattle.field_rules.specs.CheckSum.{sumOf, checksumDigits}
+use Rattle.field_rules.specs.Decimal.{decimal, decimalWithin}
+use Rattle.field_rules.specs.Standard as standard
+use Rattle.field_rules.specs.Standard.{All, Int, Value}
 use Rattle.message_maps.specs.Map.{end, field, entry, joined, holds, replaced, withoutField, pastLeading, runOn, withoutRun, stored}
 use Rattle.message_lent.specs.Meaning.{Message}
 use Rattle.message_lent.specs.Formed.{stands, goesOn, isFormed}

@@ -9,11 +9,11 @@ use native.Mathlib.Omega.{arith}
 use lib.ListN.{length, getD}
 use lib.Dec.{eqb}
 use borrow.Author.Tests.{eqb-false, eq-eqb}
-use Rattle.field_tagvalue.specs.Decimal.{decimal}
-use Rattle.field_tagvalue.specs.DecimalLaws.{decimal-some, decimal-digits, decimal-worth, decimal-no-zero}
-use Rattle.field_tagvalue.specs.Field.{fieldBytes}
-use Rattle.field_tagvalue.specs.Standard as standard
-use Rattle.field_tagvalue.specs.Standard.{All, Int, TagNum, Value, Told, told, Distinct, members}
+use Rattle.field_rules.specs.Decimal.{decimal}
+use Rattle.field_rules.specs.DecimalLaws.{decimal-some, decimal-digits, decimal-worth, decimal-no-zero}
+use Rattle.field_rules.specs.Field.{fieldBytes}
+use Rattle.field_rules.specs.Standard as standard
+use Rattle.field_rules.specs.Standard.{All, Int, TagNum, Value, Told, told, Distinct, members}
 use Rattle.message_maps.specs.Map.{Map, end, field, entry, holds, withoutField}
 use Rattle.message_lent.specs.Formed.{isFormed}
 use Rattle.message_lent.specs.StandLaws.{nor, field-formed, entry-formed}

@@ -10,11 +10,11 @@ use lib.Seq.{length-take-le}
 use lib.Dec.{eqb, leb}
 use borrow.Author.Tests.{eqb-true, eqb-false, eq-eqb, ne-eqb, le-leb, lt-leb}
 use Rattle.build_records.specs.Records.{valueAt}
-use Rattle.field_tagvalue.specs.Choice.{pick}
-use Rattle.field_tagvalue.specs.FindLaws.{Absent}
-use Rattle.field_tagvalue.specs.FindLaws as find
-use Rattle.field_tagvalue.specs.Standard as standard
-use Rattle.field_tagvalue.specs.Standard.{NotDelimiter, Int, Value}
+use Rattle.field_rules.specs.Choice.{pick}
+use Rattle.field_rules.specs.FindLaws.{Absent}
+use Rattle.field_rules.specs.FindLaws as find
+use Rattle.field_rules.specs.Standard as standard
+use Rattle.field_rules.specs.Standard.{NotDelimiter, Int, Value}
 use Rattle.build_records.specs.declared.Record.{Record}
 use Rattle.message_maps.specs.Map.{Map, field, entry}
 use Rattle.message_lent.specs.Formed.{goesOn, isFormed}

@@ -9,15 +9,15 @@ use native.Mathlib.Omega.{arith}
 use lib.ListN.{length, length-append}
 use lib.Dec.{eqb}
 use borrow.Author.Tests.{eq-eqb, eqb-false}
-use Rattle.field_tagvalue.specs.Choice.{pick}
-use Rattle.field_tagvalue.specs.Number.{worth}
-use Rattle.field_tagvalue.specs.CheckSum.{sumOf, checksumDigits}
-use Rattle.field_tagvalue.specs.Decimal.{decimal, decimalWithin}
-use Rattle.field_tagvalue.specs.DecimalLaws.{digit-byte, last-digit}
-use Rattle.field_tagvalue.specs.Field.{fieldBytes}
-use Rattle.field_tagvalue.specs.FieldTextLaws.{bytes-size}
-use Rattle.field_tagvalue.specs.Standard as standard
-use Rattle.field_tagvalue.specs.Standard.{All, Int, Value, Distinct, total}
+use Rattle.field_rules.specs.Choice.{pick}
+use Rattle.field_rules.specs.Number.{worth}
+use Rattle.field_rules.specs.CheckSum.{sumOf, checksumDigits}
+use Rattle.field_rules.specs.Decimal.{decimal, decimalWithin}
+use Rattle.field_rules.specs.DecimalLaws.{digit-byte, last-digit}
+use Rattle.field_rules.specs.Field.{fieldBytes}
+use Rattle.field_rules.specs.FieldTextLaws.{bytes-size}
+use Rattle.field_rules.specs.Standard as standard
+use Rattle.field_rules.specs.Standard.{All, Int, Value, Distinct, total}
 use Rattle.message_maps.specs.Map.{Map, end, field, entry, holds, withoutField, some, valueUnder}
 use Rattle.message_lent.specs.Meaning.{Message}
 use Rattle.message_lent.specs.Formed.{Formed}

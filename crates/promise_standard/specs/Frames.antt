@@ -7,11 +7,11 @@ use mathlib.Core.Logic.{_≢_}
 use Prim.Native.Nat.{ℕ, _+_, _-_, _*_, _%_, _≤_}
 use native.Mathlib.Omega.{arith}
 use lib.ListN.{length, length-append}
-use Rattle.field_tagvalue.specs.CheckSum.{sumOf}
-use Rattle.field_tagvalue.specs.Decimal.{decimal, decimalWithin}
-use Rattle.field_tagvalue.specs.Standard as standard
-use Rattle.field_tagvalue.specs.Standard.{Message, Told, told, Int, TagNum, SOH, total}
-use Rattle.field_tagvalue.specs.StandardLaws.{digits-all, worth-same}
+use Rattle.field_rules.specs.CheckSum.{sumOf}
+use Rattle.field_rules.specs.Decimal.{decimal, decimalWithin}
+use Rattle.field_rules.specs.Standard as standard
+use Rattle.field_rules.specs.Standard.{Message, Told, told, Int, TagNum, SOH, total}
+use Rattle.field_rules.specs.StandardLaws.{digits-all, worth-same}
 use Rattle.frame_verdict_rules.specs.Frame.{IsFrame, IsBeginString, NoSeparator, separator, beginTag, lengthTag, typeTag, sumTag, lead}
 use Rattle.frame_verdict_rules.specs.Frame as frame
 use Rattle.promise_standard.specs.Texts.{sum-same, tag-text, digits-int, digits-plain}

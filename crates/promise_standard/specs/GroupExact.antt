@@ -8,9 +8,9 @@ use Prim.Native.Nat.{ℕ, suc, _+_, _≤_}
 use native.Mathlib.Omega.{arith}
 use lib.ListN.{length, drop, length-append}
 use lib.Seq.{drop-append-seam}
-use Rattle.field_tagvalue.specs.Fields.{Fields, field}
-use Rattle.field_tagvalue.specs.Standard.{Told, told, Int, Distinct, Stretch, members, entries, Members}
-use Rattle.field_tagvalue.specs.declared.Field.{Field}
+use Rattle.field_rules.specs.Fields.{Fields, field}
+use Rattle.field_rules.specs.Standard.{Told, told, Int, Distinct, Stretch, members, entries, Members}
+use Rattle.field_rules.specs.declared.Field.{Field}
 use Rattle.dictionary_layout_rules.specs.Layout.{Layout}
 use Rattle.dictionary_layout_rules.specs.declared.Position.the-variants.{Nowhere}
 use Rattle.build_records.specs.declared.Record.{Record}

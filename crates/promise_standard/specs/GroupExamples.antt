@@ -9,12 +9,12 @@ use Prim.Native.String.{String}
 use native.Mathlib.Omega.{arith}
 use lib.Dec.{eqb}
 use Rattle.promise_standard.specs.Reading.{standardMode}
-use Rattle.field_tagvalue.specs.Computing.{reading-fields}
-use Rattle.field_tagvalue.specs.Text.{bytes}
-use Rattle.field_tagvalue.specs.Number.{worth}
-use Rattle.field_tagvalue.specs.Field.{startAt}
-use Rattle.field_tagvalue.specs.Fields.{fieldsFrom}
-use Rattle.field_tagvalue.specs.Standard.{All, Told, told, Int, Distinct, entries, Members}
+use Rattle.field_rules.specs.Computing.{reading-fields}
+use Rattle.field_rules.specs.Text.{bytes}
+use Rattle.field_rules.specs.Number.{worth}
+use Rattle.field_rules.specs.Field.{startAt}
+use Rattle.field_rules.specs.Fields.{fieldsFrom}
+use Rattle.field_rules.specs.Standard.{All, Told, told, Int, Distinct, entries, Members}
 use Rattle.dictionary_layout_rules.specs.Layout.{Layout, end, field, group, firstOf, positionFrom, positionIn, groupSince, groupOf, delimiterOf}
 use Rattle.build_records.specs.Records.{stored}
 use Rattle.build_records.specs.declared.Record.{Record}

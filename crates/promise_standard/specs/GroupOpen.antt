@@ -8,10 +8,10 @@ use Prim.Native.Nat.{ℕ, suc, _+_, _≤_, _<_}
 use native.Mathlib.Omega.{arith}
 use lib.Dec.{eqb}
 use borrow.Author.Tests.{eq-eqb}
-use Rattle.field_tagvalue.specs.Choice.{pick}
-use Rattle.field_tagvalue.specs.Fields.{Fields, field}
-use Rattle.field_tagvalue.specs.Standard.{Told, Stretch, entries, Members}
-use Rattle.field_tagvalue.specs.declared.Field.{Field}
+use Rattle.field_rules.specs.Choice.{pick}
+use Rattle.field_rules.specs.Fields.{Fields, field}
+use Rattle.field_rules.specs.Standard.{Told, Stretch, entries, Members}
+use Rattle.field_rules.specs.declared.Field.{Field}
 use Rattle.build_groups.specs.Groups.{none, opened, Rules, opens, Kind, plain, count, joins, wrong, ends, kindOf, Frame, run, entry, Move, adds, disorders, inEntry, decide}
 use Rattle.promise_standard.specs.Groups.{numbered, Rises, Joins}
 use Rattle.promise_standard.specs.GroupTakes.{Takes, over, takes, Says, says-plain, says-count, says-joins, kind-says, given}

@@ -7,9 +7,9 @@ use mathlib.Core.List.{List, [], _∷_, _++_, append-assoc, append-nil}
 use Prim.Native.Nat.{ℕ, zero, suc, _+_, _≤_, _<_}
 use native.Mathlib.Omega.{arith}
 use lib.ListN.{length, length-append}
-use Rattle.field_tagvalue.specs.Fields.{Fields, field}
-use Rattle.field_tagvalue.specs.Standard.{Told, told, Int, Distinct, Stretch, members, entries, Members}
-use Rattle.field_tagvalue.specs.declared.Field.{Field}
+use Rattle.field_rules.specs.Fields.{Fields, field}
+use Rattle.field_rules.specs.Standard.{Told, told, Int, Distinct, Stretch, members, entries, Members}
+use Rattle.field_rules.specs.declared.Field.{Field}
 use Rattle.build_records.specs.declared.Record.{Record}
 use Rattle.dictionary_layout_rules.specs.Layout.{Layout}
 use Rattle.build_groups.specs.Groups.{none, opened, Rules, opens, plain, count, ends, kindOf, Frame, run, entry, entryRecord, ended, walk, taking}

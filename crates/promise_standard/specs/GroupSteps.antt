@@ -8,10 +8,10 @@ use Prim.Native.Nat.{ℕ, suc, _+_, _≤_, _<_}
 use native.Mathlib.Omega.{arith}
 use lib.ListN.{length, length-append}
 use borrow.Author.Tests.{ne-eqb, lt-leb, lt-ltb, le-ltb}
-use Rattle.field_tagvalue.specs.Field.{valueOf}
-use Rattle.field_tagvalue.specs.Fields.{Fields, field}
-use Rattle.field_tagvalue.specs.Standard.{Told, Stretch, Members}
-use Rattle.field_tagvalue.specs.declared.Field.{Field}
+use Rattle.field_rules.specs.Field.{valueOf}
+use Rattle.field_rules.specs.Fields.{Fields, field}
+use Rattle.field_rules.specs.Standard.{Told, Stretch, Members}
+use Rattle.field_rules.specs.declared.Field.{Field}
 use Rattle.build_records.specs.declared.Record.{Record}
 use Rattle.build_groups.specs.Groups.{Opened, none, opened, Rules, opens, plain, count, joins, ends, counting, declared, kindOf, Frame, run, entry, inEntry, decide, entryRecord, ended, moved, walk, taking}
 use Rattle.build_groups.specs.Reading.{joinedList, listStore}

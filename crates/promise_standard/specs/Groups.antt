@@ -6,8 +6,8 @@ use mathlib.Core.Bool.{true, false}
 use mathlib.Core.List.{List, [], _∷_, _++_}
 use Prim.Native.Nat.{ℕ, suc, _+_, _≤_, _<_}
 use lib.ListN.{take, drop}
-use Rattle.field_tagvalue.specs.Fields.{Fields, unreadable, field}
-use Rattle.field_tagvalue.specs.Standard.{Told, Int, Distinct, Stretch, members, entries, Members}
+use Rattle.field_rules.specs.Fields.{Fields, unreadable, field}
+use Rattle.field_rules.specs.Standard.{Told, Int, Distinct, Stretch, members, entries, Members}
 use Rattle.dictionary_layout_rules.specs.declared.Position.the-variants.{At, Nowhere}
 use Rattle.build_records.specs.declared.Record.{Record}
 use Rattle.build_groups.specs.Groups.{none, opened, Rules, opens, entryRecord}

@@ -6,16 +6,16 @@ use mathlib.Core.List.{List, [], _∷_, _++_, append-assoc, append-nil}
 use Prim.Native.Nat.{ℕ, _+_, _≤_}
 use native.Mathlib.Omega.{arith}
 use lib.ListN.{length, length-append}
-use Rattle.field_tagvalue.specs.declared.Mode.{Mode}
-use Rattle.field_tagvalue.specs.Field.{startAt, fieldAt, valueOf, separatedBy}
-use Rattle.field_tagvalue.specs.Fields.{Fields, field, fieldsFrom}
-use Rattle.field_tagvalue.specs.FieldsLaws.{fields-field}
-use Rattle.field_tagvalue.specs.Standard as standard
-use Rattle.field_tagvalue.specs.Standard.{SOH, All, NotDelimiter, Told, told}
-use Rattle.field_tagvalue.specs.StandardLaws.{standard-field}
-use Rattle.field_tagvalue.specs.declared.Cursor.{Cursor}
-use Rattle.field_tagvalue.specs.declared.Field.{Field}
-use Rattle.field_tagvalue.specs.declared.FieldRead.the-variants.{Read}
+use Rattle.field_rules.specs.declared.Mode.{Mode}
+use Rattle.field_rules.specs.Field.{startAt, fieldAt, valueOf, separatedBy}
+use Rattle.field_rules.specs.Fields.{Fields, field, fieldsFrom}
+use Rattle.field_rules.specs.FieldsLaws.{fields-field}
+use Rattle.field_rules.specs.Standard as standard
+use Rattle.field_rules.specs.Standard.{SOH, All, NotDelimiter, Told, told}
+use Rattle.field_rules.specs.StandardLaws.{standard-field}
+use Rattle.field_rules.specs.declared.Cursor.{Cursor}
+use Rattle.field_rules.specs.declared.Field.{Field}
+use Rattle.field_rules.specs.declared.FieldRead.the-variants.{Read}
 
 -- how fields of the standard are read
 abbrev pub standardMode : Mode

@@ -10,21 +10,21 @@ use lib.Seq.{take-at}
 use lib.Dec.{eqb}
 use borrow.Author.Tests.{eq-eqb}
 use Rattle.promise_standard.specs.Reading.{standardMode}
-use Rattle.field_tagvalue.specs.Number.{numberIn}
-use Rattle.field_tagvalue.specs.NumberLaws.{checksum-three}
-use Rattle.field_tagvalue.specs.CheckSum.{sumOf, checksumOf}
-use Rattle.field_tagvalue.specs.Field.{startAt, fieldAt, valueOf}
-use Rattle.field_tagvalue.specs.FieldLaws.{past-end}
-use Rattle.field_tagvalue.specs.Fields.{unreadable, fieldsFrom}
-use Rattle.field_tagvalue.specs.FieldsLaws.{fields-end, step-lies}
-use Rattle.field_tagvalue.specs.Standard as standard
-use Rattle.field_tagvalue.specs.Standard.{told, Message}
-use Rattle.field_tagvalue.specs.StandardLaws.{int-read}
-use Rattle.field_tagvalue.specs.declared.Cursor.{Cursor}
-use Rattle.field_tagvalue.specs.declared.Field.{Field}
-use Rattle.field_tagvalue.specs.declared.FieldRead.the-variants.{Read}
-use Rattle.field_tagvalue.specs.declared.Number.the-variants.{Worth}
-use Rattle.field_tagvalue.specs.declared.Cause.the-variants.{NoEquals}
+use Rattle.field_rules.specs.Number.{numberIn}
+use Rattle.field_rules.specs.NumberLaws.{checksum-three}
+use Rattle.field_rules.specs.CheckSum.{sumOf, checksumOf}
+use Rattle.field_rules.specs.Field.{startAt, fieldAt, valueOf}
+use Rattle.field_rules.specs.FieldLaws.{past-end}
+use Rattle.field_rules.specs.Fields.{unreadable, fieldsFrom}
+use Rattle.field_rules.specs.FieldsLaws.{fields-end, step-lies}
+use Rattle.field_rules.specs.Standard as standard
+use Rattle.field_rules.specs.Standard.{told, Message}
+use Rattle.field_rules.specs.StandardLaws.{int-read}
+use Rattle.field_rules.specs.declared.Cursor.{Cursor}
+use Rattle.field_rules.specs.declared.Field.{Field}
+use Rattle.field_rules.specs.declared.FieldRead.the-variants.{Read}
+use Rattle.field_rules.specs.declared.Number.the-variants.{Worth}
+use Rattle.field_rules.specs.declared.Cause.the-variants.{NoEquals}
 use Rattle.build_integrity.specs.Integrity.{integrityOf, begun, counted, summed, typed, lengthIs, lengthAgrees, sumIs, sumAgrees}
 use Rattle.build_integrity.specs.declared.Integrity.the-variants.{Sound}
 use Rattle.build_integrity.specs.declared.Verified.{Verified}

@@ -7,13 +7,13 @@ use Prim.Native.Nat.{ℕ, _+_, _≤_}
 use native.Mathlib.Omega.{arith}
 use lib.ListN.{length, getD}
 use lib.Dec.{leb}
-use Rattle.field_tagvalue.specs.Number.{allDigits, worth}
-use Rattle.field_tagvalue.specs.CheckSum.{sumOf}
-use Rattle.field_tagvalue.specs.Decimal.{decimal}
-use Rattle.field_tagvalue.specs.DecimalLaws.{decimal-unique, all-digits-first}
-use Rattle.field_tagvalue.specs.Standard as standard
-use Rattle.field_tagvalue.specs.Standard.{All, Digit, NotDelimiter, TagNum, Int, Value, total}
-use Rattle.field_tagvalue.specs.StandardLaws.{digits-all, worth-same}
+use Rattle.field_rules.specs.Number.{allDigits, worth}
+use Rattle.field_rules.specs.CheckSum.{sumOf}
+use Rattle.field_rules.specs.Decimal.{decimal}
+use Rattle.field_rules.specs.DecimalLaws.{decimal-unique, all-digits-first}
+use Rattle.field_rules.specs.Standard as standard
+use Rattle.field_rules.specs.Standard.{All, Digit, NotDelimiter, TagNum, Int, Value, total}
+use Rattle.field_rules.specs.StandardLaws.{digits-all, worth-same}
 
 pub sum-same : (s : List ℕ) → sumOf s ≡ total s
 unfolding sumOf

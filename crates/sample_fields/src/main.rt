@@ -1,8 +1,8 @@
 // Reads one field from each of a few texts and writes what was read. Its file `stdout` was written from the rules.
-use field_tagvalue::Cause;
-use field_tagvalue::FieldRead;
-use field_tagvalue::Number;
-use field_tagvalue::Written;
+use field_rules::Cause;
+use field_rules::FieldRead;
+use field_rules::Number;
+use field_rules::Written;
 
 fn wide(n: u32) -> u64 {
     n as u64
@@ -17,7 +17,7 @@ fn number(label: &[u8], n: usize) {
 fn field(name: &[u8], message: &[u8], at: usize, separator: u8) {
     io::write_all(1, name);
     let cursor = field_tagvalue::start_at(at);
-    match cursor.next_field(message, field_tagvalue::separated_by(separator)) {
+    match field_tagvalue::next_field(cursor, message, field_tagvalue::separated_by(separator)) {
         FieldRead::Read(f) => {
             io::write_all(1, b"  tag ");
             io::print_decimal(1, wide(f.tag));

@@ -1,7 +1,7 @@
 // Takes texts apart and puts them together.
-use field_tagvalue::Found;
-use field_tagvalue::Number;
-use field_tagvalue::Written;
+use field_rules::Found;
+use field_rules::Number;
+use field_rules::Written;
 ghost use Prim.Native.Nat.{_≤_, _<_};
 ghost use lib.ListN.{length};
 

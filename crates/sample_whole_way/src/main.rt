@@ -4,7 +4,7 @@ mod sample;
 mod showing;
 
 use encode_rules::Encoding;
-use field_tagvalue::FieldRead;
+use field_rules::FieldRead;
 use message_rules::Part;
 use sample_kit::saying;
 use sample_kit::texts;
@@ -17,7 +17,7 @@ fn count_fields(message: &[u8]) -> usize {
     let mut cursor = field_tagvalue::start_at(0);
     let mut count: usize = 0;
     while count < 1024 {
-        let FieldRead::Read(field) = cursor.next_field(message, mode) else {
+        let FieldRead::Read(field) = field_tagvalue::next_field(cursor, message, mode) else {
             return count;
         };
         cursor = field.next;

@@ -1,10 +1,10 @@
 // tool_fields: shows the fields of the message on standard input, one to a line, with the place of each. `|` in the input stands for 0x01.
 // A tag that was read before is marked, and BodyLength and CheckSum are held against the bytes. It judges nothing else.
-use field_tagvalue::Cause;
-use field_tagvalue::Field;
-use field_tagvalue::FieldRead;
-use field_tagvalue::Found;
-use field_tagvalue::Number;
+use field_rules::Cause;
+use field_rules::Field;
+use field_rules::FieldRead;
+use field_rules::Found;
+use field_rules::Number;
 ghost use Prim.Native.Nat.{_≤_};
 ghost use lib.ListN.{length};
 
@@ -144,7 +144,7 @@ fn fields(message: &[u8]) {
     let mut says = Number::NoNumber;
     let mut i: usize = 0;
     while i < 1024 {
-        let read = cursor.next_field(message, mode);
+        let read = field_tagvalue::next_field(cursor, message, mode);
         let f = match read {
             FieldRead::Read(f) => f,
             FieldRead::Unreadable(cause, place) => {

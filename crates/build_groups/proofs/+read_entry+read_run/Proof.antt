@@ -6,7 +6,7 @@ use native.Mathlib.Omega.{arith}
 use lib.ListN.{length}
 use borrow.Author.Needs.{needs}
 use borrow.Author.Tests.{not-true, not-false}
-use Rattle.field_tagvalue.specs.declared.Field.{Field}
+use Rattle.field_rules.specs.declared.Field.{Field}
 use Rattle.dictionary_rules.specs.Index.{tagAt}
 use Rattle.build_groups.specs.Reading.{FitsAt, runOf, entryOf}
 use Rattle.build_groups.specs.ReadingLaws.{Follows, roomOf, makes-one, next-follows}

@@ -5,9 +5,9 @@ use Prim.Native.Nat.{ℕ, _+_, _-_}
 use native.Mathlib.Omega.{arith}
 use lib.ListN.{length}
 use lib.Dec.{eqb}
-use Rattle.field_tagvalue.specs.Number.{numberIn}
-use Rattle.field_tagvalue.specs.Field.{valueOf}
-use Rattle.field_tagvalue.specs.declared.Number.the-variants.{Worth}
+use Rattle.field_rules.specs.Number.{numberIn}
+use Rattle.field_rules.specs.Field.{valueOf}
+use Rattle.field_rules.specs.declared.Number.the-variants.{Worth}
 use Rattle.build_integrity.specs.IntegrityLaws.{length-none, length-other, length-is}
 use Rattle.build_integrity.proofs.Tests.{eqb-same}
 use borrow.Author.Needs.{needs}

@@ -6,9 +6,9 @@ use native.Mathlib.Omega.{arith}
 use lib.ListN.{length, take, length-take}
 use lib.Seq.{take-all}
 use lib.Dec.{eqb}
-use Rattle.field_tagvalue.specs.CheckSum.{sumOf, checksumOf}
-use Rattle.field_tagvalue.specs.Field.{valueOf}
-use Rattle.field_tagvalue.specs.declared.Number.the-variants.{Worth}
+use Rattle.field_rules.specs.CheckSum.{sumOf, checksumOf}
+use Rattle.field_rules.specs.Field.{valueOf}
+use Rattle.field_rules.specs.declared.Number.the-variants.{Worth}
 use Rattle.build_integrity.specs.IntegrityLaws.{sum-other, sum-is}
 use borrow.Author.Needs.{needs}
 use Rattle.build_integrity.proofs.sum_agrees.Statement.{statement}

@@ -6,10 +6,10 @@ use Prim.Native.Nat.{ℕ, _+_, _-_, _≤_}
 use native.Mathlib.Omega.{arith}
 use lib.ListN.{length}
 use borrow.Author.Tests.{not-true, not-false}
-use Rattle.field_tagvalue.specs.Field.{startAt, fieldAt}
-use Rattle.field_tagvalue.specs.declared.Mode.{Mode}
-use Rattle.field_tagvalue.specs.declared.Field.{Field}
-use Rattle.field_tagvalue.specs.declared.FieldRead.the-variants.{Read}
+use Rattle.field_rules.specs.Field.{startAt, fieldAt}
+use Rattle.field_rules.specs.declared.Mode.{Mode}
+use Rattle.field_rules.specs.declared.Field.{Field}
+use Rattle.field_rules.specs.declared.FieldRead.the-variants.{Read}
 use Rattle.build_integrity.specs.Integrity.{integrityOf, counted, summed, typed}
 use Rattle.build_integrity.specs.IntegrityLaws.{begun-none, begun-tag, begun-on, counted-none, counted-tag, counted-wrong, counted-on, summed-none, summed-tag, summed-wrong, summed-on, typed-none, typed-tag, typed-on, length-room}
 use borrow.Author.Needs.{needs}

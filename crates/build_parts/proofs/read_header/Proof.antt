@@ -7,7 +7,7 @@ use native.Mathlib.Omega.{arith}
 use lib.ListN.{length}
 use borrow.Author.Needs.{needs}
 use borrow.Author.Tests.{not-true, not-false}
-use Rattle.field_tagvalue.specs.Fields.{fieldsFrom}
+use Rattle.field_rules.specs.Fields.{fieldsFrom}
 use Rattle.build_parts.specs.Parts.{partOf, partTold}
 use Rattle.build_parts.specs.PartLaws.{Taken, taken, none-before, stays-refused, stays-at}
 use Rattle.build_parts.specs.Header.{headerFrom}

@@ -6,9 +6,9 @@ use Prim.Native.Nat.{ℕ, _+_, _-_, _/_, _≤_, _<_}
 use native.Mathlib.Omega.{arith}
 use lib.ListN.{length}
 use borrow.Author.Needs.{needs}
-use Rattle.field_tagvalue.specs.Fields.{fieldsFrom, field as then, Inside}
+use Rattle.field_rules.specs.Fields.{fieldsFrom, field as then, Inside}
 use Rattle.build_parts.specs.Parts.{partOf}
-use Rattle.field_tagvalue.specs.FieldsLaws.{step-inside}
+use Rattle.field_rules.specs.FieldsLaws.{step-inside}
 use Rattle.build_parts.specs.Trailer.{trailerFrom, trailerTold, trailerCounts}
 use Rattle.build_parts.specs.TrailerLaws.{trailer-stops, trailer-crowded, trailer-ends, trailer-on}
 use Rattle.build_parts.proofs.read_trailer.Statement.{statement}

@@ -4,7 +4,7 @@ use mathlib.Core.Path.{_≡_, sym, _∙_}
 use native.Mathlib.Omega.{arith}
 use Rattle.build_integrity.specs.Integrity.{integrityOf}
 use Rattle.build_integrity.specs.declared.Integrity.the-variants.{Sound}
-use Rattle.field_tagvalue.specs.FieldsLaws.{step-inside}
+use Rattle.field_rules.specs.FieldsLaws.{step-inside}
 use Rattle.builder.specs.MsgTypeLaws.{msg-type-inside}
 use Rattle.build_integrity.specs.VerifiedLaws.{verified-read}
 use Rattle.builder.specs.BeginningLaws.{verified-inside, start-garbled, start-refused, start-headed, header-ended, begins-refused, begins-headed}

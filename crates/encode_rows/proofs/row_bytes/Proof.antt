@@ -9,8 +9,8 @@ use borrow.Author.Needs.{needs}
 use lib.ListN.{length, getD, take, drop, set, length-set}
 use borrow.Author.Tests.{eq-eqb, ne-eqb}
 use Rattle.message_maps.specs.Rows.{rowAt}
-use Rattle.field_tagvalue.specs.DecimalLaws.{decimal-length}
-use Rattle.field_tagvalue.specs.Decimal.{decimal}
+use Rattle.field_rules.specs.DecimalLaws.{decimal-length}
+use Rattle.field_rules.specs.Decimal.{decimal}
 use Rattle.encode_rows.specs.Writing.{rowBytes}
 use Rattle.encode_rows.proofs.row_bytes.Statement.{statement}
 use Rattle.encode_rows.proofs.row_bytes.Tie as tie

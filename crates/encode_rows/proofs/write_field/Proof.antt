@@ -7,9 +7,9 @@ use Prim.Native.Nat.{ℕ, zero, suc, _+_, _-_, _*_, _^_, _≤_, _<_}
 use native.Mathlib.Omega.{arith}
 use borrow.Author.Needs.{needs}
 use lib.ListN.{length, getD, take, drop, set, length-set}
-use Rattle.field_tagvalue.specs.Decimal.{decimal, writtenAt, answerAt}
-use Rattle.field_tagvalue.specs.DecimalLaws.{written-length}
-use Rattle.field_tagvalue.specs.Field.{fieldBytes}
+use Rattle.field_rules.specs.Decimal.{decimal, writtenAt, answerAt}
+use Rattle.field_rules.specs.DecimalLaws.{written-length}
+use Rattle.field_rules.specs.Field.{fieldBytes}
 use Rattle.encode_rows.specs.WritingLaws.{next-is, never-full, field-written}
 use Rattle.encode_rows.proofs.write_field.Statement.{statement}
 use Rattle.encode_rows.proofs.write_field.Tie as tie

@@ -15,8 +15,8 @@ use Rattle.message_rules.specs.ChangeLaws.{located-no, located-at}
 use Rattle.message_rules.specs.StoreLaws.{lent-in, span-grows}
 use Rattle.message_rules.specs.declared.Part.the-variants.{Header, Body, Trailer}
 use Rattle.message_rules.specs.declared.Span.{Span}
-use Rattle.field_tagvalue.specs.Decimal.{writtenAt}
-use Rattle.field_tagvalue.specs.DecimalLaws.{written-length}
+use Rattle.field_rules.specs.Decimal.{writtenAt}
+use Rattle.field_rules.specs.DecimalLaws.{written-length}
 use Rattle.encode_rules.specs.Encoding.{messageText, summed}
 use Rattle.encode_rows.specs.Writing.{bytesIn, textAt, Spans, tailOf, outcome, writing}
 use Rattle.encode_rows.specs.MessageLaws.{text-at-is, size-is, spans-of, tail-written, writing-no, writing-full, writing-done}

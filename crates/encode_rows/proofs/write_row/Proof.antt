@@ -9,8 +9,8 @@ use borrow.Author.Needs.{needs}
 use lib.ListN.{length, getD, take, drop, set, length-set}
 use borrow.Author.Tests.{not-true, not-false}
 use Rattle.message_maps.specs.Rows.{rowAt, sizeOf}
-use Rattle.field_tagvalue.specs.Decimal.{decimal, writtenAt}
-use Rattle.field_tagvalue.specs.Field.{fieldBytes}
+use Rattle.field_rules.specs.Decimal.{decimal, writtenAt}
+use Rattle.field_rules.specs.Field.{fieldBytes}
 use Rattle.encode_rows.specs.Writing.{rowText}
 use Rattle.encode_rows.specs.WritingLaws.{nothing-written, field-done, row-off, row-head, row-field, row-size, field-length}
 use Rattle.encode_rows.proofs.write_row.Statement.{statement}

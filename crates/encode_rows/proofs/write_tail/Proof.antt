@@ -7,8 +7,8 @@ use Prim.Native.Nat.{ℕ, zero, suc, _+_, _-_, _*_, _^_, _≤_, _<_}
 use native.Mathlib.Omega.{arith}
 use borrow.Author.Needs.{needs}
 use lib.ListN.{length, getD, take, drop, set, length-set}
-use Rattle.field_tagvalue.specs.CheckSum.{sumOf, checksumDigits}
-use Rattle.field_tagvalue.specs.Decimal.{writtenAt}
+use Rattle.field_rules.specs.CheckSum.{sumOf, checksumDigits}
+use Rattle.field_rules.specs.Decimal.{writtenAt}
 use Rattle.encode_rules.specs.Encoding.{sumDigits}
 use Rattle.encode_rows.specs.Writing.{tailOf}
 use Rattle.encode_rows.specs.WritingLaws.{Rest, rest-start, rest-step, rest-room, rest-last, rest-done}

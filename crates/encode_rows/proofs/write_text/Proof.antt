@@ -10,7 +10,7 @@ use lib.ListN.{length, getD, take, drop, set, length-set}
 use Rattle.message_maps.specs.Rows.{rowsFrom}
 use native.Mathlib.Nat.{zero-add}
 use Rattle.message_rules.specs.Changes.{placeOf}
-use Rattle.field_tagvalue.specs.Decimal.{writtenAt}
+use Rattle.field_rules.specs.Decimal.{writtenAt}
 use Rattle.encode_rows.specs.Writing.{rowsText, itemsAt, textAt, Spans}
 use Rattle.encode_rows.specs.WritingLaws.{Rest, rest-start, rest-step, rest-room, rest-last, rest-done}
 use Rattle.encode_rows.proofs.write_text.Statement.{statement}

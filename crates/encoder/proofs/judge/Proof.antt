@@ -5,8 +5,8 @@ use Prim.Native.Nat.{_+_, _≤_}
 use native.Mathlib.Omega.{arith}
 use borrow.Author.Needs.{needs}
 use lib.ListN.{length}
-use Rattle.field_tagvalue.specs.DecimalLaws.{decimal-length}
-use Rattle.field_tagvalue.specs.Separator.{isRefusedSeparator}
+use Rattle.field_rules.specs.DecimalLaws.{decimal-length}
+use Rattle.field_rules.specs.Separator.{isRefusedSeparator}
 use Rattle.message_lent.specs.Meaning.{messageIn}
 use Rattle.message_rules.specs.Changes.{fieldTotal}
 use Rattle.message_rules.specs.ChangeLaws.{located-no, located-at}

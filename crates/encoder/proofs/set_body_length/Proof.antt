@@ -6,8 +6,8 @@ use native.Mathlib.Omega.{arith}
 use borrow.Author.Needs.{needs}
 use lib.ListN.{length}
 use lib.Seq.{length-take-le}
-use Rattle.field_tagvalue.specs.Decimal.{decimal}
-use Rattle.field_tagvalue.specs.DecimalLaws.{decimal-length, written-length}
+use Rattle.field_rules.specs.Decimal.{decimal}
+use Rattle.field_rules.specs.DecimalLaws.{decimal-length, written-length}
 use Rattle.message_rules.specs.Changes.{storing}
 use Rattle.message_rules.specs.declared.Part.the-variants.{Header}
 use Rattle.encode_rows.specs.WritingLaws.{next-is, never-full}

@@ -1,7 +1,7 @@
 -- `checksum_digits` meets its contract: its code is the definition.
 use mathlib.Core.Path.{refl}
 use borrow.Author.Needs.{needs}
-use Rattle.field_tagvalue.specs.CheckSum.{checksumDigits}
+use Rattle.field_rules.specs.CheckSum.{checksumDigits}
 use Rattle.field_tagvalue.proofs.checksum_digits.Statement.{statement}
 use Rattle.field_tagvalue.proofs.checksum_digits.Tie as tie
 

@@ -1,7 +1,7 @@
 -- `checksum_of` meets its contract, by its two cases.
 use mathlib.Core.Path.{_≡_, sym, _∙_}
 use borrow.Author.Needs.{needs}
-use Rattle.field_tagvalue.specs.NumberLaws.{checksum-other, checksum-three}
+use Rattle.field_rules.specs.NumberLaws.{checksum-other, checksum-three}
 use Rattle.field_tagvalue.proofs.checksum_of.Statement.{statement}
 use Rattle.field_tagvalue.proofs.checksum_of.Tie as tie
 

@@ -4,8 +4,8 @@ use mathlib.Core.Path.{_≡_, ap}
 use Prim.Native.Nat.{_+_}
 use native.Mathlib.Omega.{arith}
 use lib.ListN.{length}
-use Rattle.field_tagvalue.specs.Decimal.{decimal}
-use Rattle.field_tagvalue.specs.DecimalLaws.{decimal-small, decimal-some, decimal-length, decimal-length-step}
+use Rattle.field_rules.specs.Decimal.{decimal}
+use Rattle.field_rules.specs.DecimalLaws.{decimal-small, decimal-some, decimal-length, decimal-length-step}
 use Rattle.field_tagvalue.proofs.digit_count.Statement.{statement}
 use Rattle.field_tagvalue.proofs.digit_count.Tie as tie
 

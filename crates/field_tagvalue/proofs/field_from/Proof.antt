@@ -4,12 +4,12 @@ use Prim.Native.Nat.{ℕ, _+_, _-_, _≤_, _<_}
 use native.Mathlib.Omega.{arith}
 use borrow.Author.Needs.{needs}
 use lib.ListN.{length, drop, take, length-drop, length-take}
-use Rattle.field_tagvalue.specs.Find.{findIn}
-use Rattle.field_tagvalue.specs.FindLaws.{find-in, rest-part}
-use Rattle.field_tagvalue.specs.Number.{tagOf}
-use Rattle.field_tagvalue.specs.FieldLaws.{no-equals, no-separator, bad-tag, one-field}
-use Rattle.field_tagvalue.specs.declared.Found.the-variants.{At}
-use Rattle.field_tagvalue.specs.declared.Number.the-variants.{Worth}
+use Rattle.field_rules.specs.Find.{findIn}
+use Rattle.field_rules.specs.FindLaws.{find-in, rest-part}
+use Rattle.field_rules.specs.Number.{tagOf}
+use Rattle.field_rules.specs.FieldLaws.{no-equals, no-separator, bad-tag, one-field}
+use Rattle.field_rules.specs.declared.Found.the-variants.{At}
+use Rattle.field_rules.specs.declared.Number.the-variants.{Worth}
 use Rattle.field_tagvalue.proofs.field_from.Statement.{statement}
 use Rattle.field_tagvalue.proofs.field_from.Tie as tie
 

@@ -3,8 +3,8 @@ use Prim.Native.Nat.{_+_, _-_, _≤_}
 use native.Mathlib.Omega.{arith}
 use borrow.Author.Needs.{needs}
 use lib.ListN.{length, drop}
-use Rattle.field_tagvalue.specs.Find.{findIn}
-use Rattle.field_tagvalue.specs.FindLaws.{find-hit, find-miss, find-end}
+use Rattle.field_rules.specs.Find.{findIn}
+use Rattle.field_rules.specs.FindLaws.{find-hit, find-miss, find-end}
 use Rattle.field_tagvalue.proofs.find.Statement.{statement}
 use Rattle.field_tagvalue.proofs.find.Tie as tie
 

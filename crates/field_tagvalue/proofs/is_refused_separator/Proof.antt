@@ -1,7 +1,7 @@
 -- `is_refused_separator` meets its contract: `=`, below the digits, and from the digits on.
 -- Each way is one law of the definition.
 use mathlib.Core.Path.{sym}
-use Rattle.field_tagvalue.specs.Separator.{separator-equals, separator-low, separator-digit}
+use Rattle.field_rules.specs.Separator.{separator-equals, separator-low, separator-digit}
 use Rattle.field_tagvalue.proofs.is_refused_separator.Statement.{statement}
 use Rattle.field_tagvalue.proofs.is_refused_separator.Tie as tie
 

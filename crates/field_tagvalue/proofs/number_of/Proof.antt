@@ -5,8 +5,8 @@ use Prim.Native.Nat.{_+_, _-_, _≤_, _<_, _*_}
 use native.Mathlib.Omega.{arith}
 use borrow.Author.Needs.{needs}
 use lib.ListN.{length, drop, getD}
-use Rattle.field_tagvalue.specs.Number.{worth, allDigits}
-use Rattle.field_tagvalue.specs.NumberLaws.{digit-step, digit-low, digit-high, digit-end, worth-step, worth-end, worth-least, number-empty, number-bad, number-large, number-good}
+use Rattle.field_rules.specs.Number.{worth, allDigits}
+use Rattle.field_rules.specs.NumberLaws.{digit-step, digit-low, digit-high, digit-end, worth-step, worth-end, worth-least, number-empty, number-bad, number-large, number-good}
 use Rattle.field_tagvalue.proofs.number_of.Statement.{statement}
 use Rattle.field_tagvalue.proofs.number_of.Tie as tie
 

@@ -4,8 +4,8 @@ use Prim.Native.Nat.{_+_, _-_, _≤_, _<_, _%_}
 use native.Mathlib.Omega.{arith}
 use borrow.Author.Needs.{needs}
 use lib.ListN.{length, drop}
-use Rattle.field_tagvalue.specs.CheckSum.{sumOf}
-use Rattle.field_tagvalue.specs.NumberLaws.{sum-step, sum-end}
+use Rattle.field_rules.specs.CheckSum.{sumOf}
+use Rattle.field_rules.specs.NumberLaws.{sum-step, sum-end}
 use Rattle.field_tagvalue.proofs.sum_of.Statement.{statement}
 use Rattle.field_tagvalue.proofs.sum_of.Tie as tie
 

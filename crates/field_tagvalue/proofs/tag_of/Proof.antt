@@ -1,7 +1,7 @@
 -- `tag_of` meets its contract: what `number_of` answers, zero apart.
 use mathlib.Core.Path.{_≡_, sym, _∙_}
 use borrow.Author.Needs.{needs}
-use Rattle.field_tagvalue.specs.NumberLaws.{tag-none, tag-zero, tag-good}
+use Rattle.field_rules.specs.NumberLaws.{tag-none, tag-zero, tag-good}
 use Rattle.field_tagvalue.proofs.tag_of.Statement.{statement}
 use Rattle.field_tagvalue.proofs.tag_of.Tie as tie
 

@@ -1,9 +1,9 @@
 -- `value_of` meets its contract: past the end nothing is left, near it the rest, and elsewhere the whole value.
 use mathlib.Core.Path.{_≡_, refl, sym, ap, _∙_}
 use native.Mathlib.Nat.{add-sub-cancel-left}
-use Rattle.field_tagvalue.specs.FindLaws.{rest-part}
-use Rattle.field_tagvalue.specs.Field.{valueOf}
-use Rattle.field_tagvalue.specs.FieldLaws.{value-past, value-cut}
+use Rattle.field_rules.specs.FindLaws.{rest-part}
+use Rattle.field_rules.specs.Field.{valueOf}
+use Rattle.field_rules.specs.FieldLaws.{value-past, value-cut}
 use borrow.Author.Needs.{needs}
 use Rattle.field_tagvalue.proofs.value_of.Statement.{statement}
 use Rattle.field_tagvalue.proofs.value_of.Tie as tie

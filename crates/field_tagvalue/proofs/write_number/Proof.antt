@@ -5,9 +5,9 @@ use mathlib.Core.Path.{_≡_, sym}
 use mathlib.Core.List.{List}
 use native.Mathlib.Omega.{arith}
 use lib.ListN.{length, length-replicate}
-use Rattle.field_tagvalue.specs.Decimal.{decimal, writtenAt, answerAt}
-use Rattle.field_tagvalue.specs.declared.Written.the-variants.{NoRoom}
-use Rattle.field_tagvalue.specs.DecimalLaws.{decimal-some, answer-fits, answer-none, written-none, written-copied}
+use Rattle.field_rules.specs.Decimal.{decimal, writtenAt, answerAt}
+use Rattle.field_rules.specs.declared.Written.the-variants.{NoRoom}
+use Rattle.field_rules.specs.DecimalLaws.{decimal-some, answer-fits, answer-none, written-none, written-copied}
 use Rattle.field_tagvalue.proofs.Scratch.{Spelled, spelled}
 use borrow.Author.Needs.{needs}
 use Rattle.field_tagvalue.proofs.write_number.Statement.{statement}

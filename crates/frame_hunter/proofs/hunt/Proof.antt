@@ -5,7 +5,7 @@ use Prim.Native.Nat.{_-_, _≤_}
 use native.Mathlib.Omega.{arith}
 use borrow.Author.Needs.{needs}
 use lib.ListN.{length, drop}
-use Rattle.field_tagvalue.specs.FindLaws.{rest-part}
+use Rattle.field_rules.specs.FindLaws.{rest-part}
 use Rattle.frame_verdict_rules.specs.Verdict.{verdictOf}
 use Rattle.frame_hunter_rules.specs.Hunt.{actOn, huntFrom}
 use Rattle.frame_hunter.proofs.Moves.{behind, hunt-start, hunt-hand, hunt-stop, hunt-pass, hunt-end}

@@ -10,7 +10,7 @@ use Rattle.frame_hunter_rules.specs.BytesLaws.{Fit, fits, push-unfit, push-ende
 use Rattle.frame_hunter_rules.specs.declared.State.{State}
 use Rattle.frame_hunter_rules.specs.declared.Reply.{Reply}
 use Rattle.frame_hunter_rules.specs.declared.Answer.the-variants.{Fine}
-use Rattle.field_tagvalue.specs.FindLaws.{rest-part}
+use Rattle.field_rules.specs.FindLaws.{rest-part}
 use Rattle.frame_hunter.proofs.Moves.{put-behind}
 use Rattle.frame_hunter.proofs.push.Statement.{statement}
 use Rattle.frame_hunter.proofs.push.Tie as tie

@@ -3,8 +3,8 @@
 use mathlib.Core.Path.{_≡_, sym, _∙_}
 use Prim.Native.Nat.{_+_}
 use native.Mathlib.Omega.{arith}
-use Rattle.field_tagvalue.specs.FindLaws.{rest-part}
-use Rattle.field_tagvalue.specs.declared.Found.the-variants.{At}
+use Rattle.field_rules.specs.FindLaws.{rest-part}
+use Rattle.field_rules.specs.declared.Found.the-variants.{At}
 use Rattle.frame_parser_rules.specs.Announced.{findFrom}
 use Rattle.frame_parser_rules.specs.AnnouncedLaws.{from-past, from-none, from-offset, from-in}
 use borrow.Author.Needs.{needs}

@@ -6,7 +6,7 @@ use Prim.Native.Nat.{_+_, _≤_, _<_}
 use native.Mathlib.Omega.{arith}
 use borrow.Author.Needs.{needs}
 use lib.ListN.{length}
-use Rattle.field_tagvalue.specs.DecimalLaws.{written-copied}
+use Rattle.field_rules.specs.DecimalLaws.{written-copied}
 use Rattle.frame_parser_rules.specs.Framer.{unusable, withChunk}
 use Rattle.frame_parser_rules.specs.FramerLaws.{usable-is, push-bad, push-ended, push-over, push-full, push-accepted}
 use Rattle.frame_parser.proofs.push.Statement.{statement}

@@ -2,7 +2,7 @@
 -- Each return cites the law of its way.
 use mathlib.Core.Path.{_≡_, sym, _∙_}
 use native.Mathlib.Omega.{arith}
-use Rattle.field_tagvalue.specs.declared.Found.the-variants.{At}
+use Rattle.field_rules.specs.declared.Found.the-variants.{At}
 use Rattle.frame_parser_rules.specs.Announced.{findFrom}
 use Rattle.frame_parser_rules.specs.AnnouncedLaws.{from-in, value-no-equals, value-no-separator, value-between}
 use borrow.Author.Needs.{needs}

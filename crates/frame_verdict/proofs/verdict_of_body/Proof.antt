@@ -6,7 +6,7 @@ use Prim.Native.Nat.{ℕ, _+_, _-_, _%_}
 use native.Mathlib.Omega.{arith}
 use borrow.Author.Needs.{needs}
 use lib.ListN.{drop, length-take}
-use Rattle.field_tagvalue.specs.CheckSum.{sumOf, checksumDigits}
+use Rattle.field_rules.specs.CheckSum.{sumOf, checksumDigits}
 use Rattle.frame_verdict_rules.specs.Frame.{separator, typeTag, sumTag}
 use Rattle.frame_verdict_rules.specs.Readers.{literal}
 use Rattle.frame_verdict_rules.specs.Verdict.{checksumFor, stageOf, asVerdict}

@@ -9,7 +9,7 @@ use borrow.Author.Needs.{needs}
 use lib.ListN.{length, getD, take, drop, set, length-set}
 use lib.ListN.{length-replicate}
 use Rattle.message_maps.specs.Rows.{messageWords}
-use Rattle.field_tagvalue.specs.DecimalLaws.{written-length}
+use Rattle.field_rules.specs.DecimalLaws.{written-length}
 use Rattle.message_maps.specs.RowsLaws.{splice-done}
 use Rattle.message_maps.proofs.splice_words.Statement.{statement}
 use Rattle.message_maps.proofs.splice_words.Tie as tie

@@ -5,8 +5,8 @@ use mathlib.Core.Bool.{Bool, true, false}
 use Prim.Native.Nat.{ℕ, _≤_, _<_}
 use lib.Dec.{eqb, leb}
 use borrow.Author.Tests.{eq-eqb, ne-eqb, lt-leb, le-leb}
-use Rattle.field_tagvalue.specs.Choice.{pick}
-use Rattle.field_tagvalue.specs.Number.{isDigit}
+use Rattle.field_rules.specs.Choice.{pick}
+use Rattle.field_rules.specs.Number.{isDigit}
 
 unfoldable pub isRefusedSeparator : ℕ → Bool
 isRefusedSeparator separator = pick (eqb separator 61) true (isDigit separator)

@@ -9,20 +9,20 @@ use native.Mathlib.Omega.{arith}
 use lib.ListN.{length, drop}
 use lib.Seq.{drop-append-seam}
 use borrow.Author.Tests.{le-leb}
-use Rattle.field_tagvalue.specs.Number.{isDigit, allDigits, worth, numberIn, tagOf}
-use Rattle.field_tagvalue.specs.NumberLaws.{worth-least, number-good, tag-good}
-use Rattle.field_tagvalue.specs.FindLaws.{Absent}
-use Rattle.field_tagvalue.specs.FindLaws as find
-use Rattle.field_tagvalue.specs.Field.{separatedBy, startAt, fieldAt, fieldBytes, valueOf}
-use Rattle.field_tagvalue.specs.FieldTextLaws.{Spelled, spelt, spelled-read, bytes-size}
-use Rattle.field_tagvalue.specs.FieldsLaws.{step-value}
-use Rattle.field_tagvalue.specs.Standard as standard
-use Rattle.field_tagvalue.specs.Standard.{All, Digit, SOH}
-use Rattle.field_tagvalue.specs.declared.Number.the-variants.{Worth}
-use Rattle.field_tagvalue.specs.declared.Mode.{Mode}
-use Rattle.field_tagvalue.specs.declared.Cursor.{Cursor}
-use Rattle.field_tagvalue.specs.declared.Field.{Field}
-use Rattle.field_tagvalue.specs.declared.FieldRead.the-variants.{Read}
+use Rattle.field_rules.specs.Number.{isDigit, allDigits, worth, numberIn, tagOf}
+use Rattle.field_rules.specs.NumberLaws.{worth-least, number-good, tag-good}
+use Rattle.field_rules.specs.FindLaws.{Absent}
+use Rattle.field_rules.specs.FindLaws as find
+use Rattle.field_rules.specs.Field.{separatedBy, startAt, fieldAt, fieldBytes, valueOf}
+use Rattle.field_rules.specs.FieldTextLaws.{Spelled, spelt, spelled-read, bytes-size}
+use Rattle.field_rules.specs.FieldsLaws.{step-value}
+use Rattle.field_rules.specs.Standard as standard
+use Rattle.field_rules.specs.Standard.{All, Digit, SOH}
+use Rattle.field_rules.specs.declared.Number.the-variants.{Worth}
+use Rattle.field_rules.specs.declared.Mode.{Mode}
+use Rattle.field_rules.specs.declared.Cursor.{Cursor}
+use Rattle.field_rules.specs.declared.Field.{Field}
+use Rattle.field_rules.specs.declared.FieldRead.the-variants.{Read}
 
 pub digits-all : (text : List ℕ) → All Digit text → allDigits text ≡ true
 unfolding allDigits isDigit

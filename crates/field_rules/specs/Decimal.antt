@@ -3,9 +3,9 @@ use Prim.Native.Nat.{ℕ, zero, suc, _+_, _/_, _%_}
 use mathlib.Core.List.{List, [], _∷_, _++_}
 use lib.ListN.{length, take, drop}
 use lib.Dec.{leb, ltb}
-use Rattle.field_tagvalue.specs.Choice.{pick}
-use Rattle.field_tagvalue.specs.declared.Written.{Written}
-use Rattle.field_tagvalue.specs.declared.Written.the-variants.{Next, NoRoom}
+use Rattle.field_rules.specs.Choice.{pick}
+use Rattle.field_rules.specs.declared.Written.{Written}
+use Rattle.field_rules.specs.declared.Written.the-variants.{Next, NoRoom}
 
 -- the digits of n, where `fuel` digits more than one are enough
 unfoldable pub decimalWithin : ℕ → ℕ → List ℕ

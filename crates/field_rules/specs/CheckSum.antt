@@ -3,10 +3,10 @@ use Prim.Native.Nat.{ℕ, _+_, _/_, _%_}
 use mathlib.Core.List.{List, [], _∷_}
 use lib.ListN.{length}
 use lib.Dec.{eqb}
-use Rattle.field_tagvalue.specs.Choice.{pick}
-use Rattle.field_tagvalue.specs.Number.{numberIn}
-use Rattle.field_tagvalue.specs.declared.Number.{Number}
-use Rattle.field_tagvalue.specs.declared.Number.the-variants.{NoNumber}
+use Rattle.field_rules.specs.Choice.{pick}
+use Rattle.field_rules.specs.Number.{numberIn}
+use Rattle.field_rules.specs.declared.Number.{Number}
+use Rattle.field_rules.specs.declared.Number.the-variants.{NoNumber}
 
 -- the sum of all bytes; a CheckSum is this mod 256
 unfoldable pub sumOf : List ℕ → ℕ

@@ -11,13 +11,13 @@ use lib.ListN.{length, getD, take, drop, length-append, length-take, length-drop
 use lib.Seq.{take-all, take-length, drop-drop}
 use lib.Dec.{leb, ltb}
 use borrow.Author.Tests.{ltb-true, ltb-false, lt-ltb, le-ltb, le-leb, lt-leb, leb-true, leb-false}
-use Rattle.field_tagvalue.specs.Choice.{pick}
-use Rattle.field_tagvalue.specs.Number.{isDigit, allDigits, worth, numberIn, tagOf}
-use Rattle.field_tagvalue.specs.NumberLaws.{number-good, tag-good}
-use Rattle.field_tagvalue.specs.CheckSum.{checksumOf, checksumDigits}
-use Rattle.field_tagvalue.specs.Decimal.{decimalWithin, decimal, writtenAt, answerAt}
-use Rattle.field_tagvalue.specs.declared.Number.the-variants.{Worth}
-use Rattle.field_tagvalue.specs.declared.Written.the-variants.{Next, NoRoom}
+use Rattle.field_rules.specs.Choice.{pick}
+use Rattle.field_rules.specs.Number.{isDigit, allDigits, worth, numberIn, tagOf}
+use Rattle.field_rules.specs.NumberLaws.{number-good, tag-good}
+use Rattle.field_rules.specs.CheckSum.{checksumOf, checksumDigits}
+use Rattle.field_rules.specs.Decimal.{decimalWithin, decimal, writtenAt, answerAt}
+use Rattle.field_rules.specs.declared.Number.the-variants.{Worth}
+use Rattle.field_rules.specs.declared.Written.the-variants.{Next, NoRoom}
 
 pub one-digit-or-more : (n : ℕ) → (n < 10) ⊎ (10 ≤ n)
 one-digit-or-more n = by-test (ltb n 10) refl

@@ -10,10 +10,10 @@ use lib.ListN.{length, getD, take, drop, drop-of-length-le, length-drop, length-
 use lib.Seq.{drop-cons, take-all}
 use lib.Dec.{eqb}
 use borrow.Author.Tests.{eq-eqb, ne-eqb, eqb-true, eqb-false}
-use Rattle.field_tagvalue.specs.Choice.{pick}
-use Rattle.field_tagvalue.specs.Find.{findIn}
-use Rattle.field_tagvalue.specs.declared.Found.{Found}
-use Rattle.field_tagvalue.specs.declared.Found.the-variants.{At, Nothing}
+use Rattle.field_rules.specs.Choice.{pick}
+use Rattle.field_rules.specs.Find.{findIn}
+use Rattle.field_rules.specs.declared.Found.{Found}
+use Rattle.field_rules.specs.declared.Found.the-variants.{At, Nothing}
 
 module _ (b : ℕ) (s : List ℕ) (i : ℕ) where
   pub find-hit : i < length s → getD s i 0 ≡ b → findIn b i (drop i s) ≡ At i

@@ -10,10 +10,10 @@ use lib.ListN.{length, getD, take, drop, drop-of-length-le}
 use lib.Seq.{drop-cons}
 use lib.Dec.{eqb, leb}
 use borrow.Author.Tests.{eq-eqb, ne-eqb, le-leb, lt-leb}
-use Rattle.field_tagvalue.specs.Choice.{pick, pick-same}
-use Rattle.field_tagvalue.specs.Number.{isDigit, allDigits, worth, numberIn, nonZero, tagOf}
-use Rattle.field_tagvalue.specs.CheckSum.{sumOf, checksumOf}
-use Rattle.field_tagvalue.specs.declared.Number.the-variants.{Worth, NoNumber}
+use Rattle.field_rules.specs.Choice.{pick, pick-same}
+use Rattle.field_rules.specs.Number.{isDigit, allDigits, worth, numberIn, nonZero, tagOf}
+use Rattle.field_rules.specs.CheckSum.{sumOf, checksumOf}
+use Rattle.field_rules.specs.declared.Number.the-variants.{Worth, NoNumber}
 
 module _ (s : List ℕ) (i : ℕ) where
   pub digit-step : i < length s → 48 ≤ getD s i 0 → getD s i 0 ≤ 57 → allDigits (drop i s) ≡ allDigits (drop (i + 1) s)

@@ -4,7 +4,7 @@ use Prim.Native.Char.{code}
 use Prim.Native.String.{String, [], _∷_}
 use mathlib.Core.List.{List, [] as no-bytes, _∷_ as _then_}
 use lib.Dec.{eqb}
-use Rattle.field_tagvalue.specs.Choice.{pick}
+use Rattle.field_rules.specs.Choice.{pick}
 
 abbrev pub bytes : String → List ℕ
 bytes [] = no-bytes

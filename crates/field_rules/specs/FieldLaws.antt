@@ -5,20 +5,20 @@ use Prim.Native.Nat.{ℕ, _+_, _-_, _≤_, _<_}
 use native.Mathlib.Omega.{arith}
 use lib.ListN.{length, take, drop, length-drop, drop-of-length-le}
 use lib.Seq.{take-all, take-nil}
-use Rattle.field_tagvalue.specs.Find.{findIn}
-use Rattle.field_tagvalue.specs.FindLaws.{find-in}
-use Rattle.field_tagvalue.specs.Number.{tagOf}
-use Rattle.field_tagvalue.specs.Field.{startAt, fieldFrom, fieldAt, valueOf, withEquals, withSeparator, withTag}
-use Rattle.field_tagvalue.specs.declared.Found.{Found}
-use Rattle.field_tagvalue.specs.declared.Found.the-variants.{At, Nothing}
-use Rattle.field_tagvalue.specs.declared.Number.{Number}
-use Rattle.field_tagvalue.specs.declared.Number.the-variants.{Worth, NoNumber}
-use Rattle.field_tagvalue.specs.declared.Mode.{Mode}
-use Rattle.field_tagvalue.specs.declared.Cursor.{Cursor}
-use Rattle.field_tagvalue.specs.declared.Field.{Field}
-use Rattle.field_tagvalue.specs.declared.Cause.the-variants.{NoEquals, NoSeparator, BadTag}
-use Rattle.field_tagvalue.specs.declared.FieldRead.{FieldRead}
-use Rattle.field_tagvalue.specs.declared.FieldRead.the-variants.{Read, Unreadable}
+use Rattle.field_rules.specs.Find.{findIn}
+use Rattle.field_rules.specs.FindLaws.{find-in}
+use Rattle.field_rules.specs.Number.{tagOf}
+use Rattle.field_rules.specs.Field.{startAt, fieldFrom, fieldAt, valueOf, withEquals, withSeparator, withTag}
+use Rattle.field_rules.specs.declared.Found.{Found}
+use Rattle.field_rules.specs.declared.Found.the-variants.{At, Nothing}
+use Rattle.field_rules.specs.declared.Number.{Number}
+use Rattle.field_rules.specs.declared.Number.the-variants.{Worth, NoNumber}
+use Rattle.field_rules.specs.declared.Mode.{Mode}
+use Rattle.field_rules.specs.declared.Cursor.{Cursor}
+use Rattle.field_rules.specs.declared.Field.{Field}
+use Rattle.field_rules.specs.declared.Cause.the-variants.{NoEquals, NoSeparator, BadTag}
+use Rattle.field_rules.specs.declared.FieldRead.{FieldRead}
+use Rattle.field_rules.specs.declared.FieldRead.the-variants.{Read, Unreadable}
 
 module _ (at : ℕ) (mode : Mode) (s : List ℕ) where
   pub no-equals : findIn 61 0 s ≡ Nothing → fieldFrom at mode s ≡ Unreadable NoEquals at

@@ -5,21 +5,21 @@ use mathlib.Core.List.{List}
 use Prim.Native.Nat.{ℕ, _+_}
 use native.Mathlib.Omega.{arith}
 use lib.ListN.{length, take, drop}
-use Rattle.field_tagvalue.specs.Find.{findIn}
-use Rattle.field_tagvalue.specs.Number.{tagOf}
-use Rattle.field_tagvalue.specs.Field.{fieldAt, fieldFrom, withEquals, withSeparator, withTag}
-use Rattle.field_tagvalue.specs.Fields.{Fields, unreadable, field, fieldsFrom, startOf}
-use Rattle.field_tagvalue.specs.FieldsLaws.{step-lies, fields-field, fields-end}
-use Rattle.field_tagvalue.specs.declared.Mode.{Mode}
-use Rattle.field_tagvalue.specs.declared.Cause.{Cause}
-use Rattle.field_tagvalue.specs.declared.Cursor.{Cursor}
-use Rattle.field_tagvalue.specs.declared.Field.{Field}
-use Rattle.field_tagvalue.specs.declared.FieldRead.{FieldRead}
-use Rattle.field_tagvalue.specs.declared.FieldRead.the-variants.{Read, Unreadable}
-use Rattle.field_tagvalue.specs.declared.Found.{Found}
-use Rattle.field_tagvalue.specs.declared.Found.the-variants.{At, Nothing}
-use Rattle.field_tagvalue.specs.declared.Number.{Number}
-use Rattle.field_tagvalue.specs.declared.Number.the-variants.{Worth, NoNumber}
+use Rattle.field_rules.specs.Find.{findIn}
+use Rattle.field_rules.specs.Number.{tagOf}
+use Rattle.field_rules.specs.Field.{fieldAt, fieldFrom, withEquals, withSeparator, withTag}
+use Rattle.field_rules.specs.Fields.{Fields, unreadable, field, fieldsFrom, startOf}
+use Rattle.field_rules.specs.FieldsLaws.{step-lies, fields-field, fields-end}
+use Rattle.field_rules.specs.declared.Mode.{Mode}
+use Rattle.field_rules.specs.declared.Cause.{Cause}
+use Rattle.field_rules.specs.declared.Cursor.{Cursor}
+use Rattle.field_rules.specs.declared.Field.{Field}
+use Rattle.field_rules.specs.declared.FieldRead.{FieldRead}
+use Rattle.field_rules.specs.declared.FieldRead.the-variants.{Read, Unreadable}
+use Rattle.field_rules.specs.declared.Found.{Found}
+use Rattle.field_rules.specs.declared.Found.the-variants.{At, Nothing}
+use Rattle.field_rules.specs.declared.Number.{Number}
+use Rattle.field_rules.specs.declared.Number.the-variants.{Worth, NoNumber}
 
 unreadable-from : (at : ℕ) (mode : Mode) (s : List ℕ) (cause : Cause) (place : ℕ) → fieldFrom at mode s ≡ Unreadable cause place → place ≡ at
 unfolding fieldFrom withEquals withSeparator withTag

@@ -2,9 +2,9 @@
 use Prim.Native.Nat.{ℕ, _+_}
 use mathlib.Core.List.{List, [], _∷_}
 use lib.Dec.{eqb}
-use Rattle.field_tagvalue.specs.Choice.{pick}
-use Rattle.field_tagvalue.specs.declared.Found.{Found}
-use Rattle.field_tagvalue.specs.declared.Found.the-variants.{At, Nothing}
+use Rattle.field_rules.specs.Choice.{pick}
+use Rattle.field_rules.specs.declared.Found.{Found}
+use Rattle.field_rules.specs.declared.Found.the-variants.{At, Nothing}
 
 -- the first place of b in a list whose first element stands at `at`
 unfoldable pub findIn : ℕ → ℕ → List ℕ → Found

@@ -7,20 +7,20 @@ use native.Mathlib.Numerals.{add-one}
 use native.Mathlib.Omega.{arith}
 use lib.ListN.{length, take, drop, length-append, length-drop, take-append-drop}
 use lib.Seq.{take-at, drop-at, drop-append-add, take-append-seam, take-append-le, drop-append-le, drop-drop}
-use Rattle.field_tagvalue.specs.Find.{findIn}
-use Rattle.field_tagvalue.specs.FindLaws.{Absent, Splits, find-splits, find-joins}
-use Rattle.field_tagvalue.specs.Number.{tagOf}
-use Rattle.field_tagvalue.specs.NumberLaws.{tag-some}
-use Rattle.field_tagvalue.specs.Field.{startAt, fieldFrom, fieldAt, fieldBytes, valueOf}
-use Rattle.field_tagvalue.specs.FieldLaws.{no-equals, no-separator, bad-tag, one-field}
-use Rattle.field_tagvalue.specs.declared.Found.{Found}
-use Rattle.field_tagvalue.specs.declared.Found.the-variants.{At, Nothing}
-use Rattle.field_tagvalue.specs.declared.Number.{Number}
-use Rattle.field_tagvalue.specs.declared.Number.the-variants.{Worth, NoNumber}
-use Rattle.field_tagvalue.specs.declared.Mode.{Mode}
-use Rattle.field_tagvalue.specs.declared.Cursor.{Cursor}
-use Rattle.field_tagvalue.specs.declared.Field.{Field}
-use Rattle.field_tagvalue.specs.declared.FieldRead.the-variants.{Read, Unreadable}
+use Rattle.field_rules.specs.Find.{findIn}
+use Rattle.field_rules.specs.FindLaws.{Absent, Splits, find-splits, find-joins}
+use Rattle.field_rules.specs.Number.{tagOf}
+use Rattle.field_rules.specs.NumberLaws.{tag-some}
+use Rattle.field_rules.specs.Field.{startAt, fieldFrom, fieldAt, fieldBytes, valueOf}
+use Rattle.field_rules.specs.FieldLaws.{no-equals, no-separator, bad-tag, one-field}
+use Rattle.field_rules.specs.declared.Found.{Found}
+use Rattle.field_rules.specs.declared.Found.the-variants.{At, Nothing}
+use Rattle.field_rules.specs.declared.Number.{Number}
+use Rattle.field_rules.specs.declared.Number.the-variants.{Worth, NoNumber}
+use Rattle.field_rules.specs.declared.Mode.{Mode}
+use Rattle.field_rules.specs.declared.Cursor.{Cursor}
+use Rattle.field_rules.specs.declared.Field.{Field}
+use Rattle.field_rules.specs.declared.FieldRead.the-variants.{Read, Unreadable}
 
 -- the field that these texts spell at a place
 abbrev pub spelt : ℕ → ℕ → List ℕ → List ℕ → Field

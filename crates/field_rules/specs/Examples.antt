@@ -6,26 +6,26 @@ use mathlib.Core.List.{List, [], _∷_, map}
 use Prim.Native.Nat.{ℕ, _%_}
 use Prim.Native.String.{String}
 use lib.ListN.{length}
-use Rattle.field_tagvalue.specs.Text.{bytes}
-use Rattle.field_tagvalue.specs.Find.{findIn}
-use Rattle.field_tagvalue.specs.Number.{isDigit, allDigits, worth, numberIn, nonZero, tagOf}
-use Rattle.field_tagvalue.specs.Separator.{isRefusedSeparator}
-use Rattle.field_tagvalue.specs.CheckSum.{sumOf, checksumOf, checksumDigits}
-use Rattle.field_tagvalue.specs.Decimal.{decimal, decimalWithin, writtenAt, answerAt}
-use Rattle.field_tagvalue.specs.Field.{separatedBy, startAt, fieldAt}
-use Rattle.field_tagvalue.specs.Fields.{Fields, unreadable, field, fieldsFrom}
-use Rattle.field_tagvalue.specs.Computing.{reading-fields}
-use Rattle.field_tagvalue.specs.declared.Found.{Found}
-use Rattle.field_tagvalue.specs.declared.Found.the-variants.{At, Nothing}
-use Rattle.field_tagvalue.specs.declared.Number.{Number}
-use Rattle.field_tagvalue.specs.declared.Number.the-variants.{Worth, NoNumber}
-use Rattle.field_tagvalue.specs.declared.Written.{Written}
-use Rattle.field_tagvalue.specs.declared.Written.the-variants.{Next, NoRoom}
-use Rattle.field_tagvalue.specs.declared.Cursor.{Cursor}
-use Rattle.field_tagvalue.specs.declared.Field.{Field}
-use Rattle.field_tagvalue.specs.declared.Cause.the-variants.{NoEquals, NoSeparator, BadTag}
-use Rattle.field_tagvalue.specs.declared.FieldRead.{FieldRead}
-use Rattle.field_tagvalue.specs.declared.FieldRead.the-variants.{Read, Unreadable}
+use Rattle.field_rules.specs.Text.{bytes}
+use Rattle.field_rules.specs.Find.{findIn}
+use Rattle.field_rules.specs.Number.{isDigit, allDigits, worth, numberIn, nonZero, tagOf}
+use Rattle.field_rules.specs.Separator.{isRefusedSeparator}
+use Rattle.field_rules.specs.CheckSum.{sumOf, checksumOf, checksumDigits}
+use Rattle.field_rules.specs.Decimal.{decimal, decimalWithin, writtenAt, answerAt}
+use Rattle.field_rules.specs.Field.{separatedBy, startAt, fieldAt}
+use Rattle.field_rules.specs.Fields.{Fields, unreadable, field, fieldsFrom}
+use Rattle.field_rules.specs.Computing.{reading-fields}
+use Rattle.field_rules.specs.declared.Found.{Found}
+use Rattle.field_rules.specs.declared.Found.the-variants.{At, Nothing}
+use Rattle.field_rules.specs.declared.Number.{Number}
+use Rattle.field_rules.specs.declared.Number.the-variants.{Worth, NoNumber}
+use Rattle.field_rules.specs.declared.Written.{Written}
+use Rattle.field_rules.specs.declared.Written.the-variants.{Next, NoRoom}
+use Rattle.field_rules.specs.declared.Cursor.{Cursor}
+use Rattle.field_rules.specs.declared.Field.{Field}
+use Rattle.field_rules.specs.declared.Cause.the-variants.{NoEquals, NoSeparator, BadTag}
+use Rattle.field_rules.specs.declared.FieldRead.{FieldRead}
+use Rattle.field_rules.specs.declared.FieldRead.the-variants.{Read, Unreadable}
 
 -- a table of texts with their answers, and what a definition makes of the texts
 abbrev Table : Type 0 → Type 0

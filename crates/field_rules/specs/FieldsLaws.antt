@@ -6,16 +6,16 @@ use Prim.Native.Nat.{ℕ, zero, suc, _+_, _-_, _≤_, _<_}
 use native.Mathlib.Omega.{arith}
 use lib.ListN.{length, take, drop, length-drop, length-append}
 use lib.Seq.{drop-append-le, drop-drop, take-append-seam}
-use Rattle.field_tagvalue.specs.Field.{fieldAt, valueOf}
-use Rattle.field_tagvalue.specs.FieldLaws.{past-end}
-use Rattle.field_tagvalue.specs.FieldTextLaws.{Spelled, Lies, field-lies, field-depends, value-part}
-use Rattle.field_tagvalue.specs.Fields.{Fields, unreadable, field, followedBy, fieldsWithin, fieldsFrom, Inside, Each, each-end, each-field}
-use Rattle.field_tagvalue.specs.declared.Mode.{Mode}
-use Rattle.field_tagvalue.specs.declared.Cursor.{Cursor}
-use Rattle.field_tagvalue.specs.declared.Field.{Field}
-use Rattle.field_tagvalue.specs.declared.Cause.{Cause}
-use Rattle.field_tagvalue.specs.declared.FieldRead.{FieldRead}
-use Rattle.field_tagvalue.specs.declared.FieldRead.the-variants.{Read, Unreadable}
+use Rattle.field_rules.specs.Field.{fieldAt, valueOf}
+use Rattle.field_rules.specs.FieldLaws.{past-end}
+use Rattle.field_rules.specs.FieldTextLaws.{Spelled, Lies, field-lies, field-depends, value-part}
+use Rattle.field_rules.specs.Fields.{Fields, unreadable, field, followedBy, fieldsWithin, fieldsFrom, Inside, Each, each-end, each-field}
+use Rattle.field_rules.specs.declared.Mode.{Mode}
+use Rattle.field_rules.specs.declared.Cursor.{Cursor}
+use Rattle.field_rules.specs.declared.Field.{Field}
+use Rattle.field_rules.specs.declared.Cause.{Cause}
+use Rattle.field_rules.specs.declared.FieldRead.{FieldRead}
+use Rattle.field_rules.specs.declared.FieldRead.the-variants.{Read, Unreadable}
 
 module _ (mode : Mode) (message : List ℕ) (c : Cursor) (f : Field) where
   -- a field that was read lies between the cursor and the message's end

@@ -10,20 +10,20 @@ use lib.Dec.{eqb}
 use lib.ListN.{length, drop, length-append}
 use lib.Seq.{drop-drop, drop-at, drop-append-seam}
 use borrow.Author.Tests.{le-leb, eqb-false}
-use Rattle.field_tagvalue.specs.Choice.{pick}
-use Rattle.field_tagvalue.specs.FindLaws.{Absent, none, also}
-use Rattle.field_tagvalue.specs.Number.{isDigit, allDigits, numberIn, nonZero, tagOf}
-use Rattle.field_tagvalue.specs.DecimalLaws.{all-digits-first}
-use Rattle.field_tagvalue.specs.Field.{startAt, fieldAt, fieldBytes, valueOf}
-use Rattle.field_tagvalue.specs.FieldTextLaws.{Spelled, spelt, spelled-read, read-spelled, bytes-size, value-part}
-use Rattle.field_tagvalue.specs.Fields.{field, fieldsFrom}
-use Rattle.field_tagvalue.specs.FieldsLaws.{step-value, fields-field}
-use Rattle.field_tagvalue.specs.declared.Mode.{Mode}
-use Rattle.field_tagvalue.specs.declared.Cursor.{Cursor}
-use Rattle.field_tagvalue.specs.declared.Field.{Field}
-use Rattle.field_tagvalue.specs.declared.FieldRead.the-variants.{Read}
-use Rattle.field_tagvalue.specs.declared.Number.{Number}
-use Rattle.field_tagvalue.specs.declared.Number.the-variants.{Worth, NoNumber}
+use Rattle.field_rules.specs.Choice.{pick}
+use Rattle.field_rules.specs.FindLaws.{Absent, none, also}
+use Rattle.field_rules.specs.Number.{isDigit, allDigits, numberIn, nonZero, tagOf}
+use Rattle.field_rules.specs.DecimalLaws.{all-digits-first}
+use Rattle.field_rules.specs.Field.{startAt, fieldAt, fieldBytes, valueOf}
+use Rattle.field_rules.specs.FieldTextLaws.{Spelled, spelt, spelled-read, read-spelled, bytes-size, value-part}
+use Rattle.field_rules.specs.Fields.{field, fieldsFrom}
+use Rattle.field_rules.specs.FieldsLaws.{step-value, fields-field}
+use Rattle.field_rules.specs.declared.Mode.{Mode}
+use Rattle.field_rules.specs.declared.Cursor.{Cursor}
+use Rattle.field_rules.specs.declared.Field.{Field}
+use Rattle.field_rules.specs.declared.FieldRead.the-variants.{Read}
+use Rattle.field_rules.specs.declared.Number.{Number}
+use Rattle.field_rules.specs.declared.Number.the-variants.{Worth, NoNumber}
 
 -- digits have no byte among them that is none
 pub digits-absent : (b : ℕ) → isDigit b ≡ false → (text : List ℕ) → allDigits text ≡ true → Absent b text

@@ -4,11 +4,11 @@ use Prim.Native.Nat.{ℕ, _+_, _-_, _≤_, _<_}
 use native.Mathlib.Omega.{arith}
 use borrow.Author.Needs.{needs}
 use lib.ListN.{length, drop, length-drop}
-use Rattle.field_tagvalue.specs.FindLaws.{rest-part}
-use Rattle.field_tagvalue.specs.Field.{fieldAt}
-use Rattle.field_tagvalue.specs.FieldLaws.{past-end}
-use Rattle.field_tagvalue.proofs.Cursor.next_field.Statement.{statement}
-use Rattle.field_tagvalue.proofs.Cursor.next_field.Tie as tie
+use Rattle.field_rules.specs.FindLaws.{rest-part}
+use Rattle.field_rules.specs.Field.{fieldAt}
+use Rattle.field_rules.specs.FieldLaws.{past-end}
+use Rattle.field_tagvalue.proofs.next_field.Statement.{statement}
+use Rattle.field_tagvalue.proofs.next_field.Tie as tie
 
 returns : tie.Need-returns
 returns c = sym (past-end _ _ _ (omega arith))
@@ -24,7 +24,7 @@ part-field-from-end c = search needs
 
 field-from-requires : tie.Need-field-from-requires
 field-from-requires c κs = let a = c .before .before .before in
-    rw rest-part (omega (arith, length-drop (a .args .self .at) (a .args .message .now), a .good .1 .0 .1))
+    rw rest-part (omega (arith, length-drop (a .args .cursor .at) (a .args .message .now), a .good .1 .0 .1))
 
 returns-2 : tie.Need-returns-2
 unfolding fieldAt
