@@ -39,14 +39,14 @@ seven-summed mode message begin n m counted place whole size same seven =
 -- a message that starts with the texts of 8 and 9 that were read
 module _ (mode : Mode) (message : List ℕ) (v : Verified) (sound : integrityOf mode message ≡ Sound v) (counted : List ℕ)
     (whole : message ≡ tagged (mode .separator) 8 (valueOf message (v .«begin_string»)) ++ (tagged (mode .separator) 9 (valueOf message (v .«body_length»)) ++ (counted ++ drop (length message - 7) message))) where
-  begins-at : v .«begin_string» .next .at ≡ length (tagged (mode .separator) 8 (valueOf message (v .«begin_string»)))
-  begins-at =
+  begins-next : v .«begin_string» .next ≡ startAt (length (tagged (mode .separator) 8 (valueOf message (v .«begin_string»))))
+  begins-next =
       let r = verified-read mode message v sound in
       let b = valueOf message (v .«begin_string») in
       let read = placed-read mode 8 message [] b _ whole (omega arith) (omega arith) (value-ends mode message _ _ (r .begins)) in
       let same : Read (v .«begin_string») ≡ Read (placed 0 8 b) = sym (r .begins) ∙ read in
       let is : v .«begin_string» ≡ placed 0 8 b = cc in
-      ap (λ (f : Field). f .next .at) is ∙ ap (λ (c : Cursor). c .at) (placed-next (mode .separator) 8 [] b)
+      ap (λ (f : Field). f .next) is ∙ placed-next (mode .separator) 8 [] b
 
   counts-at : v .«body_length» .next .at ≡ length (tagged (mode .separator) 8 (valueOf message (v .«begin_string»)) ++ tagged (mode .separator) 9 (valueOf message (v .«body_length»)))
   counts-at =
@@ -54,7 +54,7 @@ module _ (mode : Mode) (message : List ℕ) (v : Verified) (sound : integrityOf 
       let b = tagged (mode .separator) 8 (valueOf message (v .«begin_string»)) in
       let n = valueOf message (v .«body_length») in
       let read = placed-read mode 9 message b n _ whole (omega arith) (omega arith) (value-ends mode message _ _ (r .counts)) in
-      let there : fieldAt mode message (startAt (length b)) ≡ Read (v .«body_length») = ap (λ (k : ℕ). fieldAt mode message (startAt k)) (sym begins-at) ∙ r .counts in
+      let there : fieldAt mode message (startAt (length b)) ≡ Read (v .«body_length») = ap (λ (c : Cursor). fieldAt mode message c) (sym begins-next) ∙ r .counts in
       let same : Read (v .«body_length») ≡ Read (placed (length b) 9 n) = sym there ∙ read in
       let is : v .«body_length» ≡ placed (length b) 9 n = cc in
       ap (λ (f : Field). f .next .at) is ∙ ap (λ (c : Cursor). c .at) (placed-next (mode .separator) 9 b n)
