@@ -4,21 +4,6 @@ use borrow.Author.Needs.{needs}
 use Rattle.build_answers.proofs.reason_number.Statement.{statement}
 use Rattle.build_answers.proofs.reason_number.Tie as tie
 
-enum-told : tie.Need-enum-told
-enum-told c = search needs
-
-enum-told-2 : tie.Need-enum-told-2
-enum-told-2 c = search needs
-
-enum-told-3 : tie.Need-enum-told-3
-enum-told-3 c = search needs
-
-enum-told-4 : tie.Need-enum-told-4
-enum-told-4 c = search needs
-
-enum-told-5 : tie.Need-enum-told-5
-enum-told-5 c = search needs
-
 returns : tie.Need-returns
 returns c = unfold numberOfReason in rw (c .enum-told .given .1)
 
@@ -38,11 +23,11 @@ pub reason-number-spec : {M : Type 1} → statement M
 reason-number-spec =
     tie.close
     (tie.spec
-    enum-told
-    enum-told-2
-    enum-told-3
-    enum-told-4
-    enum-told-5
+    (λ c. search needs)
+    (λ c. search needs)
+    (λ c. search needs)
+    (λ c. search needs)
+    (λ c. search needs)
     returns
     returns-2
     returns-3

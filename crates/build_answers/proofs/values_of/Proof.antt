@@ -4,99 +4,6 @@ use borrow.Author.Needs.{needs}
 use Rattle.build_answers.proofs.values_of.Statement.{statement}
 use Rattle.build_answers.proofs.values_of.Tie as tie
 
-enum-told : tie.Need-enum-told
-enum-told c = search needs
-
-returned-requires : tie.Need-returned-requires
-returned-requires c κs = search needs
-
-enum-known-answer : tie.Need-enum-known-answer
-enum-known-answer c = search needs
-
-cast-returned : tie.Need-cast-returned
-cast-returned c = search needs
-
-returned-requires-2 : tie.Need-returned-requires-2
-returned-requires-2 c κs = search needs
-
-enum-known-answer-2 : tie.Need-enum-known-answer-2
-enum-known-answer-2 c = search needs
-
-cast-returned-2 : tie.Need-cast-returned-2
-cast-returned-2 c = search needs
-
-cast-returned-3 : tie.Need-cast-returned-3
-cast-returned-3 c = search needs
-
-returned-requires-3 : tie.Need-returned-requires-3
-returned-requires-3 c κs = search needs
-
-enum-known-answer-3 : tie.Need-enum-known-answer-3
-enum-known-answer-3 c = search needs
-
-returned-requires-4 : tie.Need-returned-requires-4
-returned-requires-4 c κs = search needs
-
-enum-known-answer-4 : tie.Need-enum-known-answer-4
-enum-known-answer-4 c = search needs
-
-cast-returned-4 : tie.Need-cast-returned-4
-cast-returned-4 c = search needs
-
-cast-returned-5 : tie.Need-cast-returned-5
-cast-returned-5 c = search needs
-
-returned-requires-5 : tie.Need-returned-requires-5
-returned-requires-5 c κs = search needs
-
-enum-told-2 : tie.Need-enum-told-2
-enum-told-2 c = search needs
-
-returned-requires-6 : tie.Need-returned-requires-6
-returned-requires-6 c κs = search needs
-
-enum-told-3 : tie.Need-enum-told-3
-enum-told-3 c = search needs
-
-returned-requires-7 : tie.Need-returned-requires-7
-returned-requires-7 c κs = search needs
-
-enum-told-4 : tie.Need-enum-told-4
-enum-told-4 c = search needs
-
-returned-requires-8 : tie.Need-returned-requires-8
-returned-requires-8 c κs = search needs
-
-enum-told-5 : tie.Need-enum-told-5
-enum-told-5 c = search needs
-
-returned-requires-9 : tie.Need-returned-requires-9
-returned-requires-9 c κs = search needs
-
-enum-told-6 : tie.Need-enum-told-6
-enum-told-6 c = search needs
-
-returned-requires-10 : tie.Need-returned-requires-10
-returned-requires-10 c κs = search needs
-
-enum-told-7 : tie.Need-enum-told-7
-enum-told-7 c = search needs
-
-returned-requires-11 : tie.Need-returned-requires-11
-returned-requires-11 c κs = search needs
-
-enum-known-answer-5 : tie.Need-enum-known-answer-5
-enum-known-answer-5 c = search needs
-
-value-of-requires : tie.Need-value-of-requires
-value-of-requires c κs = search needs
-
-cast-returned-6 : tie.Need-cast-returned-6
-cast-returned-6 c = search needs
-
-returned-requires-12 : tie.Need-returned-requires-12
-returned-requires-12 c κs = search needs
-
 returns : tie.Need-returns
 returns c = unfold valuesOf in rw (c .returned .ensures, c .before .enum-told .given .1)
 
@@ -137,37 +44,37 @@ pub values-of-spec : {M : Type 1} → statement M
 values-of-spec =
     tie.close
     (tie.spec
-    enum-told
-    returned-requires
-    enum-known-answer
-    cast-returned
-    returned-requires-2
-    enum-known-answer-2
-    cast-returned-2
-    cast-returned-3
-    returned-requires-3
-    enum-known-answer-3
-    returned-requires-4
-    enum-known-answer-4
-    cast-returned-4
-    cast-returned-5
-    returned-requires-5
-    enum-told-2
-    returned-requires-6
-    enum-told-3
-    returned-requires-7
-    enum-told-4
-    returned-requires-8
-    enum-told-5
-    returned-requires-9
-    enum-told-6
-    returned-requires-10
-    enum-told-7
-    returned-requires-11
-    enum-known-answer-5
-    value-of-requires
-    cast-returned-6
-    returned-requires-12
+    (λ c. search needs)
+    (λ c κs. search needs)
+    (λ c. search needs)
+    (λ c. search needs)
+    (λ c κs. search needs)
+    (λ c. search needs)
+    (λ c. search needs)
+    (λ c. search needs)
+    (λ c κs. search needs)
+    (λ c. search needs)
+    (λ c κs. search needs)
+    (λ c. search needs)
+    (λ c. search needs)
+    (λ c. search needs)
+    (λ c κs. search needs)
+    (λ c. search needs)
+    (λ c κs. search needs)
+    (λ c. search needs)
+    (λ c κs. search needs)
+    (λ c. search needs)
+    (λ c κs. search needs)
+    (λ c. search needs)
+    (λ c κs. search needs)
+    (λ c. search needs)
+    (λ c κs. search needs)
+    (λ c. search needs)
+    (λ c κs. search needs)
+    (λ c. search needs)
+    (λ c κs. search needs)
+    (λ c. search needs)
+    (λ c κs. search needs)
     returns
     returns-2
     returns-3

@@ -6,18 +6,6 @@ use borrow.Author.Needs.{needs}
 use Rattle.build_body.proofs.kind_of.Statement.{statement}
 use Rattle.build_body.proofs.kind_of.Tie as tie
 
-position-of-requires : tie.Need-position-of-requires
-position-of-requires c κs = search needs
-
-enum-told : tie.Need-enum-told
-enum-told c = search needs
-
-enum-told-2 : tie.Need-enum-told-2
-enum-told-2 c = search needs
-
-accepted-requires : tie.Need-accepted-requires
-accepted-requires c κs = search needs
-
 returns : tie.Need-returns
 unfolding meantBy
 returns c = let t = c .before .before in sym (kind-user _ _ _ _ _ (sym (t .before .before .position-of .ensures) ∙ t .enum-told2 .given .1) (sym (c .before .accepted .ensures) ∙ c .if1 .taken))
@@ -25,15 +13,6 @@ returns c = let t = c .before .before in sym (kind-user _ _ _ _ _ (sym (t .befor
 returns-2 : tie.Need-returns-2
 unfolding meantBy
 returns-2 c = let t = c .before .before in sym (kind-other _ _ _ _ _ (sym (t .before .before .position-of .ensures) ∙ t .enum-told2 .given .1) (sym (c .before .accepted .ensures) ∙ c .if1 .left))
-
-group-of-requires : tie.Need-group-of-requires
-group-of-requires c κs = search needs
-
-enum-known-inner : tie.Need-enum-known-inner
-enum-known-inner c = search needs
-
-enum-told-3 : tie.Need-enum-told-3
-enum-told-3 c = search needs
 
 returns-3 : tie.Need-returns-3
 unfolding meantBy
@@ -47,14 +26,14 @@ pub kind-of-spec : {M : Type 1} → statement M
 kind-of-spec =
     tie.close
     (tie.spec
-    position-of-requires
-    enum-told
-    enum-told-2
-    accepted-requires
+    (λ c κs. search needs)
+    (λ c. search needs)
+    (λ c. search needs)
+    (λ c κs. search needs)
     returns
     returns-2
-    group-of-requires
-    enum-known-inner
-    enum-told-3
+    (λ c κs. search needs)
+    (λ c. search needs)
+    (λ c. search needs)
     returns-3
     returns-4)

@@ -10,12 +10,6 @@ use Rattle.build_body.specs.RunLaws.{open-held, open-new, held-within}
 use Rattle.build_body.proofs.open_run.Statement.{statement}
 use Rattle.build_body.proofs.open_run.Tie as tie
 
-store-requires : tie.Need-store-requires
-store-requires c κs = search needs
-
-enum-known-i : tie.Need-enum-known-i
-enum-known-i c = search needs
-
 -- the index where the count was held
 held-at : (c : tie.After-known-told) → c .before .i .given .0 .0 < c .before .before .before .before .before .before .before .before .args .records
 held-at c = let k = c .before .before .before .before .before in held-within _ _ _ _ (c .before .before .before .before .before .before .before .before .args .stored) (omega arith) (sym (k .store .ensures .0) ∙ c .before .i .given .1)
@@ -26,15 +20,6 @@ add-place c = omega (arith, held-at c)
 drop-run-requires : tie.Need-drop-run-requires
 drop-run-requires c κs = (omega (arith, held-at (c .before)), omega (arith, c .before .before .before .before .before .before .store .kept .0))
 
-enum-told : tie.Need-enum-told
-enum-told c = search needs
-
-add-t14 : tie.Need-add-t14
-add-t14 c = search needs
-
-add-t15 : tie.Need-add-t15
-add-t15 c = search needs
-
 same-length : tie.Need-same-length
 same-length c = c .before .before .drop-run .kept .0 ∙ c .before .before .before .before .before .before .before .before .before .store .kept .0
 
@@ -42,9 +27,6 @@ returns : tie.Need-returns
 returns c = let k = c .before .before .before .before in
     let s = k .before .before .before .before .before in
     open-held _ _ _ _ _ _ _ _ (omega arith) (omega arith) (s .store .kept .0) (c .before .before .drop-run .kept .0 ∙ s .store .kept .0) (sym (s .store .ensures .0) ∙ k .before .i .given .1) (s .store .ensures .1) (c .before .before .drop-run .ensures)
-
-same-length-2 : tie.Need-same-length-2
-same-length-2 c = search needs
 
 returns-2 : tie.Need-returns-2
 returns-2 c = let s = c .before .before .before .before in
@@ -54,14 +36,14 @@ pub open-run-spec : {M : Type 1} → statement M
 open-run-spec =
     tie.close
     (tie.spec
-    store-requires
-    enum-known-i
+    (λ c κs. search needs)
+    (λ c. search needs)
     add-place
     drop-run-requires
-    enum-told
-    add-t14
-    add-t15
+    (λ c. search needs)
+    (λ c. search needs)
+    (λ c. search needs)
     same-length
     returns
-    same-length-2
+    (λ c. search needs)
     returns-2)

@@ -33,12 +33,6 @@ loop-holds c = let a = c .before .before .before .before in (
   refl,
 )
 
-enum-known-reading : tie.Need-enum-known-reading Inv-loop μ-loop
-enum-known-reading c = search needs
-
-enum-told : tie.Need-enum-told Inv-loop μ-loop
-enum-told c = search needs
-
 same-length : tie.Need-same-length Inv-loop μ-loop
 same-length c = c .before .before .loop .inv .0
 
@@ -46,12 +40,6 @@ returns : tie.Need-returns Inv-loop μ-loop
 unfolding partTold andThen partRoom
 returns c = let l = c .before .before in
     (sym (l .loop .inv .2 ∙ left-refused _ _ _ _ _ _ _ _ _ _ (c .enum-told .given .1)), l .loop .inv .1)
-
-kind-of-requires : tie.Need-kind-of-requires Inv-loop μ-loop
-kind-of-requires c κs = search needs
-
-enum-told-2 : tie.Need-enum-told-2 Inv-loop μ-loop
-enum-told-2 c = search needs
 
 -- where reading stands
 ends : (c : tie.After-known-told Inv-loop μ-loop) → let l = c .before .before .before in let a = l .before .before .before .before .before in Ends (a .args .message .now) (a .args .words .now) (a .args .from) (suc (a .args .progress .room)) (c .before .reading .given .0 .0) (c .before .reading .given .0 .1 .0)
@@ -91,9 +79,6 @@ loop-again c = let r = c .before .before in
       l .loop .inv .2 ∙ left-plain _ _ _ _ _ _ _ _ _ _ _ (k .before .reading .given .1) (sym (q .kind-of .ensures) ∙ ap meantBy (t .enum-told2 .given .1)) _ _ (r .read-plain .ensures .0),
     )
 
-enum-known-inner : tie.Need-enum-known-inner Inv-loop μ-loop
-enum-known-inner c = search needs
-
 read-group-requires : tie.Need-read-group-requires Inv-loop μ-loop
 read-group-requires c κs = let k = c .before .before .before .before .before in
     let a = asks k in
@@ -116,12 +101,6 @@ loop-again-2 c = let r = c .before .before in
       stays-on _ _ _ _ _ _ _ _ (l .loop .inv .0) (l .loop .inv .1 .before) (ends k .falls) (r .read-group .ensures .1),
       l .loop .inv .2 ∙ left-run _ _ _ _ _ _ _ _ _ _ _ (k .before .reading .given .1) _ (sym (q .kind-of .ensures) ∙ ap meantBy (t .inner .given .1)) _ _ (r .read-group .ensures .0),
     )
-
-enum-told-3 : tie.Need-enum-told-3 Inv-loop μ-loop
-enum-told-3 c = search needs
-
-holds-requires : tie.Need-holds-requires Inv-loop μ-loop
-holds-requires c κs = search needs
 
 same-length-2 : tie.Need-same-length-2 Inv-loop μ-loop
 same-length-2 c = c .before .before .before .before .before .before .before .before .loop .inv .0
@@ -154,21 +133,21 @@ read-body-spec =
     Inv-loop
     μ-loop
     loop-holds
-    enum-known-reading
-    enum-told
+    (λ c. search needs)
+    (λ c. search needs)
     same-length
     returns
-    kind-of-requires
-    enum-told-2
+    (λ c κs. search needs)
+    (λ c. search needs)
     read-plain-requires
     loop-less
     loop-again
-    enum-known-inner
+    (λ c. search needs)
     read-group-requires
     loop-less-2
     loop-again-2
-    enum-told-3
-    holds-requires
+    (λ c. search needs)
+    (λ c κs. search needs)
     same-length-2
     returns-2
     same-length-3

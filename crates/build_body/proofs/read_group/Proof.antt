@@ -31,29 +31,11 @@ words-left c = let o = c .before .before .before in
 read-run-requires : tie.Need-read-run-requires
 read-run-requires c κs = fits c
 
-enum-known-refusal : tie.Need-enum-known-refusal
-enum-known-refusal c = search needs
-
-answer-of-requires : tie.Need-answer-of-requires
-answer-of-requires c κs = search needs
-
-enum-known-field : tie.Need-enum-known-field
-enum-known-field c = search needs
-
 check-run-requires : tie.Need-check-run-requires
 check-run-requires c κs = let k = c .before in
     let m = k .before .before .before .before .before in
     let o = m .before .before .before .before in
     run-fits _ _ _ _ _ _ _ _ _ _ _ _ _ _ _ (o .open-run .ensures) (o .open-run .kept .0) (m .read-run .kept .1 .1 .1 .1 .1 .1 .0) (words-left (m .before)) (fits (m .before)) _ _ _ (k .before .field .given .1) (m .read-run .ensures)
-
-enum-known-tag : tie.Need-enum-known-tag
-enum-known-tag c = search needs
-
-enum-told : tie.Need-enum-told
-enum-told c = search needs
-
-same-length : tie.Need-same-length
-same-length c = search needs
 
 returns : tie.Need-returns
 returns c = let k = c .before in
@@ -61,18 +43,12 @@ returns c = let k = c .before in
     let o = m .before .before .before .before in
     rw (c .answer-of .ensures) (answers-stopped _ _ _ _ _ _ _ _ _ _ _ _ _ _ _ (o .open-run .ensures) (o .open-run .kept .0) (m .read-run .kept .1 .1 .1 .1 .1 .1 .0) (words-left (m .before)) _ (o .before .record-of .ensures) _ _ (k .before .refusal .given .1) (m .read-run .ensures))
 
-same-length-2 : tie.Need-same-length-2
-same-length-2 c = search needs
-
 returns-2 : tie.Need-returns-2
 returns-2 c = let h = c .before .before .before in
     let k = h .before .before in
     let m = k .before .before .before .before .before in
     let o = m .before .before .before .before in
     answers-lack _ _ _ _ _ _ _ _ _ _ _ _ _ _ _ (o .open-run .ensures) (o .open-run .kept .0) (m .read-run .kept .1 .1 .1 .1 .1 .1 .0) (words-left (m .before)) (fits (m .before)) _ _ _ (k .before .field .given .1) (m .read-run .ensures) _ (o .before .record-of .ensures) _ (h .check-run .ensures) _ _ (c .before .tag .given .1)
-
-same-length-3 : tie.Need-same-length-3
-same-length-3 c = search needs
 
 returns-3 : tie.Need-returns-3
 returns-3 c = let h = c .before .before in
@@ -88,15 +64,15 @@ read-group-spec =
     record-of-requires
     open-run-requires
     read-run-requires
-    enum-known-refusal
-    answer-of-requires
-    enum-known-field
+    (λ c. search needs)
+    (λ c κs. search needs)
+    (λ c. search needs)
     check-run-requires
-    enum-known-tag
-    enum-told
-    same-length
+    (λ c. search needs)
+    (λ c. search needs)
+    (λ c. search needs)
     returns
-    same-length-2
+    (λ c. search needs)
     returns-2
-    same-length-3
+    (λ c. search needs)
     returns-3)

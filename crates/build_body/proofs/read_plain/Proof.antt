@@ -16,24 +16,12 @@ record-of-requires c κs = let i = c .before .before .before .pre .1 in (omega (
 keep-requires : tie.Need-keep-requires
 keep-requires c κs = (omega arith, omega arith)
 
-next-field-requires : tie.Need-next-field-requires
-next-field-requires c κs = search needs
-
-enum-known-answer : tie.Need-enum-known-answer
-enum-known-answer c = search needs
-
-enum-known-field : tie.Need-enum-known-field
-enum-known-field c = search needs
-
 -- the next field
 got : (c : tie.After-known-told2) → let n = c .before .before .before in let a = n .before .before .before .before .before .before .before .before .args in Taken (a .config .mode) (a .message .now) (a .plain .next) (a .progress .room) (c .before .field .given .0 .0)
 got c = taken _ _ _ _ _ (sym (c .before .before .before .next-field .ensures) ∙ c .before .field .given .1)
 
 sub-t15 : tie.Need-sub-t15
 sub-t15 c = omega (arith, got (c .before) .one-less)
-
-same-length : tie.Need-same-length
-same-length c = search needs
 
 returns : tie.Need-returns
 unfolding partTold
@@ -42,9 +30,6 @@ returns c = let n = c .before .before .before in
       sym (rw (← k .before .record-of .ensures, ← k .keep .ensures .part) (next-missing _ _ _ _ _ _ (sym (n .next-field .ensures) ∙ c .before .answer .given .1))),
       stays-refused _ _ _ _ _ (k .keep .ensures .before) _,
     )
-
-same-length-2 : tie.Need-same-length-2
-same-length-2 c = search needs
 
 returns-2 : tie.Need-returns-2
 unfolding partTold
@@ -61,11 +46,11 @@ read-plain-spec =
     (tie.spec
     record-of-requires
     keep-requires
-    next-field-requires
-    enum-known-answer
-    enum-known-field
+    (λ c κs. search needs)
+    (λ c. search needs)
+    (λ c. search needs)
     sub-t15
-    same-length
+    (λ c. search needs)
     returns
-    same-length-2
+    (λ c. search needs)
     returns-2)

@@ -9,9 +9,6 @@ use Rattle.build_groups.proofs.LookUps.{kind-delimiter, kind-user, kind
 use Rattle.build_groups.proofs.kind_of.Statement.{statement}
 use Rattle.build_groups.proofs.kind_of.Tie as tie
 
-opens-requires : tie.Need-opens-requires
-opens-requires c κs = search needs
-
 returns : tie.Need-returns
 returns c = unfold meant in sym (kind-delimiter _ _ _ _ _ _ (sym (c .before .opens .ensures) ∙ c .if1 .taken))
 
@@ -26,18 +23,6 @@ shut c = closed (c .before .before .before .before)
 stands : (c : tie.After-known-told) → let a = c .before .before .before .before .before .before .before .before .args in positionOf (a .table .now) (a .group .level) (a .tag) ≡ At (c .before .position .given .0 .0)
 stands c = sym (c .before .before .before .position-of .ensures) ∙ c .before .position .given .1
 
-position-of-requires : tie.Need-position-of-requires
-position-of-requires c κs = search needs
-
-enum-known-position : tie.Need-enum-known-position
-enum-known-position c = search needs
-
-enum-told : tie.Need-enum-told
-enum-told c = search needs
-
-accepted-requires : tie.Need-accepted-requires
-accepted-requires c κs = search needs
-
 returns-2 : tie.Need-returns-2
 returns-2 c = unfold meant in sym (kind-user _ _ _ _ _ _ (closed (c .before .before .before .before .before)) (sym (c .before .before .before .before .position-of .ensures) ∙ c .before .before .enum-told .given .1) (sym (c .before .accepted .ensures) ∙ c .if2 .taken))
 
@@ -46,15 +31,6 @@ returns-3 c = unfold meant in sym (kind-other _ _ _ _ _ _ (closed (c .before .be
 
 returns-4 : tie.Need-returns-4
 returns-4 c = unfold meant in sym (kind-wrong _ _ _ _ _ _ (shut (c .before)) _ (stands (c .before)) (c .if3 .taken))
-
-group-of-requires : tie.Need-group-of-requires
-group-of-requires c κs = search needs
-
-enum-known-inner : tie.Need-enum-known-inner
-enum-known-inner c = search needs
-
-enum-told-2 : tie.Need-enum-told-2
-enum-told-2 c = search needs
 
 returns-5 : tie.Need-returns-5
 returns-5 c = unfold meant in sym (kind-plain _ _ _ _ _ _ (shut (c .before .before .before .before)) _ (stands (c .before .before .before .before)) (c .before .before .before .if3 .left) (sym (c .before .before .group-of .ensures) ∙ c .enum-told2 .given .1))
@@ -71,18 +47,18 @@ pub kind-of-spec : {M : Type 1} → statement M
 kind-of-spec =
     tie.close
     (tie.spec
-    opens-requires
+    (λ c κs. search needs)
     returns
-    position-of-requires
-    enum-known-position
-    enum-told
-    accepted-requires
+    (λ c κs. search needs)
+    (λ c. search needs)
+    (λ c. search needs)
+    (λ c κs. search needs)
     returns-2
     returns-3
     returns-4
-    group-of-requires
-    enum-known-inner
-    enum-told-2
+    (λ c κs. search needs)
+    (λ c. search needs)
+    (λ c. search needs)
     returns-5
     returns-6
     returns-7)

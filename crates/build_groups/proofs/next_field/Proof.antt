@@ -5,20 +5,8 @@ use Rattle.build_groups.specs.ReadingLaws.{next-unreadable, next-full, n
 use Rattle.build_groups.proofs.next_field.Statement.{statement}
 use Rattle.build_groups.proofs.next_field.Tie as tie
 
-next-field-requires : tie.Need-next-field-requires
-next-field-requires c κs = search needs
-
-enum-known-cause : tie.Need-enum-known-cause
-enum-known-cause c = search needs
-
-enum-known-field : tie.Need-enum-known-field
-enum-known-field c = search needs
-
 returns : tie.Need-returns
 returns c = sym (next-full _ _ _ (sym (c .before .before .before .before .before .next-field .ensures) ∙ c .before .before .before .field .given .1) (c .if1 .taken))
-
-sub-t13 : tie.Need-sub-t13
-sub-t13 c = search needs
 
 returns-2 : tie.Need-returns-2
 returns-2 c = sym (next-unreadable _ _ _ _ (sym (c .before .before .before .next-field .ensures) ∙ c .before .cause .given .1))
@@ -30,10 +18,10 @@ pub next-field-spec : {M : Type 1} → statement M
 next-field-spec =
     tie.close
     (tie.spec
-    next-field-requires
-    enum-known-cause
-    enum-known-field
+    (λ c κs. search needs)
+    (λ c. search needs)
+    (λ c. search needs)
     returns
-    sub-t13
+    (λ c. search needs)
     returns-2
     returns-3)

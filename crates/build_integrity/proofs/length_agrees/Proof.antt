@@ -14,18 +14,6 @@ use borrow.Author.Needs.{needs}
 use Rattle.build_integrity.proofs.length_agrees.Statement.{statement}
 use Rattle.build_integrity.proofs.length_agrees.Tie as tie
 
-value-of-requires : tie.Need-value-of-requires
-value-of-requires c κs = search needs
-
-number-of-requires : tie.Need-number-of-requires
-number-of-requires c κs = search needs
-
-enum-known-n : tie.Need-enum-known-n
-enum-known-n c = search needs
-
-enum-told : tie.Need-enum-told
-enum-told c = search needs
-
 returns : tie.Need-returns
 returns c = sym (length-none _ _ (rw (c .before .before .before .value-of .ensures) at (sym (c .before .before .number-of .ensures) ∙ c .enum-told .given .1)))
 
@@ -36,14 +24,8 @@ number c = rw (c .before .before .before .before .value-of .ensures) at (sym (c 
 returns-2 : tie.Need-returns-2
 returns-2 c = sym (length-other _ _ _ (number (c .before)) (λ e. omega arith))
 
-sub-left : tie.Need-sub-left
-sub-left c = search needs
-
 returns-3 : tie.Need-returns-3
 returns-3 c = sym (length-other _ _ _ (number (c .before .before)) (λ e. omega arith))
-
-wide-requires : tie.Need-wide-requires
-wide-requires c κs = search needs
 
 returns-4 : tie.Need-returns-4
 returns-4 c =
@@ -57,13 +39,13 @@ pub length-agrees-spec : {M : Type 1} → statement M
 length-agrees-spec =
     tie.close
     (tie.spec
-    value-of-requires
-    number-of-requires
-    enum-known-n
-    enum-told
+    (λ c κs. search needs)
+    (λ c κs. search needs)
+    (λ c. search needs)
+    (λ c. search needs)
     returns
     returns-2
-    sub-left
+    (λ c. search needs)
     returns-3
-    wide-requires
+    (λ c κs. search needs)
     returns-4)

@@ -14,30 +14,12 @@ use borrow.Author.Needs.{needs}
 use Rattle.build_integrity.proofs.sum_agrees.Statement.{statement}
 use Rattle.build_integrity.proofs.sum_agrees.Tie as tie
 
-value-of-requires : tie.Need-value-of-requires
-value-of-requires c κs = search needs
-
-checksum-of-requires : tie.Need-checksum-of-requires
-checksum-of-requires c κs = search needs
-
-enum-known-n : tie.Need-enum-known-n
-enum-known-n c = search needs
-
-enum-told : tie.Need-enum-told
-enum-told c = search needs
-
 returns : tie.Need-returns
 returns c = sym (sum-other _ _ (rw (c .before .before .before .value-of .ensures) at (sym (c .before .before .checksum-of .ensures) ∙ c .enum-told .given .1)))
 
 -- what the field's value is worth
 number : (c : tie.After-known-told) → let a = c .before .before .before .before .before .before .args in checksumOf (valueOf (a .message .now) (a .checksum)) ≡ Worth (c .before .n .given .0 .0)
 number c = rw (c .before .before .before .before .value-of .ensures) at (sym (c .before .before .before .checksum-of .ensures) ∙ c .before .n .given .1)
-
-sum-of-requires : tie.Need-sum-of-requires
-sum-of-requires c κs = search needs
-
-widened-requires : tie.Need-widened-requires
-widened-requires c κs = search needs
 
 returns-2 : tie.Need-returns-2
 returns-2 c =
@@ -50,12 +32,6 @@ returns-2 c =
 slice-aggregate-sum-of : tie.Need-slice-aggregate-sum-of
 slice-aggregate-sum-of c = simp length-take (omega arith)
 
-sum-of-requires-2 : tie.Need-sum-of-requires-2
-sum-of-requires-2 c κs = search needs
-
-widened-requires-2 : tie.Need-widened-requires-2
-widened-requires-2 c κs = search needs
-
 returns-3 : tie.Need-returns-3
 returns-3 c =
     let k = c .before .before .before .before in
@@ -65,15 +41,15 @@ pub sum-agrees-spec : {M : Type 1} → statement M
 sum-agrees-spec =
     tie.close
     (tie.spec
-    value-of-requires
-    checksum-of-requires
-    enum-known-n
-    enum-told
+    (λ c κs. search needs)
+    (λ c κs. search needs)
+    (λ c. search needs)
+    (λ c. search needs)
     returns
-    sum-of-requires
-    widened-requires
+    (λ c κs. search needs)
+    (λ c κs. search needs)
     returns-2
     slice-aggregate-sum-of
-    sum-of-requires-2
-    widened-requires-2
+    (λ c κs. search needs)
+    (λ c κs. search needs)
     returns-3)

@@ -16,18 +16,6 @@ use borrow.Author.Needs.{needs}
 use Rattle.build_integrity.proofs.verify.Statement.{statement}
 use Rattle.build_integrity.proofs.verify.Tie as tie
 
-start-at-requires : tie.Need-start-at-requires
-start-at-requires c κs = search needs
-
-next-field-requires : tie.Need-next-field-requires
-next-field-requires c κs = search needs
-
-enum-known-begin-string : tie.Need-enum-known-begin-string
-enum-known-begin-string c = search needs
-
-enum-told : tie.Need-enum-told
-enum-told c = search needs
-
 returns : tie.Need-returns
 returns c = unfold integrityOf in sym (begun-none _ _ _ _ _ (sym (rw (c .before .before .before .start-at .ensures) at (c .before .before .next-field .ensures)) ∙ c .enum-told .given .1))
 
@@ -46,15 +34,6 @@ read-begin c = sym (rw (c .before .before .before .before .start-at .ensures) at
 
 returns-2 : tie.Need-returns-2
 returns-2 c = unfold integrityOf in sym (begun-tag _ _ _ _ (read-begin (c .before .before)) (c .if1 .taken))
-
-next-field-requires-2 : tie.Need-next-field-requires-2
-next-field-requires-2 c κs = search needs
-
-enum-known-body-length : tie.Need-enum-known-body-length
-enum-known-body-length c = search needs
-
-enum-told-2 : tie.Need-enum-told-2
-enum-told-2 c = search needs
 
 -- what is left to check behind the first field
 left-begin : (c : tie.Else1) → let k = c .before .before in integrityOf (mode-of k) (message-of k) ≡ counted (mode-of k) (message-of k) (begin-of k) (fieldAt (mode-of k) (message-of k) (begin-of k .next))
@@ -77,9 +56,6 @@ read-length c = sym (c .before .before .before .next-field2 .ensures) ∙ c .bef
 returns-4 : tie.Need-returns-4
 returns-4 c = sym (left-begin (c .before .before .before .before .before .before .before) ∙ counted-tag _ _ _ _ (read-length (c .before .before)) _ (c .if2 .taken))
 
-length-agrees-requires : tie.Need-length-agrees-requires
-length-agrees-requires c κs = search needs
-
 returns-5 : tie.Need-returns-5
 returns-5 c = let k = c .before .before .before .before in
     sym (left-begin (k .before .before .before .before .before) ∙ counted-wrong _ _ _ _ (read-length k) _ (sym (c .before .length-agrees .ensures) ∙ not-true _ (c .if3 .taken)))
@@ -92,18 +68,6 @@ left-length c = let l = c .before .before .before .before in
 
 sub-start-at : tie.Need-sub-start-at
 sub-start-at c = omega (arith, length-room _ _ (sym (c .before .length-agrees .ensures) ∙ not-false _ (c .if3 .left)))
-
-start-at-requires-2 : tie.Need-start-at-requires-2
-start-at-requires-2 c κs = search needs
-
-next-field-requires-3 : tie.Need-next-field-requires-3
-next-field-requires-3 c κs = search needs
-
-enum-known-checksum : tie.Need-enum-known-checksum
-enum-known-checksum c = search needs
-
-enum-told-3 : tie.Need-enum-told-3
-enum-told-3 c = search needs
 
 returns-6 : tie.Need-returns-6
 returns-6 c = sym (left-length (c .before .before .before .before) ∙ summed-none _ _ _ _ _ (sym (rw (c .before .before .before .start-at2 .ensures) at (c .before .before .next-field3 .ensures)) ∙ c .enum-told3 .given .1) _ _)
@@ -121,21 +85,9 @@ read-sum c = sym (rw (c .before .before .before .before .start-at2 .ensures) at 
 returns-7 : tie.Need-returns-7
 returns-7 c = sym (left-length (c .before .before .before .before .before .before .before) ∙ summed-tag _ _ _ _ (read-sum (c .before .before)) _ _ (c .if4 .taken))
 
-sum-agrees-requires : tie.Need-sum-agrees-requires
-sum-agrees-requires c κs = search needs
-
 returns-8 : tie.Need-returns-8
 returns-8 c = let k = c .before .before .before .before in
     sym (left-length (k .before .before .before .before .before) ∙ summed-wrong _ _ _ _ (read-sum k) _ _ (sym (c .before .sum-agrees .ensures) ∙ not-true _ (c .if5 .taken)))
-
-next-field-requires-4 : tie.Need-next-field-requires-4
-next-field-requires-4 c κs = search needs
-
-enum-known-msg-type : tie.Need-enum-known-msg-type
-enum-known-msg-type c = search needs
-
-enum-told-4 : tie.Need-enum-told-4
-enum-told-4 c = search needs
 
 -- what is left to check behind the CheckSum
 left-sum : (c : tie.Else5) → let m = c .before .before .before .before in let l = second-station m in let k = first-station l in integrityOf (mode-of k) (message-of k) ≡ typed (begin-of k) (length-of l) (sum-of m) (fieldAt (mode-of k) (message-of k) (length-of l .next))
@@ -162,31 +114,31 @@ pub verify-spec : {M : Type 1} → statement M
 verify-spec =
     tie.close
     (tie.spec
-    start-at-requires
-    next-field-requires
-    enum-known-begin-string
-    enum-told
+    (λ c κs. search needs)
+    (λ c κs. search needs)
+    (λ c. search needs)
+    (λ c. search needs)
     returns
     returns-2
-    next-field-requires-2
-    enum-known-body-length
-    enum-told-2
+    (λ c κs. search needs)
+    (λ c. search needs)
+    (λ c. search needs)
     returns-3
     returns-4
-    length-agrees-requires
+    (λ c κs. search needs)
     returns-5
     sub-start-at
-    start-at-requires-2
-    next-field-requires-3
-    enum-known-checksum
-    enum-told-3
+    (λ c κs. search needs)
+    (λ c κs. search needs)
+    (λ c. search needs)
+    (λ c. search needs)
     returns-6
     returns-7
-    sum-agrees-requires
+    (λ c κs. search needs)
     returns-8
-    next-field-requires-4
-    enum-known-msg-type
-    enum-told-4
+    (λ c κs. search needs)
+    (λ c. search needs)
+    (λ c. search needs)
     returns-9
     returns-10
     returns-11)

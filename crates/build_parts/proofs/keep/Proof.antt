@@ -10,27 +10,9 @@ use borrow.Author.Needs.{needs}
 use Rattle.build_parts.proofs.keep.Statement.{statement}
 use Rattle.build_parts.proofs.keep.Tie as tie
 
-store-requires : tie.Need-store-requires
-store-requires c κs = search needs
-
-enum-told : tie.Need-enum-told
-enum-told c = search needs
-
-enum-told-2 : tie.Need-enum-told-2
-enum-told-2 c = search needs
-
-add-result : tie.Need-add-result
-add-result c = search needs
-
-same-length : tie.Need-same-length
-same-length c = search needs
-
 returns : tie.Need-returns
 returns c = let k = c .before .before .before .before in
     rw (k .store .ensures .1) (keep-held _ _ _ _ (omega arith) (omega arith) _ (sym (k .store .ensures .0) ∙ c .enum-told .given .1))
-
-same-length-2 : tie.Need-same-length-2
-same-length-2 c = search needs
 
 returns-2 : tie.Need-returns-2
 returns-2 c = let k = c .before .before .before .before in
@@ -40,11 +22,11 @@ pub keep-spec : {M : Type 1} → statement M
 keep-spec =
     tie.close
     (tie.spec
-    store-requires
-    enum-told
-    enum-told-2
-    add-result
-    same-length
+    (λ c κs. search needs)
+    (λ c. search needs)
+    (λ c. search needs)
+    (λ c. search needs)
+    (λ c. search needs)
     returns
-    same-length-2
+    (λ c. search needs)
     returns-2)

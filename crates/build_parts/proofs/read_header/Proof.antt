@@ -24,12 +24,6 @@ abbrev μ-loop : tie.MeasureT-loop
 loop-holds : tie.Need-loop-holds Inv-loop μ-loop
 loop-holds c = (refl, omega arith, omega arith, refl)
 
-next-field-requires : tie.Need-next-field-requires Inv-loop μ-loop
-next-field-requires c κs = search needs
-
-enum-known-answer : tie.Need-enum-known-answer Inv-loop μ-loop
-enum-known-answer c = search needs
-
 same-length : tie.Need-same-length Inv-loop μ-loop
 same-length c = c .before .before .before .before .loop .inv .0
 
@@ -40,18 +34,12 @@ returns c = let l = c .before .before .before .before in (
   stays-refused _ _ _ _ _ (none-before _ _) _,
 )
 
-enum-known-field : tie.Need-enum-known-field Inv-loop μ-loop
-enum-known-field c = search needs
-
 -- the field that was read
 got : (c : tie.After-known-told2 Inv-loop μ-loop) → let l = c .before .before .before .before in Taken (l .before .before .before .before .args .config .mode) (l .before .before .before .before .args .message .now) (l .loop .at) (l .loop .room) (c .before .field .given .0 .0)
 got c = taken _ _ _ _ _ (sym (c .before .before .before .next-field .ensures) ∙ c .before .field .given .1)
 
 sub-room : tie.Need-sub-room Inv-loop μ-loop
 sub-room c = omega (arith, got c .one-less)
-
-holds-requires : tie.Need-holds-requires Inv-loop μ-loop
-holds-requires c κs = search needs
 
 same-length-2 : tie.Need-same-length-2 Inv-loop μ-loop
 same-length-2 c = c .before .before .before .before .before .before .loop .inv .0
@@ -93,13 +81,13 @@ read-header-spec =
     Inv-loop
     μ-loop
     loop-holds
-    next-field-requires
-    enum-known-answer
+    (λ c κs. search needs)
+    (λ c. search needs)
     same-length
     returns
-    enum-known-field
+    (λ c. search needs)
     sub-room
-    holds-requires
+    (λ c κs. search needs)
     same-length-2
     returns-2
     record-of-requires

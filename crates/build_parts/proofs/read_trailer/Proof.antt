@@ -45,23 +45,11 @@ returns-2 c = let i = c .before .before .before .loop .inv in (
   ((omega arith, omega arith), i .4),
 )
 
-sub-room : tie.Need-sub-room Inv-loop μ-loop
-sub-room c = omega arith
-
 record-of-requires : tie.Need-record-of-requires Inv-loop μ-loop
 record-of-requires c κs = let i = c .before .before .before .before .loop .inv .3 in (omega (arith, i .within), omega (arith, i .within))
 
 keep-requires : tie.Need-keep-requires Inv-loop μ-loop
 keep-requires c κs = (omega arith, omega arith)
-
-next-field-requires : tie.Need-next-field-requires Inv-loop μ-loop
-next-field-requires c κs = search needs
-
-enum-known-read : tie.Need-enum-known-read Inv-loop μ-loop
-enum-known-read c = search needs
-
-enum-told : tie.Need-enum-told Inv-loop μ-loop
-enum-told c = search needs
 
 same-length-3 : tie.Need-same-length-3 Inv-loop μ-loop
 same-length-3 c = let k = c .before .before .before .before .before .before in
@@ -75,9 +63,6 @@ returns-3 c = let k = c .before .before .before .before .before .before in
       sym (i .5 ∙ trailer-ends _ _ _ _ _ (e .before .if1 .left) (omega arith) _ _ (sym (c .before .before .next-field .ensures) ∙ c .enum-told .given .1) ∙ rw (k .keep .ensures .part, k .before .record-of .ensures)),
       ((omega (arith, k .keep .ensures .grows), omega (arith, k .keep .ensures .by-one)), k .keep .ensures .before ∙ i .4),
     )
-
-loop-less : tie.Need-loop-less Inv-loop μ-loop
-loop-less c = omega arith
 
 loop-again : tie.Need-loop-again Inv-loop μ-loop
 loop-again c = let k = c .before .before .before .before .before .before .before in
@@ -103,13 +88,13 @@ read-trailer-spec =
     returns
     same-length-2
     returns-2
-    sub-room
+    (λ c. omega arith)
     record-of-requires
     keep-requires
-    next-field-requires
-    enum-known-read
-    enum-told
+    (λ c κs. search needs)
+    (λ c. search needs)
+    (λ c. search needs)
     same-length-3
     returns-3
-    loop-less
+    (λ c. omega arith)
     loop-again)

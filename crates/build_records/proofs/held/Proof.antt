@@ -24,21 +24,12 @@ loop-holds c = refl
 returns : tie.Need-returns Inv-loop μ-loop
 returns c = sym (c .before .before .loop .inv ∙ held-past _ _ _ _ _ (omega (arith, records-length (c .before .before .before .before .args .words .now))))
 
-record-at-requires : tie.Need-record-at-requires Inv-loop μ-loop
-record-at-requires c κs = search needs
-
 returns-2 : tie.Need-returns-2 Inv-loop μ-loop
 returns-2 c = let k = c .before .before .before .before .before .before in
     let l = k .before in
     sym (l .loop .inv ∙ held-here _ _ _ _ _ (omega arith) (omega (arith, records-length (l .before .before .args .words .now)))
     (ap (λ (r : Record). r .depth) (sym (c .before .before .before .before .record-at .ensures)) ∙ c .before .before .if2 .taken)
     (ap (λ (r : Record). r .tag) (sym (c .before .before .before .before .record-at .ensures)) ∙ c .if3 .taken))
-
-add-at : tie.Need-add-at Inv-loop μ-loop
-add-at c = search needs
-
-loop-less : tie.Need-loop-less Inv-loop μ-loop
-loop-less c = omega arith
 
 loop-again : tie.Need-loop-again Inv-loop μ-loop
 loop-again c = let l = c .before .before .before .before .before in
@@ -61,9 +52,9 @@ held-spec =
     μ-loop
     loop-holds
     returns
-    record-at-requires
+    (λ c κs. search needs)
     returns-2
-    add-at
-    loop-less
+    (λ c. search needs)
+    (λ c. omega arith)
     loop-again
     returns-3)

@@ -26,18 +26,6 @@ returns-2 c = sym (insert-full _ _ _ _ (c .if2 .taken))
 loop-holds : tie.Need-loop-holds Inv-loop μ-loop
 loop-holds c = (omega arith, omega arith, refl, insert-starts _ _ _ _ (omega arith) (omega arith))
 
-record-at-requires : tie.Need-record-at-requires Inv-loop μ-loop
-record-at-requires c κs = search needs
-
-replace-requires : tie.Need-replace-requires Inv-loop μ-loop
-replace-requires c κs = search needs
-
-add-at : tie.Need-add-at Inv-loop μ-loop
-add-at c = search needs
-
-loop-less : tie.Need-loop-less Inv-loop μ-loop
-loop-less c = omega arith
-
 loop-again : tie.Need-loop-again Inv-loop μ-loop
 loop-again c = let l = c .before .before .before .before .before .before .before in
     let i = l .loop .inv in
@@ -47,12 +35,6 @@ loop-again c = let l = c .before .before .before .before .before .before .before
       k ∙ i .2,
       i .3 ∙ insert-turn _ _ _ _ (omega arith) (i .1) ∙ rw (c .before .before .replace .ensures, c .before .before .before .before .record-at .ensures),
     )
-
-replace-requires-2 : tie.Need-replace-requires-2 Inv-loop μ-loop
-replace-requires-2 c κs = search needs
-
-same-length : tie.Need-same-length Inv-loop μ-loop
-same-length c = search needs
 
 returns-3 : tie.Need-returns-3 Inv-loop μ-loop
 returns-3 c = let l = c .before .before .before .before .before in
@@ -68,11 +50,11 @@ insert-spec =
     returns
     returns-2
     loop-holds
-    record-at-requires
-    replace-requires
-    add-at
-    loop-less
+    (λ c κs. search needs)
+    (λ c κs. search needs)
+    (λ c. search needs)
+    (λ c. omega arith)
     loop-again
-    replace-requires-2
-    same-length
+    (λ c κs. search needs)
+    (λ c. search needs)
     returns-3)

@@ -26,21 +26,6 @@ returns-2 c = sym (remove-many _ _ _ _ (c .if2 .taken))
 loop-holds : tie.Need-loop-holds Inv-loop μ-loop
 loop-holds c = (omega arith, omega arith, refl, remove-starts _ _ _ _ (omega arith) (omega arith))
 
-add-record-at : tie.Need-add-record-at Inv-loop μ-loop
-add-record-at c = search needs
-
-record-at-requires : tie.Need-record-at-requires Inv-loop μ-loop
-record-at-requires c κs = search needs
-
-replace-requires : tie.Need-replace-requires Inv-loop μ-loop
-replace-requires c κs = search needs
-
-add-at : tie.Need-add-at Inv-loop μ-loop
-add-at c = search needs
-
-loop-less : tie.Need-loop-less Inv-loop μ-loop
-loop-less c = omega arith
-
 loop-again : tie.Need-loop-again Inv-loop μ-loop
 loop-again c = let l = c .before .before .before .before .before .before .before in
     let i = l .loop .inv in
@@ -50,9 +35,6 @@ loop-again c = let l = c .before .before .before .before .before .before .before
       k ∙ i .2,
       i .3 ∙ remove-turn _ _ _ _ (omega arith) (i .0) ∙ rw (c .before .before .replace .ensures, c .before .before .before .before .record-at .ensures),
     )
-
-same-length : tie.Need-same-length Inv-loop μ-loop
-same-length c = search needs
 
 returns-3 : tie.Need-returns-3 Inv-loop μ-loop
 returns-3 c = sym (c .before .loop .inv .3 ∙ remove-ends _ _ _ _ (omega arith))
@@ -66,11 +48,11 @@ remove-spec =
     returns
     returns-2
     loop-holds
-    add-record-at
-    record-at-requires
-    replace-requires
-    add-at
-    loop-less
+    (λ c. search needs)
+    (λ c κs. search needs)
+    (λ c κs. search needs)
+    (λ c. search needs)
+    (λ c. omega arith)
     loop-again
-    same-length
+    (λ c. search needs)
     returns-3)

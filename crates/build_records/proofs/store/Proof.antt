@@ -8,31 +8,10 @@ use Rattle.build_records.specs.RecordLaws.{between-held, between-new}
 use Rattle.build_records.proofs.store.Statement.{statement}
 use Rattle.build_records.proofs.store.Tie as tie
 
-held-requires : tie.Need-held-requires
-held-requires c κs = search needs
-
-enum-known-standing : tie.Need-enum-known-standing
-enum-known-standing c = search needs
-
-replace-requires : tie.Need-replace-requires
-replace-requires c κs = search needs
-
-enum-told : tie.Need-enum-told
-enum-told c = search needs
-
-insert-requires : tie.Need-insert-requires
-insert-requires c κs = search needs
-
-same-length : tie.Need-same-length
-same-length c = search needs
-
 returns : tie.Need-returns
 returns c = let h = c .before .before .before .before .before .before .before .held .ensures in
     let e = sym h ∙ c .before .before .before .before .before .standing .given .1 in
     (sym e, c .before .before .replace .ensures ∙ on-same _ _ _ (sym (between-held _ _ _ _ _ _ e)))
-
-same-length-2 : tie.Need-same-length-2
-same-length-2 c = search needs
 
 returns-2 : tie.Need-returns-2
 returns-2 c = let h = c .before .before .before .before .before .before .held .ensures in
@@ -43,12 +22,12 @@ pub store-spec : {M : Type 1} → statement M
 store-spec =
     tie.close
     (tie.spec
-    held-requires
-    enum-known-standing
-    replace-requires
-    enum-told
-    insert-requires
-    same-length
+    (λ c κs. search needs)
+    (λ c. search needs)
+    (λ c κs. search needs)
+    (λ c. search needs)
+    (λ c κs. search needs)
+    (λ c. search needs)
     returns
-    same-length-2
+    (λ c. search needs)
     returns-2)

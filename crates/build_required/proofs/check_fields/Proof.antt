@@ -23,15 +23,6 @@ abbrev μ-loop : tie.MeasureT-loop
 loop-holds : tie.Need-loop-holds Inv-loop μ-loop
 loop-holds c = unfold lackOfFields tableDemands in refl
 
-next-required-requires : tie.Need-next-required-requires Inv-loop μ-loop
-next-required-requires c κs = search needs
-
-enum-known-tag : tie.Need-enum-known-tag Inv-loop μ-loop
-enum-known-tag c = search needs
-
-enum-told : tie.Need-enum-told Inv-loop μ-loop
-enum-told c = search needs
-
 returns : tie.Need-returns Inv-loop μ-loop
 returns c = let l = c .before .before .before in
     sym (l .loop .inv ∙ fields-over _ _ _ _ (required-over _ _ (sym (c .before .before .next-required .ensures) ∙ c .enum-told .given .1)))
@@ -39,15 +30,6 @@ returns c = let l = c .before .before .before in
 -- the next required tag, and what is left
 next-tag : (c : tie.After-known-told Inv-loop μ-loop) → let l = c .before .before .before .before in NextOf (l .before .before .before .before .args .table .now) (l .loop .rest) (c .before .tag .given .0 .0) (c .before .tag .given .0 .1 .0)
 next-tag c = required-next _ _ _ _ (sym (c .before .before .before .next-required .ensures) ∙ c .before .tag .given .1)
-
-held-requires : tie.Need-held-requires Inv-loop μ-loop
-held-requires c κs = search needs
-
-enum-told-2 : tie.Need-enum-told-2 Inv-loop μ-loop
-enum-told-2 c = search needs
-
-enum-told-3 : tie.Need-enum-told-3 Inv-loop μ-loop
-enum-told-3 c = search needs
 
 returns-2 : tie.Need-returns-2 Inv-loop μ-loop
 returns-2 c = let k = c .before .before .before in
@@ -67,13 +49,13 @@ check-fields-spec =
     Inv-loop
     μ-loop
     loop-holds
-    next-required-requires
-    enum-known-tag
-    enum-told
+    (λ c κs. search needs)
+    (λ c. search needs)
+    (λ c. search needs)
     returns
-    held-requires
-    enum-told-2
-    enum-told-3
+    (λ c κs. search needs)
+    (λ c. search needs)
+    (λ c. search needs)
     returns-2
     loop-less
     loop-again)

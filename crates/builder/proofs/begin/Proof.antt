@@ -12,15 +12,6 @@ use borrow.Author.Needs.{needs}
 use Rattle.builder.proofs.begin.Statement.{statement}
 use Rattle.builder.proofs.begin.Tie as tie
 
-verify-requires : tie.Need-verify-requires
-verify-requires c κs = search needs
-
-enum-known-reason : tie.Need-enum-known-reason
-enum-known-reason c = search needs
-
-enum-known-verified : tie.Need-enum-known-verified
-enum-known-verified c = search needs
-
 -- the frame is sound
 sound : (c : tie.After-known-told2) → let a = c .before .before .before .before .before .before .before .args in integrityOf (a .config .mode) (a .message .now) ≡ Sound (c .before .verified .given .0 .0)
 sound c = sym (c .before .before .before .verify .ensures) ∙ c .before .verified .given .1
@@ -35,26 +26,14 @@ read-header-requires c κs = let k = c .before .before .before in
     let p = k .before .before .before .before .before .before .before .before .before .before .before .before .pre in
     (p .0, omega (arith, p .1, k .keep-verified .ensures .1, k .keep-verified .kept .0))
 
-enum-known-answer : tie.Need-enum-known-answer
-enum-known-answer c = search needs
-
-enum-known-stop : tie.Need-enum-known-stop
-enum-known-stop c = search needs
-
 returns : tie.Need-returns
 returns c = (start-garbled _ _ _ _ _ (sym (c .before .before .before .verify .ensures) ∙ c .before .reason .given .1), begins-refused _ _ _)
-
-same-length : tie.Need-same-length
-same-length c = search needs
 
 returns-2 : tie.Need-returns-2
 returns-2 c = let h = c .before .before .before .before .before in
     let k = h .before .before .before .before in
     let s = k .before .before .before .before .before in
     (start-refused _ _ _ _ _ _ _ (k .keep-verified .ensures .0) _ (h .read-header .ensures .0) (sound s) _ (c .before .answer .given .1), begins-refused _ _ _)
-
-same-length-2 : tie.Need-same-length-2
-same-length-2 c = search needs
 
 returns-3 : tie.Need-returns-3
 returns-3 c = let h = c .before .before .before .before .before in
@@ -74,15 +53,15 @@ pub begin-spec : {M : Type 1} → statement M
 begin-spec =
     tie.close
     (tie.spec
-    verify-requires
-    enum-known-reason
-    enum-known-verified
+    (λ c κs. search needs)
+    (λ c. search needs)
+    (λ c. search needs)
     keep-verified-requires
     read-header-requires
-    enum-known-answer
-    enum-known-stop
+    (λ c. search needs)
+    (λ c. search needs)
     returns
-    same-length
+    (λ c. search needs)
     returns-2
-    same-length-2
+    (λ c. search needs)
     returns-3)

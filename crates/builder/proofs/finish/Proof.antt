@@ -13,15 +13,6 @@ use borrow.Author.Needs.{needs}
 use Rattle.builder.proofs.finish.Statement.{statement}
 use Rattle.builder.proofs.finish.Tie as tie
 
-read-body-requires : tie.Need-read-body-requires
-read-body-requires c κs = search needs
-
-enum-known-answer : tie.Need-enum-known-answer
-enum-known-answer c = search needs
-
-enum-known-field : tie.Need-enum-known-field
-enum-known-field c = search needs
-
 -- where the body ended
 abbrev body-of : tie.After-known-told2 → tie.After-read-body
 body-of c = c .before .before .before .before .before
@@ -32,9 +23,6 @@ ends c = body-of c .read-body .ensures .1 .ends _ _ (c .before .field .given .1)
 words-kept : (c : tie.After-known-told2) → c .before .field .given .0 .1 .0 .records + c .before .field .given .0 .1 .0 .room < length (body-of c .read-body .last .1 .1 .1 .1 .1 .1 .1 .0) / stride
 words-kept c = omega (arith, ends c .fits, body-of c .read-body .kept .1 .1 .1 .1 .1 .1 .1 .0)
 
-record-of-requires : tie.Need-record-of-requires
-record-of-requires c κs = search needs
-
 keep-requires : tie.Need-keep-requires
 keep-requires c κs = (omega arith, omega (arith, words-kept (c .before .before)))
 
@@ -43,25 +31,10 @@ read-trailer-requires c κs = let h = c .before .before .before in
     let k = h .before .before .before in
     (body-of k .before .before .before .before .before .before .before .before .before .pre .0, ends k .inside, h .keep .ensures .grows, omega (arith, words-kept k, h .keep .ensures .by-one, h .keep .kept .0))
 
-enum-known-stop : tie.Need-enum-known-stop
-enum-known-stop c = search needs
-
-enum-known-count : tie.Need-enum-known-count
-enum-known-count c = search needs
-
-enum-told : tie.Need-enum-told
-enum-told c = search needs
-
-same-length : tie.Need-same-length
-same-length c = search needs
-
 returns : tie.Need-returns
 unfolding finishCounts
 returns c = let b = c .before .before .before .before .before in
     (finish-refused _ _ _ _ _ _ _ (b .read-body .ensures .1 .before) _ _ (c .before .answer .given .1) (b .read-body .ensures .0 ∙ ap (bodyFrom _ _ _) (part-empty _ _)), omega arith)
-
-same-length-2 : tie.Need-same-length-2
-same-length-2 c = search needs
 
 returns-2 : tie.Need-returns-2
 unfolding finishCounts
@@ -72,9 +45,6 @@ returns-2 c = let t = c .before .before .before .before .before in
     let n = stopped-counts (k .before .field .given .0 .1 .0 .records) _ _ _ (c .before .stop .given .1) in
     (finish-stopped _ _ _ _ _ _ _ (b .read-body .ensures .1 .before) _ _ _ (k .before .field .given .1) (b .read-body .ensures .0 ∙ ap (bodyFrom _ _ _) (part-empty _ _)) (ends k .starts) _ (h .before .record-of .ensures) _ _ _ (h .keep .ensures) (t .read-trailer .ensures .1 .1) _ (t .read-trailer .ensures .0) _ _ (c .before .stop .given .1) (omega (arith, n, t .read-trailer .ensures .1 .0 .0)), omega (arith, n, t .read-trailer .ensures .1 .0 .1, ends k .fits, h .keep .ensures .by-one))
 
-same-length-3 : tie.Need-same-length-3
-same-length-3 c = search needs
-
 returns-3 : tie.Need-returns-3
 unfolding finishCounts
 returns-3 c = let t = c .before .before .before .before .before in
@@ -83,9 +53,6 @@ returns-3 c = let t = c .before .before .before .before .before in
     let b = body-of k in
     let n = unstopped-counts (k .before .field .given .0 .1 .0 .records) _ _ (c .before .count .given .1) in
     (finish-unstopped _ _ _ _ _ _ _ (b .read-body .ensures .1 .before) _ _ _ (k .before .field .given .1) (b .read-body .ensures .0 ∙ ap (bodyFrom _ _ _) (part-empty _ _)) (ends k .starts) _ (h .before .record-of .ensures) _ _ _ (h .keep .ensures) (t .read-trailer .ensures .1 .1) _ (t .read-trailer .ensures .0) _ (c .before .count .given .1) (omega (arith, n, t .read-trailer .ensures .1 .0 .0)), omega (arith, n, t .read-trailer .ensures .1 .0 .1, ends k .fits, h .keep .ensures .by-one))
-
-same-length-4 : tie.Need-same-length-4
-same-length-4 c = search needs
 
 returns-4 : tie.Need-returns-4
 unfolding finishCounts
@@ -99,20 +66,20 @@ pub finish-spec : {M : Type 1} → statement M
 finish-spec =
     tie.close
     (tie.spec
-    read-body-requires
-    enum-known-answer
-    enum-known-field
-    record-of-requires
+    (λ c κs. search needs)
+    (λ c. search needs)
+    (λ c. search needs)
+    (λ c κs. search needs)
     keep-requires
     read-trailer-requires
-    enum-known-stop
-    enum-known-count
-    enum-told
-    same-length
+    (λ c. search needs)
+    (λ c. search needs)
+    (λ c. search needs)
+    (λ c. search needs)
     returns
-    same-length-2
+    (λ c. search needs)
     returns-2
-    same-length-3
+    (λ c. search needs)
     returns-3
-    same-length-4
+    (λ c. search needs)
     returns-4)

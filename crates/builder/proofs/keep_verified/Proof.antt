@@ -14,9 +14,6 @@ record-of-requires-2 c κs = c .before .before .pre .1 .counts
 record-of-requires-3 : tie.Need-record-of-requires-3
 record-of-requires-3 c κs = c .before .before .before .pre .1 .types
 
-keep-requires : tie.Need-keep-requires
-keep-requires c κs = search needs
-
 keep-requires-2 : tie.Need-keep-requires-2
 keep-requires-2 c κs = let k = c .before .before .before in
     (omega arith, omega (arith, k .keep .ensures .by-one, k .keep .kept .0))
@@ -25,9 +22,6 @@ keep-requires-3 : tie.Need-keep-requires-3
 keep-requires-3 c κs = let m = c .before .before .before in
     let k = m .before .before .before .before in
     (omega arith, omega (arith, k .keep .ensures .by-one, k .keep .kept .0, m .keep2 .ensures .by-one, m .keep2 .kept .0))
-
-same-length : tie.Need-same-length
-same-length c = search needs
 
 returns : tie.Need-returns
 returns c = let n = c .before .before in
@@ -45,8 +39,8 @@ keep-verified-spec =
     record-of-requires
     record-of-requires-2
     record-of-requires-3
-    keep-requires
+    (λ c κs. search needs)
     keep-requires-2
     keep-requires-3
-    same-length
+    (λ c. search needs)
     returns)

@@ -23,27 +23,15 @@ loop-holds : tie.Need-loop-holds Inv-loop μ-loop
 unfolding partOf
 loop-holds c = refl
 
-record-at-requires : tie.Need-record-at-requires Inv-loop μ-loop
-record-at-requires c κs = search needs
-
 returns : tie.Need-returns Inv-loop μ-loop
 returns c = let l = c .before .before .before .before in
     let e = c .before .before .record-at .ensures in
     e ∙ sym (l .loop .inv ∙ type-here _ _ _ (omega arith) (omega (arith, records-length (l .before .before .args .words .now))) (ap (λ (r : Record). r .tag) (sym e) ∙ c .if1 .taken))
 
-add-i : tie.Need-add-i Inv-loop μ-loop
-add-i c = search needs
-
-loop-less : tie.Need-loop-less Inv-loop μ-loop
-loop-less c = omega arith
-
 loop-again : tie.Need-loop-again Inv-loop μ-loop
 loop-again c = let l = c .before .before .before .before in
     let e = c .before .before .record-at .ensures in
     l .loop .inv ∙ type-later _ _ _ (omega arith) (omega (arith, records-length (l .before .before .args .words .now))) (λ t. c .if1 .left (ap (λ (r : Record). r .tag) e ∙ t))
-
-record-at-requires-2 : tie.Need-record-at-requires-2 Inv-loop μ-loop
-record-at-requires-2 c κs = search needs
 
 returns-2 : tie.Need-returns-2 Inv-loop μ-loop
 returns-2 c = let l = c .before .before in
@@ -56,10 +44,10 @@ msg-type-of-spec =
     Inv-loop
     μ-loop
     loop-holds
-    record-at-requires
+    (λ c κs. search needs)
     returns
-    add-i
-    loop-less
+    (λ c. search needs)
+    (λ c. omega arith)
     loop-again
-    record-at-requires-2
+    (λ c κs. search needs)
     returns-2)

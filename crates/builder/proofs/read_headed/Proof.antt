@@ -34,27 +34,9 @@ called c = c .before .before .before .before .before .before .before
 msg-type-of-requires : tie.Need-msg-type-of-requires
 msg-type-of-requires c κs = omega (arith, c .before .before .before .before .before .before .pre .2 .fits)
 
-cast-place : tie.Need-cast-place
-cast-place c = search needs
-
-cast-length : tie.Need-cast-length
-cast-length c = search needs
-
-add-message-table : tie.Need-add-message-table
-add-message-table c = search needs
-
-sub-message-table : tie.Need-sub-message-table
-sub-message-table c = search needs
-
-part-message-table-start : tie.Need-part-message-table-start
-part-message-table-start c = search needs
-
 part-message-table-end : tie.Need-part-message-table-end
 part-message-table-end c = let t = c .before .before in
     type-inside (called t .args .message .now) (t .msg-type-of .result) _ (t .msg-type-of .ensures) (called t .pre .2 .types)
-
-message-table-requires : tie.Need-message-table-requires
-message-table-requires c κs = search needs
 
 -- what was answered and written is what the tree says of MsgType
 told : (c : tie.After-message-table) → let a = called (typed c) .args in
@@ -65,9 +47,6 @@ told c = let t = typed c in
     type-told (s .args .dictionary .now) (s .args .index .now) (s .pre .3) (bytes-of _ (λ i. k .shared-slice-known2 .given i .fits)) (s .args .message .now) (bytes-of _ (λ i. k .before .shared-slice-known .given i .fits))
     (t .msg-type-of .result) _ (t .msg-type-of .ensures) _ (length-replicate {A = ℕ} 4096 0) (c .message-table .result) _ (c .message-table .ensures)
 
-enum-known-rows : tie.Need-enum-known-rows
-enum-known-rows c = search needs
-
 slice-aggregate-finish : tie.Need-slice-aggregate-finish
 slice-aggregate-finish c = written-size _ (told (c .before .before .before .before)) _ _ refl
 
@@ -75,18 +54,12 @@ finish-requires : tie.Need-finish-requires
 finish-requires c κs = let p = called (typed (c .before .before .before .before .before)) .pre in
     (p .0, p .2 .stops, p .2 .sums, p .2 .fits, omega (arith, p .1))
 
-same-length : tie.Need-same-length
-same-length c = search needs
-
 returns : tie.Need-returns
 returns c = let f = c .before .before in
     let m = f .before .before .before .before .before .before in
     let s = called (typed m) in
     let h = s .args .headed in
     (f .finish .ensures .0 ∙ laid-after (s .args .dictionary .now) (s .args .index .now) (s .pre .3) (s .args .config) (h .stop) _ (h .progress .room) (h .checksum) _ (told m) _ (m .message-table .result) _ refl _ (f .before .before .before .before .rows .given .1) _ (s .pre .4), omega (arith, f .finish .ensures .1, s .pre .1))
-
-same-length-2 : tie.Need-same-length-2
-same-length-2 c = search needs
 
 -- the answers of the other arm have no rows
 rowless : (answer : MessageTable) → OneOf (1 ∷ 2 ∷ []) (tagOf table-type.the-type answer) → (rows : ℕ) → answer ≡ Rows rows → ⊥
@@ -107,17 +80,17 @@ read-headed-spec =
     tie.close
     (tie.spec
     msg-type-of-requires
-    cast-place
-    cast-length
-    add-message-table
-    sub-message-table
-    part-message-table-start
+    (λ c. search needs)
+    (λ c. search needs)
+    (λ c. search needs)
+    (λ c. search needs)
+    (λ c. search needs)
     part-message-table-end
-    message-table-requires
-    enum-known-rows
+    (λ c κs. search needs)
+    (λ c. search needs)
     slice-aggregate-finish
     finish-requires
-    same-length
+    (λ c. search needs)
     returns
-    same-length-2
+    (λ c. search needs)
     returns-2)

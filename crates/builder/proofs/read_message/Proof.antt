@@ -8,26 +8,11 @@ use borrow.Author.Needs.{needs}
 use Rattle.builder.proofs.read_message.Statement.{statement}
 use Rattle.builder.proofs.read_message.Tie as tie
 
-tags-of-requires : tie.Need-tags-of-requires
-tags-of-requires c κs = search needs
-
-tags-of-requires-2 : tie.Need-tags-of-requires-2
-tags-of-requires-2 c κs = search needs
-
 array-share-prefix-header-tags : tie.Need-array-share-prefix-header-tags
 array-share-prefix-header-tags c = c .before .before .tags-of .ensures .1
 
 slice-aggregate-begin : tie.Need-slice-aggregate-begin
 slice-aggregate-begin c = sym (length-take-le _ _ (c .before .before .before .tags-of .ensures .1))
-
-begin-requires : tie.Need-begin-requires
-begin-requires c κs = search needs
-
-enum-known-answer : tie.Need-enum-known-answer
-enum-known-answer c = search needs
-
-enum-known-headed : tie.Need-enum-known-headed
-enum-known-headed c = search needs
 
 array-share-prefix-trailer-tags : tie.Need-array-share-prefix-trailer-tags
 array-share-prefix-trailer-tags c = c .before .before .before .before .before .before .before .before .before .tags-of2 .ensures .1
@@ -41,32 +26,14 @@ read-headed-requires c κs = let s = c .before .before .before .before .before .
     let b = c .before .before .before .before .before .before .before .before in
     (s .pre .0, omega (arith, s .pre .1, b .begin .kept .1 .1 .1 .0), b .begin .ensures .1 .ends _ (c .before .before .before .before .headed .given .1), s .pre .2, c .before .before .before .before .before .before .before .before .before .before .before .tags-of2 .ensures .0)
 
-enum-known-stop : tie.Need-enum-known-stop
-enum-known-stop c = search needs
-
-enum-known-answer-2 : tie.Need-enum-known-answer-2
-enum-known-answer-2 c = search needs
-
-shown-with-requires : tie.Need-shown-with-requires
-shown-with-requires c κs = search needs
-
-same-length : tie.Need-same-length
-same-length c = search needs
-
 returns : tie.Need-returns
 unfolding standardTags
 returns c = (read-refused _ _ _ _ _ (c .before .before .before .before .before .before .before .before .before .before .tags-of .ensures .0) _ (c .before .before .before .before .before .begin .ensures .0) _ (c .before .answer .given .1) _, omega arith)
-
-same-length-2 : tie.Need-same-length-2
-same-length-2 c = search needs
 
 returns-2 : tie.Need-returns-2
 unfolding standardTags
 returns-2 c = let r = c .before .before .before .before .before .read-headed in
     (read-whole _ _ _ _ _ (c .before .before .before .before .before .before .before .before .before .before .before .before .before .before .before .before .before .before .before .tags-of .ensures .0) _ (c .before .before .before .before .before .before .before .before .before .before .before .before .before .before .begin .ensures .0) _ (c .before .before .before .before .before .before .before .before .before .before .headed .given .1) _ _ (r .ensures .0) _ _ (c .before .stop .given .1), omega (arith, r .ensures .1, whole-counts _ _ _ (c .before .stop .given .1)))
-
-same-length-3 : tie.Need-same-length-3
-same-length-3 c = search needs
 
 returns-3 : tie.Need-returns-3
 unfolding standardTags
@@ -79,22 +46,22 @@ pub read-message-spec : {M : Type 1} → statement M
 read-message-spec =
     tie.close
     (tie.spec
-    tags-of-requires
-    tags-of-requires-2
+    (λ c κs. search needs)
+    (λ c κs. search needs)
     array-share-prefix-header-tags
     slice-aggregate-begin
-    begin-requires
-    enum-known-answer
-    enum-known-headed
+    (λ c κs. search needs)
+    (λ c. search needs)
+    (λ c. search needs)
     array-share-prefix-trailer-tags
     slice-aggregate-read-headed
     read-headed-requires
-    enum-known-stop
-    enum-known-answer-2
-    shown-with-requires
-    same-length
+    (λ c. search needs)
+    (λ c. search needs)
+    (λ c κs. search needs)
+    (λ c. search needs)
     returns
-    same-length-2
+    (λ c. search needs)
     returns-2
-    same-length-3
+    (λ c. search needs)
     returns-3)

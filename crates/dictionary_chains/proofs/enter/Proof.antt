@@ -9,27 +9,9 @@ use Rattle.dictionary_chains.specs.ChainLaws.{head-small, entered-late, 
 use Rattle.dictionary_chains.proofs.enter.Statement.{statement}
 use Rattle.dictionary_chains.proofs.enter.Tie as tie
 
-wide-requires : tie.Need-wide-requires
-wide-requires c κs = search needs
-
 returns : tie.Need-returns
 returns c = let w = c .before in
     sym (entered-late _ _ _ (omega (arith, w .wide .ensures)))
-
-add-number : tie.Need-add-number
-add-number c = search needs
-
-key-of-requires : tie.Need-key-of-requires
-key-of-requires c κs = search needs
-
-head-of-requires : tie.Need-head-of-requires
-head-of-requires c κs = search needs
-
-mul-at : tie.Need-mul-at
-mul-at c = search needs
-
-add-at : tie.Need-add-at
-add-at c = search needs
 
 mul-index : tie.Need-mul-index
 mul-index c = omega (arith, head-small (c .before .before .before .before .before .args .table) (c .before .key-of .result), c .head-of .ensures)
@@ -37,59 +19,20 @@ mul-index c = omega (arith, head-small (c .before .before .before .before .befor
 slice-read-index : tie.Need-slice-read-index
 slice-read-index c = omega (arith, head-small (c .before .before .before .before .before .before .args .table) (c .before .before .key-of .result), c .before .head-of .ensures)
 
-mul-index-2 : tie.Need-mul-index-2
-mul-index-2 c = search needs
-
-slice-write-index : tie.Need-slice-write-index
-slice-write-index c = search needs
-
-add-index : tie.Need-add-index
-add-index c = search needs
-
-mul-index-3 : tie.Need-mul-index-3
-mul-index-3 c = search needs
-
 slice-write-index-2 : tie.Need-slice-write-index-2
 slice-write-index-2 c = simp length-set (omega arith)
-
-add-index-2 : tie.Need-add-index-2
-add-index-2 c = search needs
-
-mul-index-4 : tie.Need-mul-index-4
-mul-index-4 c = search needs
 
 slice-write-index-3 : tie.Need-slice-write-index-3
 slice-write-index-3 c = simp length-set (omega arith)
 
-add-index-3 : tie.Need-add-index-3
-add-index-3 c = search needs
-
-mul-index-5 : tie.Need-mul-index-5
-mul-index-5 c = search needs
-
 slice-write-index-4 : tie.Need-slice-write-index-4
 slice-write-index-4 c = simp length-set (omega arith)
-
-add-index-4 : tie.Need-add-index-4
-add-index-4 c = search needs
-
-mul-index-6 : tie.Need-mul-index-6
-mul-index-6 c = search needs
 
 slice-write-index-5 : tie.Need-slice-write-index-5
 slice-write-index-5 c = simp length-set (omega arith)
 
-add-index-5 : tie.Need-add-index-5
-add-index-5 c = search needs
-
-mul-index-7 : tie.Need-mul-index-7
-mul-index-7 c = search needs
-
 slice-write-index-6 : tie.Need-slice-write-index-6
 slice-write-index-6 c = simp length-set (omega arith)
-
-cast-index : tie.Need-cast-index
-cast-index c = search needs
 
 mul-index-8 : tie.Need-mul-index-8
 mul-index-8 c = omega (arith, head-small (c .before .before .before .before .before .before .args .table) (c .before .before .key-of .result), c .before .head-of .ensures)
@@ -110,33 +53,33 @@ pub enter-spec : {M : Type 1} → statement M
 enter-spec =
     tie.close
     (tie.spec
-    wide-requires
+    (λ c κs. search needs)
     returns
-    add-number
-    key-of-requires
-    head-of-requires
-    mul-at
-    add-at
+    (λ c. search needs)
+    (λ c κs. search needs)
+    (λ c κs. search needs)
+    (λ c. search needs)
+    (λ c. search needs)
     mul-index
     slice-read-index
-    mul-index-2
-    slice-write-index
-    add-index
-    mul-index-3
+    (λ c. search needs)
+    (λ c. search needs)
+    (λ c. search needs)
+    (λ c. search needs)
     slice-write-index-2
-    add-index-2
-    mul-index-4
+    (λ c. search needs)
+    (λ c. search needs)
     slice-write-index-3
-    add-index-3
-    mul-index-5
+    (λ c. search needs)
+    (λ c. search needs)
     slice-write-index-4
-    add-index-4
-    mul-index-6
+    (λ c. search needs)
+    (λ c. search needs)
     slice-write-index-5
-    add-index-5
-    mul-index-7
+    (λ c. search needs)
+    (λ c. search needs)
     slice-write-index-6
-    cast-index
+    (λ c. search needs)
     mul-index-8
     slice-write-index-7
     same-length

@@ -15,17 +15,11 @@ Inv-loop index table key head limit₀ link₀ limit link = (limit ≤ 15001) ×
 abbrev μ-loop : tie.MeasureT-loop
 μ-loop index table key head limit₀ link₀ limit link = limit
 
-head-of-requires : tie.Need-head-of-requires Inv-loop μ-loop
-head-of-requires c κs = search needs
-
 mul-wide : tie.Need-mul-wide Inv-loop μ-loop
 mul-wide c = omega (arith, head-small (c .before .before .args .table) (c .before .before .args .key), c .head-of .ensures)
 
 shared-slice-read-wide : tie.Need-shared-slice-read-wide Inv-loop μ-loop
 shared-slice-read-wide c = omega (arith, head-small (c .before .before .before .args .table) (c .before .before .before .args .key), c .before .head-of .ensures)
-
-wide-requires : tie.Need-wide-requires Inv-loop μ-loop
-wide-requires c κs = search needs
 
 loop-holds : tie.Need-loop-holds Inv-loop μ-loop
 loop-holds c = (omega arith, unfold found in rw (c .wide .ensures, c .before .before .head-of .ensures))
@@ -33,32 +27,8 @@ loop-holds c = (omega arith, unfold found in rw (c .wide .ensures, c .before .be
 returns : tie.Need-returns Inv-loop μ-loop
 returns c = let l = c .before .before in sym (l .loop .inv .1 ∙ follow-zero _ _ _ _ _ (c .if1 .taken))
 
-entry-at-requires : tie.Need-entry-at-requires Inv-loop μ-loop
-entry-at-requires c κs = search needs
-
-key-of-requires : tie.Need-key-of-requires Inv-loop μ-loop
-key-of-requires c κs = search needs
-
 returns-2 : tie.Need-returns-2 Inv-loop μ-loop
 returns-2 c = let l = c .before .before .before .before .before in sym (l .loop .inv .1 ∙ follow-hit _ _ _ _ _ (c .before .before .before .before .loop-test .taken) (c .before .before .before .if1 .left) (ap (keyOf _) (sym (c .before .before .entry-at .ensures)) ∙ sym (c .before .key-of .ensures) ∙ c .if2 .taken))
-
-mul-wide-2 : tie.Need-mul-wide-2 Inv-loop μ-loop
-mul-wide-2 c = search needs
-
-add-wide : tie.Need-add-wide Inv-loop μ-loop
-add-wide c = search needs
-
-mul-wide-3 : tie.Need-mul-wide-3 Inv-loop μ-loop
-mul-wide-3 c = search needs
-
-shared-slice-read-wide-2 : tie.Need-shared-slice-read-wide-2 Inv-loop μ-loop
-shared-slice-read-wide-2 c = search needs
-
-wide-requires-2 : tie.Need-wide-requires-2 Inv-loop μ-loop
-wide-requires-2 c κs = search needs
-
-loop-less : tie.Need-loop-less Inv-loop μ-loop
-loop-less c = search needs
 
 loop-again : tie.Need-loop-again Inv-loop μ-loop
 loop-again c = let d = c .before .before in let l = d .before .before .before .before .before in
@@ -73,20 +43,20 @@ find-spec =
     (tie.spec
     Inv-loop
     μ-loop
-    head-of-requires
+    (λ c κs. search needs)
     mul-wide
     shared-slice-read-wide
-    wide-requires
+    (λ c κs. search needs)
     loop-holds
     returns
-    entry-at-requires
-    key-of-requires
+    (λ c κs. search needs)
+    (λ c κs. search needs)
     returns-2
-    mul-wide-2
-    add-wide
-    mul-wide-3
-    shared-slice-read-wide-2
-    wide-requires-2
-    loop-less
+    (λ c. search needs)
+    (λ c. search needs)
+    (λ c. search needs)
+    (λ c. search needs)
+    (λ c κs. search needs)
+    (λ c. search needs)
     loop-again
     returns-3)

@@ -4,48 +4,6 @@ use Rattle.dictionary_rules.specs.Check.{valuesOfCheck}
 use Rattle.dictionary_check.proofs.value_of.Statement.{statement}
 use Rattle.dictionary_check.proofs.value_of.Tie as tie
 
-enum-told : tie.Need-enum-told
-enum-told c = search needs
-
-enum-told-2 : tie.Need-enum-told-2
-enum-told-2 c = search needs
-
-enum-known-checked : tie.Need-enum-known-checked
-enum-known-checked c = search needs
-
-cast-result : tie.Need-cast-result
-cast-result c = search needs
-
-enum-known-checked-2 : tie.Need-enum-known-checked-2
-enum-known-checked-2 c = search needs
-
-cast-result-2 : tie.Need-cast-result-2
-cast-result-2 c = search needs
-
-enum-known-checked-3 : tie.Need-enum-known-checked-3
-enum-known-checked-3 c = search needs
-
-enum-known-checked-4 : tie.Need-enum-known-checked-4
-enum-known-checked-4 c = search needs
-
-enum-known-checked-5 : tie.Need-enum-known-checked-5
-enum-known-checked-5 c = search needs
-
-cast-result-3 : tie.Need-cast-result-3
-cast-result-3 c = search needs
-
-enum-known-checked-6 : tie.Need-enum-known-checked-6
-enum-known-checked-6 c = search needs
-
-cast-result-4 : tie.Need-cast-result-4
-cast-result-4 c = search needs
-
-enum-known-checked-7 : tie.Need-enum-known-checked-7
-enum-known-checked-7 c = search needs
-
-cast-result-5 : tie.Need-cast-result-5
-cast-result-5 c = search needs
-
 returns : tie.Need-returns
 returns c = unfold valuesOfCheck in rw (c .enum-told .given .1)
 
@@ -77,20 +35,20 @@ pub value-of-spec : {M : Type 1} → statement M
 value-of-spec =
     tie.close
     (tie.spec
-    enum-told
-    enum-told-2
-    enum-known-checked
-    cast-result
-    enum-known-checked-2
-    cast-result-2
-    enum-known-checked-3
-    enum-known-checked-4
-    enum-known-checked-5
-    cast-result-3
-    enum-known-checked-6
-    cast-result-4
-    enum-known-checked-7
-    cast-result-5
+    (λ c. search needs)
+    (λ c. search needs)
+    (λ c. search needs)
+    (λ c. search needs)
+    (λ c. search needs)
+    (λ c. search needs)
+    (λ c. search needs)
+    (λ c. search needs)
+    (λ c. search needs)
+    (λ c. search needs)
+    (λ c. search needs)
+    (λ c. search needs)
+    (λ c. search needs)
+    (λ c. search needs)
     returns
     returns-2
     returns-3

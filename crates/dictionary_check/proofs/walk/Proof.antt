@@ -32,60 +32,24 @@ whole-at c = sym (c .before .before .before .before .before .record-at .ensures)
 loop-holds : tie.Need-loop-holds Inv-loop μ-loop
 loop-holds c = (omega arith, c .before .before .pre .1, refl)
 
-record-at-requires : tie.Need-record-at-requires Inv-loop μ-loop
-record-at-requires c κs = search needs
-
-enum-told : tie.Need-enum-told Inv-loop μ-loop
-enum-told c = search needs
-
-cast-at-end : tie.Need-cast-at-end Inv-loop μ-loop
-cast-at-end c = search needs
-
 at-end-requires : tie.Need-at-end-requires Inv-loop μ-loop
 at-end-requires c κs = c .before .before .before .before .loop .inv .1
-
-same-length : tie.Need-same-length Inv-loop μ-loop
-same-length c = search needs
 
 returns : tie.Need-returns Inv-loop μ-loop
 returns c = let l = c .before .before .before .before .before in
     ap (λ x. outcome x (l .loop .index)) (c .at-end .ensures) ∙ sym (l .loop .inv .2 ∙ walk-end _ _ _ _ _ _ (sym (c .before .before .before .before .record-at .ensures) ∙ c .before .before .enum-told .given .1))
 
-enum-told-2 : tie.Need-enum-told-2 Inv-loop μ-loop
-enum-told-2 c = search needs
-
-cast-t15 : tie.Need-cast-t15 Inv-loop μ-loop
-cast-t15 c = search needs
-
-same-length-2 : tie.Need-same-length-2 Inv-loop μ-loop
-same-length-2 c = search needs
-
 returns-2 : tie.Need-returns-2 Inv-loop μ-loop
 returns-2 c = let l = c .before .before .before in
     sym (l .loop .inv .2 ∙ walk-bad _ _ _ _ _ _ (sym (c .before .before .record-at .ensures) ∙ c .enum-told2 .given .1))
 
-enum-known-read : tie.Need-enum-known-read Inv-loop μ-loop
-enum-known-read c = search needs
-
-cast-step-of : tie.Need-cast-step-of Inv-loop μ-loop
-cast-step-of c = search needs
-
 step-of-requires : tie.Need-step-of-requires Inv-loop μ-loop
 step-of-requires c κs = c .before .before .before .before .before .loop .inv .1
-
-enum-known-checked : tie.Need-enum-known-checked Inv-loop μ-loop
-enum-known-checked c = search needs
-
-same-length-3 : tie.Need-same-length-3 Inv-loop μ-loop
-same-length-3 c = search needs
 
 returns-3 : tie.Need-returns-3 Inv-loop μ-loop
 returns-3 c = let s = c .before .before .before in
     let l = looped s in
     sym (l .loop .inv .2 ∙ walk-refuses _ _ _ _ _ _ _ _ _ (whole-at s) (sym (s .step-of .ensures) ∙ c .before .checked .given .1))
-
-enum-known-after : tie.Need-enum-known-after Inv-loop μ-loop
-enum-known-after c = search needs
 
 take-note-requires : tie.Need-take-note-requires Inv-loop μ-loop
 take-note-requires c κs = looped (c .before .before .before .before) .loop .inv .1
@@ -108,23 +72,23 @@ walk-spec =
     Inv-loop
     μ-loop
     loop-holds
-    record-at-requires
-    enum-told
-    cast-at-end
+    (λ c κs. search needs)
+    (λ c. search needs)
+    (λ c. search needs)
     at-end-requires
-    same-length
+    (λ c. search needs)
     returns
-    enum-told-2
-    cast-t15
-    same-length-2
+    (λ c. search needs)
+    (λ c. search needs)
+    (λ c. search needs)
     returns-2
-    enum-known-read
-    cast-step-of
+    (λ c. search needs)
+    (λ c. search needs)
     step-of-requires
-    enum-known-checked
-    same-length-3
+    (λ c. search needs)
+    (λ c. search needs)
     returns-3
-    enum-known-after
+    (λ c. search needs)
     take-note-requires
     loop-less
     loop-again)

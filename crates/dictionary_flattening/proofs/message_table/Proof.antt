@@ -12,26 +12,8 @@ use Rattle.dictionary_flattening.proofs.Arms.{laid-as}
 use Rattle.dictionary_flattening.proofs.message_table.Statement.{statement}
 use Rattle.dictionary_flattening.proofs.message_table.Tie as tie
 
-name-of-requires : tie.Need-name-of-requires
-name-of-requires c κs = search needs
-
-enum-known-number : tie.Need-enum-known-number
-enum-known-number c = search needs
-
-enum-told : tie.Need-enum-told
-enum-told c = search needs
-
 returns : tie.Need-returns
 returns c = sym (table-unnamed _ _ _ _ (sym (c .before .before .name-of .ensures) ∙ c .enum-told .given .1))
-
-message-of-requires : tie.Need-message-of-requires
-message-of-requires c κs = search needs
-
-enum-known-opening : tie.Need-enum-known-opening
-enum-known-opening c = search needs
-
-enum-told-2 : tie.Need-enum-told-2
-enum-told-2 c = search needs
 
 name-here : (c : tie.After-known-told) → nameOf (c .before .before .before .before .before .before .before .before .args .msgtype .now) ≡ Named (c .before .number .given .0 .0)
 name-here c = sym (c .before .before .before .name-of .ensures) ∙ c .before .number .given .1
@@ -48,21 +30,6 @@ returns-2 : tie.Need-returns-2
 returns-2 c = let k = c .before .before .before in
     sym (table-nowhere _ _ _ _ _ (name-here k) (sym (c .before .before .message-of .ensures) ∙ c .enum-told2 .given .1))
 
-wide-requires : tie.Need-wide-requires
-wide-requires c κs = search needs
-
-add-items : tie.Need-add-items
-add-items c = search needs
-
-lay-items-requires : tie.Need-lay-items-requires
-lay-items-requires c κs = search needs
-
-enum-known-count : tie.Need-enum-known-count
-enum-known-count c = search needs
-
-enum-told-3 : tie.Need-enum-told-3
-enum-told-3 c = search needs
-
 returns-3 : tie.Need-returns-3
 returns-3 c = let l = c .before .before in let k = l .before .before in
     sym (table-unprepared _ _ _ _ _ (name-here (k .before .before .before .before)) _ (placed-here k) _ (laid-as (laid-here l) (c .enum-told3 .given .1)))
@@ -75,18 +42,18 @@ pub message-table-spec : {M : Type 1} → statement M
 message-table-spec =
     tie.close
     (tie.spec
-    name-of-requires
-    enum-known-number
-    enum-told
+    (λ c κs. search needs)
+    (λ c. search needs)
+    (λ c. search needs)
     returns
-    message-of-requires
-    enum-known-opening
-    enum-told-2
+    (λ c κs. search needs)
+    (λ c. search needs)
+    (λ c. search needs)
     returns-2
-    wide-requires
-    add-items
-    lay-items-requires
-    enum-known-count
-    enum-told-3
+    (λ c κs. search needs)
+    (λ c. search needs)
+    (λ c κs. search needs)
+    (λ c. search needs)
+    (λ c. search needs)
     returns-3
     returns-4)

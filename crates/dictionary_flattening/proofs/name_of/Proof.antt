@@ -23,9 +23,6 @@ returns-2 c = sym (name-long _ (c .if2 .taken))
 loop-holds : tie.Need-loop-holds Inv-loop μ-loop
 loop-holds c = (c .before .if1 .left, back-start _ (omega (arith, c .if2 .left)))
 
-sub-i : tie.Need-sub-i Inv-loop μ-loop
-sub-i c = search needs
-
 shared-slice-read-byte : tie.Need-shared-slice-read-byte Inv-loop μ-loop
 shared-slice-read-byte c = omega (arith, c .before .before .loop .inv .1 .within)
 
@@ -36,15 +33,9 @@ returns-3 c = let l = c .before .before .before in
 mul-number : tie.Need-mul-number Inv-loop μ-loop
 mul-number c = omega (arith, number-fits _ _ _ (c .before .before .before .loop .inv .1) (c .before .before .loop-test .taken))
 
-wide-requires : tie.Need-wide-requires Inv-loop μ-loop
-wide-requires c κs = search needs
-
 add-number : tie.Need-add-number Inv-loop μ-loop
 add-number c = let l = c .before .before .before .before in
     omega (arith, number-fits _ _ _ (l .loop .inv .1) (c .before .before .before .loop-test .taken), c .wide .ensures, c .before .before .shared-slice-known2 .given (l .loop .i - 1))
-
-loop-less : tie.Need-loop-less Inv-loop μ-loop
-loop-less c = omega arith
 
 loop-again : tie.Need-loop-again Inv-loop μ-loop
 loop-again c = let l = c .before .before .before .before in
@@ -62,12 +53,12 @@ name-of-spec =
     returns
     returns-2
     loop-holds
-    sub-i
+    (λ c. search needs)
     shared-slice-read-byte
     returns-3
     mul-number
-    wide-requires
+    (λ c κs. search needs)
     add-number
-    loop-less
+    (λ c. omega arith)
     loop-again
     returns-4)

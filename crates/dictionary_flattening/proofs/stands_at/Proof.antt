@@ -9,15 +9,6 @@ use Rattle.dictionary_meaning_rules.specs.declared.Expansion.the-variants.{Item
 use Rattle.dictionary_flattening.proofs.stands_at.Statement.{statement}
 use Rattle.dictionary_flattening.proofs.stands_at.Tie as tie
 
-component-of-requires : tie.Need-component-of-requires
-component-of-requires c κs = search needs
-
-enum-known-component : tie.Need-enum-known-component
-enum-known-component c = search needs
-
-enum-told : tie.Need-enum-told
-enum-told c = search needs
-
 returns : tie.Need-returns
 returns c = sym (stands-missing _ _ (sym (c .before .before .component-of .ensures) ∙ c .enum-told .given .1))
 
@@ -28,24 +19,9 @@ looked c = sym (c .before .before .before .component-of .ensures) ∙ c .before 
 returns-2 : tie.Need-returns-2
 returns-2 c = sym (stands-empty _ _ _ (looked (c .before .before)) (c .if1 .taken))
 
-component-of-requires-2 : tie.Need-component-of-requires-2
-component-of-requires-2 c κs = search needs
-
-enum-known-standing : tie.Need-enum-known-standing
-enum-known-standing c = search needs
-
-enum-told-2 : tie.Need-enum-told-2
-enum-told-2 c = search needs
-
 returns-3 : tie.Need-returns-3
 returns-3 c = let e = c .before .before .before in
     sym (stands-lost _ _ _ (looked (e .before .before)) (e .if1 .left) (sym (c .before .before .component-of2 .ensures) ∙ c .enum-told2 .given .1))
-
-wide-requires : tie.Need-wide-requires
-wide-requires c κs = search needs
-
-add-t10 : tie.Need-add-t10
-add-t10 c = search needs
 
 returns-4 : tie.Need-returns-4
 returns-4 c = let k = c .before .before .before .before in let e = k .before in
@@ -55,15 +31,15 @@ pub stands-at-spec : {M : Type 1} → statement M
 stands-at-spec =
     tie.close
     (tie.spec
-    component-of-requires
-    enum-known-component
-    enum-told
+    (λ c κs. search needs)
+    (λ c. search needs)
+    (λ c. search needs)
     returns
     returns-2
-    component-of-requires-2
-    enum-known-standing
-    enum-told-2
+    (λ c κs. search needs)
+    (λ c. search needs)
+    (λ c. search needs)
     returns-3
-    wide-requires
-    add-t10
+    (λ c κs. search needs)
+    (λ c. search needs)
     returns-4)

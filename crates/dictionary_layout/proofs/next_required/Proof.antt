@@ -15,36 +15,9 @@ Inv-loop table level stop at₀ at = (stop ≤ length table / 4) × (firstRequir
 abbrev μ-loop : tie.MeasureT-loop
 μ-loop table level stop at₀ at = stop - at
 
-stop-of-requires : tie.Need-stop-of-requires Inv-loop μ-loop
-stop-of-requires c κs = search needs
-
 loop-holds : tie.Need-loop-holds Inv-loop μ-loop
 loop-holds c = let a = c .before .before .args in
     (omega (arith, c .stop-of .ensures, stop-within (a .table .now) (a .level)), refl)
-
-next-sibling-requires : tie.Need-next-sibling-requires Inv-loop μ-loop
-next-sibling-requires c κs = search needs
-
-mul-if1 : tie.Need-mul-if1 Inv-loop μ-loop
-mul-if1 c = search needs
-
-add-if1 : tie.Need-add-if1 Inv-loop μ-loop
-add-if1 c = search needs
-
-mul-if1-2 : tie.Need-mul-if1-2 Inv-loop μ-loop
-mul-if1-2 c = search needs
-
-shared-slice-read-if1 : tie.Need-shared-slice-read-if1 Inv-loop μ-loop
-shared-slice-read-if1 c = search needs
-
-mul-t12 : tie.Need-mul-t12 Inv-loop μ-loop
-mul-t12 c = search needs
-
-mul-t13 : tie.Need-mul-t13 Inv-loop μ-loop
-mul-t13 c = search needs
-
-shared-slice-read-t15 : tie.Need-shared-slice-read-t15 Inv-loop μ-loop
-shared-slice-read-t15 c = search needs
 
 returns : tie.Need-returns Inv-loop μ-loop
 returns c = let a = c .before .before .before .before .before in
@@ -69,16 +42,16 @@ next-required-spec =
     (tie.spec
     Inv-loop
     μ-loop
-    stop-of-requires
+    (λ c κs. search needs)
     loop-holds
-    next-sibling-requires
-    mul-if1
-    add-if1
-    mul-if1-2
-    shared-slice-read-if1
-    mul-t12
-    mul-t13
-    shared-slice-read-t15
+    (λ c κs. search needs)
+    (λ c. search needs)
+    (λ c. search needs)
+    (λ c. search needs)
+    (λ c. search needs)
+    (λ c. search needs)
+    (λ c. search needs)
+    (λ c. search needs)
     returns
     loop-less
     loop-again

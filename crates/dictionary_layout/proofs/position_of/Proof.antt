@@ -16,31 +16,13 @@ Inv-loop table tag stop at₀ position₀ at position = (stop ≤ length table /
 abbrev μ-loop : tie.MeasureT-loop
 μ-loop table tag stop at₀ position₀ at position = stop - at
 
-stop-of-requires : tie.Need-stop-of-requires Inv-loop μ-loop
-stop-of-requires c κs = search needs
-
 loop-holds : tie.Need-loop-holds Inv-loop μ-loop
 loop-holds c = let a = c .before .before .args in
     (omega (arith, c .stop-of .ensures, stop-within (a .table .now) (a .level)), omega arith, refl)
 
-mul-if1 : tie.Need-mul-if1 Inv-loop μ-loop
-mul-if1 c = search needs
-
-mul-if1-2 : tie.Need-mul-if1-2 Inv-loop μ-loop
-mul-if1-2 c = search needs
-
-shared-slice-read-if1 : tie.Need-shared-slice-read-if1 Inv-loop μ-loop
-shared-slice-read-if1 c = search needs
-
 returns : tie.Need-returns Inv-loop μ-loop
 returns c = let a = c .before .before .before in
     sym (position-walk _ _ _ (a .before .stop-of .ensures) _ ∙ a .loop .inv .2 ∙ position-hit _ _ _ _ _ (c .before .before .loop-test .taken) (c .if1 .taken))
-
-next-sibling-requires : tie.Need-next-sibling-requires Inv-loop μ-loop
-next-sibling-requires c κs = search needs
-
-add-position : tie.Need-add-position Inv-loop μ-loop
-add-position c = search needs
 
 rises : (c : tie.After-next-sibling Inv-loop μ-loop) → c .before .before .before .before .loop .at < c .next-sibling .result
 rises c = rw (c .next-sibling .ensures) (sibling-rises _ _ _ (c .before .before .before .loop-test .taken))
@@ -61,14 +43,14 @@ position-of-spec =
     (tie.spec
     Inv-loop
     μ-loop
-    stop-of-requires
+    (λ c κs. search needs)
     loop-holds
-    mul-if1
-    mul-if1-2
-    shared-slice-read-if1
+    (λ c. search needs)
+    (λ c. search needs)
+    (λ c. search needs)
     returns
-    next-sibling-requires
-    add-position
+    (λ c κs. search needs)
+    (λ c. search needs)
     loop-less
     loop-again
     returns-2)

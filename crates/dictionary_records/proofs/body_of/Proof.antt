@@ -10,9 +10,6 @@ use Rattle.dictionary_records.proofs.body_of.Tie as tie
 four-requires : tie.Need-four-requires
 four-requires c κs = omega (arith, length-tag _ (c .match .keys1), c .before .before .pre)
 
-tagged-requires : tie.Need-tagged-requires
-tagged-requires c κs = search needs
-
 two-requires : tie.Need-two-requires
 two-requires c κs = omega (arith, length-component _ (c .match .keys2), c .before .before .pre)
 
@@ -25,32 +22,17 @@ four-requires-2 c κs = omega (arith, length-field _ (c .match .keys4), c .befor
 shared-slice-read-mark : tie.Need-shared-slice-read-mark
 shared-slice-read-mark c = omega (arith, length-field _ (c .before .before .match .keys4), c .before .before .before .before .pre)
 
-tagged-requires-2 : tie.Need-tagged-requires-2
-tagged-requires-2 c κs = search needs
-
-marked-requires : tie.Need-marked-requires
-marked-requires c κs = search needs
-
 shared-slice-read-mark-2 : tie.Need-shared-slice-read-mark-2
 shared-slice-read-mark-2 c = omega (arith, length-item _ (c .before .match .keys5), c .before .before .before .pre)
 
 two-requires-2 : tie.Need-two-requires-2
 two-requires-2 c κs = omega (arith, length-item _ (c .before .match .keys5), c .before .before .before .pre)
 
-marked-requires-2 : tie.Need-marked-requires-2
-marked-requires-2 c κs = search needs
-
 four-requires-3 : tie.Need-four-requires-3
 four-requires-3 c κs = omega (arith, length-group _ (c .match .keys6), c .before .before .pre)
 
 shared-slice-read-mark-3 : tie.Need-shared-slice-read-mark-3
 shared-slice-read-mark-3 c = omega (arith, length-group _ (c .before .before .match .keys6), c .before .before .before .before .pre)
-
-tagged-requires-3 : tie.Need-tagged-requires-3
-tagged-requires-3 c κs = search needs
-
-marked-requires-3 : tie.Need-marked-requires-3
-marked-requires-3 c κs = search needs
 
 returns : tie.Need-returns
 returns c = unfold bodyOf knownTag in rw (c .before .before .match .keys1) (c .tagged .ensures ∙ rw (c .before .four .ensures))
@@ -81,20 +63,20 @@ body-of-spec =
     tie.close
     (tie.spec
     four-requires
-    tagged-requires
+    (λ c κs. search needs)
     two-requires
     message-of-requires
     four-requires-2
     shared-slice-read-mark
-    tagged-requires-2
-    marked-requires
+    (λ c κs. search needs)
+    (λ c κs. search needs)
     shared-slice-read-mark-2
     two-requires-2
-    marked-requires-2
+    (λ c κs. search needs)
     four-requires-3
     shared-slice-read-mark-3
-    tagged-requires-3
-    marked-requires-3
+    (λ c κs. search needs)
+    (λ c κs. search needs)
     returns
     returns-2
     returns-3

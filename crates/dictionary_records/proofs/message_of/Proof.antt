@@ -6,17 +6,8 @@ use Rattle.dictionary_rules.specs.Record.{opensMessage}
 use Rattle.dictionary_records.proofs.message_of.Statement.{statement}
 use Rattle.dictionary_records.proofs.message_of.Tie as tie
 
-shared-slice-read-if1 : tie.Need-shared-slice-read-if1
-shared-slice-read-if1 c = search needs
-
 returns : tie.Need-returns
 returns c = unfold opensMessage in rw (eq-eqb _ _ (c .if1 .taken))
-
-zero-filled-requires : tie.Need-zero-filled-requires
-zero-filled-requires c κs = search needs
-
-eight-requires : tie.Need-eight-requires
-eight-requires c κs = search needs
 
 returns-2 : tie.Need-returns-2
 returns-2 c = unfold opensMessage in rw (ne-eqb _ _ (c .before .before .before .if1 .left), sym (c .before .before .zero-filled .ensures) ∙ c .before .if2 .taken, c .eight .ensures)
@@ -28,9 +19,9 @@ pub message-of-spec : {M : Type 1} → statement M
 message-of-spec =
     tie.close
     (tie.spec
-    shared-slice-read-if1
+    (λ c. search needs)
     returns
-    zero-filled-requires
-    eight-requires
+    (λ c κs. search needs)
+    (λ c κs. search needs)
     returns-2
     returns-3)

@@ -25,42 +25,9 @@ fits c = rw (measured c .body-length .ensures) at (c .before .before .if2 .left)
 returns : tie.Need-returns
 returns c = sym (at-end _ _ (c .if1 .taken))
 
-shared-slice-read-kind : tie.Need-shared-slice-read-kind
-shared-slice-read-kind c = search needs
-
-body-length-requires : tie.Need-body-length-requires
-body-length-requires c κs = search needs
-
-add-start : tie.Need-add-start
-add-start c = search needs
-
-sub-if2 : tie.Need-sub-if2
-sub-if2 c = search needs
-
 returns-2 : tie.Need-returns-2
 returns-2 c = let k = c .before in
     sym (at-cut _ _ (k .before .before .if1 .left) (rw (k .body-length .ensures) at (c .if2 .taken)))
-
-add-next : tie.Need-add-next
-add-next c = search needs
-
-sub-body-of : tie.Need-sub-body-of
-sub-body-of c = search needs
-
-part-body-of-start : tie.Need-part-body-of-start
-part-body-of-start c = search needs
-
-part-body-of-end : tie.Need-part-body-of-end
-part-body-of-end c = search needs
-
-body-of-requires : tie.Need-body-of-requires
-body-of-requires c κs = search needs
-
-enum-known-read : tie.Need-enum-known-read
-enum-known-read c = search needs
-
-enum-told : tie.Need-enum-told
-enum-told c = search needs
 
 returns-3 : tie.Need-returns-3
 returns-3 c = let b = c .before .before in
@@ -75,17 +42,17 @@ record-at-spec =
     tie.close
     (tie.spec
     returns
-    shared-slice-read-kind
-    body-length-requires
-    add-start
-    sub-if2
+    (λ c. search needs)
+    (λ c κs. search needs)
+    (λ c. search needs)
+    (λ c. search needs)
     returns-2
-    add-next
-    sub-body-of
-    part-body-of-start
-    part-body-of-end
-    body-of-requires
-    enum-known-read
-    enum-told
+    (λ c. search needs)
+    (λ c. search needs)
+    (λ c. search needs)
+    (λ c. search needs)
+    (λ c κs. search needs)
+    (λ c. search needs)
+    (λ c. search needs)
     returns-3
     returns-4)

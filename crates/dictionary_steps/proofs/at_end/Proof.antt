@@ -6,35 +6,11 @@ use Rattle.dictionary_rules.specs.Index.{looksAt}
 use Rattle.dictionary_steps.proofs.at_end.Statement.{statement}
 use Rattle.dictionary_steps.proofs.at_end.Tie as tie
 
-enum-told : tie.Need-enum-told
-enum-told c = search needs
-
-enum-told-2 : tie.Need-enum-told-2
-enum-told-2 c = search needs
-
 returns : tie.Need-returns
 returns c = unfold atEnd in rw (c .enum-told2 .given .1)
 
-component-of-requires : tie.Need-component-of-requires
-component-of-requires c κs = search needs
-
-enum-told-3 : tie.Need-enum-told-3
-enum-told-3 c = search needs
-
-enum-told-4 : tie.Need-enum-told-4
-enum-told-4 c = search needs
-
 returns-2 : tie.Need-returns-2
 returns-2 c = unfold atEnd present looksAt in rw (c .before .before .before .enum-told .given .1, sym (c .before .before .component-of .ensures) ∙ c .enum-told4 .given .1)
-
-component-of-requires-2 : tie.Need-component-of-requires-2
-component-of-requires-2 c κs = search needs
-
-enum-told-5 : tie.Need-enum-told-5
-enum-told-5 c = search needs
-
-enum-told-6 : tie.Need-enum-told-6
-enum-told-6 c = search needs
 
 returns-3 : tie.Need-returns-3
 returns-3 c = unfold atEnd present looksAt in rw (c .before .before .before .before .before .before .enum-told .given .1, sym (c .before .before .before .before .before .component-of .ensures) ∙ c .before .before .before .enum-told3 .given .1, sym (c .before .before .component-of2 .ensures) ∙ c .enum-told6 .given .1)
@@ -46,15 +22,15 @@ pub at-end-spec : {M : Type 1} → statement M
 at-end-spec =
     tie.close
     (tie.spec
-    enum-told
-    enum-told-2
+    (λ c. search needs)
+    (λ c. search needs)
     returns
-    component-of-requires
-    enum-told-3
-    enum-told-4
+    (λ c κs. search needs)
+    (λ c. search needs)
+    (λ c. search needs)
     returns-2
-    component-of-requires-2
-    enum-told-5
-    enum-told-6
+    (λ c κs. search needs)
+    (λ c. search needs)
+    (λ c. search needs)
     returns-3
     returns-4)

@@ -6,44 +6,8 @@ use Rattle.dictionary_rules.specs.StepLaws.{close-none, close-one, close-two, c
 use Rattle.dictionary_steps.proofs.on_close.Statement.{statement}
 use Rattle.dictionary_steps.proofs.on_close.Tie as tie
 
-enum-known-state : tie.Need-enum-known-state
-enum-known-state c = search needs
-
-enum-told : tie.Need-enum-told
-enum-told c = search needs
-
 returns : tie.Need-returns
 returns c = unfold onClose inside in rw (c .enum-told .given .1)
-
-enum-told-2 : tie.Need-enum-told-2
-enum-told-2 c = search needs
-
-close-owner-requires : tie.Need-close-owner-requires
-close-owner-requires c κs = search needs
-
-enum-known-groups : tie.Need-enum-known-groups
-enum-known-groups c = search needs
-
-close-group-requires : tie.Need-close-group-requires
-close-group-requires c κs = search needs
-
-enum-known-groups-2 : tie.Need-enum-known-groups-2
-enum-known-groups-2 c = search needs
-
-close-group-requires-2 : tie.Need-close-group-requires-2
-close-group-requires-2 c κs = search needs
-
-enum-known-groups-3 : tie.Need-enum-known-groups-3
-enum-known-groups-3 c = search needs
-
-close-group-requires-3 : tie.Need-close-group-requires-3
-close-group-requires-3 c κs = search needs
-
-enum-known-groups-4 : tie.Need-enum-known-groups-4
-enum-known-groups-4 c = search needs
-
-close-group-requires-4 : tie.Need-close-group-requires-4
-close-group-requires-4 c κs = search needs
 
 returns-2 : tie.Need-returns-2
 returns-2 c = c .close-owner .ensures ∙ sym (close-none _ _ (c .before .before .before .before .state .given .1) _ (c .before .enum-told2 .given .1))
@@ -64,19 +28,19 @@ pub on-close-spec : {M : Type 1} → statement M
 on-close-spec =
     tie.close
     (tie.spec
-    enum-known-state
-    enum-told
+    (λ c. search needs)
+    (λ c. search needs)
     returns
-    enum-told-2
-    close-owner-requires
-    enum-known-groups
-    close-group-requires
-    enum-known-groups-2
-    close-group-requires-2
-    enum-known-groups-3
-    close-group-requires-3
-    enum-known-groups-4
-    close-group-requires-4
+    (λ c. search needs)
+    (λ c κs. search needs)
+    (λ c. search needs)
+    (λ c κs. search needs)
+    (λ c. search needs)
+    (λ c κs. search needs)
+    (λ c. search needs)
+    (λ c κs. search needs)
+    (λ c. search needs)
+    (λ c κs. search needs)
     returns-2
     returns-3
     returns-4

@@ -15,29 +15,14 @@ many h = omega arith
 few : {n : ℕ} → n < 1024 → n + 1 ≤ 1024
 few h = omega arith
 
-enum-known-state : tie.Need-enum-known-state
-enum-known-state c = search needs
-
-enum-told : tie.Need-enum-told
-enum-told c = search needs
-
 returns : tie.Need-returns
 returns c = unfold onField inside in rw (c .enum-told .given .1)
-
-tag-known-requires : tie.Need-tag-known-requires
-tag-known-requires c κs = search needs
 
 returns-2 : tie.Need-returns-2
 returns-2 c = sym (field-unknown _ _ _ (c .before .before .before .state .given .1) _ _ (looks-known _ _ ∙ sym (c .before .tag-known .ensures) ∙ not-true _ (c .if1 .taken)))
 
 returns-3 : tie.Need-returns-3
 returns-3 c = sym (field-many _ _ _ (c .before .before .before .before .before .state .given .1) _ _ (looks-known _ _ ∙ sym (c .before .before .before .tag-known .ensures) ∙ not-false _ (c .before .before .if1 .left)) (many (c .if2 .taken)))
-
-add-grow : tie.Need-add-grow
-add-grow c = search needs
-
-grow-requires : tie.Need-grow-requires
-grow-requires c κs = search needs
 
 returns-4 : tie.Need-returns-4
 returns-4 c = sym (field-goes _ _ _ (c .before .before .before .before .before .before .before .state .given .1) _ _ (looks-known _ _ ∙ sym (c .before .before .before .before .before .tag-known .ensures) ∙ not-false _ (c .before .before .before .before .if1 .left)) (few (c .before .before .if2 .left)) ∙ rw (c .grow .ensures))
@@ -46,12 +31,12 @@ pub on-field-spec : {M : Type 1} → statement M
 on-field-spec =
     tie.close
     (tie.spec
-    enum-known-state
-    enum-told
+    (λ c. search needs)
+    (λ c. search needs)
     returns
-    tag-known-requires
+    (λ c κs. search needs)
     returns-2
     returns-3
-    add-grow
-    grow-requires
+    (λ c. search needs)
+    (λ c κs. search needs)
     returns-4)

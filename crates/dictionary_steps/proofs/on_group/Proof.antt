@@ -15,23 +15,11 @@ many h = omega arith
 few : {n : ℕ} → n < 1024 → n + 1 ≤ 1024
 few h = omega arith
 
-enum-known-state : tie.Need-enum-known-state
-enum-known-state c = search needs
-
-enum-told : tie.Need-enum-told
-enum-told c = search needs
-
 returns : tie.Need-returns
 returns c = unfold onGroup inside in rw (c .enum-told .given .1)
 
-tag-known-requires : tie.Need-tag-known-requires
-tag-known-requires c κs = search needs
-
 returns-2 : tie.Need-returns-2
 returns-2 c = sym (group-unknown _ _ _ (c .before .before .before .state .given .1) _ _ (looks-known _ _ ∙ sym (c .before .tag-known .ensures) ∙ not-true _ (c .if1 .taken)))
-
-depth-of-requires : tie.Need-depth-of-requires
-depth-of-requires c κs = search needs
 
 add-depth : tie.Need-add-depth
 add-depth c = omega (arith, depth-small (c .before .before .before .before .state .given .0 .0 .groups), c .depth-of .ensures)
@@ -42,21 +30,6 @@ returns-3 c = sym (group-deep _ _ _ (c .before .before .before .before .before .
 returns-4 : tie.Need-returns-4
 returns-4 c = sym (group-many _ _ _ (c .before .before .before .before .before .before .before .state .given .1) _ _ (looks-known _ _ ∙ sym (c .before .before .before .before .before .tag-known .ensures) ∙ not-false _ (c .before .before .before .before .if1 .left)) (rw (c .before .before .before .depth-of .ensures) at (c .before .before .if2 .left)) (many (c .if3 .taken)))
 
-add-items : tie.Need-add-items
-add-items c = search needs
-
-cast-deeper-of : tie.Need-cast-deeper-of
-cast-deeper-of c = search needs
-
-deeper-of-requires : tie.Need-deeper-of-requires
-deeper-of-requires c κs = search needs
-
-open-group-requires : tie.Need-open-group-requires
-open-group-requires c κs = search needs
-
-grow-requires : tie.Need-grow-requires
-grow-requires c κs = search needs
-
 returns-5 : tie.Need-returns-5
 returns-5 c = sym (group-goes _ _ _ (c .before .before .before .before .before .before .before .before .before .before .before .state .given .1) _ _ (looks-known _ _ ∙ sym (c .before .before .before .before .before .before .before .before .before .tag-known .ensures) ∙ not-false _ (c .before .before .before .before .before .before .before .before .if1 .left)) (rw (c .before .before .before .before .before .before .before .depth-of .ensures) at (c .before .before .before .before .before .before .if2 .left)) (few (c .before .before .before .before .if3 .left))
     ∙ rw (c .grow .ensures, c .before .open-group .ensures, c .before .before .deeper-of .ensures, c .before .before .before .before .before .before .before .depth-of .ensures))
@@ -65,18 +38,18 @@ pub on-group-spec : {M : Type 1} → statement M
 on-group-spec =
     tie.close
     (tie.spec
-    enum-known-state
-    enum-told
+    (λ c. search needs)
+    (λ c. search needs)
     returns
-    tag-known-requires
+    (λ c κs. search needs)
     returns-2
-    depth-of-requires
+    (λ c κs. search needs)
     add-depth
     returns-3
     returns-4
-    add-items
-    cast-deeper-of
-    deeper-of-requires
-    open-group-requires
-    grow-requires
+    (λ c. search needs)
+    (λ c. search needs)
+    (λ c κs. search needs)
+    (λ c κs. search needs)
+    (λ c κs. search needs)
     returns-5)

@@ -4,21 +4,6 @@ use Rattle.dictionary_rules.specs.Step.{opened}
 use Rattle.dictionary_steps.proofs.open_group.Statement.{statement}
 use Rattle.dictionary_steps.proofs.open_group.Tie as tie
 
-enum-told : tie.Need-enum-told
-enum-told c = search needs
-
-enum-known-groups : tie.Need-enum-known-groups
-enum-known-groups c = search needs
-
-enum-known-groups-2 : tie.Need-enum-known-groups-2
-enum-known-groups-2 c = search needs
-
-enum-known-groups-3 : tie.Need-enum-known-groups-3
-enum-known-groups-3 c = search needs
-
-enum-known-groups-4 : tie.Need-enum-known-groups-4
-enum-known-groups-4 c = search needs
-
 returns : tie.Need-returns
 returns c = unfold opened in rw (c .enum-told .given .1)
 
@@ -38,11 +23,11 @@ pub open-group-spec : {M : Type 1} → statement M
 open-group-spec =
     tie.close
     (tie.spec
-    enum-told
-    enum-known-groups
-    enum-known-groups-2
-    enum-known-groups-3
-    enum-known-groups-4
+    (λ c. search needs)
+    (λ c. search needs)
+    (λ c. search needs)
+    (λ c. search needs)
+    (λ c. search needs)
     returns
     returns-2
     returns-3

@@ -4,48 +4,6 @@ use Rattle.dictionary_rules.specs.Step.{stepOf}
 use Rattle.dictionary_steps.proofs.step_of.Statement.{statement}
 use Rattle.dictionary_steps.proofs.step_of.Tie as tie
 
-enum-known-read : tie.Need-enum-known-read
-enum-known-read c = search needs
-
-on-tag-requires : tie.Need-on-tag-requires
-on-tag-requires c κs = search needs
-
-enum-known-read-2 : tie.Need-enum-known-read-2
-enum-known-read-2 c = search needs
-
-on-component-requires : tie.Need-on-component-requires
-on-component-requires c κs = search needs
-
-enum-known-read-3 : tie.Need-enum-known-read-3
-enum-known-read-3 c = search needs
-
-on-message-requires : tie.Need-on-message-requires
-on-message-requires c κs = search needs
-
-enum-known-read-4 : tie.Need-enum-known-read-4
-enum-known-read-4 c = search needs
-
-on-field-requires : tie.Need-on-field-requires
-on-field-requires c κs = search needs
-
-enum-known-read-5 : tie.Need-enum-known-read-5
-enum-known-read-5 c = search needs
-
-on-item-requires : tie.Need-on-item-requires
-on-item-requires c κs = search needs
-
-enum-known-read-6 : tie.Need-enum-known-read-6
-enum-known-read-6 c = search needs
-
-on-group-requires : tie.Need-on-group-requires
-on-group-requires c κs = search needs
-
-enum-told : tie.Need-enum-told
-enum-told c = search needs
-
-on-close-requires : tie.Need-on-close-requires
-on-close-requires c κs = search needs
-
 returns : tie.Need-returns
 returns c = unfold stepOf in rw (c .before .before .read .given .1) (c .on-tag .ensures)
 
@@ -71,20 +29,20 @@ pub step-of-spec : {M : Type 1} → statement M
 step-of-spec =
     tie.close
     (tie.spec
-    enum-known-read
-    on-tag-requires
-    enum-known-read-2
-    on-component-requires
-    enum-known-read-3
-    on-message-requires
-    enum-known-read-4
-    on-field-requires
-    enum-known-read-5
-    on-item-requires
-    enum-known-read-6
-    on-group-requires
-    enum-told
-    on-close-requires
+    (λ c. search needs)
+    (λ c κs. search needs)
+    (λ c. search needs)
+    (λ c κs. search needs)
+    (λ c. search needs)
+    (λ c κs. search needs)
+    (λ c. search needs)
+    (λ c κs. search needs)
+    (λ c. search needs)
+    (λ c κs. search needs)
+    (λ c. search needs)
+    (λ c κs. search needs)
+    (λ c. search needs)
+    (λ c κs. search needs)
     returns
     returns-2
     returns-3

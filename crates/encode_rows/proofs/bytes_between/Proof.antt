@@ -22,17 +22,8 @@ abbrev μ-loop : tie.MeasureT-loop
 loop-holds : tie.Need-loop-holds Inv-loop μ-loop
 loop-holds c = (omega arith, omega arith, omega arith, omega arith)
 
-row-bytes-requires : tie.Need-row-bytes-requires Inv-loop μ-loop
-row-bytes-requires c κs = omega arith
-
 add-size : tie.Need-add-size Inv-loop μ-loop
 add-size c = omega (arith, c .row-bytes .ensures .1)
-
-add-i : tie.Need-add-i Inv-loop μ-loop
-add-i c = omega arith
-
-loop-less : tie.Need-loop-less Inv-loop μ-loop
-loop-less c = omega arith
 
 loop-again : tie.Need-loop-again Inv-loop μ-loop
 loop-again c = let l = c .before .before in (omega arith, omega arith, omega (arith, l .loop .inv .2, c .row-bytes .ensures .0, bytes-on (l .before .before .args .words .now) (l .loop .i) (l .before .before .args .to) (c .before .loop-test .taken)), omega (arith, l .loop .inv .3, c .row-bytes .ensures .1))
@@ -47,9 +38,9 @@ bytes-between-spec =
     Inv-loop
     μ-loop
     loop-holds
-    row-bytes-requires
+    (λ c κs. omega arith)
     add-size
-    add-i
-    loop-less
+    (λ c. omega arith)
+    (λ c. omega arith)
     loop-again
     returns)

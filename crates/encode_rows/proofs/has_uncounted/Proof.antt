@@ -23,17 +23,8 @@ loop-holds : tie.Need-loop-holds Inv-loop μ-loop
 unfolding rowsBefore
 loop-holds c = (omega arith, refl)
 
-is-uncounted-requires : tie.Need-is-uncounted-requires Inv-loop μ-loop
-is-uncounted-requires c κs = omega arith
-
 returns : tie.Need-returns Inv-loop μ-loop
 returns c = let l = c .before .before .before in sym (l .loop .inv .1 ∙ uncounted-here (l .before .before .args .words .now) (l .loop .i) (l .before .before .args .to) (c .before .before .loop-test .taken) (sym (c .before .is-uncounted .ensures) ∙ c .if1 .taken))
-
-add-i : tie.Need-add-i Inv-loop μ-loop
-add-i c = omega arith
-
-loop-less : tie.Need-loop-less Inv-loop μ-loop
-loop-less c = omega arith
 
 loop-again : tie.Need-loop-again Inv-loop μ-loop
 loop-again c = let l = c .before .before .before in (omega arith, l .loop .inv .1 ∙ uncounted-on (l .before .before .args .words .now) (l .loop .i) (l .before .before .args .to) (c .before .before .loop-test .taken) (sym (c .before .is-uncounted .ensures) ∙ c .if1 .left))
@@ -48,9 +39,9 @@ has-uncounted-spec =
     Inv-loop
     μ-loop
     loop-holds
-    is-uncounted-requires
+    (λ c κs. omega arith)
     returns
-    add-i
-    loop-less
+    (λ c. omega arith)
+    (λ c. omega arith)
     loop-again
     returns-2)

@@ -14,25 +14,13 @@ use Rattle.encode_rows.specs.Writing.{isUncounted}
 use Rattle.encode_rows.proofs.is_uncounted.Statement.{statement}
 use Rattle.encode_rows.proofs.is_uncounted.Tie as tie
 
-kind-of-requires : tie.Need-kind-of-requires
-kind-of-requires c κs = search needs
-
 returns : tie.Need-returns
 unfolding rowAt levelOf isUncounted
 returns c = rw (ne-eqb _ 2 (λ e. c .if1 .taken (c .before .kind-of .ensures ∙ e)))
 
-level-of-requires : tie.Need-level-of-requires
-level-of-requires c κs = search needs
-
 returns-2 : tie.Need-returns-2
 unfolding rowAt levelOf isUncounted
 returns-2 c = rw (eq-eqb _ 2 (sym (c .before .before .before .kind-of .ensures) ∙ c .before .before .if1 .left), eq-eqb _ 0 (sym (c .before .level-of .ensures) ∙ c .if2 .taken))
-
-tag-of-requires : tie.Need-tag-of-requires
-tag-of-requires c κs = search needs
-
-held-before-requires : tie.Need-held-before-requires
-held-before-requires c κs = search needs
 
 returns-3 : tie.Need-returns-3
 unfolding rowAt levelOf isUncounted
@@ -46,11 +34,11 @@ pub is-uncounted-spec : {M : Type 1} → statement M
 is-uncounted-spec =
     tie.close
     (tie.spec
-    kind-of-requires
+    (λ c κs. search needs)
     returns
-    level-of-requires
+    (λ c κs. search needs)
     returns-2
-    tag-of-requires
-    held-before-requires
+    (λ c κs. search needs)
+    (λ c κs. search needs)
     returns-3
     returns-4)

@@ -15,21 +15,6 @@ use Rattle.encode_rows.specs.Writing.{rowBytes}
 use Rattle.encode_rows.proofs.row_bytes.Statement.{statement}
 use Rattle.encode_rows.proofs.row_bytes.Tie as tie
 
-kind-of-requires : tie.Need-kind-of-requires
-kind-of-requires c κs = search needs
-
-tag-of-requires : tie.Need-tag-of-requires
-tag-of-requires c κs = search needs
-
-digit-count-requires : tie.Need-digit-count-requires
-digit-count-requires c κs = search needs
-
-extra-of-requires : tie.Need-extra-of-requires
-extra-of-requires c κs = search needs
-
-wide-requires : tie.Need-wide-requires
-wide-requires c κs = search needs
-
 digits-at : (c : tie.After-digit-count) → c .digit-count .result ≤ 10
 digits-at c = omega (arith, c .digit-count .ensures, decimal-length (c .before .tag-of .result) (omega arith))
 
@@ -51,11 +36,11 @@ pub row-bytes-spec : {M : Type 1} → statement M
 row-bytes-spec =
     tie.close
     (tie.spec
-    kind-of-requires
-    tag-of-requires
-    digit-count-requires
-    extra-of-requires
-    wide-requires
+    (λ c κs. search needs)
+    (λ c κs. search needs)
+    (λ c κs. search needs)
+    (λ c κs. search needs)
+    (λ c κs. search needs)
     add-result
     add-result-2
     returns

@@ -14,18 +14,6 @@ use Rattle.encode_rows.specs.WritingLaws.{next-is, never-full, field-wri
 use Rattle.encode_rows.proofs.write_field.Statement.{statement}
 use Rattle.encode_rows.proofs.write_field.Tie as tie
 
-write-number-requires : tie.Need-write-number-requires
-write-number-requires c κs = search needs
-
-enum-known-digits : tie.Need-enum-known-digits
-enum-known-digits c = search needs
-
-enum-told : tie.Need-enum-told
-enum-told c = search needs
-
-same-length : tie.Need-same-length
-same-length c = search needs
-
 returns : tie.Need-returns
 returns c = let s = c .before .before .before .before .before .before .before .before in absurd (never-full (s .args .at) (decimal (s .args .tag)) (s .args .output .now) (omega (arith, s .pre)) (sym (c .before .before .before .before .write-number .ensures .0) ∙ c .enum-told .given .1))
 
@@ -41,23 +29,14 @@ second-at c = ap length (c .write-bytes .ensures .1) ∙ written-length _ _ _ �
 third-at : (c : tie.After-write-bytes2) → length (c .write-bytes2 .last .0) ≡ length (c .before .before .before .before .before .before .before .before .before .before .before .before .before .before .before .before .args .output .now)
 third-at c = ap length (c .write-bytes2 .ensures .1) ∙ written-length _ _ _ ∙ second-at (c .before .before .before .before)
 
-slice-aggregate-write-bytes : tie.Need-slice-aggregate-write-bytes
-slice-aggregate-write-bytes c = search needs
-
 write-bytes-requires : tie.Need-write-bytes-requires
 write-bytes-requires c κs = let k = c .before .before in let s = k .before .before .before .before .before .before .before .before .before in let d = digits-at k in let e = length-at k in omega (arith, d, e, s .pre)
 
 write-bytes-requires-2 : tie.Need-write-bytes-requires-2
 write-bytes-requires-2 c κs = let k = c .before .before .before .before .before .before in let s = k .before .before .before .before .before .before .before .before .before in let d = digits-at k in let e = length-at k in let f = second-at (c .before .before .before) in omega (arith, d, f, c .before .before .before .write-bytes .ensures .0, s .pre)
 
-slice-aggregate-write-bytes-2 : tie.Need-slice-aggregate-write-bytes-2
-slice-aggregate-write-bytes-2 c = search needs
-
 write-bytes-requires-3 : tie.Need-write-bytes-requires-3
 write-bytes-requires-3 c κs = let k = c .before .before .before .before .before .before .before .before .before .before .before in let s = k .before .before .before .before .before .before .before .before .before in let d = digits-at k in let e = length-at k in let f = second-at (c .before .before .before .before .before .before .before .before) in let g = third-at (c .before .before .before .before) in omega (arith, d, g, c .before .before .before .before .before .before .before .before .write-bytes .ensures .0, c .before .before .before .before .write-bytes2 .ensures .0, s .pre)
-
-same-length-2 : tie.Need-same-length-2
-same-length-2 c = search needs
 
 returns-2 : tie.Need-returns-2
 returns-2 c = let k = c .before .before .before .before .before .before .before .before .before .before .before .before .before .before in let s = k .before .before .before .before .before .before .before .before .before in let d = digits-at k in let e = length-at k in (omega (arith, d, c .before .before .before .before .before .before .before .before .before .before .before .write-bytes .ensures .0, c .before .before .before .before .before .before .before .write-bytes2 .ensures .0, c .before .before .write-bytes3 .ensures .0), field-written (s .args .at) _ (decimal (s .args .tag)) (s .args .value .now) (s .args .output .now) _ _ _ _ _ _ _ (s .pre) d (k .before .before .before .before .before .write-number .ensures .1) (c .before .before .before .before .before .before .before .before .before .before .before .write-bytes .ensures .0) (c .before .before .before .before .before .before .before .before .before .before .before .write-bytes .ensures .1) (c .before .before .before .before .before .before .before .write-bytes2 .ensures .0) (c .before .before .before .before .before .before .before .write-bytes2 .ensures .1) (c .before .before .write-bytes3 .ensures .1))
@@ -66,15 +45,15 @@ pub write-field-spec : {M : Type 1} → statement M
 write-field-spec =
     tie.close
     (tie.spec
-    write-number-requires
-    enum-known-digits
-    enum-told
-    same-length
+    (λ c κs. search needs)
+    (λ c. search needs)
+    (λ c. search needs)
+    (λ c. search needs)
     returns
-    slice-aggregate-write-bytes
+    (λ c. search needs)
     write-bytes-requires
     write-bytes-requires-2
-    slice-aggregate-write-bytes-2
+    (λ c. search needs)
     write-bytes-requires-3
-    same-length-2
+    (λ c. search needs)
     returns-2)

@@ -23,41 +23,14 @@ use Rattle.encode_rows.specs.MessageLaws.{text-at-is, size-is, spans-of,
 use Rattle.encode_rows.proofs.write_message.Statement.{statement}
 use Rattle.encode_rows.proofs.write_message.Tie as tie
 
-locate-requires : tie.Need-locate-requires
-locate-requires c κs = search needs
-
-enum-known-head : tie.Need-enum-known-head
-enum-known-head c = search needs
-
-enum-told : tie.Need-enum-told
-enum-told c = search needs
-
 returns : tie.Need-returns
 returns c = sym (writing-no _ _ _ _ (located-no _ _ _ (sym (c .before .before .locate .ensures) ∙ c .enum-told .given .1)))
-
-locate-requires-2 : tie.Need-locate-requires-2
-locate-requires-2 c κs = search needs
-
-enum-known-middle : tie.Need-enum-known-middle
-enum-known-middle c = search needs
-
-enum-told-2 : tie.Need-enum-told-2
-enum-told-2 c = search needs
 
 head-at : (c : tie.After-known-told) → (isMessage (c .before .before .before .before .before .before .before .args .words .now) (c .before .before .before .before .before .before .before .args .values .now) ≡ true) × (c .before .head .given .0 .0 ≡ spanOf Header (messageIn (c .before .before .before .before .before .before .before .args .words .now) (c .before .before .before .before .before .before .before .args .values .now)))
 head-at c = located-at Header _ _ _ (sym (c .before .before .before .locate .ensures) ∙ c .before .head .given .1)
 
 returns-2 : tie.Need-returns-2
 returns-2 c = sym (writing-no _ _ _ _ (located-no _ _ _ (sym (c .before .before .locate2 .ensures) ∙ c .enum-told2 .given .1)))
-
-locate-requires-3 : tie.Need-locate-requires-3
-locate-requires-3 c κs = search needs
-
-enum-known-tail : tie.Need-enum-known-tail
-enum-known-tail c = search needs
-
-enum-told-3 : tie.Need-enum-told-3
-enum-told-3 c = search needs
 
 middle-at : (c : tie.After-known-told2) → c .before .middle .given .0 .0 ≡ spanOf Body (messageIn (c .before .before .before .before .before .before .before .before .before .before .before .args .words .now) (c .before .before .before .before .before .before .before .before .before .before .before .args .values .now))
 middle-at c = located-at Body _ _ _ (sym (c .before .before .before .locate2 .ensures) ∙ c .before .middle .given .1) .1
@@ -103,9 +76,6 @@ write-tail-requires c κs = omega (arith, text-size (c .before .before .before),
 add-t15 : tie.Need-add-t15
 add-t15 c = omega (arith, text-size (c .before .before .before .before .before .before), size-at (c .before .before .before .before .before .before .before .before .before), c .before .before .before .before .before .before .before .before .before .bytes-between .ensures .1)
 
-same-length : tie.Need-same-length
-same-length c = search needs
-
 returns-5 : tie.Need-returns-5
 returns-5 c = let k = c .before .before .before .before .before .before .before .before .before .before in let room = room-at (c .before .before .before .before .before .before .before .before) in writing-done _ _ _ _ (head-at (k .before .before .before .before .before .before .before .before) .0) room _ _ (ap (λ (n : ℕ). n + 7) (text-size (c .before .before .before .before .before .before))) (tail-written _ _ _ _ _ _ room (text-size (c .before .before .before .before .before .before)) (text-written (c .before .before .before .before .before .before)) (c .before .before .write-tail .ensures))
 
@@ -113,17 +83,17 @@ pub write-message-spec : {M : Type 1} → statement M
 write-message-spec =
     tie.close
     (tie.spec
-    locate-requires
-    enum-known-head
-    enum-told
+    (λ c κs. search needs)
+    (λ c. search needs)
+    (λ c. search needs)
     returns
-    locate-requires-2
-    enum-known-middle
-    enum-told-2
+    (λ c κs. search needs)
+    (λ c. search needs)
+    (λ c. search needs)
     returns-2
-    locate-requires-3
-    enum-known-tail
-    enum-told-3
+    (λ c κs. search needs)
+    (λ c. search needs)
+    (λ c. search needs)
     returns-3
     bytes-between-requires
     add-if1
@@ -131,5 +101,5 @@ write-message-spec =
     write-text-requires
     write-tail-requires
     add-t15
-    same-length
+    (λ c. search needs)
     returns-5)

@@ -20,21 +20,9 @@ returns : tie.Need-returns
 unfolding rowAt
 returns c = nothing-written _ _ _ (row-off _ _ _ _ _ _ _ (not-true _ (c .if1 .taken))) (c .before .before .before .before .pre .3)
 
-kind-of-requires : tie.Need-kind-of-requires
-kind-of-requires c κs = search needs
-
 returns-2 : tie.Need-returns-2
 unfolding rowAt
 returns-2 c = nothing-written _ _ _ (row-head _ _ _ _ _ _ _ (λ e. c .if2 .taken (c .before .kind-of .ensures ∙ e))) (c .before .before .before .before .before .before .pre .3)
-
-size-of-requires : tie.Need-size-of-requires
-size-of-requires c κs = search needs
-
-add-end : tie.Need-add-end
-add-end c = search needs
-
-tag-of-requires : tie.Need-tag-of-requires
-tag-of-requires c κs = search needs
 
 text-at : (c : tie.After-tag-of) → let s = c .before .before .before .before .before .before .before .before .before .args in rowText (s .separator) (s .on) (rowAt (s .words .now) (s .row)) (drop (s .place) (s .values .now)) ≡ fieldBytes (s .separator) (decimal (c .tag-of .result)) (take (s .place + c .before .before .size-of .result - s .place) (drop (s .place) (s .values .now)))
 unfolding rowAt
@@ -45,20 +33,8 @@ text-at c =
     row-field _ _ _ _ _ _ _ (not-false _ (c .before .before .before .before .before .if1 .left)) one
     ∙ rw (← c .tag-of .ensures) (ap (λ (n : ℕ). fieldBytes (s .separator) (decimal (c .tag-of .result)) (take n (drop (s .place) (s .values .now)))) size)
 
-sub-write-field : tie.Need-sub-write-field
-sub-write-field c = search needs
-
-part-write-field-start : tie.Need-part-write-field-start
-part-write-field-start c = search needs
-
-part-write-field-end : tie.Need-part-write-field-end
-part-write-field-end c = search needs
-
 write-field-requires : tie.Need-write-field-requires
 write-field-requires c κs = let s = c .before .before .before .before .before .before .before .before .before .before in let t = text-at (c .before) in omega (arith, ap length t, field-length (s .args .separator) (decimal (c .before .tag-of .result)) (take (s .args .place + c .before .before .before .size-of .result - s .args .place) (drop (s .args .place) (s .args .values .now))), s .pre .3)
-
-same-length : tie.Need-same-length
-same-length c = search needs
 
 returns-3 : tie.Need-returns-3
 returns-3 c = let s = c .before .before .before .before .before .before .before .before .before .before .before .before .before .args in field-done (s .at) (s .separator) _ _ (decimal (c .before .before .before .before .tag-of .result)) (take (s .place + c .before .before .before .before .before .before .size-of .result - s .place) (drop (s .place) (s .values .now))) _ _ (text-at (c .before .before .before .before)) (c .before .before .write-field .ensures .0) (c .before .before .write-field .ensures .1)
@@ -68,14 +44,14 @@ write-row-spec =
     tie.close
     (tie.spec
     returns
-    kind-of-requires
+    (λ c κs. search needs)
     returns-2
-    size-of-requires
-    add-end
-    tag-of-requires
-    sub-write-field
-    part-write-field-start
-    part-write-field-end
+    (λ c κs. search needs)
+    (λ c. search needs)
+    (λ c κs. search needs)
+    (λ c. search needs)
+    (λ c. search needs)
+    (λ c. search needs)
     write-field-requires
-    same-length
+    (λ c. search needs)
     returns-3)

@@ -15,15 +15,6 @@ use Rattle.encode_rows.specs.WritingLaws.{Rest, rest-start, rest-step, r
 use Rattle.encode_rows.proofs.write_tail.Statement.{statement}
 use Rattle.encode_rows.proofs.write_tail.Tie as tie
 
-sum-before-requires : tie.Need-sum-before-requires
-sum-before-requires c κs = search needs
-
-checksum-digits-requires : tie.Need-checksum-digits-requires
-checksum-digits-requires c κs = search needs
-
-slice-aggregate-write-bytes : tie.Need-slice-aggregate-write-bytes
-slice-aggregate-write-bytes c = search needs
-
 write-bytes-requires : tie.Need-write-bytes-requires
 write-bytes-requires c κs = let s = c .before .before .before .before .before .before in omega (arith, s .pre)
 
@@ -39,9 +30,6 @@ rest-1 : (c : tie.After-write-bytes) → let s = c .before .before .before .befo
 unfolding tailOf
 rest-1 c = let s = c .before .before .before .before .before .before .before .args in rest-step _ _ _ _ _ (room-at (c .before)) (49 ∷ 48 ∷ 61 ∷ []) (sumDigits (take (s .at) (s .output .now)) ++ (s .separator ∷ [])) (rest-start _ _ _) _ _ (c .write-bytes .ensures .0) (c .write-bytes .ensures .1)
 
-slice-aggregate-write-bytes-2 : tie.Need-slice-aggregate-write-bytes-2
-slice-aggregate-write-bytes-2 c = search needs
-
 write-bytes-requires-2 : tie.Need-write-bytes-requires-2
 unfolding tailOf
 write-bytes-requires-2 c κs = let s = c .before .before .before .before .before .before .before .before .before .before .before .args in rw (digits-at (c .before .before .before .before .before .before .before)) (rest-room _ _ _ _ _ (room-at (c .before .before .before .before .before)) (sumDigits (take (s .at) (s .output .now))) (s .separator ∷ []) (rest-1 (c .before .before .before .before)))
@@ -49,15 +37,9 @@ write-bytes-requires-2 c κs = let s = c .before .before .before .before .before
 rest-2 : (c : tie.After-write-bytes2) → let s = c .before .before .before .before .before .before .before .before .before .before .before .before .args in Rest (s .at) (tailOf (s .separator) (take (s .at) (s .output .now))) (s .output .now) (c .write-bytes2 .last .0) (c .write-bytes2 .result) (s .separator ∷ [])
 rest-2 c = let s = c .before .before .before .before .before .before .before .before .before .before .before .before .args in rest-step _ _ _ _ _ (room-at (c .before .before .before .before .before .before)) (sumDigits (take (s .at) (s .output .now))) (s .separator ∷ []) (rest-1 (c .before .before .before .before .before)) _ _ (c .write-bytes2 .ensures .0 ∙ ap (λ (l : List ℕ). c .before .before .before .before .before .write-bytes .result + length l) (digits-at (c .before .before .before .before .before .before .before .before))) (c .write-bytes2 .ensures .1 ∙ ap (λ (l : List ℕ). writtenAt (c .before .before .before .before .before .write-bytes .result) l (c .before .before .before .before .before .write-bytes .last .0)) (digits-at (c .before .before .before .before .before .before .before .before)))
 
-slice-aggregate-write-bytes-3 : tie.Need-slice-aggregate-write-bytes-3
-slice-aggregate-write-bytes-3 c = search needs
-
 write-bytes-requires-3 : tie.Need-write-bytes-requires-3
 unfolding tailOf
 write-bytes-requires-3 c κs = rest-last _ _ _ _ _ (room-at (c .before .before .before .before .before .before .before .before .before .before)) _ (rest-2 (c .before .before .before .before))
-
-same-length : tie.Need-same-length
-same-length c = search needs
 
 returns : tie.Need-returns
 unfolding tailOf
@@ -67,13 +49,13 @@ pub write-tail-spec : {M : Type 1} → statement M
 write-tail-spec =
     tie.close
     (tie.spec
-    sum-before-requires
-    checksum-digits-requires
-    slice-aggregate-write-bytes
+    (λ c κs. search needs)
+    (λ c κs. search needs)
+    (λ c. search needs)
     write-bytes-requires
-    slice-aggregate-write-bytes-2
+    (λ c. search needs)
     write-bytes-requires-2
-    slice-aggregate-write-bytes-3
+    (λ c. search needs)
     write-bytes-requires-3
-    same-length
+    (λ c. search needs)
     returns)

@@ -70,9 +70,6 @@ write-items-requires-6 : tie.Need-write-items-requires-6
 unfolding textAt itemsAt
 write-items-requires-6 c κs = let p = c .before .before .before .before .before .before .before .before .before .before .before .before .before .before .before .before .before .before .before .before .before .before .before .before .pre in let s = c .before .before .before .before .before .before .before .before .before .before .before .before .before .before .before .before .before .before .before .before .before .before .before .before .args in (p .trailer .0, p .trailer .1, p .whole, p .trailer .2, rest-last 0 (textAt (s .words .now) (s .values .now) (s .head) (s .middle) (s .tail) (s .separator)) (s .output .now) (c .before .before .before .write-items5 .last .1 .1 .0) (c .before .before .before .write-items5 .result) (omega (arith, p .room)) (itemsAt (s .words .now) (s .values .now) (s .tail) 0 (s .separator)) (rest-5 (c .before .before .before)))
 
-same-length : tie.Need-same-length
-same-length c = search needs
-
 returns : tie.Need-returns
 unfolding textAt itemsAt
 returns c = let s = c .before .before .before .before .before .before .before .before .before .before .before .before .before .before .before .before .before .before .before .before .before .before .before .before .before .before .before .args in let d = rest-done 0 (textAt (s .words .now) (s .values .now) (s .head) (s .middle) (s .tail) (s .separator)) (s .output .now) (c .before .before .before .before .before .before .write-items5 .last .1 .1 .0) (c .before .before .before .before .before .before .write-items5 .result) (omega (arith, c .before .before .before .before .before .before .before .before .before .before .before .before .before .before .before .before .before .before .before .before .before .before .before .before .before .before .before .pre .room)) (itemsAt (s .words .now) (s .values .now) (s .tail) 0 (s .separator)) (rest-5 (c .before .before .before .before .before .before)) _ _ (c .before .before .write-items6 .ensures .0) (c .before .before .write-items6 .ensures .1) in (d .0 ∙ zero-add _, d .1)
@@ -87,5 +84,5 @@ write-text-spec =
     write-items-requires-4
     write-items-requires-5
     write-items-requires-6
-    same-length
+    (λ c. search needs)
     returns)

@@ -6,29 +6,17 @@ use Rattle.encoder.specs.Judging.{incompleteAt}
 use Rattle.encoder.proofs.is_incomplete.Statement.{statement}
 use Rattle.encoder.proofs.is_incomplete.Tie as tie
 
-holds-requires : tie.Need-holds-requires
-holds-requires c κs = search needs
-
 returns : tie.Need-returns
 unfolding incompleteAt
 returns c = rw (sym (c .before .holds .ensures) ∙ not-true _ (c .if1 .taken))
-
-holds-requires-2 : tie.Need-holds-requires-2
-holds-requires-2 c κs = search needs
 
 returns-2 : tie.Need-returns-2
 unfolding incompleteAt
 returns-2 c = rw (sym (c .before .before .before .holds .ensures) ∙ not-false _ (c .before .before .if1 .left), sym (c .before .holds2 .ensures) ∙ not-true _ (c .if2 .taken))
 
-has-run-requires : tie.Need-has-run-requires
-has-run-requires c κs = search needs
-
 returns-3 : tie.Need-returns-3
 unfolding incompleteAt
 returns-3 c = rw (sym (c .before .before .before .before .before .holds .ensures) ∙ not-false _ (c .before .before .before .before .if1 .left), sym (c .before .before .before .holds2 .ensures) ∙ not-false _ (c .before .before .if2 .left), sym (c .before .has-run .ensures) ∙ c .if3 .taken)
-
-has-uncounted-requires : tie.Need-has-uncounted-requires
-has-uncounted-requires c κs = search needs
 
 returns-4 : tie.Need-returns-4
 unfolding incompleteAt
@@ -38,11 +26,11 @@ pub is-incomplete-spec : {M : Type 1} → statement M
 is-incomplete-spec =
     tie.close
     (tie.spec
-    holds-requires
+    (λ c κs. search needs)
     returns
-    holds-requires-2
+    (λ c κs. search needs)
     returns-2
-    has-run-requires
+    (λ c κs. search needs)
     returns-3
-    has-uncounted-requires
+    (λ c κs. search needs)
     returns-4)

@@ -18,26 +18,8 @@ use Rattle.encode_rules.specs.declared.Verdict.the-variants.{Measured}
 use Rattle.encoder.proofs.judge.Statement.{statement}
 use Rattle.encoder.proofs.judge.Tie as tie
 
-locate-requires : tie.Need-locate-requires
-locate-requires c κs = search needs
-
-enum-known-head : tie.Need-enum-known-head
-enum-known-head c = search needs
-
-enum-told : tie.Need-enum-told
-enum-told c = search needs
-
 returns : tie.Need-returns
 returns c = sym (refused-message _ _ _ _ (located-no _ _ _ (sym (c .before .before .locate .ensures) ∙ c .enum-told .given .1)))
-
-locate-requires-2 : tie.Need-locate-requires-2
-locate-requires-2 c κs = search needs
-
-enum-known-tail : tie.Need-enum-known-tail
-enum-known-tail c = search needs
-
-enum-told-2 : tie.Need-enum-told-2
-enum-told-2 c = search needs
 
 returns-2 : tie.Need-returns-2
 returns-2 c = sym (refused-message _ _ _ _ (located-no _ _ _ (sym (c .before .before .locate2 .ensures) ∙ c .enum-told2 .given .1)))
@@ -47,9 +29,6 @@ known c =
     let head = located-at Header _ _ _ (sym (c .before .before .before .before .before .before .before .locate .ensures) ∙ c .before .before .before .before .before .head .given .1) in
     let tail = located-at Trailer _ _ _ (sym (c .before .before .before .locate2 .ensures) ∙ c .before .tail .given .1) in
     record { lent = head .0; head-is = head .1; tail-is = tail .1 }
-
-is-refused-separator-requires : tie.Need-is-refused-separator-requires
-is-refused-separator-requires c κs = search needs
 
 returns-3 : tie.Need-returns-3
 returns-3 c = sym (refused-separator _ _ ((known (c .before .before)) .lent) _ _ (sym (c .before .is-refused-separator .ensures) ∙ c .if1 .taken))
@@ -81,12 +60,6 @@ returns-5 c =
 
 field-bytes-requires : tie.Need-field-bytes-requires
 field-bytes-requires c κs = both-within _ _ _ _ (known (c .before .before .before .before .before .before)) .0
-
-cast-digit-count : tie.Need-cast-digit-count
-cast-digit-count c = search needs
-
-digit-count-requires : tie.Need-digit-count-requires
-digit-count-requires c κs = search needs
 
 length-is : (c : tie.After-digit-count) → c .before .field-bytes .result + c .digit-count .result + c .before .before .before .body-length .result + 10 ≡ length (encoding (c .before .before .before .before .before .before .before .before .before .before .before .before .before .before .before .before .before .before .args .separator) (messageIn (c .before .before .before .before .before .before .before .before .before .before .before .before .before .before .before .before .before .before .args .words .now) (c .before .before .before .before .before .before .before .before .before .before .before .before .before .before .before .before .before .before .args .values .now)))
 length-is c =
@@ -132,9 +105,6 @@ returns-8 c =
     sym (refused-room _ _ ((known (c .before .before .before .before .before .before .before .before .before .before .before .before)) .lent) _ _ (separates (c .before .before .before .before .before .before .before .before .before .before)) (complete (c .before .before .before .before .before .before .before .before)) (short (c .before .before .before)) (few (c .before))
     (omega (arith, length-is (c .before .before .before .before), c .if6 .taken)))
 
-cast-t22 : tie.Need-cast-t22
-cast-t22 c = search needs
-
 returns-9 : tie.Need-returns-9
 returns-9 c =
     ap Measured (body-is (c .before .before .before .before .before .before .before))
@@ -145,23 +115,23 @@ pub judge-spec : {M : Type 1} → statement M
 judge-spec =
     tie.close
     (tie.spec
-    locate-requires
-    enum-known-head
-    enum-told
+    (λ c κs. search needs)
+    (λ c. search needs)
+    (λ c. search needs)
     returns
-    locate-requires-2
-    enum-known-tail
-    enum-told-2
+    (λ c κs. search needs)
+    (λ c. search needs)
+    (λ c. search needs)
     returns-2
-    is-refused-separator-requires
+    (λ c κs. search needs)
     returns-3
     is-incomplete-requires
     returns-4
     body-length-requires
     returns-5
     field-bytes-requires
-    cast-digit-count
-    digit-count-requires
+    (λ c. search needs)
+    (λ c κs. search needs)
     add-length
     add-length-2
     add-length-3
@@ -169,5 +139,5 @@ judge-spec =
     fields-with-requires
     returns-7
     returns-8
-    cast-t22
+    (λ c. search needs)
     returns-9)

@@ -15,18 +15,6 @@ use Rattle.encoder.specs.LeavingLaws.{digits-back}
 use Rattle.encoder.proofs.set_body_length.Statement.{statement}
 use Rattle.encoder.proofs.set_body_length.Tie as tie
 
-slice-aggregate-scratch : tie.Need-slice-aggregate-scratch
-slice-aggregate-scratch c = search needs
-
-write-number-requires : tie.Need-write-number-requires
-write-number-requires c κs = search needs
-
-enum-known-end : tie.Need-enum-known-end
-enum-known-end c = search needs
-
-enum-told : tie.Need-enum-told
-enum-told c = search needs
-
 returns : tie.Need-returns
 returns c =
     let n = c .before .before .before .before .before .before .before .args .body in
@@ -46,15 +34,6 @@ array-share-prefix-digits c = omega (arith, ends (c .before .before), ten (c .be
 slice-aggregate-store : tie.Need-slice-aggregate-store
 slice-aggregate-store c = sym (length-take-le _ _ (omega (arith, ends (c .before .before .before), ten (c .before .before .before), decimal-length (c .before .before .before .before .before .before .before .before .before .before .before .args .body) (omega arith) .1)))
 
-store-requires : tie.Need-store-requires
-store-requires c κs = search needs
-
-same-length : tie.Need-same-length
-same-length c = search needs
-
-same-length-2 : tie.Need-same-length-2
-same-length-2 c = search needs
-
 returns-2 : tie.Need-returns-2
 returns-2 c =
     let k = c .before .before .before .before .before .before .before .before in
@@ -67,14 +46,14 @@ pub set-body-length-spec : {M : Type 1} → statement M
 set-body-length-spec =
     tie.close
     (tie.spec
-    slice-aggregate-scratch
-    write-number-requires
-    enum-known-end
-    enum-told
+    (λ c. search needs)
+    (λ c κs. search needs)
+    (λ c. search needs)
+    (λ c. search needs)
     returns
     array-share-prefix-digits
     slice-aggregate-store
-    store-requires
-    same-length
-    same-length-2
+    (λ c κs. search needs)
+    (λ c. search needs)
+    (λ c. search needs)
     returns-2)

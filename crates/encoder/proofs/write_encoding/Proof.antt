@@ -19,35 +19,14 @@ use Rattle.encoder.specs.LeavingLaws.{after-drop, after-length, writes, 
 use Rattle.encoder.proofs.write_encoding.Statement.{statement}
 use Rattle.encoder.proofs.write_encoding.Tie as tie
 
-remove-requires : tie.Need-remove-requires
-remove-requires c κs = search needs
-
 dropped-left : (c : tie.After-remove) → Lends (c .remove .last .0) (c .remove .last .1 .0) (dropped (messageIn (c .before .before .before .before .before .before .args .words .now) (c .before .before .before .before .before .before .args .values .now)))
 dropped-left c = after-drop _ _ _ _ _ (c .before .before .before .before .before .before .pre) _ _ _ (c .remove .ensures)
-
-set-body-length-requires : tie.Need-set-body-length-requires
-set-body-length-requires c κs = search needs
 
 measured-left : (c : tie.After-set-body-length) → Lends (c .set-body-length .last .0) (c .set-body-length .last .1 .0) (measured (dropped (messageIn (c .before .before .before .before .before .before .before .before .before .before .before .before .before .args .words .now) (c .before .before .before .before .before .before .before .before .before .before .before .before .before .args .values .now))))
 measured-left c = after-length _ _ _ _ _ (c .before .before .before .before .before .before .before .before .before .before .before .before .before .pre) _ _ (dropped-left (c .before .before .before .before .before .before .before)) _ _ _ (c .set-body-length .ensures)
 
-write-message-requires : tie.Need-write-message-requires
-write-message-requires c κs = search needs
-
 written : (c : tie.After-write-message) → (c .write-message .result ≡ Written (length (encoding (c .before .before .before .before .before .before .before .before .before .before .before .before .before .before .before .before .before .before .before .before .before .args .separator) (messageIn (c .before .before .before .before .before .before .before .before .before .before .before .before .before .before .before .before .before .before .before .before .before .args .words .now) (c .before .before .before .before .before .before .before .before .before .before .before .before .before .before .before .before .before .before .before .before .before .args .values .now))))) × (c .write-message .last .1 .1 .0 ≡ encoding (c .before .before .before .before .before .before .before .before .before .before .before .before .before .before .before .before .before .before .before .before .before .args .separator) (messageIn (c .before .before .before .before .before .before .before .before .before .before .before .before .before .before .before .before .before .before .before .before .before .args .words .now) (c .before .before .before .before .before .before .before .before .before .before .before .before .before .before .before .before .before .before .before .before .before .args .values .now)) ++ drop (length (encoding (c .before .before .before .before .before .before .before .before .before .before .before .before .before .before .before .before .before .before .before .before .before .args .separator) (messageIn (c .before .before .before .before .before .before .before .before .before .before .before .before .before .before .before .before .before .before .before .before .before .args .words .now) (c .before .before .before .before .before .before .before .before .before .before .before .before .before .before .before .before .before .before .before .before .before .args .values .now)))) (c .before .before .before .before .before .before .before .before .before .before .before .before .before .before .before .before .before .before .before .before .before .args .output .now))
 written c = writes (c .before .before .before .before .before .before .before .before .before .before .before .before .before .before .before .before .before .before .before .before .before .args .separator) (messageIn (c .before .before .before .before .before .before .before .before .before .before .before .before .before .before .before .before .before .before .before .before .before .args .words .now) (c .before .before .before .before .before .before .before .before .before .before .before .before .before .before .before .before .before .before .before .before .before .args .values .now)) _ _ _ (measured-left (c .before .before .before .before .before .before .before .before)) (c .before .before .before .before .before .before .before .before .before .before .before .before .before .before .before .before .before .before .before .before .before .pre .room) _ _ (c .write-message .ensures)
-
-enum-known-length : tie.Need-enum-known-length
-enum-known-length c = search needs
-
-same-length : tie.Need-same-length
-same-length c = search needs
-
-same-length-2 : tie.Need-same-length-2
-same-length-2 c = search needs
-
-same-length-3 : tie.Need-same-length-3
-same-length-3 c = search needs
 
 -- a message that is held and has room is written
 never-refused : (r : Encoded) (n : ℕ) → r ≡ Written n → OneOf (1 ∷ 2 ∷ []) (tagOf encoded-type.the-type r) → ⊥
@@ -74,26 +53,8 @@ sub-first c = omega (arith, long c)
 sub-last : tie.Need-sub-last
 sub-last c = omega (arith, long c)
 
-sub-store : tie.Need-sub-store
-sub-store c = search needs
-
-part-store-start : tie.Need-part-store-start
-part-store-start c = search needs
-
 part-store-end : tie.Need-part-store-end
 part-store-end c = omega (arith, long (c .before .before .before), size (c .before .before .before), c .before .before .before .before .before .before .before .before .before .before .before .before .before .before .before .before .before .before .before .before .before .before .before .before .before .before .before .before .before .pre .room)
-
-store-requires : tie.Need-store-requires
-store-requires c κs = search needs
-
-same-length-4 : tie.Need-same-length-4
-same-length-4 c = search needs
-
-same-length-5 : tie.Need-same-length-5
-same-length-5 c = search needs
-
-same-length-6 : tie.Need-same-length-6
-same-length-6 c = search needs
 
 returns-2 : tie.Need-returns-2
 returns-2 c =
@@ -107,21 +68,21 @@ pub write-encoding-spec : {M : Type 1} → statement M
 write-encoding-spec =
     tie.close
     (tie.spec
-    remove-requires
-    set-body-length-requires
-    write-message-requires
-    enum-known-length
-    same-length
-    same-length-2
-    same-length-3
+    (λ c κs. search needs)
+    (λ c κs. search needs)
+    (λ c κs. search needs)
+    (λ c. search needs)
+    (λ c. search needs)
+    (λ c. search needs)
+    (λ c. search needs)
     returns
     sub-first
     sub-last
-    sub-store
-    part-store-start
+    (λ c. search needs)
+    (λ c. search needs)
     part-store-end
-    store-requires
-    same-length-4
-    same-length-5
-    same-length-6
+    (λ c κs. search needs)
+    (λ c. search needs)
+    (λ c. search needs)
+    (λ c. search needs)
     returns-2)

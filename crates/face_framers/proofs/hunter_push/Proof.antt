@@ -4,21 +4,6 @@ use borrow.Author.Needs.{needs}
 use Rattle.face_framers.proofs.hunter_push.Statement.{statement}
 use Rattle.face_framers.proofs.hunter_push.Tie as tie
 
-tell-requires : tie.Need-tell-requires
-tell-requires c κs = search needs
-
-hunter-in-requires : tie.Need-hunter-in-requires
-hunter-in-requires c κs = search needs
-
-push-requires : tie.Need-push-requires
-push-requires c κs = search needs
-
-hunter-told-requires : tie.Need-hunter-told-requires
-hunter-told-requires c κs = search needs
-
-same-length : tie.Need-same-length
-same-length c = search needs
-
 returns : tie.Need-returns
 returns c =
     let push = pushes-from _ _ _ _ _ _ (c .before .before .before .before .before .before .hunter-in .ensures) (c .before .before .before .before .push .ensures) in
@@ -28,9 +13,9 @@ pub hunter-push-spec : {M : Type 1} → statement M
 hunter-push-spec =
     tie.close
     (tie.spec
-    tell-requires
-    hunter-in-requires
-    push-requires
-    hunter-told-requires
-    same-length
+    (λ c κs. search needs)
+    (λ c κs. search needs)
+    (λ c κs. search needs)
+    (λ c κs. search needs)
+    (λ c. search needs)
     returns)

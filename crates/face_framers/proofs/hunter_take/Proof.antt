@@ -4,24 +4,6 @@ use borrow.Author.Needs.{needs}
 use Rattle.face_framers.proofs.hunter_take.Statement.{statement}
 use Rattle.face_framers.proofs.hunter_take.Tie as tie
 
-hunter-in-requires : tie.Need-hunter-in-requires
-hunter-in-requires c κs = search needs
-
-take-requires : tie.Need-take-requires
-take-requires c κs = search needs
-
-tell-requires : tie.Need-tell-requires
-tell-requires c κs = search needs
-
-hunter-told-requires : tie.Need-hunter-told-requires
-hunter-told-requires c κs = search needs
-
-same-length : tie.Need-same-length
-same-length c = search needs
-
-same-length-2 : tie.Need-same-length-2
-same-length-2 c = search needs
-
 returns : tie.Need-returns
 returns c =
     let take = takes-from _ _ _ _ _ _ _ (c .before .before .before .before .before .before .before .before .before .before .before .hunter-in .ensures) (c .before .before .before .before .before .before .before .before .take .ensures) in
@@ -31,10 +13,10 @@ pub hunter-take-spec : {M : Type 1} → statement M
 hunter-take-spec =
     tie.close
     (tie.spec
-    hunter-in-requires
-    take-requires
-    tell-requires
-    hunter-told-requires
-    same-length
-    same-length-2
+    (λ c κs. search needs)
+    (λ c κs. search needs)
+    (λ c κs. search needs)
+    (λ c κs. search needs)
+    (λ c. search needs)
+    (λ c. search needs)
     returns)

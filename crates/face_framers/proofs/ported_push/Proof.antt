@@ -4,21 +4,6 @@ use borrow.Author.Needs.{needs}
 use Rattle.face_framers.proofs.ported_push.Statement.{statement}
 use Rattle.face_framers.proofs.ported_push.Tie as tie
 
-tell-requires : tie.Need-tell-requires
-tell-requires c κs = search needs
-
-ported-in-requires : tie.Need-ported-in-requires
-ported-in-requires c κs = search needs
-
-push-requires : tie.Need-push-requires
-push-requires c κs = search needs
-
-ported-told-requires : tie.Need-ported-told-requires
-ported-told-requires c κs = search needs
-
-same-length : tie.Need-same-length
-same-length c = search needs
-
 returns : tie.Need-returns
 returns c =
     let s = c .before .before .before .before .before .before .ported-in .ensures in
@@ -29,9 +14,9 @@ pub ported-push-spec : {M : Type 1} → statement M
 ported-push-spec =
     tie.close
     (tie.spec
-    tell-requires
-    ported-in-requires
-    push-requires
-    ported-told-requires
-    same-length
+    (λ c κs. search needs)
+    (λ c κs. search needs)
+    (λ c κs. search needs)
+    (λ c κs. search needs)
+    (λ c. search needs)
     returns)

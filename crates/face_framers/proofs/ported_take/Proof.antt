@@ -4,27 +4,6 @@ use borrow.Author.Needs.{needs}
 use Rattle.face_framers.proofs.ported_take.Statement.{statement}
 use Rattle.face_framers.proofs.ported_take.Tie as tie
 
-ported-in-requires : tie.Need-ported-in-requires
-ported-in-requires c κs = search needs
-
-take-requires : tie.Need-take-requires
-take-requires c κs = search needs
-
-length-of-requires : tie.Need-length-of-requires
-length-of-requires c κs = search needs
-
-tell-requires : tie.Need-tell-requires
-tell-requires c κs = search needs
-
-ported-told-requires : tie.Need-ported-told-requires
-ported-told-requires c κs = search needs
-
-same-length : tie.Need-same-length
-same-length c = search needs
-
-same-length-2 : tie.Need-same-length-2
-same-length-2 c = search needs
-
 returns : tie.Need-returns
 returns c =
     let s = c .before .before .before .before .before .before .before .before .before .before .before .before .ported-in .ensures in
@@ -36,11 +15,11 @@ pub ported-take-spec : {M : Type 1} → statement M
 ported-take-spec =
     tie.close
     (tie.spec
-    ported-in-requires
-    take-requires
-    length-of-requires
-    tell-requires
-    ported-told-requires
-    same-length
-    same-length-2
+    (λ c κs. search needs)
+    (λ c κs. search needs)
+    (λ c κs. search needs)
+    (λ c κs. search needs)
+    (λ c κs. search needs)
+    (λ c. search needs)
+    (λ c. search needs)
     returns)

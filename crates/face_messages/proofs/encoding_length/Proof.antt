@@ -5,27 +5,6 @@ use borrow.Author.Needs.{needs}
 use Rattle.face_messages.proofs.encoding_length.Statement.{statement}
 use Rattle.face_messages.proofs.encoding_length.Tie as tie
 
-enum-known-encoding : tie.Need-enum-known-encoding
-enum-known-encoding c = search needs
-
-enum-told : tie.Need-enum-told
-enum-told c = search needs
-
-enum-told-2 : tie.Need-enum-told-2
-enum-told-2 c = search needs
-
-enum-told-3 : tie.Need-enum-told-3
-enum-told-3 c = search needs
-
-enum-told-4 : tie.Need-enum-told-4
-enum-told-4 c = search needs
-
-enum-told-5 : tie.Need-enum-told-5
-enum-told-5 c = search needs
-
-enum-told-6 : tie.Need-enum-told-6
-enum-told-6 c = search needs
-
 returns : tie.Need-returns
 unfolding lengthOfEncoding
 returns c = sym (ap lengthOfEncoding (c .before .encoding .given .1))
@@ -58,13 +37,13 @@ pub encoding-length-spec : {M : Type 1} → statement M
 encoding-length-spec =
     tie.close
     (tie.spec
-    enum-known-encoding
-    enum-told
-    enum-told-2
-    enum-told-3
-    enum-told-4
-    enum-told-5
-    enum-told-6
+    (λ c. search needs)
+    (λ c. search needs)
+    (λ c. search needs)
+    (λ c. search needs)
+    (λ c. search needs)
+    (λ c. search needs)
+    (λ c. search needs)
     returns
     returns-2
     returns-3

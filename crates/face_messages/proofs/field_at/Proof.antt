@@ -7,24 +7,6 @@ use Rattle.face_messages.proofs.field_at.Tie as tie
 returns : tie.Need-returns
 returns c = field-past _ _ _ (c .if1 .taken)
 
-record-at-requires : tie.Need-record-at-requires
-record-at-requires c κs = search needs
-
-low-byte-requires : tie.Need-low-byte-requires
-low-byte-requires c κs = search needs
-
-low-byte-requires-2 : tie.Need-low-byte-requires-2
-low-byte-requires-2 c κs = search needs
-
-low-half-requires : tie.Need-low-half-requires
-low-half-requires c κs = search needs
-
-low-half-requires-2 : tie.Need-low-half-requires-2
-low-half-requires-2 c κs = search needs
-
-low-half-requires-3 : tie.Need-low-half-requires-3
-low-half-requires-3 c κs = search needs
-
 returns-2 : tie.Need-returns-2
 returns-2 c =
     field-shown _ _ _ _ _ _ _ _ _ (c .before .before .before .before .before .before .before .if1 .left) (c .before .before .before .before .before .record-at .ensures) (c .before .before .before .before .low-byte .ensures) (c .before .before .before .low-byte2 .ensures) (c .before .before .low-half .ensures) (c .before .low-half2 .ensures) (c .low-half3 .ensures)
@@ -34,10 +16,10 @@ field-at-spec =
     tie.close
     (tie.spec
     returns
-    record-at-requires
-    low-byte-requires
-    low-byte-requires-2
-    low-half-requires
-    low-half-requires-2
-    low-half-requires-3
+    (λ c κs. search needs)
+    (λ c κs. search needs)
+    (λ c κs. search needs)
+    (λ c κs. search needs)
+    (λ c κs. search needs)
+    (λ c κs. search needs)
     returns-2)

@@ -6,26 +6,8 @@ use borrow.Author.Needs.{needs}
 use Rattle.face_messages.proofs.take_over.Statement.{statement}
 use Rattle.face_messages.proofs.take_over.Tie as tie
 
-tell-requires : tie.Need-tell-requires
-tell-requires c κs = search needs
-
-mul-end : tie.Need-mul-end
-mul-end c = search needs
-
 slice-aggregate-take-over : tie.Need-slice-aggregate-take-over
 slice-aggregate-take-over c = simp length-take (omega arith)
-
-take-over-requires : tie.Need-take-over-requires
-take-over-requires c κs = search needs
-
-taken-number-requires : tie.Need-taken-number-requires
-taken-number-requires c κs = search needs
-
-same-length : tie.Need-same-length
-same-length c = search needs
-
-same-length-2 : tie.Need-same-length-2
-same-length-2 c = search needs
 
 returns : tie.Need-returns
 returns c =
@@ -36,11 +18,11 @@ pub take-over-spec : {M : Type 1} → statement M
 take-over-spec =
     tie.close
     (tie.spec
-    tell-requires
-    mul-end
+    (λ c κs. search needs)
+    (λ c. search needs)
     slice-aggregate-take-over
-    take-over-requires
-    taken-number-requires
-    same-length
-    same-length-2
+    (λ c κs. search needs)
+    (λ c κs. search needs)
+    (λ c. search needs)
+    (λ c. search needs)
     returns)

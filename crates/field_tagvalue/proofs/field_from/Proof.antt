@@ -13,15 +13,6 @@ use Rattle.field_rules.specs.declared.Number.the-variants.{Worth}
 use Rattle.field_tagvalue.proofs.field_from.Statement.{statement}
 use Rattle.field_tagvalue.proofs.field_from.Tie as tie
 
-find-requires : tie.Need-find-requires
-find-requires c κs = search needs
-
-enum-known-equals : tie.Need-enum-known-equals
-enum-known-equals c = search needs
-
-enum-told : tie.Need-enum-told
-enum-told c = search needs
-
 returns : tie.Need-returns
 returns c = sym (no-equals _ _ _ (sym (c .before .before .find .ensures) ∙ c .enum-told .given .1))
 
@@ -41,18 +32,6 @@ sub-find c = omega (arith, equals-in c)
 part-find-start : tie.Need-part-find-start
 part-find-start c = omega (arith, equals-in c)
 
-part-find-end : tie.Need-part-find-end
-part-find-end c = search needs
-
-find-requires-2 : tie.Need-find-requires-2
-find-requires-2 c κs = search needs
-
-enum-known-length : tie.Need-enum-known-length
-enum-known-length c = search needs
-
-enum-told-2 : tie.Need-enum-told-2
-enum-told-2 c = search needs
-
 returns-2 : tie.Need-returns-2
 returns-2 c =
     sym (no-separator _ _ _ _ (equals-at (c .before .before .before .before)) (rw rest-part at (sym (c .before .before .find2 .ensures) ∙ c .enum-told2 .given .1)))
@@ -70,15 +49,6 @@ separator-in c = let a = c .before .before .before .before .before in
 slice-aggregate-tag-of : tie.Need-slice-aggregate-tag-of
 slice-aggregate-tag-of c = simp length-take (omega (arith, equals-in (c .before .before .before .before .before .before)))
 
-tag-of-requires : tie.Need-tag-of-requires
-tag-of-requires c κs = search needs
-
-enum-known-tag : tie.Need-enum-known-tag
-enum-known-tag c = search needs
-
-enum-told-3 : tie.Need-enum-told-3
-enum-told-3 c = search needs
-
 returns-3 : tie.Need-returns-3
 returns-3 c = let b = c .before .before .before .before in
     sym (bad-tag _ _ _ _ _ (equals-at (b .before .before .before .before .before)) (separator-at b) (sym (c .before .before .tag-of .ensures) ∙ c .enum-told3 .given .1))
@@ -92,9 +62,6 @@ add-start-at c = omega (arith, separator-in (c .before .before .before .before .
 add-start-at-2 : tie.Need-add-start-at-2
 add-start-at-2 c = omega (arith, separator-in (c .before .before .before .before .before), c .before .before .before .before .before .before .before .before .before .before .before .before .before .before .before .pre)
 
-start-at-requires : tie.Need-start-at-requires
-start-at-requires c κs = search needs
-
 returns-4 : tie.Need-returns-4
 returns-4 c = let a = c .before in
     let b = a .before .before .before .before .before in
@@ -105,25 +72,25 @@ pub field-from-spec : {M : Type 1} → statement M
 field-from-spec =
     tie.close
     (tie.spec
-    find-requires
-    enum-known-equals
-    enum-told
+    (λ c κs. search needs)
+    (λ c. search needs)
+    (λ c. search needs)
     returns
     add-value
     sub-find
     part-find-start
-    part-find-end
-    find-requires-2
-    enum-known-length
-    enum-told-2
+    (λ c. search needs)
+    (λ c κs. search needs)
+    (λ c. search needs)
+    (λ c. search needs)
     returns-2
     slice-aggregate-tag-of
-    tag-of-requires
-    enum-known-tag
-    enum-told-3
+    (λ c κs. search needs)
+    (λ c. search needs)
+    (λ c. search needs)
     returns-3
     add-place
     add-start-at
     add-start-at-2
-    start-at-requires
+    (λ c κs. search needs)
     returns-4)

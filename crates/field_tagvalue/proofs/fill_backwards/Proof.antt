@@ -15,32 +15,11 @@ abbrev μ-loop : tie.MeasureT-loop
 loop-holds : tie.Need-loop-holds Inv-loop μ-loop
 loop-holds c = fill-start _ _ (c .digits .given .0 .1)
 
-cast-digits : tie.Need-cast-digits Inv-loop μ-loop
-cast-digits c = omega arith
-
-add-digits : tie.Need-add-digits Inv-loop μ-loop
-add-digits c = omega arith
-
-slice-write-digits : tie.Need-slice-write-digits Inv-loop μ-loop
-slice-write-digits c = omega arith
-
 sub-at : tie.Need-sub-at Inv-loop μ-loop
 sub-at c = fill-room _ _ _ _ _ (c .before .loop .inv) (omega arith) (c .loop-test .taken)
 
-loop-less : tie.Need-loop-less Inv-loop μ-loop
-loop-less c = omega arith
-
 loop-again : tie.Need-loop-again Inv-loop μ-loop
 loop-again c = fill-again _ _ _ _ _ (c .before .loop .inv) (sub-at c) (c .loop-test .taken)
-
-cast-digits-2 : tie.Need-cast-digits-2 Inv-loop μ-loop
-cast-digits-2 c = omega arith
-
-add-digits-2 : tie.Need-add-digits-2 Inv-loop μ-loop
-add-digits-2 c = omega arith
-
-slice-write-digits-2 : tie.Need-slice-write-digits-2 Inv-loop μ-loop
-slice-write-digits-2 c = omega arith
 
 returns : tie.Need-returns Inv-loop μ-loop
 returns c =
@@ -54,13 +33,13 @@ fill-backwards-spec =
     Inv-loop
     μ-loop
     loop-holds
-    cast-digits
-    add-digits
-    slice-write-digits
+    (λ c. omega arith)
+    (λ c. omega arith)
+    (λ c. omega arith)
     sub-at
-    loop-less
+    (λ c. omega arith)
     loop-again
-    cast-digits-2
-    add-digits-2
-    slice-write-digits-2
+    (λ c. omega arith)
+    (λ c. omega arith)
+    (λ c. omega arith)
     returns)

@@ -13,15 +13,6 @@ use Rattle.field_tagvalue.proofs.next_field.Tie as tie
 returns : tie.Need-returns
 returns c = sym (past-end _ _ _ (omega arith))
 
-sub-field-from : tie.Need-sub-field-from
-sub-field-from c = search needs
-
-part-field-from-start : tie.Need-part-field-from-start
-part-field-from-start c = search needs
-
-part-field-from-end : tie.Need-part-field-from-end
-part-field-from-end c = search needs
-
 field-from-requires : tie.Need-field-from-requires
 field-from-requires c κs = let a = c .before .before .before in
     rw rest-part (omega (arith, length-drop (a .args .cursor .at) (a .args .message .now), a .good .1 .0 .1))
@@ -35,8 +26,8 @@ next-field-spec =
     tie.close
     (tie.spec
     returns
-    sub-field-from
-    part-field-from-start
-    part-field-from-end
+    (λ c. search needs)
+    (λ c. search needs)
+    (λ c. search needs)
     field-from-requires
     returns-2)

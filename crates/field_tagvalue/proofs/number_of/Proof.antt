@@ -22,9 +22,6 @@ returns c = sym (number-empty _ (c .if1 .taken))
 loop-holds : tie.Need-loop-holds Inv-loop μ-loop
 loop-holds c = (omega arith, omega arith, refl, refl)
 
-shared-slice-read-digit : tie.Need-shared-slice-read-digit Inv-loop μ-loop
-shared-slice-read-digit c = search needs
-
 returns-2 : tie.Need-returns-2 Inv-loop μ-loop
 returns-2 c = let a = c .before .before .before in
     sym (number-bad _ (a .loop .inv .2 ∙ digit-low _ _ (c .before .before .loop-test .taken) (c .if2 .taken)))
@@ -33,27 +30,12 @@ returns-3 : tie.Need-returns-3 Inv-loop μ-loop
 returns-3 c = let a = c .before .before .before .before in
     sym (number-bad _ (a .loop .inv .2 ∙ digit-high _ _ (c .before .before .before .loop-test .taken) (c .if3 .taken)))
 
-mul-n : tie.Need-mul-n Inv-loop μ-loop
-mul-n c = search needs
-
-widened-requires : tie.Need-widened-requires Inv-loop μ-loop
-widened-requires c κs = search needs
-
-add-n : tie.Need-add-n Inv-loop μ-loop
-add-n c = search needs
-
 returns-4 : tie.Need-returns-4 Inv-loop μ-loop
 returns-4 c = let a = c .before .before .before .before .before .before in
     let s = a .before .before .before .args .text .now in
     let i = a .loop .i in
     sym (number-large s (rw (a .loop .inv .3 ∙ worth-step s _ _ (c .before .before .before .before .before .loop-test .taken))
     (omega (arith, worth-least (drop (i + 1) s) (a .loop .n * 10 + (getD s i 0 - 48)), c .before .widened .ensures))))
-
-add-i : tie.Need-add-i Inv-loop μ-loop
-add-i c = search needs
-
-loop-less : tie.Need-loop-less Inv-loop μ-loop
-loop-less c = search needs
 
 loop-again : tie.Need-loop-again Inv-loop μ-loop
 loop-again c = let a = c .before .before .before .before .before .before in
@@ -63,9 +45,6 @@ loop-again c = let a = c .before .before .before .before .before .before in
       a .loop .inv .2 ∙ digit-step _ _ h (omega arith) (omega arith),
       a .loop .inv .3 ∙ worth-step _ _ _ h ∙ rw (c .before .widened .ensures),
     )
-
-cast-t13 : tie.Need-cast-t13 Inv-loop μ-loop
-cast-t13 c = search needs
 
 returns-5 : tie.Need-returns-5 Inv-loop μ-loop
 returns-5 c = let h = c .loop-test .left in
@@ -79,15 +58,15 @@ number-of-spec =
     μ-loop
     returns
     loop-holds
-    shared-slice-read-digit
+    (λ c. search needs)
     returns-2
     returns-3
-    mul-n
-    widened-requires
-    add-n
+    (λ c. search needs)
+    (λ c κs. search needs)
+    (λ c. search needs)
     returns-4
-    add-i
-    loop-less
+    (λ c. search needs)
+    (λ c. search needs)
     loop-again
-    cast-t13
+    (λ c. search needs)
     returns-5)

@@ -20,47 +20,14 @@ no-room at bytes output short = (sym (answer-none at bytes output short), sym (w
 digits-spelled : (c : tie.After-fill-backwards) → Spelled (c .before .before .before .args .n) (c .fill-backwards .last .0) (c .fill-backwards .result)
 digits-spelled c = spelled _ _ _ _ (length-replicate {A = ℕ} 10 0) (omega arith) (c .fill-backwards .ensures .0) (c .fill-backwards .ensures .1)
 
-fill-backwards-requires : tie.Need-fill-backwards-requires
-fill-backwards-requires c κs = search needs
-
-sub-count : tie.Need-sub-count
-sub-count c = search needs
-
 returns : tie.Need-returns
 returns c = no-room _ _ _ (omega (arith, decimal-some (c .before .before .before .before .args .n)))
-
-sub-if2 : tie.Need-sub-if2
-sub-if2 c = search needs
 
 returns-2 : tie.Need-returns-2
 returns-2 c = no-room _ _ _ (omega (arith, digits-spelled (c .before .before) .count))
 
-sub-copy : tie.Need-sub-copy
-sub-copy c = search needs
-
-part-copy-start : tie.Need-part-copy-start
-part-copy-start c = search needs
-
 part-copy-end : tie.Need-part-copy-end
 part-copy-end c = omega (arith, digits-spelled (c .before .before .before) .whole)
-
-sub-copy-2 : tie.Need-sub-copy-2
-sub-copy-2 c = search needs
-
-part-copy-start-2 : tie.Need-part-copy-start-2
-part-copy-start-2 c = search needs
-
-part-copy-end-2 : tie.Need-part-copy-end-2
-part-copy-end-2 c = search needs
-
-copy-requires : tie.Need-copy-requires
-copy-requires c κs = search needs
-
-add-t8 : tie.Need-add-t8
-add-t8 c = search needs
-
-same-length : tie.Need-same-length
-same-length c = search needs
 
 returns-3 : tie.Need-returns-3
 returns-3 c =
@@ -76,18 +43,18 @@ pub write-number-spec : {M : Type 1} → statement M
 write-number-spec =
     tie.close
     (tie.spec
-    fill-backwards-requires
-    sub-count
+    (λ c κs. search needs)
+    (λ c. search needs)
     returns
-    sub-if2
+    (λ c. search needs)
     returns-2
-    sub-copy
-    part-copy-start
+    (λ c. search needs)
+    (λ c. search needs)
     part-copy-end
-    sub-copy-2
-    part-copy-start-2
-    part-copy-end-2
-    copy-requires
-    add-t8
-    same-length
+    (λ c. search needs)
+    (λ c. search needs)
+    (λ c. search needs)
+    (λ c κs. search needs)
+    (λ c. search needs)
+    (λ c. search needs)
     returns-3)

@@ -21,45 +21,15 @@ abbrev μ-loop : tie.MeasureT-loop
 loop-holds : tie.Need-loop-holds Inv-loop μ-loop
 loop-holds c = (search needs, hunt-start verdictOf _ _ 0)
 
-sub-verdict-of : tie.Need-sub-verdict-of Inv-loop μ-loop
-sub-verdict-of c = search needs
-
-part-verdict-of-start : tie.Need-part-verdict-of-start Inv-loop μ-loop
-part-verdict-of-start c = search needs
-
-part-verdict-of-end : tie.Need-part-verdict-of-end Inv-loop μ-loop
-part-verdict-of-end c = search needs
-
-verdict-of-requires : tie.Need-verdict-of-requires Inv-loop μ-loop
-verdict-of-requires c κs = search needs
-
-act-on-requires : tie.Need-act-on-requires Inv-loop μ-loop
-act-on-requires c κs = search needs
-
 -- the act at the place
 acts : (c : tie.After-act-on Inv-loop μ-loop) → let l = c .before .before .before .before .loop in let a = c .before .before .before .before .before .before .args in actOn (a .ended) (verdictOf (drop (l .place) (a .held .now))) ≡ c .act-on .result
 acts c = let l = c .before .before .before .before .loop in let a = c .before .before .before .before .before .before .args in sym (c .act-on .ensures ∙ ap (actOn (a .ended)) (c .before .verdict-of .ensures ∙ ap verdictOf (rest-part (a .held .now) (l .place))))
 
-enum-known-act : tie.Need-enum-known-act Inv-loop μ-loop
-enum-known-act c = search needs
-
 returns : tie.Need-returns Inv-loop μ-loop
 returns c = let l = c .before .before .before .before .before .before .before .loop in sym (l .inv .1 ∙ hunt-hand verdictOf _ _ (l .place) _ (omega arith) (acts (c .before .before .before) ∙ c .before .act .given .1))
 
-enum-told : tie.Need-enum-told Inv-loop μ-loop
-enum-told c = search needs
-
 returns-2 : tie.Need-returns-2 Inv-loop μ-loop
 returns-2 c = let l = c .before .before .before .before .before .before .loop in sym (l .inv .1 ∙ hunt-stop verdictOf _ _ (l .place) (omega arith) (acts (c .before .before) ∙ c .enum-told .given .1))
-
-enum-told-2 : tie.Need-enum-told-2 Inv-loop μ-loop
-enum-told-2 c = search needs
-
-add-place : tie.Need-add-place Inv-loop μ-loop
-add-place c = search needs
-
-loop-less : tie.Need-loop-less Inv-loop μ-loop
-loop-less c = search needs
 
 loop-again : tie.Need-loop-again Inv-loop μ-loop
 loop-again c = let l = c .before .before .before .before .before .before .loop in (omega arith, l .inv .1 ∙ hunt-pass verdictOf _ _ (l .place) (omega arith) (acts (c .before .before) ∙ c .enum-told2 .given .1))
@@ -74,17 +44,17 @@ hunt-spec =
     Inv-loop
     μ-loop
     loop-holds
-    sub-verdict-of
-    part-verdict-of-start
-    part-verdict-of-end
-    verdict-of-requires
-    act-on-requires
-    enum-known-act
+    (λ c. search needs)
+    (λ c. search needs)
+    (λ c. search needs)
+    (λ c κs. search needs)
+    (λ c κs. search needs)
+    (λ c. search needs)
     returns
-    enum-told
+    (λ c. search needs)
     returns-2
-    enum-told-2
-    add-place
-    loop-less
+    (λ c. search needs)
+    (λ c. search needs)
+    (λ c. search needs)
     loop-again
     returns-3)

@@ -22,12 +22,6 @@ returns c = at-front _ _ _ (c .if1 .taken)
 loop-holds : tie.Need-loop-holds Inv-loop μ-loop
 loop-holds c = (search needs, sym (moved-none _ _))
 
-sub-loop : tie.Need-sub-loop Inv-loop μ-loop
-sub-loop c = search needs
-
-add-store : tie.Need-add-store Inv-loop μ-loop
-add-store c = search needs
-
 -- the store keeps its length
 size : (c : tie.After-slice-known Inv-loop μ-loop) → length (c .before .before .loop .store) ≡ length (c .before .before .before .before .args .store .now)
 size c = let l = c .before .before .loop in ap length (l .inv .1) ∙ moved-length _ _ (l .i) (omega (arith, c .before .before .before .before .pre, l .inv .0))
@@ -37,12 +31,6 @@ slice-read-store c = omega (arith, size c)
 
 slice-write-store : tie.Need-slice-write-store Inv-loop μ-loop
 slice-write-store c = omega (arith, size c)
-
-add-i : tie.Need-add-i Inv-loop μ-loop
-add-i c = search needs
-
-loop-less : tie.Need-loop-less Inv-loop μ-loop
-loop-less c = search needs
 
 loop-again : tie.Need-loop-again Inv-loop μ-loop
 loop-again c = let l = c .before .before .loop in
@@ -63,12 +51,12 @@ keep-spec =
     μ-loop
     returns
     loop-holds
-    sub-loop
-    add-store
+    (λ c. search needs)
+    (λ c. search needs)
     slice-read-store
     slice-write-store
-    add-i
-    loop-less
+    (λ c. search needs)
+    (λ c. search needs)
     loop-again
     same-length
     returns-2)

@@ -15,9 +15,6 @@ use Rattle.frame_hunter.proofs.Moves.{put-behind}
 use Rattle.frame_hunter.proofs.push.Statement.{statement}
 use Rattle.frame_hunter.proofs.push.Tie as tie
 
-unfit-store-requires : tie.Need-unfit-store-requires
-unfit-store-requires c κs = search needs
-
 returns : tie.Need-returns
 returns c = let u = push-unfit _ _ _ (sym (c .before .unfit-store .ensures) ∙ c .if1 .taken) in record { reply-is = sym (u .reply); store-is = sym (u .store-is) }
 
@@ -42,17 +39,8 @@ sub-copy c = omega (arith, fitting (c .before .before))
 part-copy-start : tie.Need-part-copy-start
 part-copy-start c = omega (arith, fitting (c .before .before))
 
-part-copy-end : tie.Need-part-copy-end
-part-copy-end c = search needs
-
 copy-requires : tie.Need-copy-requires
 copy-requires c κs = let a = c .before .before .before .before .before .before .before .args in omega (arith, fitting (c .before .before .before), ap length (rest-part (a .store .now) (a .state .used)), length-drop (a .state .used) (a .store .now), c .before .if3 .left)
-
-add-t12 : tie.Need-add-t12
-add-t12 c = search needs
-
-same-length : tie.Need-same-length
-same-length c = search needs
 
 -- the reply to a chunk of n bytes
 replied : State → ℕ → Reply
@@ -68,15 +56,15 @@ pub push-spec : {M : Type 1} → statement M
 push-spec =
     tie.close
     (tie.spec
-    unfit-store-requires
+    (λ c κs. search needs)
     returns
     returns-2
     sub-if3
     returns-3
     sub-copy
     part-copy-start
-    part-copy-end
+    (λ c. search needs)
     copy-requires
-    add-t12
-    same-length
+    (λ c. search needs)
+    (λ c. search needs)
     returns-4)

@@ -21,12 +21,6 @@ use Rattle.frame_hunter.proofs.take.Statement.{statement}
 use Rattle.frame_hunter.proofs.take.Tie as tie
 use Rattle.std.proofs.num.wrapping_add_u64.Reads as wrapping-add-u64-reads
 
-unfit-store-requires : tie.Need-unfit-store-requires
-unfit-store-requires c κs = search needs
-
-untaken-requires : tie.Need-untaken-requires
-untaken-requires c κs = search needs
-
 -- a refused take leaves store and output as they were
 refuses : (s : State) (store output : List ℕ) (a : Answer) (r : Taken) → r ≡ refusedTake s a → tookFrom s store output ≡ unmoved s store output a → Takes s store output r store output
 unfolding unmoved
@@ -34,9 +28,6 @@ refuses s store output a r e t = record { taken-is = e ∙ sym (ap (λ (o : Hand
 
 returns : tie.Need-returns
 returns c = refuses _ _ _ _ _ (c .untaken .ensures) (take-unfit _ _ _ (sym (c .before .before .unfit-store .ensures) ∙ c .before .if1 .taken))
-
-untaken-requires-2 : tie.Need-untaken-requires-2
-untaken-requires-2 c κs = search needs
 
 fit : (c : tie.Else1) → unfit (c .before .before .before .before .args .state) (length (c .before .before .before .before .args .store .now)) ≡ false
 fit c = sym (c .before .unfit-store .ensures) ∙ c .if1 .left
@@ -53,9 +44,6 @@ slice-reshare-prefix-hunt c = omega (arith, fitting (c .before))
 slice-aggregate-hunt : tie.Need-slice-aggregate-hunt
 slice-aggregate-hunt c = sym (held-length _ _ (fitting (c .before .before)))
 
-hunt-requires : tie.Need-hunt-requires
-hunt-requires c κs = search needs
-
 -- the hunt stands within the bytes held, which lie in the store, and a frame fits the output
 inside : (c : tie.After-hunt) → let a = c .before .before .before .before .before .before .before .args in
     (c .hunt .result .passed + c .hunt .result .length ≤ a .state .used) × (a .state .used ≤ 16384) × (length (a .store .now) ≡ 16384) × (c .hunt .result .length ≤ frameMost)
@@ -64,12 +52,6 @@ inside c = let a = c .before .before .before .before .before .before .before .ar
 
 add-rest : tie.Need-add-rest
 add-rest c = omega (arith, inside (c .before))
-
-sub-copy : tie.Need-sub-copy
-sub-copy c = search needs
-
-part-copy-start : tie.Need-part-copy-start
-part-copy-start c = search needs
 
 part-copy-end : tie.Need-part-copy-end
 part-copy-end c = omega (arith, inside (c .before .before))
@@ -82,15 +64,6 @@ keep-requires c κs = (omega (arith, inside (c .before .before .before .before .
 
 sub-t11 : tie.Need-sub-t11
 sub-t11 c = omega (arith, inside (c .before .before .before .before .before .before .before .before .before .before .before))
-
-wrapping-add-u64-requires : tie.Need-wrapping-add-u64-requires
-wrapping-add-u64-requires c κs = search needs
-
-same-length : tie.Need-same-length
-same-length c = search needs
-
-same-length-2 : tie.Need-same-length-2
-same-length-2 c = search needs
 
 -- the answer by the hunt: a frame of n bytes, and d places dropped
 answered : (s : State) (store output : List ℕ) (h : Hunted) (o : Handout) (n d : ℕ) → Moved s store output h o → n ≡ h .length → d ≡ (s .dropped + h .passed) % countWrap →
@@ -118,22 +91,22 @@ pub take-spec : {M : Type 1} → statement M
 take-spec =
     tie.close
     (tie.spec
-    unfit-store-requires
-    untaken-requires
+    (λ c κs. search needs)
+    (λ c κs. search needs)
     returns
-    untaken-requires-2
+    (λ c κs. search needs)
     returns-2
     slice-reshare-prefix-hunt
     slice-aggregate-hunt
-    hunt-requires
+    (λ c κs. search needs)
     add-rest
-    sub-copy
-    part-copy-start
+    (λ c. search needs)
+    (λ c. search needs)
     part-copy-end
     copy-requires
     keep-requires
     sub-t11
-    wrapping-add-u64-requires
-    same-length
-    same-length-2
+    (λ c κs. search needs)
+    (λ c. search needs)
+    (λ c. search needs)
     returns-3)

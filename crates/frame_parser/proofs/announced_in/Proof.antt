@@ -11,15 +11,6 @@ use borrow.Author.Needs.{needs}
 use Rattle.frame_parser.proofs.announced_in.Statement.{statement}
 use Rattle.frame_parser.proofs.announced_in.Tie as tie
 
-value-from-requires : tie.Need-value-from-requires
-value-from-requires c κs = search needs
-
-enum-known-begin-end : tie.Need-enum-known-begin-end
-enum-known-begin-end c = search needs
-
-enum-told : tie.Need-enum-told
-enum-told c = search needs
-
 returns : tie.Need-returns
 returns c = sym (announced-no-first _ (sym (c .before .before .value-from .ensures) ∙ c .enum-told .given .1))
 
@@ -29,15 +20,6 @@ first-at c = sym (c .before .before .before .value-from .ensures) ∙ c .before 
 
 add-value-from : tie.Need-add-value-from
 add-value-from c = omega (arith, value-in _ _ _ _ (first-at c))
-
-value-from-requires-2 : tie.Need-value-from-requires-2
-value-from-requires-2 c κs = search needs
-
-enum-known-first : tie.Need-enum-known-first
-enum-known-first c = search needs
-
-enum-told-2 : tie.Need-enum-told-2
-enum-told-2 c = search needs
 
 returns-2 : tie.Need-returns-2
 returns-2 c = sym (announced-no-second _ _ _ (first-at (c .before .before .before)) (sym (c .before .before .value-from2 .ensures) ∙ c .enum-told2 .given .1))
@@ -62,9 +44,6 @@ part-nominal-length-start c = omega (arith, value-in _ _ _ _ (second-at c))
 part-nominal-length-end : tie.Need-part-nominal-length-end
 part-nominal-length-end c = omega (arith, value-in _ _ _ _ (second-at c))
 
-nominal-length-requires : tie.Need-nominal-length-requires
-nominal-length-requires c κs = search needs
-
 add-head : tie.Need-add-head
 add-head c = omega (arith, value-in _ _ _ _ (second-at (c .before .before)))
 
@@ -79,9 +58,6 @@ returns-4 : tie.Need-returns-4
 unfolding messageEnd
 returns-4 c = sym (announced-at (c .before .before) ∙ limit-over _ (omega arith))
 
-add-t15 : tie.Need-add-t15
-add-t15 c = search needs
-
 returns-5 : tie.Need-returns-5
 unfolding messageEnd
 returns-5 c = sym (announced-at (c .before .before) ∙ limit-ends _ (omega arith) ∙ ap Ends (omega arith))
@@ -90,22 +66,22 @@ pub announced-in-spec : {M : Type 1} → statement M
 announced-in-spec =
     tie.close
     (tie.spec
-    value-from-requires
-    enum-known-begin-end
-    enum-told
+    (λ c κs. search needs)
+    (λ c. search needs)
+    (λ c. search needs)
     returns
     add-value-from
-    value-from-requires-2
-    enum-known-first
-    enum-told-2
+    (λ c κs. search needs)
+    (λ c. search needs)
+    (λ c. search needs)
     returns-2
     sub-nominal-length
     part-nominal-length-start
     part-nominal-length-end
-    nominal-length-requires
+    (λ c κs. search needs)
     add-head
     add-head-2
     returns-3
     returns-4
-    add-t15
+    (λ c. search needs)
     returns-5)

@@ -8,12 +8,6 @@ use Rattle.frame_parser_rules.specs.FramerLaws.{end-bad, end-ended, end-over, e
 use Rattle.frame_parser.proofs.end.Statement.{statement}
 use Rattle.frame_parser.proofs.end.Tie as tie
 
-is-unusable-requires : tie.Need-is-unusable-requires
-is-unusable-requires c κs = search needs
-
-answers-requires : tie.Need-answers-requires
-answers-requires c κs = search needs
-
 usable-at : (c : tie.Else1) → let a = c .before .before .before .args in
     unusable (a .state .used) (a .store .now) ≡ false
 usable-at c = sym (c .before .is-unusable .ensures) ∙ c .if1 .left
@@ -21,20 +15,11 @@ usable-at c = sym (c .before .is-unusable .ensures) ∙ c .if1 .left
 returns : tie.Need-returns
 returns c = c .answers .ensures ∙ end-bad _ _ (sym (c .before .before .is-unusable .ensures) ∙ c .before .if1 .taken)
 
-answers-requires-2 : tie.Need-answers-requires-2
-answers-requires-2 c κs = search needs
-
 returns-2 : tie.Need-returns-2
 returns-2 c = c .answers2 .ensures ∙ end-ended _ _ (usable-at (c .before .before)) (c .before .if2 .taken)
 
-answers-requires-3 : tie.Need-answers-requires-3
-answers-requires-3 c κs = search needs
-
 returns-3 : tie.Need-returns-3
 returns-3 c = c .answers3 .ensures ∙ end-over _ _ (usable-at (c .before .before .before)) (c .before .before .if2 .left) (c .before .if3 .taken)
-
-answers-requires-4 : tie.Need-answers-requires-4
-answers-requires-4 c κs = search needs
 
 returns-4 : tie.Need-returns-4
 unfolding withEnd
@@ -44,12 +29,12 @@ pub end-spec : {M : Type 1} → statement M
 end-spec =
     tie.close
     (tie.spec
-    is-unusable-requires
-    answers-requires
+    (λ c κs. search needs)
+    (λ c κs. search needs)
     returns
-    answers-requires-2
+    (λ c κs. search needs)
     returns-2
-    answers-requires-3
+    (λ c κs. search needs)
     returns-3
-    answers-requires-4
+    (λ c κs. search needs)
     returns-4)

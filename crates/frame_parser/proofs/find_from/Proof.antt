@@ -14,24 +14,6 @@ use Rattle.frame_parser.proofs.find_from.Tie as tie
 returns : tie.Need-returns
 returns c = sym (from-past _ _ _ (c .if1 .taken))
 
-sub-find : tie.Need-sub-find
-sub-find c = search needs
-
-part-find-start : tie.Need-part-find-start
-part-find-start c = search needs
-
-part-find-end : tie.Need-part-find-end
-part-find-end c = search needs
-
-find-requires : tie.Need-find-requires
-find-requires c κs = search needs
-
-enum-known-offset : tie.Need-enum-known-offset
-enum-known-offset c = search needs
-
-enum-told : tie.Need-enum-told
-enum-told c = search needs
-
 returns-2 : tie.Need-returns-2
 returns-2 c = sym (from-none _ _ _ (rw rest-part at (sym (c .before .before .find .ensures) ∙ c .enum-told .given .1)))
 
@@ -51,12 +33,12 @@ find-from-spec =
     tie.close
     (tie.spec
     returns
-    sub-find
-    part-find-start
-    part-find-end
-    find-requires
-    enum-known-offset
-    enum-told
+    (λ c. search needs)
+    (λ c. search needs)
+    (λ c. search needs)
+    (λ c κs. search needs)
+    (λ c. search needs)
+    (λ c. search needs)
     returns-2
     add-t5
     returns-3)

@@ -16,26 +16,8 @@ Inv-loop store₀ first end count i₀ store i = (i ≤ count) × (length store 
 abbrev μ-loop : tie.MeasureT-loop
 μ-loop store₀ first end count i₀ store i = count - i
 
-sub-count : tie.Need-sub-count Inv-loop μ-loop
-sub-count c = search needs
-
 loop-holds : tie.Need-loop-holds Inv-loop μ-loop
 loop-holds c = (omega arith, refl, refl)
-
-add-store : tie.Need-add-store Inv-loop μ-loop
-add-store c = search needs
-
-slice-read-store : tie.Need-slice-read-store Inv-loop μ-loop
-slice-read-store c = search needs
-
-slice-write-store : tie.Need-slice-write-store Inv-loop μ-loop
-slice-write-store c = search needs
-
-add-i : tie.Need-add-i Inv-loop μ-loop
-add-i c = search needs
-
-loop-less : tie.Need-loop-less Inv-loop μ-loop
-loop-less c = search needs
 
 loop-again : tie.Need-loop-again Inv-loop μ-loop
 loop-again c =
@@ -46,9 +28,6 @@ loop-again c =
       length-set (l .loop .store) i _ ∙ l .loop .inv .1,
       ap (λ (s : List ℕ). set s i (getD s (a .first + i) 0)) (l .loop .inv .2) ∙ moved-step (a .store .now) (a .first) i (omega arith),
     )
-
-same-length : tie.Need-same-length Inv-loop μ-loop
-same-length c = search needs
 
 returns : tie.Need-returns Inv-loop μ-loop
 returns c =
@@ -63,13 +42,13 @@ move-to-front-spec =
     (tie.spec
     Inv-loop
     μ-loop
-    sub-count
+    (λ c. search needs)
     loop-holds
-    add-store
-    slice-read-store
-    slice-write-store
-    add-i
-    loop-less
+    (λ c. search needs)
+    (λ c. search needs)
+    (λ c. search needs)
+    (λ c. search needs)
+    (λ c. search needs)
     loop-again
-    same-length
+    (λ c. search needs)
     returns)

@@ -19,27 +19,6 @@ abbrev μ-loop : tie.MeasureT-loop
 loop-holds : tie.Need-loop-holds Inv-loop μ-loop
 loop-holds c = (omega arith, refl)
 
-shared-slice-read-wrapping-sub-u8 : tie.Need-shared-slice-read-wrapping-sub-u8 Inv-loop μ-loop
-shared-slice-read-wrapping-sub-u8 c = search needs
-
-wrapping-sub-u8-requires : tie.Need-wrapping-sub-u8-requires Inv-loop μ-loop
-wrapping-sub-u8-requires c κs = search needs
-
-ten-times-requires : tie.Need-ten-times-requires Inv-loop μ-loop
-ten-times-requires c κs = search needs
-
-wide-requires : tie.Need-wide-requires Inv-loop μ-loop
-wide-requires c κs = search needs
-
-wrapping-add-u64-requires : tie.Need-wrapping-add-u64-requires Inv-loop μ-loop
-wrapping-add-u64-requires c κs = search needs
-
-add-i : tie.Need-add-i Inv-loop μ-loop
-add-i c = search needs
-
-loop-less : tie.Need-loop-less Inv-loop μ-loop
-loop-less c = search needs
-
 loop-again : tie.Need-loop-again Inv-loop μ-loop
 loop-again c =
     let l = c .before .before .before .before .before .before in
@@ -60,12 +39,12 @@ nominal-length-spec =
     Inv-loop
     μ-loop
     loop-holds
-    shared-slice-read-wrapping-sub-u8
-    wrapping-sub-u8-requires
-    ten-times-requires
-    wide-requires
-    wrapping-add-u64-requires
-    add-i
-    loop-less
+    (λ c. search needs)
+    (λ c κs. search needs)
+    (λ c κs. search needs)
+    (λ c κs. search needs)
+    (λ c κs. search needs)
+    (λ c. search needs)
+    (λ c. search needs)
     loop-again
     returns)

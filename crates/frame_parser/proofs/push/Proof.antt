@@ -12,40 +12,19 @@ use Rattle.frame_parser_rules.specs.FramerLaws.{usable-is, push-bad, push-ended
 use Rattle.frame_parser.proofs.push.Statement.{statement}
 use Rattle.frame_parser.proofs.push.Tie as tie
 
-is-unusable-requires : tie.Need-is-unusable-requires
-is-unusable-requires c κs = search needs
-
 usable-at : (c : tie.Else1) → let a = c .before .before .before .before .before .args in
     unusable (a .state .used) (a .store .now) ≡ false
 usable-at c = sym (c .before .is-unusable .ensures) ∙ c .if1 .left
-
-answers-requires : tie.Need-answers-requires
-answers-requires c κs = search needs
-
-same-length : tie.Need-same-length
-same-length c = search needs
 
 returns : tie.Need-returns
 returns c =
     let law = push-bad _ _ _ (sym (c .before .before .is-unusable .ensures) ∙ c .before .if1 .taken) in
     (c .answers .ensures ∙ law .0, law .1)
 
-answers-requires-2 : tie.Need-answers-requires-2
-answers-requires-2 c κs = search needs
-
-same-length-2 : tie.Need-same-length-2
-same-length-2 c = search needs
-
 returns-2 : tie.Need-returns-2
 returns-2 c =
     let law = push-ended _ _ _ (usable-at (c .before .before)) (c .before .if2 .taken) in
     (c .answers2 .ensures ∙ law .0, law .1)
-
-answers-requires-3 : tie.Need-answers-requires-3
-answers-requires-3 c κs = search needs
-
-same-length-3 : tie.Need-same-length-3
-same-length-3 c = search needs
 
 returns-3 : tie.Need-returns-3
 returns-3 c =
@@ -54,12 +33,6 @@ returns-3 c =
 
 sub-if4 : tie.Need-sub-if4
 sub-if4 c = omega (arith, usable-is _ _ (usable-at (c .before .before)))
-
-answers-requires-4 : tie.Need-answers-requires-4
-answers-requires-4 c κs = search needs
-
-same-length-4 : tie.Need-same-length-4
-same-length-4 c = search needs
 
 returns-4 : tie.Need-returns-4
 returns-4 c =
@@ -75,20 +48,8 @@ sub-copy c = omega (arith, usable-is _ _ (usable-at (c .before .before .before))
 part-copy-start : tie.Need-part-copy-start
 part-copy-start c = omega (arith, usable-is _ _ (usable-at (c .before .before .before)))
 
-part-copy-end : tie.Need-part-copy-end
-part-copy-end c = search needs
-
 copy-requires : tie.Need-copy-requires
 copy-requires c κs = omega (arith, usable-is _ _ (usable-at (c .before .before .before .before)))
-
-add-t14 : tie.Need-add-t14
-add-t14 c = search needs
-
-answers-requires-5 : tie.Need-answers-requires-5
-answers-requires-5 c κs = search needs
-
-same-length-5 : tie.Need-same-length-5
-same-length-5 c = search needs
 
 returns-5 : tie.Need-returns-5
 unfolding withChunk
@@ -105,25 +66,25 @@ pub push-spec : {M : Type 1} → statement M
 push-spec =
     tie.close
     (tie.spec
-    is-unusable-requires
-    answers-requires
-    same-length
+    (λ c κs. search needs)
+    (λ c κs. search needs)
+    (λ c. search needs)
     returns
-    answers-requires-2
-    same-length-2
+    (λ c κs. search needs)
+    (λ c. search needs)
     returns-2
-    answers-requires-3
-    same-length-3
+    (λ c κs. search needs)
+    (λ c. search needs)
     returns-3
     sub-if4
-    answers-requires-4
-    same-length-4
+    (λ c κs. search needs)
+    (λ c. search needs)
     returns-4
     sub-copy
     part-copy-start
-    part-copy-end
+    (λ c. search needs)
     copy-requires
-    add-t14
-    answers-requires-5
-    same-length-5
+    (λ c. search needs)
+    (λ c κs. search needs)
+    (λ c. search needs)
     returns-5)

@@ -16,40 +16,19 @@ use Rattle.frame_parser.proofs.Front.{copied-front}
 use Rattle.frame_parser.proofs.take.Statement.{statement}
 use Rattle.frame_parser.proofs.take.Tie as tie
 
-is-unusable-requires : tie.Need-is-unusable-requires
-is-unusable-requires c κs = search needs
-
 usable-at : (c : tie.Else1) → let a = c .before .before .before .before .before .args in
     unusable (a .state .used) (a .store .now) ≡ false
 usable-at c = sym (c .before .is-unusable .ensures) ∙ c .if1 .left
-
-answers-requires : tie.Need-answers-requires
-answers-requires c κs = search needs
-
-same-length : tie.Need-same-length
-same-length c = search needs
 
 returns : tie.Need-returns
 returns c =
     let law = take-bad _ _ _ (sym (c .before .before .is-unusable .ensures) ∙ c .before .if1 .taken) in
     (c .answers .ensures ∙ law .0, (law .1, law .2))
 
-answers-requires-2 : tie.Need-answers-requires-2
-answers-requires-2 c κs = search needs
-
-same-length-2 : tie.Need-same-length-2
-same-length-2 c = search needs
-
 returns-2 : tie.Need-returns-2
 returns-2 c =
     let law = take-short _ _ _ (usable-at (c .before .before)) (c .before .if2 .taken) in
     (c .answers2 .ensures ∙ law .0, (law .1, law .2))
-
-over-long-requires : tie.Need-over-long-requires
-over-long-requires c κs = search needs
-
-same-length-3 : tie.Need-same-length-3
-same-length-3 c = search needs
 
 returns-3 : tie.Need-returns-3
 returns-3 c =
@@ -62,29 +41,11 @@ slice-reshare-prefix-announced-in c = omega (arith, usable-is _ _ (usable-at (c 
 slice-aggregate-announced-in : tie.Need-slice-aggregate-announced-in
 slice-aggregate-announced-in c = simp length-take (omega (arith, usable-is _ _ (usable-at (c .before .before .before))))
 
-announced-in-requires : tie.Need-announced-in-requires
-announced-in-requires c κs = search needs
-
-ready-of-requires : tie.Need-ready-of-requires
-ready-of-requires c κs = search needs
-
 -- what is ready, as the definition says it
 ready-was : (c : tie.After-ready-of) → let a = c .before .before .before .before .before .before .before .before .before .before .args in
     readyOf (a .state .used) (announcedIn (held (a .state) (a .store .now))) ≡ c .ready-of .result
 unfolding held
 ready-was c = ap (readyOf _) (sym (c .before .announced-in .ensures)) ∙ sym (c .ready-of .ensures)
-
-enum-known-length : tie.Need-enum-known-length
-enum-known-length c = search needs
-
-enum-told : tie.Need-enum-told
-enum-told c = search needs
-
-over-long-requires-2 : tie.Need-over-long-requires-2
-over-long-requires-2 c κs = search needs
-
-same-length-4 : tie.Need-same-length-4
-same-length-4 c = search needs
 
 returns-4 : tie.Need-returns-4
 returns-4 c =
@@ -98,12 +59,6 @@ ready-at c = ready-was (c .before .before .before) ∙ c .before .length .given 
 
 ready-within : (c : tie.After-known-told) → (c .before .length .given .0 .0 ≤ c .before .before .before .before .before .before .before .before .before .before .before .before .before .args .state .used) × (c .before .length .given .0 .0 ≤ 8192)
 ready-within c = ready-in _ _ _ (announced-limit _) (ready-at c)
-
-answers-requires-3 : tie.Need-answers-requires-3
-answers-requires-3 c κs = search needs
-
-same-length-5 : tie.Need-same-length-5
-same-length-5 c = search needs
 
 returns-5 : tie.Need-returns-5
 returns-5 c =
@@ -130,15 +85,6 @@ move-to-front-requires c κs = let k = c .before .before .before .before .before
 sub-t11 : tie.Need-sub-t11
 sub-t11 c = omega (arith, ready-within (c .before .before .before .before .before .before .before .before .before .before))
 
-answers-requires-4 : tie.Need-answers-requires-4
-answers-requires-4 c κs = search needs
-
-same-length-6 : tie.Need-same-length-6
-same-length-6 c = search needs
-
-same-length-7 : tie.Need-same-length-7
-same-length-7 c = search needs
-
 returns-6 : tie.Need-returns-6
 unfolding held takeState
 returns-6 c =
@@ -154,34 +100,34 @@ pub take-spec : {M : Type 1} → statement M
 take-spec =
     tie.close
     (tie.spec
-    is-unusable-requires
-    answers-requires
-    same-length
+    (λ c κs. search needs)
+    (λ c κs. search needs)
+    (λ c. search needs)
     returns
-    answers-requires-2
-    same-length-2
+    (λ c κs. search needs)
+    (λ c. search needs)
     returns-2
-    over-long-requires
-    same-length-3
+    (λ c κs. search needs)
+    (λ c. search needs)
     returns-3
     slice-reshare-prefix-announced-in
     slice-aggregate-announced-in
-    announced-in-requires
-    ready-of-requires
-    enum-known-length
-    enum-told
-    over-long-requires-2
-    same-length-4
+    (λ c κs. search needs)
+    (λ c κs. search needs)
+    (λ c. search needs)
+    (λ c. search needs)
+    (λ c κs. search needs)
+    (λ c. search needs)
     returns-4
-    answers-requires-3
-    same-length-5
+    (λ c κs. search needs)
+    (λ c. search needs)
     returns-5
     slice-reshare-prefix-copy
     slice-aggregate-copy
     copy-requires
     move-to-front-requires
     sub-t11
-    answers-requires-4
-    same-length-6
-    same-length-7
+    (λ c κs. search needs)
+    (λ c. search needs)
+    (λ c. search needs)
     returns-6)

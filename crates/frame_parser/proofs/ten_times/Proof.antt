@@ -8,18 +8,6 @@ use borrow.Author.Needs.{needs}
 use Rattle.frame_parser.proofs.ten_times.Statement.{statement}
 use Rattle.frame_parser.proofs.ten_times.Tie as tie
 
-wrapping-add-u64-requires : tie.Need-wrapping-add-u64-requires
-wrapping-add-u64-requires c κs = search needs
-
-wrapping-add-u64-requires-2 : tie.Need-wrapping-add-u64-requires-2
-wrapping-add-u64-requires-2 c κs = search needs
-
-wrapping-add-u64-requires-3 : tie.Need-wrapping-add-u64-requires-3
-wrapping-add-u64-requires-3 c κs = search needs
-
-wrapping-add-u64-requires-4 : tie.Need-wrapping-add-u64-requires-4
-wrapping-add-u64-requires-4 c κs = search needs
-
 tenfold : (n two four eight ten : ℕ) → two ≡ (n + n) % 2 ^ 64 → four ≡ (two + two) % 2 ^ 64 → eight ≡ (four + four) % 2 ^ 64
     → ten ≡ (eight + two) % 2 ^ 64 → ten ≡ n * 10 % 2 ^ 64
 tenfold n two four eight ten a b c d = d ∙ rw (c, b, a) (simp (mod-add-mod, add-mod-mod) (ap (λ (k : ℕ). k % 2 ^ 64) (omega arith)))
@@ -31,8 +19,8 @@ pub ten-times-spec : {M : Type 1} → statement M
 ten-times-spec =
     tie.close
     (tie.spec
-    wrapping-add-u64-requires
-    wrapping-add-u64-requires-2
-    wrapping-add-u64-requires-3
-    wrapping-add-u64-requires-4
+    (λ c κs. search needs)
+    (λ c κs. search needs)
+    (λ c κs. search needs)
+    (λ c κs. search needs)
     returns)

@@ -9,15 +9,6 @@ use borrow.Author.Needs.{needs}
 use Rattle.frame_parser.proofs.value_from.Statement.{statement}
 use Rattle.frame_parser.proofs.value_from.Tie as tie
 
-find-from-requires : tie.Need-find-from-requires
-find-from-requires c κs = search needs
-
-enum-known-equals : tie.Need-enum-known-equals
-enum-known-equals c = search needs
-
-enum-told : tie.Need-enum-told
-enum-told c = search needs
-
 returns : tie.Need-returns
 returns c = sym (value-no-equals _ _ (sym (c .before .before .find-from .ensures) ∙ c .enum-told .given .1))
 
@@ -29,15 +20,6 @@ equals-at c = sym (c .before .before .before .find-from .ensures) ∙ c .before 
 add-first : tie.Need-add-first
 add-first c = omega (arith, from-in _ _ _ _ (equals-at c))
 
-find-from-requires-2 : tie.Need-find-from-requires-2
-find-from-requires-2 c κs = search needs
-
-enum-known-last : tie.Need-enum-known-last
-enum-known-last c = search needs
-
-enum-told-2 : tie.Need-enum-told-2
-enum-told-2 c = search needs
-
 returns-2 : tie.Need-returns-2
 returns-2 c = sym (value-no-separator _ _ _ (equals-at (c .before .before .before)) (sym (c .before .before .find-from2 .ensures) ∙ c .enum-told2 .given .1))
 
@@ -48,13 +30,13 @@ pub value-from-spec : {M : Type 1} → statement M
 value-from-spec =
     tie.close
     (tie.spec
-    find-from-requires
-    enum-known-equals
-    enum-told
+    (λ c κs. search needs)
+    (λ c. search needs)
+    (λ c. search needs)
     returns
     add-first
-    find-from-requires-2
-    enum-known-last
-    enum-told-2
+    (λ c κs. search needs)
+    (λ c. search needs)
+    (λ c. search needs)
     returns-2
     returns-3)

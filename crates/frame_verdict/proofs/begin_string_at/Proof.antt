@@ -28,29 +28,14 @@ abbrev μ-loop : tie.MeasureT-loop
 loop-holds : tie.Need-loop-holds Inv-loop μ-loop
 loop-holds c = (search needs, search needs, starts _ (c .args .at))
 
-shared-slice-read-if1 : tie.Need-shared-slice-read-if1 Inv-loop μ-loop
-shared-slice-read-if1 c = search needs
-
 returns : tie.Need-returns Inv-loop μ-loop
 returns c = let l = c .before .before .before .before .loop in sym (l .inv .2 ∙ text-early _ (l .place) _ _ (omega arith) (c .before .if1 .taken) (λ z. omega (arith, c .if2 .taken)))
-
-add-t10 : tie.Need-add-t10 Inv-loop μ-loop
-add-t10 c = search needs
 
 returns-2 : tie.Need-returns-2 Inv-loop μ-loop
 returns-2 c = let l = c .before .before .before .before .loop in sym (l .inv .2 ∙ text-ends _ (l .place) _ _ (omega arith) (c .before .if1 .taken) (omega (arith, c .if2 .left)))
 
 returns-3 : tie.Need-returns-3 Inv-loop μ-loop
 returns-3 c = let l = c .before .before .before .before .loop in sym (l .inv .2 ∙ text-late _ (l .place) _ _ (omega arith) (c .before .if1 .left) (omega (arith, c .if3 .taken)))
-
-add-read : tie.Need-add-read Inv-loop μ-loop
-add-read c = search needs
-
-add-place : tie.Need-add-place Inv-loop μ-loop
-add-place c = search needs
-
-loop-less : tie.Need-loop-less Inv-loop μ-loop
-loop-less c = search needs
 
 loop-again : tie.Need-loop-again Inv-loop μ-loop
 loop-again c = let l = c .before .before .before .before .loop in
@@ -66,13 +51,13 @@ begin-string-at-spec =
     Inv-loop
     μ-loop
     loop-holds
-    shared-slice-read-if1
+    (λ c. search needs)
     returns
-    add-t10
+    (λ c. search needs)
     returns-2
     returns-3
-    add-read
-    add-place
-    loop-less
+    (λ c. search needs)
+    (λ c. search needs)
+    (λ c. search needs)
     loop-again
     returns-4)

@@ -22,14 +22,8 @@ abbrev μ-loop : tie.MeasureT-loop
 loop-holds : tie.Need-loop-holds Inv-loop μ-loop
 loop-holds c = (search needs, search needs, search needs, search needs, refl)
 
-shared-slice-read-byte : tie.Need-shared-slice-read-byte Inv-loop μ-loop
-shared-slice-read-byte c = search needs
-
 returns : tie.Need-returns Inv-loop μ-loop
 returns c = let l = c .before .before .before .before .loop in sym (l .inv .4 ∙ length-few _ (l .place) (l .room) (l .n) (l .left) (omega arith) (c .before .if1 .taken) (omega arith))
-
-add-t14 : tie.Need-add-t14 Inv-loop μ-loop
-add-t14 c = search needs
 
 returns-2 : tie.Need-returns-2 Inv-loop μ-loop
 returns-2 c = let l = c .before .before .before .before .loop in sym (l .inv .4 ∙ length-ends _ (l .place) (l .room) (l .n) (l .left) (omega arith) (c .before .if1 .taken) (omega arith))
@@ -43,24 +37,6 @@ returns-4 c = let l = c .before .before .before .before .before .loop in sym (l 
 returns-5 : tie.Need-returns-5 Inv-loop μ-loop
 returns-5 c = let l = c .before .before .before .before .before .before .loop in sym (l .inv .4 ∙ length-more _ (l .place) (l .room) (l .n) (l .left) (omega arith) (c .before .before .before .if1 .left) (omega arith) (omega arith) (c .if5 .taken))
 
-sub-left : tie.Need-sub-left Inv-loop μ-loop
-sub-left c = search needs
-
-sub-room : tie.Need-sub-room Inv-loop μ-loop
-sub-room c = search needs
-
-mul-n : tie.Need-mul-n Inv-loop μ-loop
-mul-n c = search needs
-
-digit-value-requires : tie.Need-digit-value-requires Inv-loop μ-loop
-digit-value-requires c κs = search needs
-
-add-n : tie.Need-add-n Inv-loop μ-loop
-add-n c = search needs
-
-may-become-requires : tie.Need-may-become-requires Inv-loop μ-loop
-may-become-requires c κs = search needs
-
 -- what `may_become` was asked, by the byte that was read
 rejected : (c : tie.Then6 Inv-loop μ-loop) → let l = c .before .before .before .before .before .before .before .before .before .loop in
     mayBecome (l .left - 1) (l .room - 1) (l .n * 10 + (getD (c .before .before .before .before .before .before .before .before .before .before .before .args .bytes .now) (l .place) 0 - 48)) ≡ false
@@ -73,12 +49,6 @@ accepted c = rw (c .before .before .digit-value .ensures) at (sym (c .before .ma
 returns-6 : tie.Need-returns-6 Inv-loop μ-loop
 returns-6 c = let l = c .before .before .before .before .before .before .before .before .before .loop in
     sym (l .inv .4 ∙ length-large _ (l .place) (l .room) (l .n) (l .left) (omega arith) (c .before .before .before .before .before .before .if1 .left) (omega arith) (omega arith) (c .before .before .before .if5 .left) (rejected c))
-
-add-place : tie.Need-add-place Inv-loop μ-loop
-add-place c = search needs
-
-loop-less : tie.Need-loop-less Inv-loop μ-loop
-loop-less c = search needs
 
 loop-again : tie.Need-loop-again Inv-loop μ-loop
 loop-again c = let l = c .before .before .before .before .before .before .before .before .before .loop in
@@ -100,21 +70,21 @@ body-length-at-spec =
     Inv-loop
     μ-loop
     loop-holds
-    shared-slice-read-byte
+    (λ c. search needs)
     returns
-    add-t14
+    (λ c. search needs)
     returns-2
     returns-3
     returns-4
     returns-5
-    sub-left
-    sub-room
-    mul-n
-    digit-value-requires
-    add-n
-    may-become-requires
+    (λ c. search needs)
+    (λ c. search needs)
+    (λ c. search needs)
+    (λ c κs. search needs)
+    (λ c. search needs)
+    (λ c κs. search needs)
     returns-6
-    add-place
-    loop-less
+    (λ c. search needs)
+    (λ c. search needs)
     loop-again
     returns-7)

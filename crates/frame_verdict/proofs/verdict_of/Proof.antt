@@ -9,18 +9,6 @@ use Rattle.frame_verdict.proofs.HeadStages.{whole, afterOpen, open-refu
 use Rattle.frame_verdict.proofs.verdict_of.Statement.{statement}
 use Rattle.frame_verdict.proofs.verdict_of.Tie as tie
 
-slice-aggregate-literal-at : tie.Need-slice-aggregate-literal-at
-slice-aggregate-literal-at c = search needs
-
-literal-at-requires : tie.Need-literal-at-requires
-literal-at-requires c κs = search needs
-
-enum-known-opened : tie.Need-enum-known-opened
-enum-known-opened c = search needs
-
-verdict-from-requires : tie.Need-verdict-from-requires
-verdict-from-requires c κs = search needs
-
 returns : tie.Need-returns
 returns c = as-whole _ _ _ (c .verdict-from .ensures) (open-refused _ _ (c .before .before .literal-at .ensures) (refused _ (c .before .match .keys2)))
 
@@ -30,29 +18,14 @@ opened c = open-read _ _ (sym (c .before .opened .given .1) ∙ c .before .befor
 begin-string-at-requires : tie.Need-begin-string-at-requires
 begin-string-at-requires c κs = opened c .inside
 
-enum-known-begun : tie.Need-enum-known-begun
-enum-known-begun c = search needs
-
-verdict-from-requires-2 : tie.Need-verdict-from-requires-2
-verdict-from-requires-2 c κs = search needs
-
 returns-2 : tie.Need-returns-2
 returns-2 c = as-whole _ _ _ (c .verdict-from2 .ensures) (begin-refused _ _ (opened (c .before .before .before)) _ (c .before .before .begin-string-at .ensures) (refused _ (c .before .match2 .keys2)))
 
 begun : (c : tie.After-known-told2) → Begun (c .before .before .before .before .before .before .before .before .before .before .args .bytes .now) (c .before .begun .given .0 .0)
 begun c = begin-read _ _ _ (opened (c .before .before .before .before)) (sym (c .before .begun .given .1) ∙ c .before .before .before .begin-string-at .ensures)
 
-slice-aggregate-literal-at-2 : tie.Need-slice-aggregate-literal-at-2
-slice-aggregate-literal-at-2 c = search needs
-
 literal-at-requires-2 : tie.Need-literal-at-requires-2
 literal-at-requires-2 c κs = begun (c .before) .reached .inside
-
-enum-known-numbered : tie.Need-enum-known-numbered
-enum-known-numbered c = search needs
-
-verdict-from-requires-3 : tie.Need-verdict-from-requires-3
-verdict-from-requires-3 c κs = search needs
 
 returns-3 : tie.Need-returns-3
 returns-3 c = as-whole _ _ _ (c .verdict-from3 .ensures) (number-refused _ _ (begun (c .before .before .before .before)) _ (c .before .before .literal-at2 .ensures) (refused _ (c .before .match3 .keys2)))
@@ -60,29 +33,17 @@ returns-3 c = as-whole _ _ _ (c .verdict-from3 .ensures) (number-refused _ _ (be
 numbered : (c : tie.After-known-told3) → Numbered (c .before .before .before .before .before .before .before .before .before .before .before .before .before .before .before .args .bytes .now) (c .before .numbered .given .0 .0)
 numbered c = number-read _ _ _ (begun (c .before .before .before .before .before)) (sym (c .before .numbered .given .1) ∙ c .before .before .before .literal-at2 .ensures)
 
-sub-body-length-at : tie.Need-sub-body-length-at
-sub-body-length-at c = search needs
-
 sub-body-length-at-2 : tie.Need-sub-body-length-at-2
 sub-body-length-at-2 c = numbered c .wide .1
 
 body-length-at-requires : tie.Need-body-length-at-requires
 body-length-at-requires c κs = (numbered c .reached .inside, numbered c .wide .0, omega arith)
 
-enum-known-announced : tie.Need-enum-known-announced
-enum-known-announced c = search needs
-
 body : (c : tie.After-known-told4) → Body (c .before .before .before .before .before .before .before .before .before .before .before .before .before .before .before .before .before .before .before .args .bytes .now) (c .before .announced .given .0 .0) (c .before .announced .given .0 .1 .0)
 body c = length-read _ _ (numbered (c .before .before .before .before)) _ _ (sym (c .before .announced .given .1) ∙ c .before .before .before .body-length-at .ensures)
 
 verdict-of-body-requires : tie.Need-verdict-of-body-requires
 verdict-of-body-requires c κs = (body c .inside, body c .early, body c .least, body c .most)
-
-enum-told : tie.Need-enum-told
-enum-told c = search needs
-
-enum-told-2 : tie.Need-enum-told-2
-enum-told-2 c = search needs
 
 returns-4 : tie.Need-returns-4
 returns-4 c = as-body _ _ _ _ (body (c .before)) (c .verdict-of-body .ensures)
@@ -97,27 +58,27 @@ pub verdict-of-spec : {M : Type 1} → statement M
 verdict-of-spec =
     tie.close
     (tie.spec
-    slice-aggregate-literal-at
-    literal-at-requires
-    enum-known-opened
-    verdict-from-requires
+    (λ c. search needs)
+    (λ c κs. search needs)
+    (λ c. search needs)
+    (λ c κs. search needs)
     returns
     begin-string-at-requires
-    enum-known-begun
-    verdict-from-requires-2
+    (λ c. search needs)
+    (λ c κs. search needs)
     returns-2
-    slice-aggregate-literal-at-2
+    (λ c. search needs)
     literal-at-requires-2
-    enum-known-numbered
-    verdict-from-requires-3
+    (λ c. search needs)
+    (λ c κs. search needs)
     returns-3
-    sub-body-length-at
+    (λ c. search needs)
     sub-body-length-at-2
     body-length-at-requires
-    enum-known-announced
+    (λ c. search needs)
     verdict-of-body-requires
-    enum-told
-    enum-told-2
+    (λ c. search needs)
+    (λ c. search needs)
     returns-4
     returns-5
     returns-6)

@@ -52,9 +52,6 @@ sub-fits-3 c = let p = places-at c in omega (arith, p .forwards, p .back, p .on,
 add-fits-3 : tie.Need-add-fits-3
 add-fits-3 c = let p = places-at c in omega (arith, p .forwards, p .back, p .on, p .last, p .within)
 
-fits-requires : tie.Need-fits-requires
-fits-requires c κs = search needs
-
 room-at : (c : tie.After-fits2) → c .fits2 .result ≡ true → let z = c .before in z .before .before .before .before .before .before .before .before .size-between .result + (z .before .before .size-between4 .result - z .before .before .before .before .before .before .size-between2 .result) + (z .before .before .before .before .before .before .size-between2 .result - z .before .before .before .before .size-between3 .result) + (z .size-between5 .result - z .before .before .size-between4 .result) + length (c .before .before .before .before .before .before .before .before .before .before .before .before .before .before .before .args .bytes .now) ≤ 8192
 room-at c h = leb-true _ _ (sym (c .fits2 .ensures) ∙ h)
 
@@ -64,20 +61,11 @@ size-at c =
     let z = c .before in
     sym (rw (z .before .before .before .before .before .before .before .before .size-between .ensures, z .before .before .before .before .before .before .size-between2 .ensures, z .before .before .before .before .size-between3 .ensures, z .before .before .size-between4 .ensures, z .size-between5 .ensures) at (c .fits2 .ensures))
 
-same-length : tie.Need-same-length
-same-length c = search needs
-
 returns : tie.Need-returns
 returns c = sym (change-large _ _ _ _ _ _ _ _ (size-at (c .before) ∙ not-true _ (c .if1 .taken)))
 
-same-length-2 : tie.Need-same-length-2
-same-length-2 c = search needs
-
 returns-2 : tie.Need-returns-2
 returns-2 c = sym (change-run _ _ _ _ _ _ _ _ (size-at (c .before .before) ∙ not-false _ (c .before .if1 .left)) (not-true _ (c .if2 .taken)))
-
-same-length-3 : tie.Need-same-length-3
-same-length-3 c = search needs
 
 returns-3 : tie.Need-returns-3
 returns-3 c = sym (change-many _ _ _ _ _ _ _ _ (size-at (c .before .before .before) ∙ not-false _ (c .before .before .if1 .left)) (not-false _ (c .before .if2 .left)) (c .if3 .taken))
@@ -139,17 +127,8 @@ add-words c = let pre = c .before .before .before .before .before .before .befor
 cast-words : tie.Need-cast-words
 cast-words c = let pre = c .before .before .before .before .before .before .before .before .before .before .before .before .before .before .before .before .before .before .before .before .before .before .pre in let room = pre .room (c .before .before .before .before .if3 .left) in omega (arith, room, pre .forwards, pre .back, pre .on, pre .last, pre .few)
 
-slice-write-words : tie.Need-slice-write-words
-slice-write-words c = search needs
-
 splice-bytes-requires : tie.Need-splice-bytes-requires
 splice-bytes-requires c κs = let pre = c .before .before .before .before .before .before .before .before .before .before .before .before .before .before .before .before .before .before .before .before .before .before .before .pre in let p = places-at (c .before .before .before .before .before .before .before .before .before) in let s = room-at (c .before .before .before .before .before .before .before .before) (not-false _ (c .before .before .before .before .before .before .before .if1 .left)) in (omega (arith, p .forwards, p .back), p .back, p .on, p .last, p .within, pre .store, omega (arith, s, p .forwards, p .back, p .on, p .last))
-
-same-length-4 : tie.Need-same-length-4
-same-length-4 c = search needs
-
-same-length-5 : tie.Need-same-length-5
-same-length-5 c = search needs
 
 returns-4 : tie.Need-returns-4
 returns-4 c = let f = c .before .before .before .before .before .before .before .before .before .before .before in
@@ -173,12 +152,12 @@ cut-rows-spec =
     add-fits-2
     sub-fits-3
     add-fits-3
-    fits-requires
-    same-length
+    (λ c κs. search needs)
+    (λ c. search needs)
     returns
-    same-length-2
+    (λ c. search needs)
     returns-2
-    same-length-3
+    (λ c. search needs)
     returns-3
     sub-left
     add-left
@@ -199,8 +178,8 @@ cut-rows-spec =
     splice-words-requires
     add-words
     cast-words
-    slice-write-words
+    (λ c. search needs)
     splice-bytes-requires
-    same-length-4
-    same-length-5
+    (λ c. search needs)
+    (λ c. search needs)
     returns-4)

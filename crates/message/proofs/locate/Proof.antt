@@ -18,9 +18,6 @@ use Rattle.message_rules.specs.PlaceLaws.{Standing, standing}
 use Rattle.message.proofs.locate.Statement.{statement}
 use Rattle.message.proofs.locate.Tie as tie
 
-is-message-requires : tie.Need-is-message-requires
-is-message-requires c κs = search needs
-
 returns : tie.Need-returns
 unfolding locatedIn spanOf
 returns c = rw (sym (c .before .is-message .ensures) ∙ not-true _ (c .if1 .taken))
@@ -55,22 +52,13 @@ second-at c = rw (c .before .before .row-count .ensures, first-at (c .before)) a
 add-trailer : tie.Need-add-trailer
 add-trailer c = let h = held-at (c .before .before .before) in let s = standing-at (c .before .before .before) in let f = second-at c in omega (arith, s .total, h .laid .counted)
 
-enum-told : tie.Need-enum-told
-enum-told c = search needs
-
 returns-2 : tie.Need-returns-2
 unfolding locatedIn spanOf
 returns-2 c = rw (is-at (c .before .before .before .before .before), c .enum-told .given .1, first-at (c .before .before .before), c .before .before .before .before .row-count .ensures, standing-at (c .before .before .before .before .before) .count)
 
-enum-told-2 : tie.Need-enum-told-2
-enum-told-2 c = search needs
-
 returns-3 : tie.Need-returns-3
 unfolding locatedIn spanOf
 returns-3 c = rw (is-at (c .before .before .before .before .before), c .enum-told2 .given .1, second-at (c .before .before), first-at (c .before .before .before), c .before .before .before .before .row-count .ensures, standing-at (c .before .before .before .before .before) .count)
-
-enum-told-3 : tie.Need-enum-told-3
-enum-told-3 c = search needs
 
 returns-4 : tie.Need-returns-4
 unfolding locatedIn spanOf
@@ -80,16 +68,16 @@ pub locate-spec : {M : Type 1} → statement M
 locate-spec =
     tie.close
     (tie.spec
-    is-message-requires
+    (λ c κs. search needs)
     returns
     row-count-requires
     end-of-requires
     add-body
     end-of-requires-2
     add-trailer
-    enum-told
+    (λ c. search needs)
     returns-2
-    enum-told-2
+    (λ c. search needs)
     returns-3
-    enum-told-3
+    (λ c. search needs)
     returns-4)

@@ -19,26 +19,8 @@ returns c = sym (new-short _ _ _ _ (c .if1 .taken))
 returns-2 : tie.Need-returns-2
 returns-2 c = sym (new-store _ _ _ _ (c .before .if1 .left) (c .if2 .taken))
 
-fits-requires : tie.Need-fits-requires
-fits-requires c κs = search needs
-
 returns-3 : tie.Need-returns-3
 returns-3 c = sym (new-large _ _ _ _ (c .before .before .before .if1 .left) (c .before .before .if2 .left) (sym (c .before .fits2 .ensures) ∙ not-true _ (c .if3 .taken)))
-
-empty-requires : tie.Need-empty-requires
-empty-requires c κs = search needs
-
-store-requires : tie.Need-store-requires
-store-requires c κs = search needs
-
-store-requires-2 : tie.Need-store-requires-2
-store-requires-2 c κs = search needs
-
-same-length : tie.Need-same-length
-same-length c = search needs
-
-same-length-2 : tie.Need-same-length-2
-same-length-2 c = search needs
 
 returns-4 : tie.Need-returns-4
 returns-4 c = new-done _ _ _ _ (c .before .before .before .before .before .before .before .before .before .before .before .before .before .before .before .before .before .before .before .before .before .before .before .before .if1 .left) (c .before .before .before .before .before .before .before .before .before .before .before .before .before .before .before .before .before .before .before .before .before .before .before .if2 .left) (leb-true _ _ (sym (c .before .before .before .before .before .before .before .before .before .before .before .before .before .before .before .before .before .before .before .before .before .before .fits2 .ensures) ∙ not-false _ (c .before .before .before .before .before .before .before .before .before .before .before .before .before .before .before .before .before .before .before .before .before .if3 .left))) _ _ _ _ _ _ _ _ _ (c .before .before .before .before .before .before .before .before .before .before .before .before .before .before .before .before .before .before .empty .ensures) (c .before .before .before .before .before .before .before .before .before .before .before .store .ensures) (c .before .before .before .before .store2 .ensures)
@@ -49,11 +31,11 @@ new-spec =
     (tie.spec
     returns
     returns-2
-    fits-requires
+    (λ c κs. search needs)
     returns-3
-    empty-requires
-    store-requires
-    store-requires-2
-    same-length
-    same-length-2
+    (λ c κs. search needs)
+    (λ c κs. search needs)
+    (λ c κs. search needs)
+    (λ c. search needs)
+    (λ c. search needs)
     returns-4)

@@ -33,17 +33,8 @@ add-t22 c = let pre = c .before .before .before .before .before .before .pre in 
 add-t23 : tie.Need-add-t23
 add-t23 c = let pre = c .before .before .before .before .before .before .pre in omega (arith, pre .last, pre .few)
 
-slice-aggregate-cut-rows : tie.Need-slice-aggregate-cut-rows
-slice-aggregate-cut-rows c = search needs
-
 cut-rows-requires : tie.Need-cut-rows-requires
 cut-rows-requires c κs = able-place _ _ _ _ _ _ (c .before .before .before .before .before .before .before .before .before .pre) _ (at-is (c .before .before .before .before)) (c .before .before .before .if1 .taken)
-
-same-length : tie.Need-same-length
-same-length c = search needs
-
-same-length-2 : tie.Need-same-length-2
-same-length-2 c = search needs
 
 returns : tie.Need-returns
 returns c = c .before .before .before .before .cut-rows .ensures ∙ put-place _ _ _ _ _ _ _ (at-is (c .before .before .before .before .before .before .before .before .before)) (c .before .before .before .before .before .before .before .before .if1 .taken)
@@ -54,20 +45,11 @@ find-row-requires-2 c κs = let pre = c .before .before .before .before .before 
 run-end-requires : tie.Need-run-end-requires
 run-end-requires c κs = let s = c .before .before .before .before .before .before .before .before .before in (omega (arith, find-within 2 1 (s .args .tag) (s .args .span .from) (s .args .span .to) (s .args .words .now) (s .pre .forwards), c .before .find-row2 .ensures), omega (arith, s .pre .last, s .pre .few), s .pre .whole)
 
-slice-aggregate-cut-rows-2 : tie.Need-slice-aggregate-cut-rows-2
-slice-aggregate-cut-rows-2 c = search needs
-
 add-cut-rows : tie.Need-add-cut-rows
 add-cut-rows c = let pre = c .before .before .before .before .before .before .before .before .before .before .before .before .before .pre in omega (arith, pre .counted)
 
 cut-rows-requires-2 : tie.Need-cut-rows-requires-2
 cut-rows-requires-2 c κs = able-last _ _ _ _ _ _ _ _ _ (at-is (c .before .before .before .before .before .before .before .before)) (c .before .before .before .before .before .before .before .if1 .left) (c .before .before .before .before .before .find-row2 .ensures) (c .before .before .before .run-end .ensures) (c .before .before .before .before .before .before .before .before .before .before .before .before .before .pre)
-
-same-length-3 : tie.Need-same-length-3
-same-length-3 c = search needs
-
-same-length-4 : tie.Need-same-length-4
-same-length-4 c = search needs
 
 returns-2 : tie.Need-returns-2
 returns-2 c = c .before .before .before .before .cut-rows2 .ensures ∙ put-last _ _ _ _ _ _ _ _ _ (at-is (c .before .before .before .before .before .before .before .before .before .before .before .before .before)) (c .before .before .before .before .before .before .before .before .before .before .before .before .if1 .left) (c .before .before .before .before .before .before .before .before .before .before .find-row2 .ensures) (c .before .before .before .before .before .before .before .before .run-end .ensures)
@@ -81,16 +63,16 @@ put-field-spec =
     add-t21
     add-t22
     add-t23
-    slice-aggregate-cut-rows
+    (λ c. search needs)
     cut-rows-requires
-    same-length
-    same-length-2
+    (λ c. search needs)
+    (λ c. search needs)
     returns
     find-row-requires-2
     run-end-requires
-    slice-aggregate-cut-rows-2
+    (λ c. search needs)
     add-cut-rows
     cut-rows-requires-2
-    same-length-3
-    same-length-4
+    (λ c. search needs)
+    (λ c. search needs)
     returns-2)

@@ -20,21 +20,6 @@ use Rattle.message_rules.specs.StoreLaws.{In, lent-in, fields-now, span-grows, 
 use Rattle.message.proofs.remove.Statement.{statement}
 use Rattle.message.proofs.remove.Tie as tie
 
-locate-requires : tie.Need-locate-requires
-locate-requires c κs = search needs
-
-enum-known-span : tie.Need-enum-known-span
-enum-known-span c = search needs
-
-enum-told : tie.Need-enum-told
-enum-told c = search needs
-
-same-length : tie.Need-same-length
-same-length c = search needs
-
-same-length-2 : tie.Need-same-length-2
-same-length-2 c = search needs
-
 returns : tie.Need-returns
 returns c = unfold removing in sym (no-message _ _ _ (located-no _ _ _ (sym (c .before .before .locate .ensures) ∙ c .enum-told .given .1)))
 
@@ -50,12 +35,6 @@ find-row-requires c κs = let k = c .before in let g = span-grows _ _ _ _ (in-at
 
 found-at : (c : tie.After-find-row) → let s = spanOf (c .before .before .before .before .before .before .before .before .before .before .args .part) (messageIn (c .before .before .before .before .before .before .before .before .before .before .args .words .now) (c .before .before .before .before .before .before .before .before .before .before .args .values .now)) in c .find-row .result ≡ findFrom 1 1 (c .before .before .before .before .before .before .before .before .before .before .args .tag) (s .from) (rowsFrom (s .to - s .from) (s .from) (c .before .before .before .before .before .before .before .before .before .before .args .words .now))
 found-at c = rw (is-at (c .before .before) .1) at (c .find-row .ensures)
-
-same-length-3 : tie.Need-same-length-3
-same-length-3 c = search needs
-
-same-length-4 : tie.Need-same-length-4
-same-length-4 c = search needs
 
 returns-2 : tie.Need-returns-2
 returns-2 c = let k = c .before .before .before in sym (remove-none _ _ _ _ (is-at k .0) (is-absent _ _ _ _ (in-at k) _ _ (found-at (c .before)) (rw (is-at k .1) at (c .if1 .taken))))
@@ -95,29 +74,11 @@ add-t25 c = omega (arith, row-at c)
 add-t26 : tie.Need-add-t26
 add-t26 c = omega (arith, row-at c)
 
-array-share-prefix-no-words : tie.Need-array-share-prefix-no-words
-array-share-prefix-no-words c = search needs
-
-slice-aggregate-cut-rows : tie.Need-slice-aggregate-cut-rows
-slice-aggregate-cut-rows c = search needs
-
-array-share-prefix-no-bytes : tie.Need-array-share-prefix-no-bytes
-array-share-prefix-no-bytes c = search needs
-
-slice-aggregate-cut-rows-2 : tie.Need-slice-aggregate-cut-rows-2
-slice-aggregate-cut-rows-2 c = search needs
-
 sub-cut-rows : tie.Need-sub-cut-rows
 sub-cut-rows c = let f = fields-left (c .before .before .before .before) in omega (arith, f)
 
 cut-rows-requires : tie.Need-cut-rows-requires
 cut-rows-requires c κs = let f = c .before .before .before .before in let k = f .before .before .before .before .before in rw (is-at k .1, fields-less f) (remove-leaves _ _ _ _ (in-at k) _ _ (found-at (f .before .before .before)) (held-at (f .before .before)) .able)
-
-same-length-5 : tie.Need-same-length-5
-same-length-5 c = search needs
-
-same-length-6 : tie.Need-same-length-6
-same-length-6 c = search needs
 
 returns-3 : tie.Need-returns-3
 returns-3 c = let f = c .before .before .before .before .before .before .before .before .before in let k = f .before .before .before .before .before in rw (is-at k .1, fields-less f) at (c .before .before .before .before .cut-rows .ensures) ∙ remove-leaves _ _ _ _ (in-at k) _ _ (found-at (f .before .before .before)) (held-at (f .before .before)) .done true ∙ sym (remove-on _ _ _ _ (is-at k .0) (held-at (f .before .before)))
@@ -126,26 +87,26 @@ pub remove-spec : {M : Type 1} → statement M
 remove-spec =
     tie.close
     (tie.spec
-    locate-requires
-    enum-known-span
-    enum-told
-    same-length
-    same-length-2
+    (λ c κs. search needs)
+    (λ c. search needs)
+    (λ c. search needs)
+    (λ c. search needs)
+    (λ c. search needs)
     returns
     find-row-requires
-    same-length-3
-    same-length-4
+    (λ c. search needs)
+    (λ c. search needs)
     returns-2
     fields-in-requires
     add-cut-rows
     add-t25
     add-t26
-    array-share-prefix-no-words
-    slice-aggregate-cut-rows
-    array-share-prefix-no-bytes
-    slice-aggregate-cut-rows-2
+    (λ c. search needs)
+    (λ c. search needs)
+    (λ c. search needs)
+    (λ c. search needs)
     sub-cut-rows
     cut-rows-requires
-    same-length-5
-    same-length-6
+    (λ c. search needs)
+    (λ c. search needs)
     returns-3)

@@ -18,29 +18,8 @@ use Rattle.message_rules.specs.StoreLaws.{In, lent-in, fields-now, span-grows, 
 use Rattle.message.proofs.store.Statement.{statement}
 use Rattle.message.proofs.store.Tie as tie
 
-locate-requires : tie.Need-locate-requires
-locate-requires c κs = search needs
-
-enum-known-span : tie.Need-enum-known-span
-enum-known-span c = search needs
-
-enum-told : tie.Need-enum-told
-enum-told c = search needs
-
-same-length : tie.Need-same-length
-same-length c = search needs
-
-same-length-2 : tie.Need-same-length-2
-same-length-2 c = search needs
-
 returns : tie.Need-returns
 returns c = unfold storing in sym (no-message _ _ _ (located-no _ _ _ (sym (c .before .before .locate .ensures) ∙ c .enum-told .given .1)))
-
-same-length-3 : tie.Need-same-length-3
-same-length-3 c = search needs
-
-same-length-4 : tie.Need-same-length-4
-same-length-4 c = search needs
 
 -- what was located is the part of the message that is lent
 is-at : (c : tie.After-known-told) → (isMessage (c .before .before .before .before .before .before .before .before .before .args .words .now) (c .before .before .before .before .before .before .before .before .before .args .values .now) ≡ true) × (c .before .span .given .0 .0 ≡ spanOf (c .before .before .before .before .before .before .before .before .before .args .part) (messageIn (c .before .before .before .before .before .before .before .before .before .args .words .now) (c .before .before .before .before .before .before .before .before .before .args .values .now)))
@@ -51,12 +30,6 @@ in-at c = lent-in _ _ _ (is-at c .0)
 
 returns-2 : tie.Need-returns-2
 returns-2 c = sym (store-zero _ _ _ _ _ (is-at (c .before) .0) (c .if1 .taken))
-
-same-length-5 : tie.Need-same-length-5
-same-length-5 c = search needs
-
-same-length-6 : tie.Need-same-length-6
-same-length-6 c = search needs
 
 returns-3 : tie.Need-returns-3
 returns-3 c = let k = c .before .before in sym (store-on _ _ _ _ _ (is-at k .0) (c .before .if1 .left) ∙ put-large _ _ _ _ (in-at k) _ _ (c .if2 .taken))
@@ -74,12 +47,6 @@ fields-at c =
 put-field-requires : tie.Need-put-field-requires
 put-field-requires c κs = let k = c .before .before .before .before .before .before in rw (is-at k .1, fields-at (c .before .before)) (put-ready _ _ _ _ (in-at k) _ _ (c .before .before .before .before .if2 .left) (few-fields _ _ (is-at k .0)))
 
-same-length-7 : tie.Need-same-length-7
-same-length-7 c = search needs
-
-same-length-8 : tie.Need-same-length-8
-same-length-8 c = search needs
-
 returns-4 : tie.Need-returns-4
 returns-4 c = let k = c .before .before .before .before .before .before .before .before .before .before .before in rw (is-at k .1, fields-at (c .before .before .before .before .before .before .before)) at (c .before .before .before .before .put-field .ensures) ∙ put-judged _ _ _ _ (in-at k) _ _ ∙ sym (store-on _ _ _ _ _ (is-at k .0) (c .before .before .before .before .before .before .before .before .before .before .if1 .left))
 
@@ -87,20 +54,20 @@ pub store-spec : {M : Type 1} → statement M
 store-spec =
     tie.close
     (tie.spec
-    locate-requires
-    enum-known-span
-    enum-told
-    same-length
-    same-length-2
+    (λ c κs. search needs)
+    (λ c. search needs)
+    (λ c. search needs)
+    (λ c. search needs)
+    (λ c. search needs)
     returns
-    same-length-3
-    same-length-4
+    (λ c. search needs)
+    (λ c. search needs)
     returns-2
-    same-length-5
-    same-length-6
+    (λ c. search needs)
+    (λ c. search needs)
     returns-3
     fields-in-requires
     put-field-requires
-    same-length-7
-    same-length-8
+    (λ c. search needs)
+    (λ c. search needs)
     returns-4)

@@ -29,12 +29,6 @@ is-of-requires c κs = let pre = c .before .before .before .pre in (omega (arith
 returns : tie.Need-returns Inv-loop μ-loop
 returns c = let l = c .before .before .before in sym (l .loop .inv .1 ∙ all-not _ _ _ (c .before .before .loop-test .taken) _ _ (sym (c .before .is-of .ensures) ∙ not-true _ (c .if1 .taken)))
 
-add-i : tie.Need-add-i Inv-loop μ-loop
-add-i c = omega arith
-
-loop-less : tie.Need-loop-less Inv-loop μ-loop
-loop-less c = omega arith
-
 loop-again : tie.Need-loop-again Inv-loop μ-loop
 loop-again c = let l = c .before .before .before in (omega arith, l .loop .inv .1 ∙ all-on _ _ _ (c .before .before .loop-test .taken) _ _ (sym (c .before .is-of .ensures) ∙ not-false _ (c .if1 .left)))
 
@@ -50,7 +44,7 @@ all-of-spec =
     loop-holds
     is-of-requires
     returns
-    add-i
-    loop-less
+    (λ c. omega arith)
+    (λ c. omega arith)
     loop-again
     returns-2)

@@ -82,12 +82,6 @@ add-insert-run c = let p = c .before .before .before .before .before .before .be
 insert-run-requires : tie.Need-insert-run-requires
 insert-run-requires c κs = (c .before .before .before .before .before .before .before .before .before .before .before .before .before .before .before .before .before .before .pre .run, refl, refl, able-at (c .before .before))
 
-same-length : tie.Need-same-length
-same-length c = search needs
-
-same-length-2 : tie.Need-same-length-2
-same-length-2 c = search needs
-
 done-at : (c : tie.After-insert-run) → after (c .insert-run .result) (c .insert-run .last .0) (c .insert-run .last .1 .0) ≡ changedAt (hungCut (c .before .before .before .before .before .before .before .before .before .before .before .before .before .before .before .before .before .before .before .args .span) (startOf (c .before .before .before .before .before .before .before .before .before .before .before .before .before .before .before .before .before .before .before .args .run-words .now)) (c .before .before .before .before .before .before .before .before .before .before .before .before .before .before .before .before .before .before .before .args .words .now)) (flat (raised (rowsOf (c .before .before .before .before .before .before .before .before .before .before .before .before .before .before .before .before .before .before .before .args .run-words .now)))) (rowCount (c .before .before .before .before .before .before .before .before .before .before .before .before .before .before .before .before .before .before .before .args .run-words .now)) (take (sizes (rowsOf (c .before .before .before .before .before .before .before .before .before .before .before .before .before .before .before .before .before .before .before .args .run-words .now))) (c .before .before .before .before .before .before .before .before .before .before .before .before .before .before .before .before .before .before .before .args .run-values .now)) (allOf (startOf (c .before .before .before .before .before .before .before .before .before .before .before .before .before .before .before .before .before .before .before .args .run-words .now)) (delimiterOf (c .before .before .before .before .before .before .before .before .before .before .before .before .before .before .before .before .before .before .before .args .run-words .now)) (rowsOf (c .before .before .before .before .before .before .before .before .before .before .before .before .before .before .before .before .before .before .before .args .run-words .now))) (hungFields (c .before .before .before .before .before .before .before .before .before .before .before .before .before .before .before .before .before .before .before .args .span) (startOf (c .before .before .before .before .before .before .before .before .before .before .before .before .before .before .before .before .before .before .before .args .run-words .now)) (c .before .before .before .before .before .before .before .before .before .before .before .before .before .before .before .before .before .before .before .args .run-words .now) (c .before .before .before .before .before .before .before .before .before .before .before .before .before .before .before .before .before .before .before .args .fields) (c .before .before .before .before .before .before .before .before .before .before .before .before .before .before .before .before .before .before .before .args .words .now)) (c .before .before .before .before .before .before .before .before .before .before .before .before .before .before .before .before .before .before .before .args .words .now) (c .before .before .before .before .before .before .before .before .before .before .before .before .before .before .before .before .before .before .before .args .values .now)
 unfolding hungCut hungFields
 done-at c = rw (place-at (c .before .before .before .before .before .before .before .before), stop-at (c .before .before .before .before .before .before), replaced-at (c .before .before .before .before), added-at (c .before .before .before), whole-at (c .before .before .before .before .before .before .before .before .before .before)) at (c .insert-run .ensures)
@@ -111,6 +105,6 @@ hang-in-spec =
     sub-insert-run
     add-insert-run
     insert-run-requires
-    same-length
-    same-length-2
+    (λ c. search needs)
+    (λ c. search needs)
     returns-2)

@@ -28,12 +28,6 @@ is-untagged-requires c κs = let pre = c .before .before .before .pre in (omega 
 returns : tie.Need-returns Inv-loop μ-loop
 returns c = let l = c .before .before .before in sym (l .loop .inv .1 ∙ untagged-here _ _ _ (c .before .before .loop-test .taken) (sym (c .before .is-untagged .ensures) ∙ c .if1 .taken))
 
-add-i : tie.Need-add-i Inv-loop μ-loop
-add-i c = omega arith
-
-loop-less : tie.Need-loop-less Inv-loop μ-loop
-loop-less c = omega arith
-
 loop-again : tie.Need-loop-again Inv-loop μ-loop
 loop-again c = let l = c .before .before .before in (omega arith, l .loop .inv .1 ∙ untagged-on _ _ _ (c .before .before .loop-test .taken) (sym (c .before .is-untagged .ensures) ∙ c .if1 .left))
 
@@ -49,7 +43,7 @@ has-untagged-spec =
     loop-holds
     is-untagged-requires
     returns
-    add-i
-    loop-less
+    (λ c. omega arith)
+    (λ c. omega arith)
     loop-again
     returns-2)

@@ -31,9 +31,6 @@ mul-end c = let l = c .before .before .before .before .before .before .pre .0 in
 add-end : tie.Need-add-end
 add-end c = let l = c .before .before .before .before .before .before .pre .0 in omega (arith, c .before .row-count .ensures, l .counted)
 
-sub-cut-rows : tie.Need-sub-cut-rows
-sub-cut-rows c = search needs
-
 part-cut-rows-start : tie.Need-part-cut-rows-start
 part-cut-rows-start c = let l = c .before .before .before .before .before .before .before .before .pre .0 in omega (arith, c .before .before .before .row-count .ensures, l .counted, l .whole)
 
@@ -64,9 +61,6 @@ able-at c = rw (c .row-count .ensures) (c .before .before .before .before .befor
 cut-rows-requires : tie.Need-cut-rows-requires
 cut-rows-requires c κs = cut-others _ _ _ _ _ _ _ (ap length (rows-at (c .before .before .before .before)) ∙ flat-rows (c .before .before .before .before)) (able-at (c .before .before .before .before .before))
 
-enum-told : tie.Need-enum-told
-enum-told c = search needs
-
 cut-at : (c : tie.After-cut-rows) → after (c .cut-rows .result) (c .cut-rows .last .0) (c .cut-rows .last .1 .0) ≡ changedAt (c .before .before .before .before .before .before .before .before .before .before .before .args .cut) (flat (rowsOf (c .before .before .before .before .before .before .before .before .before .before .before .args .run-words .now))) (rowCount (c .before .before .before .before .before .before .before .before .before .before .before .args .run-words .now)) (take (sizes (rowsOf (c .before .before .before .before .before .before .before .before .before .before .before .args .run-words .now))) (c .before .before .before .before .before .before .before .before .before .before .before .args .run-values .now)) (c .before .before .before .before .before .before .before .before .before .before .before .args .whole) (c .before .before .before .before .before .before .before .before .before .before .before .args .fields) (c .before .before .before .before .before .before .before .before .before .before .before .args .words .now) (c .before .before .before .before .before .before .before .before .before .before .before .args .values .now)
 cut-at c = rw (rows-at (c .before .before .before .before .before), size-at (c .before .before .before .before .before), c .before .before .before .before .before .before .row-count .ensures) at (c .cut-rows .ensures)
 
@@ -90,12 +84,6 @@ raise-rows-requires c κs = let f = few-at (c .before) in
       λ j a b. rw (made-at (c .before) .0) (low-cut _ _ (c .before .before .before .before .before .before .before .before .before .before .before .before .before .before .before .before .before .before .pre .1) (c .before .before .before .before .before .before .before .before .before .before .before .before .before .before .before .before .before .before .pre .2) (rowsOf (c .before .before .before .before .before .before .before .before .before .before .before .before .before .before .before .before .before .before .args .run-words .now)) (c .before .before .before .before .before .before .before .before .before .before .before .before .before .before .before .before .before .before .pre .3 .whole) (omega (arith, f)) messageRows _ j (c .before .before .before .before .before .before .before .before .before .before .before .before .before .before .before .before .before .before .pre .0 .near) a (omega (arith, b, count-at (c .before .before .before .before .before .before .before .before .before .before .before .before .before)))),
     )
 
-same-length : tie.Need-same-length
-same-length c = search needs
-
-same-length-2 : tie.Need-same-length-2
-same-length-2 c = search needs
-
 returns : tie.Need-returns
 returns c = let t = c .before .before .before .before in
     let m = made-at t in
@@ -104,50 +92,14 @@ returns c = let t = c .before .before .before .before in
     (c .before .before .raise-rows .ensures ∙ rw (n, m .0) (raise-cut _ _ (c .before .before .before .before .before .before .before .before .before .before .before .before .before .before .before .before .before .before .before .before .before .pre .1) (c .before .before .before .before .before .before .before .before .before .before .before .before .before .before .before .before .before .before .before .before .before .pre .2) (rowsOf (c .before .before .before .before .before .before .before .before .before .before .before .before .before .before .before .before .before .before .before .before .before .args .run-words .now)) (c .before .before .before .before .before .before .before .before .before .before .before .before .before .before .before .before .before .before .before .before .before .pre .3 .whole) (omega (arith, few-at t)) _))
     ∙ m .1
 
-enum-told-2 : tie.Need-enum-told-2
-enum-told-2 c = search needs
-
-same-length-3 : tie.Need-same-length-3
-same-length-3 c = search needs
-
-same-length-4 : tie.Need-same-length-4
-same-length-4 c = search needs
-
 returns-2 : tie.Need-returns-2
 returns-2 c = refused-same _ _ _ _ _ _ _ _ _ _ _ NoMessage (λ e. let z : _≡_ {A = ℕ} 0 1 = cc in omega arith) (rw (c .enum-told2 .given .1) at (cut-at (c .before .before .before .before .before .before)))
-
-enum-told-3 : tie.Need-enum-told-3
-enum-told-3 c = search needs
-
-same-length-5 : tie.Need-same-length-5
-same-length-5 c = search needs
-
-same-length-6 : tie.Need-same-length-6
-same-length-6 c = search needs
 
 returns-3 : tie.Need-returns-3
 returns-3 c = refused-same _ _ _ _ _ _ _ _ _ _ _ NotStorable (λ e. let z : _≡_ {A = ℕ} 0 1 = cc in omega arith) (rw (c .enum-told3 .given .1) at (cut-at (c .before .before .before .before .before .before)))
 
-enum-told-4 : tie.Need-enum-told-4
-enum-told-4 c = search needs
-
-same-length-7 : tie.Need-same-length-7
-same-length-7 c = search needs
-
-same-length-8 : tie.Need-same-length-8
-same-length-8 c = search needs
-
 returns-4 : tie.Need-returns-4
 returns-4 c = refused-same _ _ _ _ _ _ _ _ _ _ _ NoRun (λ e. let z : _≡_ {A = ℕ} 0 1 = cc in omega arith) (rw (c .enum-told4 .given .1) at (cut-at (c .before .before .before .before .before .before)))
-
-enum-told-5 : tie.Need-enum-told-5
-enum-told-5 c = search needs
-
-same-length-9 : tie.Need-same-length-9
-same-length-9 c = search needs
-
-same-length-10 : tie.Need-same-length-10
-same-length-10 c = search needs
 
 returns-5 : tie.Need-returns-5
 returns-5 c = refused-same _ _ _ _ _ _ _ _ _ _ _ TooManyFields (λ e. let z : _≡_ {A = ℕ} 0 1 = cc in omega arith) (rw (c .enum-told5 .given .1) at (cut-at (c .before .before .before .before .before .before)))
@@ -160,30 +112,30 @@ insert-run-spec =
     size-between-requires
     mul-end
     add-end
-    sub-cut-rows
+    (λ c. search needs)
     part-cut-rows-start
     part-cut-rows-end
     slice-aggregate-cut-rows
     cut-rows-requires
-    enum-told
+    (λ c. search needs)
     add-raise-rows
     raise-rows-requires
-    same-length
-    same-length-2
+    (λ c. search needs)
+    (λ c. search needs)
     returns
-    enum-told-2
-    same-length-3
-    same-length-4
+    (λ c. search needs)
+    (λ c. search needs)
+    (λ c. search needs)
     returns-2
-    enum-told-3
-    same-length-5
-    same-length-6
+    (λ c. search needs)
+    (λ c. search needs)
+    (λ c. search needs)
     returns-3
-    enum-told-4
-    same-length-7
-    same-length-8
+    (λ c. search needs)
+    (λ c. search needs)
+    (λ c. search needs)
     returns-4
-    enum-told-5
-    same-length-9
-    same-length-10
+    (λ c. search needs)
+    (λ c. search needs)
+    (λ c. search needs)
     returns-5)

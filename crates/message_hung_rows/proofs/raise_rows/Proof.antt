@@ -48,12 +48,6 @@ mul-words-2 c = let pre = c .before .before .before .before .before .pre in omeg
 slice-write-words : tie.Need-slice-write-words Inv-loop μ-loop
 slice-write-words c = let pre = c .before .before .before .before .before .pre in let l = c .before .before .before in omega (arith, pre .1, c .before .before .loop-test .taken, l .loop .inv .2)
 
-add-i : tie.Need-add-i Inv-loop μ-loop
-add-i c = omega arith
-
-loop-less : tie.Need-loop-less Inv-loop μ-loop
-loop-less c = omega arith
-
 loop-again : tie.Need-loop-again Inv-loop μ-loop
 loop-again c = let l = c .before .before .before in
     let i = l .loop .i in
@@ -84,8 +78,8 @@ raise-rows-spec =
     add-words-2
     mul-words-2
     slice-write-words
-    add-i
-    loop-less
+    (λ c. omega arith)
+    (λ c. omega arith)
     loop-again
     same-length
     returns)

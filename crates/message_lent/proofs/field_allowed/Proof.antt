@@ -20,15 +20,9 @@ returns-2 : tie.Need-returns-2
 unfolding fieldAllowed
 returns-2 c = rw (ne-eqb _ 0 (c .before .if1 .left), eq-eqb _ 0 (c .if2 .taken))
 
-held-before-requires : tie.Need-held-before-requires
-held-before-requires c κs = search needs
-
 returns-3 : tie.Need-returns-3
 unfolding fieldAllowed
 returns-3 c = rw (ne-eqb _ 0 (c .before .before .before .if1 .left), ne-eqb _ 0 (c .before .before .if2 .left), sym (c .before .held-before .ensures) ∙ c .if3 .taken)
-
-held-before-requires-2 : tie.Need-held-before-requires-2
-held-before-requires-2 c κs = search needs
 
 returns-4 : tie.Need-returns-4
 unfolding fieldAllowed
@@ -44,8 +38,8 @@ field-allowed-spec =
     (tie.spec
     returns
     returns-2
-    held-before-requires
+    (λ c κs. search needs)
     returns-3
-    held-before-requires-2
+    (λ c κs. search needs)
     returns-4
     returns-5)

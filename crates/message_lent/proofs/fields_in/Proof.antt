@@ -22,18 +22,6 @@ abbrev μ-loop : tie.MeasureT-loop
 loop-holds : tie.Need-loop-holds Inv-loop μ-loop
 loop-holds c = (omega arith, omega arith, omega arith, omega arith)
 
-weight-of-requires : tie.Need-weight-of-requires Inv-loop μ-loop
-weight-of-requires c κs = omega arith
-
-add-fields : tie.Need-add-fields Inv-loop μ-loop
-add-fields c = omega arith
-
-add-i : tie.Need-add-i Inv-loop μ-loop
-add-i c = omega arith
-
-loop-less : tie.Need-loop-less Inv-loop μ-loop
-loop-less c = omega arith
-
 loop-again : tie.Need-loop-again Inv-loop μ-loop
 loop-again c = let l = c .before .before in (omega arith, omega arith, omega (arith, l .loop .inv .2, c .weight-of .ensures .0, fields-on (l .before .before .args .words .now) (l .loop .i) (l .before .before .args .to) (c .before .loop-test .taken) (l .before .before .args .floor)), omega (arith, l .loop .inv .3, c .weight-of .ensures .1))
 
@@ -47,9 +35,9 @@ fields-in-spec =
     Inv-loop
     μ-loop
     loop-holds
-    weight-of-requires
-    add-fields
-    add-i
-    loop-less
+    (λ c κs. omega arith)
+    (λ c. omega arith)
+    (λ c. omega arith)
+    (λ c. omega arith)
     loop-again
     returns)

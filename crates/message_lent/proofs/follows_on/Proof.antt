@@ -22,26 +22,8 @@ abbrev μ-loop : tie.MeasureT-loop
 loop-holds : tie.Need-loop-holds Inv-loop μ-loop
 loop-holds c = (omega arith, refl)
 
-sub-level-of : tie.Need-sub-level-of Inv-loop μ-loop
-sub-level-of c = omega arith
-
-level-of-requires : tie.Need-level-of-requires Inv-loop μ-loop
-level-of-requires c κs = omega arith
-
-sub-continues-run : tie.Need-sub-continues-run Inv-loop μ-loop
-sub-continues-run c = omega arith
-
-continues-run-requires : tie.Need-continues-run-requires Inv-loop μ-loop
-continues-run-requires c κs = omega arith
-
 returns : tie.Need-returns Inv-loop μ-loop
 returns c = let l = c .before .before .before .before in c .continues-run .ensures ∙ sym (l .loop .inv .1 ∙ follows-here (l .before .before .args .words .now) (l .loop .i) (c .before .before .before .loop-test .taken) _ _ _ (omega (arith, c .before .before .level-of .ensures)))
-
-sub-i : tie.Need-sub-i Inv-loop μ-loop
-sub-i c = omega arith
-
-loop-less : tie.Need-loop-less Inv-loop μ-loop
-loop-less c = omega arith
 
 loop-again : tie.Need-loop-again Inv-loop μ-loop
 loop-again c = let l = c .before .before .before in (omega arith, l .loop .inv .1 ∙ follows-further (l .before .before .args .words .now) (l .loop .i) (c .before .before .loop-test .taken) (l .before .before .args .level) _ _ (omega (arith, c .before .level-of .ensures)))
@@ -56,12 +38,12 @@ follows-on-spec =
     Inv-loop
     μ-loop
     loop-holds
-    sub-level-of
-    level-of-requires
-    sub-continues-run
-    continues-run-requires
+    (λ c. omega arith)
+    (λ c κs. omega arith)
+    (λ c. omega arith)
+    (λ c κs. omega arith)
     returns
-    sub-i
-    loop-less
+    (λ c. omega arith)
+    (λ c. omega arith)
     loop-again
     returns-2)

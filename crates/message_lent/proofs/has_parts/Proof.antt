@@ -22,17 +22,8 @@ abbrev μ-loop : tie.MeasureT-loop
 loop-holds : tie.Need-loop-holds Inv-loop μ-loop
 loop-holds c = (omega arith, omega arith, refl)
 
-next-part-requires : tie.Need-next-part-requires Inv-loop μ-loop
-next-part-requires c κs = omega arith
-
 returns : tie.Need-returns Inv-loop μ-loop
 returns c = let l = c .before .before .before in sym (l .loop .inv .2 ∙ parts-not (l .before .before .args .words .now) (l .loop .i) (l .before .before .args .to) (c .before .before .loop-test .taken) (l .loop .part) (sym (c .before .next-part .ensures .0) ∙ c .if1 .taken))
-
-add-i : tie.Need-add-i Inv-loop μ-loop
-add-i c = omega arith
-
-loop-less : tie.Need-loop-less Inv-loop μ-loop
-loop-less c = omega arith
 
 loop-again : tie.Need-loop-again Inv-loop μ-loop
 loop-again c = let l = c .before .before .before in (omega arith, omega (arith, c .before .next-part .ensures .1, l .loop .inv .1), l .loop .inv .2 ∙ parts-on (l .before .before .args .words .now) (l .loop .i) (l .before .before .args .to) (c .before .before .loop-test .taken) (l .loop .part) (λ e. c .if1 .left (c .before .next-part .ensures .0 ∙ e)) ∙ ap (λ (p : ℕ). partsFrom p (rowsFrom (l .before .before .args .to - (l .loop .i + 1)) (l .loop .i + 1) (l .before .before .args .words .now))) (sym (c .before .next-part .ensures .0)))
@@ -47,9 +38,9 @@ has-parts-spec =
     Inv-loop
     μ-loop
     loop-holds
-    next-part-requires
+    (λ c κs. omega arith)
     returns
-    add-i
-    loop-less
+    (λ c. omega arith)
+    (λ c. omega arith)
     loop-again
     returns-2)

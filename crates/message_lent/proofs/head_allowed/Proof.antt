@@ -24,21 +24,9 @@ returns-3 : tie.Need-returns-3
 unfolding headAllowed
 returns-3 c = rw (ne-eqb _ 0 (c .before .before .if1 .left), ne-eqb _ 0 (c .before .if2 .left), eq-eqb _ 0 (c .if3 .taken))
 
-held-before-requires : tie.Need-held-before-requires
-held-before-requires c κs = search needs
-
-follows-on-requires : tie.Need-follows-on-requires
-follows-on-requires c κs = search needs
-
 returns-4 : tie.Need-returns-4
 unfolding headAllowed
 returns-4 c = rw (ne-eqb _ 0 (c .before .before .before .before .before .if1 .left), ne-eqb _ 0 (c .before .before .before .before .if2 .left), ne-eqb _ 0 (c .before .before .before .if3 .left), sym (c .before .before .held-before .ensures) ∙ c .before .if4 .taken) (c .follows-on .ensures)
-
-held-before-requires-2 : tie.Need-held-before-requires-2
-held-before-requires-2 c κs = search needs
-
-follows-on-requires-2 : tie.Need-follows-on-requires-2
-follows-on-requires-2 c κs = search needs
 
 returns-5 : tie.Need-returns-5
 unfolding headAllowed
@@ -55,10 +43,10 @@ head-allowed-spec =
     returns
     returns-2
     returns-3
-    held-before-requires
-    follows-on-requires
+    (λ c κs. search needs)
+    (λ c κs. search needs)
     returns-4
-    held-before-requires-2
-    follows-on-requires-2
+    (λ c κs. search needs)
+    (λ c κs. search needs)
     returns-5
     returns-6)

@@ -22,29 +22,11 @@ abbrev μ-loop : tie.MeasureT-loop
 loop-holds : tie.Need-loop-holds Inv-loop μ-loop
 loop-holds c = (omega arith, refl)
 
-sub-level-of : tie.Need-sub-level-of Inv-loop μ-loop
-sub-level-of c = omega arith
-
-level-of-requires : tie.Need-level-of-requires Inv-loop μ-loop
-level-of-requires c κs = omega arith
-
 returns : tie.Need-returns Inv-loop μ-loop
 returns c = let l = c .before .before .before in sym (l .loop .inv .1 ∙ held-other (l .before .before .args .words .now) (l .loop .i) (c .before .before .loop-test .taken) _ (l .before .before .args .level) _ (omega (arith, c .before .level-of .ensures)))
 
-sub-is-row : tie.Need-sub-is-row Inv-loop μ-loop
-sub-is-row c = omega arith
-
-is-row-requires : tie.Need-is-row-requires Inv-loop μ-loop
-is-row-requires c κs = omega arith
-
 returns-2 : tie.Need-returns-2 Inv-loop μ-loop
 returns-2 c = let l = c .before .before .before .before .before in sym (l .loop .inv .1 ∙ held-here (l .before .before .args .words .now) (l .loop .i) (c .before .before .before .before .loop-test .taken) _ (l .before .before .args .level) _ (omega (arith, c .before .before .before .level-of .ensures)) (sym (c .before .is-row .ensures) ∙ c .if2 .taken))
-
-sub-i : tie.Need-sub-i Inv-loop μ-loop
-sub-i c = omega arith
-
-loop-less : tie.Need-loop-less Inv-loop μ-loop
-loop-less c = omega arith
 
 loop-again : tie.Need-loop-again Inv-loop μ-loop
 loop-again c = let l = c .before .before .before .before .before in (omega arith, l .loop .inv .1 ∙ held-on (l .before .before .args .words .now) (l .loop .i) (c .before .before .before .before .loop-test .taken) _ (l .before .before .args .level) _ (omega (arith, c .before .before .before .level-of .ensures)) (sym (c .before .is-row .ensures) ∙ c .if2 .left))
@@ -59,13 +41,13 @@ held-before-spec =
     Inv-loop
     μ-loop
     loop-holds
-    sub-level-of
-    level-of-requires
+    (λ c. omega arith)
+    (λ c κs. omega arith)
     returns
-    sub-is-row
-    is-row-requires
+    (λ c. omega arith)
+    (λ c κs. omega arith)
     returns-2
-    sub-i
-    loop-less
+    (λ c. omega arith)
+    (λ c. omega arith)
     loop-again
     returns-3)

@@ -21,22 +21,13 @@ returns-2 : tie.Need-returns-2
 unfolding isLaid rowsOf
 returns-2 c = rw (eq-eqb _ _ (c .before .if1 .left), ne-eqb _ _ (c .if2 .taken))
 
-row-count-requires : tie.Need-row-count-requires
-row-count-requires c κs = search needs
-
 returns-3 : tie.Need-returns-3
 unfolding isLaid rowsOf
 returns-3 c = rw (eq-eqb _ _ (c .before .before .before .if1 .left), eq-eqb _ _ (c .before .before .if2 .left), lt-leb _ _ (rw (c .before .row-count .ensures) at (c .if3 .taken)))
 
-rows-allowed-requires : tie.Need-rows-allowed-requires
-rows-allowed-requires c κs = search needs
-
 returns-4 : tie.Need-returns-4
 unfolding isLaid rowsOf
 returns-4 c = rw (eq-eqb _ _ (c .before .before .before .before .before .if1 .left), eq-eqb _ _ (c .before .before .before .before .if2 .left), le-leb _ _ (rw (c .before .before .before .row-count .ensures) at (c .before .before .if3 .left)), sym (rw (c .before .before .before .row-count .ensures) at (c .before .rows-allowed .ensures)) ∙ not-true _ (c .if4 .taken))
-
-size-between-requires : tie.Need-size-between-requires
-size-between-requires c κs = search needs
 
 returns-5 : tie.Need-returns-5
 unfolding isLaid rowsOf
@@ -48,9 +39,9 @@ is-laid-spec =
     (tie.spec
     returns
     returns-2
-    row-count-requires
+    (λ c κs. search needs)
     returns-3
-    rows-allowed-requires
+    (λ c κs. search needs)
     returns-4
-    size-between-requires
+    (λ c κs. search needs)
     returns-5)

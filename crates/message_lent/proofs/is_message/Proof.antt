@@ -14,9 +14,6 @@ use Rattle.message_lent.specs.LentLaws.{Laid, laid-out}
 use Rattle.message_lent.proofs.is_message.Statement.{statement}
 use Rattle.message_lent.proofs.is_message.Tie as tie
 
-is-laid-requires : tie.Need-is-laid-requires
-is-laid-requires c κs = search needs
-
 returns : tie.Need-returns
 unfolding isMessage rowsOf
 returns c = rw (sym (c .before .is-laid .ensures) ∙ not-true _ (c .if1 .taken))
@@ -42,7 +39,7 @@ pub is-message-spec : {M : Type 1} → statement M
 is-message-spec =
     tie.close
     (tie.spec
-    is-laid-requires
+    (λ c κs. search needs)
     returns
     row-count-requires
     has-parts-requires

@@ -19,32 +19,14 @@ Inv-loop words level from to below i₀ i = (from ≤ i) × (i ≤ to) × (ownBe
 abbrev μ-loop : tie.MeasureT-loop
 μ-loop words level from to below i₀ i = to - i
 
-wide-requires : tie.Need-wide-requires Inv-loop μ-loop
-wide-requires c κs = omega arith
-
-add-below : tie.Need-add-below Inv-loop μ-loop
-add-below c = omega arith
-
 loop-holds : tie.Need-loop-holds Inv-loop μ-loop
 loop-holds c = (omega arith, omega arith, refl)
-
-level-of-requires : tie.Need-level-of-requires Inv-loop μ-loop
-level-of-requires c κs = omega arith
 
 returns : tie.Need-returns Inv-loop μ-loop
 returns c = let l = c .before .before .before in sym (l .loop .inv .2 ∙ own-none (l .before .before .before .args .words .now) (l .loop .i) (l .before .before .before .args .to) (c .before .before .loop-test .taken) (l .before .before .before .args .level) (omega (arith, c .before .level-of .ensures)))
 
-is-own-requires : tie.Need-is-own-requires Inv-loop μ-loop
-is-own-requires c κs = omega arith
-
 returns-2 : tie.Need-returns-2 Inv-loop μ-loop
 returns-2 c = let l = c .before .before .before .before .before in sym (l .loop .inv .2 ∙ own-here (l .before .before .before .args .words .now) (l .loop .i) (l .before .before .before .args .to) (c .before .before .before .before .loop-test .taken) (l .before .before .before .args .level) (omega (arith, c .before .before .before .level-of .ensures)) (sym (rw (c .before .before .before .before .before .before .wide .ensures) at (c .before .is-own .ensures)) ∙ c .if2 .taken))
-
-add-i : tie.Need-add-i Inv-loop μ-loop
-add-i c = omega arith
-
-loop-less : tie.Need-loop-less Inv-loop μ-loop
-loop-less c = omega arith
 
 loop-again : tie.Need-loop-again Inv-loop μ-loop
 loop-again c = let l = c .before .before .before .before .before in (omega arith, omega arith, l .loop .inv .2 ∙ own-on (l .before .before .before .args .words .now) (l .loop .i) (l .before .before .before .args .to) (c .before .before .before .before .loop-test .taken) (l .before .before .before .args .level) (omega (arith, c .before .before .before .level-of .ensures)) (sym (rw (c .before .before .before .before .before .before .wide .ensures) at (c .before .is-own .ensures)) ∙ c .if2 .left))
@@ -58,14 +40,14 @@ own-below-spec =
     (tie.spec
     Inv-loop
     μ-loop
-    wide-requires
-    add-below
+    (λ c κs. omega arith)
+    (λ c. omega arith)
     loop-holds
-    level-of-requires
+    (λ c κs. omega arith)
     returns
-    is-own-requires
+    (λ c κs. omega arith)
     returns-2
-    add-i
-    loop-less
+    (λ c. omega arith)
+    (λ c. omega arith)
     loop-again
     returns-3)

@@ -13,37 +13,13 @@ use Rattle.message_lent.specs.LentLaws.{too-deep, as-field, as-head, as-
 use Rattle.message_lent.proofs.row_allowed.Statement.{statement}
 use Rattle.message_lent.proofs.row_allowed.Tie as tie
 
-level-of-requires : tie.Need-level-of-requires
-level-of-requires c κs = search needs
-
-deepest-at-requires : tie.Need-deepest-at-requires
-deepest-at-requires c κs = search needs
-
-wide-requires : tie.Need-wide-requires
-wide-requires c κs = search needs
-
 returns : tie.Need-returns
 unfolding rowAt levelOf
 returns c = sym (too-deep _ _ _ _ _ (omega (arith, c .before .wide .ensures, c .before .before .deepest-at .ensures, c .before .before .before .level-of .ensures)))
 
-kind-of-requires : tie.Need-kind-of-requires
-kind-of-requires c κs = search needs
-
-tag-of-requires : tie.Need-tag-of-requires
-tag-of-requires c κs = search needs
-
-field-allowed-requires : tie.Need-field-allowed-requires
-field-allowed-requires c κs = search needs
-
 returns-2 : tie.Need-returns-2
 unfolding rowAt levelOf
 returns-2 c = (rw (c .before .before .before .before .before .before .before .level-of .ensures, c .before .before .tag-of .ensures) at (c .field-allowed .ensures)) ∙ sym (as-field _ _ _ _ _ (omega (arith, c .before .before .before .before .before .wide .ensures, c .before .before .before .before .before .before .deepest-at .ensures, c .before .before .before .before .before .before .before .level-of .ensures)) (sym (c .before .before .before .kind-of .ensures) ∙ c .before .if2 .taken))
-
-extra-of-requires : tie.Need-extra-of-requires
-extra-of-requires c κs = search needs
-
-head-allowed-requires : tie.Need-head-allowed-requires
-head-allowed-requires c κs = search needs
 
 returns-3 : tie.Need-returns-3
 unfolding rowAt levelOf
@@ -57,15 +33,15 @@ pub row-allowed-spec : {M : Type 1} → statement M
 row-allowed-spec =
     tie.close
     (tie.spec
-    level-of-requires
-    deepest-at-requires
-    wide-requires
+    (λ c κs. search needs)
+    (λ c κs. search needs)
+    (λ c κs. search needs)
     returns
-    kind-of-requires
-    tag-of-requires
-    field-allowed-requires
+    (λ c κs. search needs)
+    (λ c κs. search needs)
+    (λ c κs. search needs)
     returns-2
-    extra-of-requires
-    head-allowed-requires
+    (λ c κs. search needs)
+    (λ c κs. search needs)
     returns-3
     returns-4)

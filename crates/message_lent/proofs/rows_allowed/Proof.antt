@@ -24,17 +24,8 @@ loop-holds : tie.Need-loop-holds Inv-loop μ-loop
 unfolding rowsBefore
 loop-holds c = (omega arith, refl)
 
-row-allowed-requires : tie.Need-row-allowed-requires Inv-loop μ-loop
-row-allowed-requires c κs = omega arith
-
 returns : tie.Need-returns Inv-loop μ-loop
 returns c = let l = c .before .before .before in sym (l .loop .inv .1 ∙ allowed-not (l .before .before .args .words .now) (l .loop .i) (l .before .before .args .to) (c .before .before .loop-test .taken) (sym (c .before .row-allowed .ensures) ∙ not-true _ (c .if1 .taken)))
-
-add-i : tie.Need-add-i Inv-loop μ-loop
-add-i c = omega arith
-
-loop-less : tie.Need-loop-less Inv-loop μ-loop
-loop-less c = omega arith
 
 loop-again : tie.Need-loop-again Inv-loop μ-loop
 loop-again c = let l = c .before .before .before in (omega arith, l .loop .inv .1 ∙ allowed-on (l .before .before .args .words .now) (l .loop .i) (l .before .before .args .to) (c .before .before .loop-test .taken) (sym (c .before .row-allowed .ensures) ∙ not-false _ (c .if1 .left)))
@@ -49,9 +40,9 @@ rows-allowed-spec =
     Inv-loop
     μ-loop
     loop-holds
-    row-allowed-requires
+    (λ c κs. omega arith)
     returns
-    add-i
-    loop-less
+    (λ c. omega arith)
+    (λ c. omega arith)
     loop-again
     returns-2)

@@ -13,25 +13,13 @@ use Rattle.message_lent.specs.Lent.{weight, ownBelow}
 use Rattle.message_lent.proofs.weight_of.Statement.{statement}
 use Rattle.message_lent.proofs.weight_of.Tie as tie
 
-kind-of-requires : tie.Need-kind-of-requires
-kind-of-requires c κs = search needs
-
 returns : tie.Need-returns
 unfolding weight rowAt levelOf
 returns c = (rw (eq-eqb _ 1 (sym (c .before .kind-of .ensures) ∙ c .if1 .taken)), omega arith)
 
-level-of-requires : tie.Need-level-of-requires
-level-of-requires c κs = search needs
-
 returns-2 : tie.Need-returns-2
 unfolding weight rowAt levelOf
 returns-2 c = (rw (ne-eqb _ 1 (λ e. c .before .before .if1 .left (c .before .before .before .kind-of .ensures ∙ e)), lt-ltb _ _ (rw (c .before .level-of .ensures) at (c .if2 .taken))), omega arith)
-
-add-own-below : tie.Need-add-own-below
-add-own-below c = search needs
-
-own-below-requires : tie.Need-own-below-requires
-own-below-requires c κs = search needs
 
 returns-3 : tie.Need-returns-3
 unfolding weight rowAt levelOf
@@ -45,11 +33,11 @@ pub weight-of-spec : {M : Type 1} → statement M
 weight-of-spec =
     tie.close
     (tie.spec
-    kind-of-requires
+    (λ c κs. search needs)
     returns
-    level-of-requires
+    (λ c κs. search needs)
     returns-2
-    add-own-below
-    own-below-requires
+    (λ c. search needs)
+    (λ c κs. search needs)
     returns-3
     returns-4)

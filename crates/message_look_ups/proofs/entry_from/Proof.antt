@@ -28,15 +28,6 @@ is-row-requires c κs = let pre = c .before .before .before .pre in (omega (arit
 returns : tie.Need-returns Inv-loop μ-loop
 returns c = let l = c .before .before .before .before in sym (l .loop .inv .2 ∙ entry-here _ _ _ (c .before .before .before .loop-test .taken) _ _ _ (sym (c .before .before .is-row .ensures) ∙ c .before .if1 .taken) (c .if2 .taken))
 
-sub-left : tie.Need-sub-left Inv-loop μ-loop
-sub-left c = omega arith
-
-add-i : tie.Need-add-i Inv-loop μ-loop
-add-i c = omega arith
-
-loop-less : tie.Need-loop-less Inv-loop μ-loop
-loop-less c = omega arith
-
 loop-again : tie.Need-loop-again Inv-loop μ-loop
 loop-again c = let l = c .before .before .before in
     let h = c .before .before .loop-test .taken in
@@ -55,8 +46,8 @@ entry-from-spec =
     loop-holds
     is-row-requires
     returns
-    sub-left
-    add-i
-    loop-less
+    (λ c. omega arith)
+    (λ c. omega arith)
+    (λ c. omega arith)
     loop-again
     returns-2)

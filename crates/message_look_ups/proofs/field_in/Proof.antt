@@ -15,23 +15,11 @@ use Rattle.message_look_ups.specs.declared.Opened.the-variants.{NoMessag
 use Rattle.message_look_ups.proofs.field_in.Statement.{statement}
 use Rattle.message_look_ups.proofs.field_in.Tie as tie
 
-open-map-requires : tie.Need-open-map-requires
-open-map-requires c κs = search needs
-
-enum-told : tie.Need-enum-told
-enum-told c = search needs
-
 returns : tie.Need-returns
 returns c = sym (field-none _ _ _ _ (told _ _ _ _ (sym (c .before .before .open-map .ensures) ∙ c .enum-told .given .1)))
 
-enum-told-2 : tie.Need-enum-told-2
-enum-told-2 c = search needs
-
 returns-2 : tie.Need-returns-2
 returns-2 c = sym (field-shut _ _ _ _ (told _ _ _ _ (sym (c .before .before .open-map .ensures) ∙ c .enum-told2 .given .1)))
-
-enum-known-rows : tie.Need-enum-known-rows
-enum-known-rows c = search needs
 
 told-at : (c : tie.After-known-told) → Told (c .before .before .before .before .before .before .args .map) (c .before .before .before .before .before .before .args .words .now) (c .before .before .before .before .before .before .args .values .now) (Within (c .before .rows .given .0 .0))
 told-at c = told _ _ _ _ (sym (c .before .before .before .open-map .ensures) ∙ c .before .rows .given .1)
@@ -46,11 +34,11 @@ pub field-in-spec : {M : Type 1} → statement M
 field-in-spec =
     tie.close
     (tie.spec
-    open-map-requires
-    enum-told
+    (λ c κs. search needs)
+    (λ c. search needs)
     returns
-    enum-told-2
+    (λ c. search needs)
     returns-2
-    enum-known-rows
+    (λ c. search needs)
     value-from-requires
     returns-3)

@@ -16,9 +16,6 @@ use Rattle.message_look_ups.specs.OpeningLaws.{Inside, sized-here, opene
 use Rattle.message_look_ups.proofs.open_map.Statement.{statement}
 use Rattle.message_look_ups.proofs.open_map.Tie as tie
 
-is-message-requires : tie.Need-is-message-requires
-is-message-requires c κs = search needs
-
 returns : tie.Need-returns
 returns c = sym (opened-no _ _ _ (sym (c .before .is-message .ensures) ∙ not-true _ (c .if1 .taken)))
 
@@ -51,9 +48,6 @@ head-at c = eq-eqb _ _ (sym (c .before .kind-of .ensures) ∙ c .if3 .left)
 level-of-requires : tie.Need-level-of-requires
 level-of-requires c κs = let s = sized-here _ _ (lent-at (c .before .before .before .before)) in (omega (arith, c .before .before .before .row-count .ensures, s .counted, c .before .before .if2 .left), s .whole)
 
-add-from : tie.Need-add-from
-add-from c = search needs
-
 end-of-requires : tie.Need-end-of-requires
 end-of-requires c κs = let s = sized-here _ _ (lent-at (c .before .before .before .before .before)) in (omega (arith, c .before .before .before .if2 .left), omega (arith, c .before .before .before .before .row-count .ensures, s .counted), s .whole)
 
@@ -73,14 +67,14 @@ pub open-map-spec : {M : Type 1} → statement M
 open-map-spec =
     tie.close
     (tie.spec
-    is-message-requires
+    (λ c κs. search needs)
     returns
     row-count-requires
     returns-2
     kind-of-requires
     returns-3
     level-of-requires
-    add-from
+    (λ c. search needs)
     end-of-requires
     add-t10
     returns-4)

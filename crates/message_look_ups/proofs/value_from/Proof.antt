@@ -42,12 +42,6 @@ place-at c = omega (arith, c .before .before .before .pre .3, c .before .size-be
 add-place : tie.Need-add-place Inv-loop μ-loop
 add-place c = let pre = c .before .before .before .before .before .before .before .pre in let l = c .before .before .before .before in omega (arith, l .loop .inv .3, l .loop .inv .1, pre .1, place-at l, c .before .before .size-of .ensures .1)
 
-add-i : tie.Need-add-i Inv-loop μ-loop
-add-i c = omega arith
-
-loop-less : tie.Need-loop-less Inv-loop μ-loop
-loop-less c = omega arith
-
 loop-again : tie.Need-loop-again Inv-loop μ-loop
 loop-again c = let l = c .before .before .before .before in (omega arith, omega arith, l .loop .inv .2 ∙ value-on _ _ _ (c .before .before .before .loop-test .taken) _ _ _ (sym (c .before .is-row .ensures) ∙ c .if1 .left) ∙ rw (c .before .before .size-of .ensures .0), omega (arith, l .loop .inv .3, c .before .before .size-of .ensures .1))
 
@@ -66,7 +60,7 @@ value-from-spec =
     is-row-requires
     returns
     add-place
-    add-i
-    loop-less
+    (λ c. omega arith)
+    (λ c. omega arith)
     loop-again
     returns-2)

@@ -22,17 +22,8 @@ abbrev μ-loop : tie.MeasureT-loop
 loop-holds : tie.Need-loop-holds Inv-loop μ-loop
 loop-holds c = (omega arith, omega arith, refl)
 
-level-of-requires : tie.Need-level-of-requires Inv-loop μ-loop
-level-of-requires c κs = omega arith
-
 returns : tie.Need-returns Inv-loop μ-loop
 returns c = let l = c .before .before .before in sym (l .loop .inv .2 ∙ end-here (l .before .before .args .words .now) (l .loop .i) (l .before .before .args .to) (c .before .before .loop-test .taken) (l .before .before .args .level) (omega (arith, c .before .level-of .ensures)))
-
-add-i : tie.Need-add-i Inv-loop μ-loop
-add-i c = omega arith
-
-loop-less : tie.Need-loop-less Inv-loop μ-loop
-loop-less c = omega arith
 
 loop-again : tie.Need-loop-again Inv-loop μ-loop
 loop-again c = let l = c .before .before .before in (omega arith, omega arith, l .loop .inv .2 ∙ end-on (l .before .before .args .words .now) (l .loop .i) (l .before .before .args .to) (c .before .before .loop-test .taken) (l .before .before .args .level) (omega (arith, c .before .level-of .ensures)))
@@ -47,9 +38,9 @@ end-of-spec =
     Inv-loop
     μ-loop
     loop-holds
-    level-of-requires
+    (λ c κs. omega arith)
     returns
-    add-i
-    loop-less
+    (λ c. omega arith)
+    (λ c. omega arith)
     loop-again
     returns-2)

@@ -22,17 +22,8 @@ abbrev μ-loop : tie.MeasureT-loop
 loop-holds : tie.Need-loop-holds Inv-loop μ-loop
 loop-holds c = (omega arith, omega arith, refl)
 
-in-run-requires : tie.Need-in-run-requires Inv-loop μ-loop
-in-run-requires c κs = omega arith
-
 returns : tie.Need-returns Inv-loop μ-loop
 returns c = let l = c .before .before .before in sym (l .loop .inv .2 ∙ run-end-here _ _ _ (c .before .before .loop-test .taken) _ _ (sym (c .before .in-run .ensures) ∙ not-true _ (c .if1 .taken)))
-
-add-i : tie.Need-add-i Inv-loop μ-loop
-add-i c = omega arith
-
-loop-less : tie.Need-loop-less Inv-loop μ-loop
-loop-less c = omega arith
 
 loop-again : tie.Need-loop-again Inv-loop μ-loop
 loop-again c = let l = c .before .before .before in (omega arith, omega arith, l .loop .inv .2 ∙ run-end-on _ _ _ (c .before .before .loop-test .taken) _ _ (sym (c .before .in-run .ensures) ∙ not-false _ (c .if1 .left)))
@@ -47,9 +38,9 @@ run-end-spec =
     Inv-loop
     μ-loop
     loop-holds
-    in-run-requires
+    (λ c κs. omega arith)
     returns
-    add-i
-    loop-less
+    (λ c. omega arith)
+    (λ c. omega arith)
     loop-again
     returns-2)

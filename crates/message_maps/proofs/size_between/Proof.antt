@@ -21,17 +21,8 @@ abbrev μ-loop : tie.MeasureT-loop
 loop-holds : tie.Need-loop-holds Inv-loop μ-loop
 loop-holds c = (omega arith, omega arith, omega arith, omega arith)
 
-size-of-requires : tie.Need-size-of-requires Inv-loop μ-loop
-size-of-requires c κs = omega arith
-
 add-size : tie.Need-add-size Inv-loop μ-loop
 add-size c = omega (arith, c .size-of .ensures .1)
-
-add-i : tie.Need-add-i Inv-loop μ-loop
-add-i c = omega arith
-
-loop-less : tie.Need-loop-less Inv-loop μ-loop
-loop-less c = omega arith
 
 loop-again : tie.Need-loop-again Inv-loop μ-loop
 loop-again c = let l = c .before .before in (omega arith, omega arith, omega (arith, l .loop .inv .2, c .size-of .ensures .0, sizes-on (l .before .before .args .words .now) (l .loop .i) (l .before .before .args .to) (c .before .loop-test .taken)), omega (arith, l .loop .inv .3, c .size-of .ensures .1))
@@ -46,9 +37,9 @@ size-between-spec =
     Inv-loop
     μ-loop
     loop-holds
-    size-of-requires
+    (λ c κs. omega arith)
     add-size
-    add-i
-    loop-less
+    (λ c. omega arith)
+    (λ c. omega arith)
     loop-again
     returns)

@@ -14,29 +14,8 @@ use Rattle.message_maps.specs.RowsLaws.{splice-done}
 use Rattle.message_maps.proofs.splice_words.Statement.{statement}
 use Rattle.message_maps.proofs.splice_words.Tie as tie
 
-slice-aggregate-room : tie.Need-slice-aggregate-room
-slice-aggregate-room c = search needs
-
-put-words-requires : tie.Need-put-words-requires
-put-words-requires c κs = search needs
-
-put-words-requires-2 : tie.Need-put-words-requires-2
-put-words-requires-2 c κs = search needs
-
-put-words-requires-3 : tie.Need-put-words-requires-3
-put-words-requires-3 c κs = search needs
-
-put-words-requires-4 : tie.Need-put-words-requires-4
-put-words-requires-4 c κs = search needs
-
-put-words-requires-5 : tie.Need-put-words-requires-5
-put-words-requires-5 c κs = search needs
-
 copy-words-requires : tie.Need-copy-words-requires
 copy-words-requires c κs = let x = c in let a5 = x .before .before .before .before in let a4 = a5 .before .before .before .before .before in let a3 = a4 .before .before .before .before .before in let a2 = a3 .before .before .before .before in let a1 = a2 .before .before .before .before .before in let start = a1 .before .before .before .before .before .before in let s = start .args in let pre = start .pre in let e = ap length (a5 .put-words5 .ensures .1) ∙ written-length _ _ _ ∙ ap length (a4 .put-words4 .ensures .1) ∙ written-length _ _ _ ∙ ap length (a3 .put-words3 .ensures .1) ∙ written-length _ _ _ ∙ ap length (a2 .put-words2 .ensures .1) ∙ written-length _ _ _ ∙ ap length (a1 .put-words .ensures .1) ∙ written-length _ _ _ ∙ length-replicate {A = ℕ} messageWords 0 in omega (arith, e, pre .5)
-
-same-length : tie.Need-same-length
-same-length c = search needs
 
 returns : tie.Need-returns
 returns c = let x = c .before .before .before in let a5 = x .before .before .before .before .before in let a4 = a5 .before .before .before .before .before in let a3 = a4 .before .before .before .before .before in let a2 = a3 .before .before .before .before in let a1 = a2 .before .before .before .before .before in let start = a1 .before .before .before .before .before .before in let s = start .args in let pre = start .pre in splice-done messageWords (s .from) (s .to) (s .kept) (s .end) (s .used) (s .new .now) (s .words .now) (pre .0) (pre .1) (pre .2) (pre .3) (pre .4) (pre .5) (pre .6) _ _ _ _ _ _ _ _ _ _ _ refl (a1 .put-words .ensures .0) (a1 .put-words .ensures .1) (a2 .put-words2 .ensures .0) (a2 .put-words2 .ensures .1) (a3 .put-words3 .ensures .0) (a3 .put-words3 .ensures .1) (a4 .put-words4 .ensures .0) (a4 .put-words4 .ensures .1) (a5 .put-words5 .ensures .1) (x .copy-words .ensures)
@@ -45,12 +24,12 @@ pub splice-words-spec : {M : Type 1} → statement M
 splice-words-spec =
     tie.close
     (tie.spec
-    slice-aggregate-room
-    put-words-requires
-    put-words-requires-2
-    put-words-requires-3
-    put-words-requires-4
-    put-words-requires-5
+    (λ c. search needs)
+    (λ c κs. search needs)
+    (λ c κs. search needs)
+    (λ c κs. search needs)
+    (λ c κs. search needs)
+    (λ c κs. search needs)
     copy-words-requires
-    same-length
+    (λ c. search needs)
     returns)

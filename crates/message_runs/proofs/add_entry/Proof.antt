@@ -15,15 +15,6 @@ use Rattle.message_runs.specs.EnterLaws.{fields-now, enter-able, enter-d
 use Rattle.message_runs.proofs.add_entry.Statement.{statement}
 use Rattle.message_runs.proofs.add_entry.Tie as tie
 
-is-draft-requires : tie.Need-is-draft-requires
-is-draft-requires c κs = search needs
-
-same-length : tie.Need-same-length
-same-length c = search needs
-
-same-length-2 : tie.Need-same-length-2
-same-length-2 c = search needs
-
 returns : tie.Need-returns
 returns c = unfold entering in sym (draft-no _ _ _ _ (sym (c .before .is-draft .ensures) ∙ not-true _ (c .if1 .taken)))
 
@@ -46,26 +37,11 @@ row-count-requires c κs = draft-at (c .before) .sized .whole
 fields-in-requires : tie.Need-fields-in-requires
 fields-in-requires c κs = let d = draft-at (c .before .before .before) in (omega arith, omega (arith, c .before .row-count .ensures, d .sized .counted), d .sized .whole)
 
-slice-aggregate-cut-rows : tie.Need-slice-aggregate-cut-rows
-slice-aggregate-cut-rows c = search needs
-
-array-share-prefix-no-bytes : tie.Need-array-share-prefix-no-bytes
-array-share-prefix-no-bytes c = search needs
-
-slice-aggregate-cut-rows-2 : tie.Need-slice-aggregate-cut-rows-2
-slice-aggregate-cut-rows-2 c = search needs
-
 add-cut-rows : tie.Need-add-cut-rows
 add-cut-rows c = let d = draft-at (c .before .before .before .before .before .before .before .before) in omega (arith, fields-at (c .before .before .before .before), d .few)
 
 cut-rows-requires : tie.Need-cut-rows-requires
 cut-rows-requires c κs = enter-able _ _ _ (draft-at (c .before .before .before .before .before .before .before .before)) _ _ _ _ (c .before .before .before .before .before .before .row-count .ensures) (ap (λ (n : ℕ). n + 1) (fields-at (c .before .before .before .before)))
-
-same-length-3 : tie.Need-same-length-3
-same-length-3 c = search needs
-
-same-length-4 : tie.Need-same-length-4
-same-length-4 c = search needs
 
 returns-2 : tie.Need-returns-2
 returns-2 c = c .before .before .before .before .cut-rows .ensures
@@ -76,17 +52,17 @@ pub add-entry-spec : {M : Type 1} → statement M
 add-entry-spec =
     tie.close
     (tie.spec
-    is-draft-requires
-    same-length
-    same-length-2
+    (λ c κs. search needs)
+    (λ c. search needs)
+    (λ c. search needs)
     returns
     row-count-requires
     fields-in-requires
-    slice-aggregate-cut-rows
-    array-share-prefix-no-bytes
-    slice-aggregate-cut-rows-2
+    (λ c. search needs)
+    (λ c. search needs)
+    (λ c. search needs)
     add-cut-rows
     cut-rows-requires
-    same-length-3
-    same-length-4
+    (λ c. search needs)
+    (λ c. search needs)
     returns-2)

@@ -21,32 +21,8 @@ use Rattle.message_runs.specs.PartLaws.{draft-tags, hang-no-run, hang-un
 use Rattle.message_runs.proofs.hang.Statement.{statement}
 use Rattle.message_runs.proofs.hang.Tie as tie
 
-locate-requires : tie.Need-locate-requires
-locate-requires c κs = search needs
-
-enum-known-span : tie.Need-enum-known-span
-enum-known-span c = search needs
-
-enum-told : tie.Need-enum-told
-enum-told c = search needs
-
-same-length : tie.Need-same-length
-same-length c = search needs
-
-same-length-2 : tie.Need-same-length-2
-same-length-2 c = search needs
-
 returns : tie.Need-returns
 returns c = unfold hanging in sym (no-message _ _ _ (located-no _ _ _ (sym (c .before .before .locate .ensures) ∙ c .enum-told .given .1)))
-
-is-draft-requires : tie.Need-is-draft-requires
-is-draft-requires c κs = search needs
-
-same-length-3 : tie.Need-same-length-3
-same-length-3 c = search needs
-
-same-length-4 : tie.Need-same-length-4
-same-length-4 c = search needs
 
 is-at : (c : tie.After-known-told) → (isMessage (c .before .before .before .before .before .before .before .before .before .before .args .words .now) (c .before .before .before .before .before .before .before .before .before .before .args .values .now) ≡ true) × (c .before .span .given .0 .0 ≡ spanOf (c .before .before .before .before .before .before .before .before .before .before .args .part) (messageIn (c .before .before .before .before .before .before .before .before .before .before .args .words .now) (c .before .before .before .before .before .before .before .before .before .before .args .values .now)))
 is-at c = located-at _ _ _ _ (sym (c .before .before .before .locate .ensures) ∙ c .before .span .given .1)
@@ -62,12 +38,6 @@ row-count-requires c κs = draft-of _ _ (run-at c) .sized .whole
 
 has-untagged-requires : tie.Need-has-untagged-requires
 has-untagged-requires c κs = let d = draft-of _ _ (run-at (c .before)) in (omega (arith, c .row-count .ensures, d .sized .counted), d .sized .whole)
-
-same-length-5 : tie.Need-same-length-5
-same-length-5 c = search needs
-
-same-length-6 : tie.Need-same-length-6
-same-length-6 c = search needs
 
 tags-at : (c : tie.After-has-untagged) → c .has-untagged .result ≡ hasUntagged (runIn (c .before .before .before .before .before .before .before .before .before .before .before .before .before .before .args .run-words .now) (c .before .before .before .before .before .before .before .before .before .before .before .before .before .before .args .run-values .now))
 tags-at c = c .has-untagged .ensures ∙ draft-tags _ _ _ (run-at (c .before .before)) (c .before .row-count .ensures)
@@ -88,12 +58,6 @@ fields-at c =
 hang-in-requires : tie.Need-hang-in-requires
 hang-in-requires c κs = let k = c .before .before .before .before .before .before .before .before .before in rw (is-at k .1, fields-at (c .before .before)) (part-able _ _ _ _ _ (is-at k .0) (run-at (c .before .before .before .before .before .before .before)))
 
-same-length-7 : tie.Need-same-length-7
-same-length-7 c = search needs
-
-same-length-8 : tie.Need-same-length-8
-same-length-8 c = search needs
-
 returns-4 : tie.Need-returns-4
 returns-4 c = let k = c .before .before .before .before .before .before .before .before .before .before .before .before .before .before in
     rw (is-at k .1, fields-at (c .before .before .before .before .before .before .before)) at (c .before .before .before .before .hang-in .ensures)
@@ -104,23 +68,23 @@ pub hang-spec : {M : Type 1} → statement M
 hang-spec =
     tie.close
     (tie.spec
-    locate-requires
-    enum-known-span
-    enum-told
-    same-length
-    same-length-2
+    (λ c κs. search needs)
+    (λ c. search needs)
+    (λ c. search needs)
+    (λ c. search needs)
+    (λ c. search needs)
     returns
-    is-draft-requires
-    same-length-3
-    same-length-4
+    (λ c κs. search needs)
+    (λ c. search needs)
+    (λ c. search needs)
     returns-2
     row-count-requires
     has-untagged-requires
-    same-length-5
-    same-length-6
+    (λ c. search needs)
+    (λ c. search needs)
     returns-3
     fields-in-requires
     hang-in-requires
-    same-length-7
-    same-length-8
+    (λ c. search needs)
+    (λ c. search needs)
     returns-4)

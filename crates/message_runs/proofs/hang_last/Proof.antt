@@ -18,26 +18,8 @@ use Rattle.message_runs.specs.LastHangLaws.{last-no-run, last-untagged, 
 use Rattle.message_runs.proofs.hang_last.Statement.{statement}
 use Rattle.message_runs.proofs.hang_last.Tie as tie
 
-is-draft-requires : tie.Need-is-draft-requires
-is-draft-requires c κs = search needs
-
-same-length : tie.Need-same-length
-same-length c = search needs
-
-same-length-2 : tie.Need-same-length-2
-same-length-2 c = search needs
-
 returns : tie.Need-returns
 returns c = unfold hangingLast in sym (draft-no _ _ _ _ (sym (c .before .is-draft .ensures) ∙ not-true _ (c .if1 .taken)))
-
-is-draft-requires-2 : tie.Need-is-draft-requires-2
-is-draft-requires-2 c κs = search needs
-
-same-length-3 : tie.Need-same-length-3
-same-length-3 c = search needs
-
-same-length-4 : tie.Need-same-length-4
-same-length-4 c = search needs
 
 is-at : (c : tie.Else1) → isDraft (c .before .before .before .before .before .before .before .before .args .words .now) (c .before .before .before .before .before .before .before .before .args .values .now) ≡ true
 is-at c = sym (c .before .is-draft .ensures) ∙ not-false _ (c .if1 .left)
@@ -54,12 +36,6 @@ row-count-requires c κs = draft-of _ _ (run-at c) .sized .whole
 has-untagged-requires : tie.Need-has-untagged-requires
 has-untagged-requires c κs = let d = draft-of _ _ (run-at (c .before)) in (omega (arith, c .row-count .ensures, d .sized .counted), d .sized .whole)
 
-same-length-5 : tie.Need-same-length-5
-same-length-5 c = search needs
-
-same-length-6 : tie.Need-same-length-6
-same-length-6 c = search needs
-
 tags-at : (c : tie.After-has-untagged) → c .has-untagged .result ≡ hasUntagged (runIn (c .before .before .before .before .before .before .before .before .before .before .before .before .args .run-words .now) (c .before .before .before .before .before .before .before .before .before .before .before .before .args .run-values .now))
 tags-at c = c .has-untagged .ensures ∙ draft-tags _ _ _ (run-at (c .before .before)) (c .before .row-count .ensures)
 
@@ -74,12 +50,6 @@ row-count-requires-2 c κs = draft-of _ _ (is-at (c .before .before .before .bef
 
 last-start-requires : tie.Need-last-start-requires
 last-start-requires c κs = let d = draft-of _ _ (is-at (c .before .before .before .before .before .before .before .before)) in (omega (arith, c .before .row-count2 .ensures, d .sized .counted), d .sized .whole)
-
-same-length-7 : tie.Need-same-length-7
-same-length-7 c = search needs
-
-same-length-8 : tie.Need-same-length-8
-same-length-8 c = search needs
 
 told-at : (c : tie.After-last-start) → LastAt (runIn (c .before .before .before .before .before .before .before .before .before .before .before .before .before .before .before .before .before .args .words .now) (c .before .before .before .before .before .before .before .before .before .before .before .before .before .before .before .before .before .args .values .now)) (c .last-start .result)
 told-at c = last-at _ _ _ (draft-of _ _ (is-at (c .before .before .before .before .before .before .before .before .before))) _ _ (c .before .before .row-count2 .ensures) (c .last-start .ensures)
@@ -99,12 +69,6 @@ fields-at c = c .fields-in .ensures ∙ fields-now _ _ _ (draft-of _ _ (is-at (c
 hang-in-requires : tie.Need-hang-in-requires
 hang-in-requires c κs = let e = entry-at (c .before .before .before .before) in rw (fields-at (c .before .before)) (last-able _ _ _ _ (is-at (c .before .before .before .before .before .before .before .before .before .before .before .before .before .before)) (run-at (c .before .before .before .before .before .before .before .before .before .before .before .before)) (e .split) _ _ (c .before .before .before .before .before .before .before .row-count2 .ensures) (e .starts))
 
-same-length-9 : tie.Need-same-length-9
-same-length-9 c = search needs
-
-same-length-10 : tie.Need-same-length-10
-same-length-10 c = search needs
-
 returns-5 : tie.Need-returns-5
 returns-5 c = let e = entry-at (c .before .before .before .before .before .before .before .before .before) in
     rw (fields-at (c .before .before .before .before .before .before .before)) at (c .before .before .before .before .hang-in .ensures)
@@ -115,26 +79,26 @@ pub hang-last-spec : {M : Type 1} → statement M
 hang-last-spec =
     tie.close
     (tie.spec
-    is-draft-requires
-    same-length
-    same-length-2
+    (λ c κs. search needs)
+    (λ c. search needs)
+    (λ c. search needs)
     returns
-    is-draft-requires-2
-    same-length-3
-    same-length-4
+    (λ c κs. search needs)
+    (λ c. search needs)
+    (λ c. search needs)
     returns-2
     row-count-requires
     has-untagged-requires
-    same-length-5
-    same-length-6
+    (λ c. search needs)
+    (λ c. search needs)
     returns-3
     row-count-requires-2
     last-start-requires
-    same-length-7
-    same-length-8
+    (λ c. search needs)
+    (λ c. search needs)
     returns-4
     fields-in-requires
     hang-in-requires
-    same-length-9
-    same-length-10
+    (λ c. search needs)
+    (λ c. search needs)
     returns-5)

@@ -28,12 +28,6 @@ level-of-requires c κs = let pre = c .before .before .before .pre in (omega (ar
 add-start : tie.Need-add-start Inv-loop μ-loop
 add-start c = omega (arith, c .before .before .loop-test .taken)
 
-add-i : tie.Need-add-i Inv-loop μ-loop
-add-i c = omega arith
-
-loop-less : tie.Need-loop-less Inv-loop μ-loop
-loop-less c = omega arith
-
 loop-again : tie.Need-loop-again Inv-loop μ-loop
 loop-again c = let l = c .before .before .before in
     let h = c .before .before .loop-test .taken in
@@ -52,7 +46,7 @@ last-start-spec =
     loop-holds
     level-of-requires
     add-start
-    add-i
-    loop-less
+    (λ c. omega arith)
+    (λ c. omega arith)
     loop-again
     returns)

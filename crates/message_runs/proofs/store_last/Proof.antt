@@ -19,23 +19,8 @@ use Rattle.message_rules.specs.FrameLaws as frame
 use Rattle.message_runs.proofs.store_last.Statement.{statement}
 use Rattle.message_runs.proofs.store_last.Tie as tie
 
-is-draft-requires : tie.Need-is-draft-requires
-is-draft-requires c κs = search needs
-
-same-length : tie.Need-same-length
-same-length c = search needs
-
-same-length-2 : tie.Need-same-length-2
-same-length-2 c = search needs
-
 returns : tie.Need-returns
 returns c = unfold storingLast in sym (draft-no _ _ _ _ (sym (c .before .is-draft .ensures) ∙ not-true _ (c .if1 .taken)))
-
-same-length-3 : tie.Need-same-length-3
-same-length-3 c = search needs
-
-same-length-4 : tie.Need-same-length-4
-same-length-4 c = search needs
 
 is-at : (c : tie.Else1) → isDraft (c .before .before .before .before .before .before .before .args .words .now) (c .before .before .before .before .before .before .before .args .values .now) ≡ true
 is-at c = sym (c .before .is-draft .ensures) ∙ not-false _ (c .if1 .left)
@@ -52,12 +37,6 @@ row-count-requires c κs = draft-at (c .before .before) .sized .whole
 last-start-requires : tie.Need-last-start-requires
 last-start-requires c κs = let d = draft-at (c .before .before .before .before) in (omega (arith, c .before .row-count .ensures, d .sized .counted), d .sized .whole)
 
-same-length-5 : tie.Need-same-length-5
-same-length-5 c = search needs
-
-same-length-6 : tie.Need-same-length-6
-same-length-6 c = search needs
-
 told-at : (c : tie.After-last-start) → LastAt (runIn (c .before .before .before .before .before .before .before .before .before .before .before .before .args .words .now) (c .before .before .before .before .before .before .before .before .before .before .before .before .args .values .now)) (c .last-start .result)
 told-at c = last-at _ _ _ (draft-at (c .before .before .before .before .before)) _ _ (c .before .before .row-count .ensures) (c .last-start .ensures)
 
@@ -73,17 +52,8 @@ grows-at c =
 returns-3 : tie.Need-returns-3
 returns-3 c = sym (store-nowhere _ _ _ _ (is-at (c .before .before .before .before .before .before)) (c .before .before .before .before .before .if2 .left) (none-entry _ _ (told-at (c .before)) (c .if3 .taken)))
 
-same-length-7 : tie.Need-same-length-7
-same-length-7 c = search needs
-
-same-length-8 : tie.Need-same-length-8
-same-length-8 c = search needs
-
 returns-4 : tie.Need-returns-4
 returns-4 c = let k = c .before in let e = entry-at k in sym (store-last _ _ _ _ (is-at (c .before .before .before .before .before .before .before)) (c .before .before .before .before .before .before .if2 .left) (e .split .some) ∙ last-large _ _ _ (draft-at (c .before .before .before .before .before .before .before)) (e .split) _ _ (c .before .before .before .before .row-count .ensures) (e .starts) _ _ (c .if4 .taken))
-
-sub-fields-in : tie.Need-sub-fields-in
-sub-fields-in c = search needs
 
 fields-in-requires : tie.Need-fields-in-requires
 fields-in-requires c κs = let d = draft-at (c .before .before .before .before .before .before .before .before) in let g = grows-at (c .before .before) in (omega arith, omega (arith, g .0, g .1), d .sized .whole)
@@ -106,12 +76,6 @@ add-put-field c = omega (arith, base-at (c .before .before))
 put-field-requires : tie.Need-put-field-requires
 put-field-requires c κs = let e = entry-at (c .before .before .before .before .before .before .before) in let b = base-at (c .before .before) in last-ready _ _ _ (draft-at (c .before .before .before .before .before .before .before .before .before .before .before .before .before)) (e .split) _ _ (c .before .before .before .before .before .before .before .before .before .before .row-count .ensures) (e .starts) _ _ _ (b .0) (c .before .before .before .before .before .before .if4 .left) (omega (arith, b .1))
 
-same-length-9 : tie.Need-same-length-9
-same-length-9 c = search needs
-
-same-length-10 : tie.Need-same-length-10
-same-length-10 c = search needs
-
 returns-5 : tie.Need-returns-5
 returns-5 c = let e = entry-at (c .before .before .before .before .before .before .before .before .before .before .before .before) in let b = base-at (c .before .before .before .before .before .before .before) in c .before .before .before .before .put-field .ensures ∙ last-judged _ _ _ (draft-at (c .before .before .before .before .before .before .before .before .before .before .before .before .before .before .before .before .before .before)) (e .split) _ _ (c .before .before .before .before .before .before .before .before .before .before .before .before .before .before .before .row-count .ensures) (e .starts) _ _ _ (b .0) ∙ sym (store-last _ _ _ _ (is-at (c .before .before .before .before .before .before .before .before .before .before .before .before .before .before .before .before .before .before)) (c .before .before .before .before .before .before .before .before .before .before .before .before .before .before .before .before .before .if2 .left) (e .split .some))
 
@@ -119,26 +83,26 @@ pub store-last-spec : {M : Type 1} → statement M
 store-last-spec =
     tie.close
     (tie.spec
-    is-draft-requires
-    same-length
-    same-length-2
+    (λ c κs. search needs)
+    (λ c. search needs)
+    (λ c. search needs)
     returns
-    same-length-3
-    same-length-4
+    (λ c. search needs)
+    (λ c. search needs)
     returns-2
     row-count-requires
     last-start-requires
-    same-length-5
-    same-length-6
+    (λ c. search needs)
+    (λ c. search needs)
     returns-3
-    same-length-7
-    same-length-8
+    (λ c. search needs)
+    (λ c. search needs)
     returns-4
-    sub-fields-in
+    (λ c. search needs)
     fields-in-requires
     fields-in-requires-2
     add-put-field
     put-field-requires
-    same-length-9
-    same-length-10
+    (λ c. search needs)
+    (λ c. search needs)
     returns-5)

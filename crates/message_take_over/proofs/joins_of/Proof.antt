@@ -12,35 +12,14 @@ returns c = sym (joins-own _ _ (c .before .before .if1 .taken) (c .if2 .taken))
 returns-2 : tie.Need-returns-2
 returns-2 c = sym (joins-numbered _ _ (c .before .before .if1 .taken) (c .if2 .left))
 
-nearest-before-requires : tie.Need-nearest-before-requires
-nearest-before-requires c κs = search needs
-
-enum-known-before : tie.Need-enum-known-before
-enum-known-before c = search needs
-
-enum-told : tie.Need-enum-told
-enum-told c = search needs
-
 returns-3 : tie.Need-returns-3
 returns-3 c = sym (joins-first _ _ (c .before .before .before .if1 .left) (sym (c .before .before .nearest-before .ensures) ∙ c .enum-told .given .1))
 
 returns-4 : tie.Need-returns-4
 returns-4 c = let k = c .before .before .before in sym (joins-other _ _ (k .before .before .before .before .if1 .left) _ (sym (k .before .before .before .nearest-before .ensures) ∙ k .before .before2 .given .1) (c .if3 .taken))
 
-joins-run-requires : tie.Need-joins-run-requires
-joins-run-requires c κs = search needs
-
 returns-5 : tie.Need-returns-5
 returns-5 c = let k = c .before .before .before .before .before .before .before in c .joins-run .ensures ∙ sym (joins-run _ _ (k .before .before .before .before .if1 .left) _ (sym (k .before .before .before .nearest-before .ensures) ∙ k .before .before2 .given .1) (c .before .before .before .before .if3 .left) (c .before .if4 .taken))
-
-wide-requires : tie.Need-wide-requires
-wide-requires c κs = search needs
-
-wide-requires-2 : tie.Need-wide-requires-2
-wide-requires-2 c κs = search needs
-
-add-if5 : tie.Need-add-if5
-add-if5 c = search needs
 
 returns-6 : tie.Need-returns-6
 returns-6 c = let k = c .before .before .before .before .before .before .before .before .before in sym (joins-skips _ _ (k .before .before .before .before .if1 .left) _ (sym (k .before .before .before .nearest-before .ensures) ∙ k .before .before2 .given .1) (c .before .before .before .before .before .before .if3 .left) (c .before .before .before .if4 .left) (λ e. c .if5 .taken (omega (arith, e, c .before .before .wide .ensures, c .before .wide2 .ensures))))
@@ -57,16 +36,16 @@ joins-of-spec =
     (tie.spec
     returns
     returns-2
-    nearest-before-requires
-    enum-known-before
-    enum-told
+    (λ c κs. search needs)
+    (λ c. search needs)
+    (λ c. search needs)
     returns-3
     returns-4
-    joins-run-requires
+    (λ c κs. search needs)
     returns-5
-    wide-requires
-    wide-requires-2
-    add-if5
+    (λ c κs. search needs)
+    (λ c κs. search needs)
+    (λ c. search needs)
     returns-6
     returns-7
     returns-8)

@@ -10,29 +10,8 @@ use Rattle.message_take_over.proofs.joins_run.Tie as tie
 returns : tie.Need-returns
 returns c = sym (run-same _ _ _ (c .if1 .taken))
 
-wide-requires : tie.Need-wide-requires
-wide-requires c κs = search needs
-
-wide-requires-2 : tie.Need-wide-requires-2
-wide-requires-2 c κs = search needs
-
-add-if2 : tie.Need-add-if2
-add-if2 c = search needs
-
 returns-2 : tie.Need-returns-2
 returns-2 c = sym (run-skips _ _ _ (c .before .before .before .if1 .left) (λ e. c .if2 .taken (omega (arith, e, c .before .before .wide .ensures, c .before .wide2 .ensures))))
-
-sub-nearest-before : tie.Need-sub-nearest-before
-sub-nearest-before c = search needs
-
-nearest-before-requires : tie.Need-nearest-before-requires
-nearest-before-requires c κs = search needs
-
-enum-known-count : tie.Need-enum-known-count
-enum-known-count c = search needs
-
-enum-told : tie.Need-enum-told
-enum-told c = search needs
 
 returns-3 : tie.Need-returns-3
 returns-3 c = sym (run-next _ _ _ (c .before .before .before .before .before .before .before .if1 .left) (omega (arith, c .before .before .before .before .before .before .wide .ensures, c .before .before .before .before .before .wide2 .ensures, c .before .before .before .before .if2 .left)) _ (sym (c .before .before .nearest-before .ensures) ∙ c .enum-told .given .1) ∙ (unfold onCount in refl))
@@ -45,13 +24,13 @@ joins-run-spec =
     tie.close
     (tie.spec
     returns
-    wide-requires
-    wide-requires-2
-    add-if2
+    (λ c κs. search needs)
+    (λ c κs. search needs)
+    (λ c. search needs)
     returns-2
-    sub-nearest-before
-    nearest-before-requires
-    enum-known-count
-    enum-told
+    (λ c. search needs)
+    (λ c κs. search needs)
+    (λ c. search needs)
+    (λ c. search needs)
     returns-3
     returns-4)

@@ -8,9 +8,6 @@ use Rattle.message_take_over.specs.StepLaws.{room-both, joined-reach, ne
 use Rattle.message_take_over.proofs.lay_record.Statement.{statement}
 use Rattle.message_take_over.proofs.lay_record.Tie as tie
 
-record-at-requires : tie.Need-record-at-requires
-record-at-requires c κs = search needs
-
 returns : tie.Need-returns
 returns c = step-refused _ _ _ _ _ _ _ (c .before .before .before .record-at .ensures) (next-back _ _ _ _ _ (c .if1 .taken))
 
@@ -23,26 +20,11 @@ has-room-requires c κs = c .before .before .before .before .before .before .bef
 returns-3 : tie.Need-returns-3
 returns-3 c = step-refused _ _ _ _ _ _ _ (c .before .before .before .before .before .before .before .record-at .ensures) (next-crowded _ _ _ _ _ (c .before .before .before .before .if1 .left) (c .before .before .if2 .left) (sym (c .before .has-room .ensures) ∙ not-true _ (c .if3 .taken)))
 
-joins-of-requires : tie.Need-joins-of-requires
-joins-of-requires c κs = search needs
-
-is-joined-requires : tie.Need-is-joined-requires
-is-joined-requires c κs = search needs
-
 returns-4 : tie.Need-returns-4
 returns-4 c = let j = c .before .before in step-refused _ _ _ _ _ _ _ (c .before .before .before .before .before .before .before .before .before .before .record-at .ensures) (next-joined _ _ _ _ _ (c .before .before .before .before .before .before .before .if1 .left) (c .before .before .before .before .before .if2 .left) (sym (c .before .before .before .before .has-room .ensures) ∙ not-false _ (c .before .before .before .if3 .left)) ∙ ap isJoined (sym (j .joins-of .ensures)) ∙ sym (c .before .is-joined .ensures) ∙ not-true _ (c .if4 .taken))
 
 lay-rows-requires : tie.Need-lay-rows-requires
 lay-rows-requires c κs = let start = c .before .before .before .before .before .before .before .before .before .before .before .before .before .before .before .before in let reached = joined-reach _ _ (ap isJoined (sym (c .before .before .before .joins-of .ensures)) ∙ sym (c .before .before .is-joined .ensures) ∙ not-false _ (c .before .if4 .left)) in (omega arith, omega arith, omega (arith, start .pre .few), omega (arith, reached, start .pre .shallow), start .pre .whole)
-
-wide-requires : tie.Need-wide-requires
-wide-requires c κs = search needs
-
-wide-requires-2 : tie.Need-wide-requires-2
-wide-requires-2 c κs = search needs
-
-add-put-bytes : tie.Need-add-put-bytes
-add-put-bytes c = omega arith
 
 put-bytes-requires : tie.Need-put-bytes-requires
 put-bytes-requires c κs = let start = c .before .before .before .before .before .before .before .before .before .before .before .before .before .before .before .before .before .before .before .before .before .before in let room = room-both _ _ _ (sym (c .before .before .before .before .before .before .before .before .before .before .before .has-room .ensures) ∙ not-false _ (c .before .before .before .before .before .before .before .before .before .before .if3 .left)) in (omega arith, omega (arith, room .0, c .wide2 .ensures, c .before .before .wide .ensures), omega (arith, room .1, c .wide2 .ensures, start .pre .store))
@@ -60,18 +42,18 @@ pub lay-record-spec : {M : Type 1} → statement M
 lay-record-spec =
     tie.close
     (tie.spec
-    record-at-requires
+    (λ c κs. search needs)
     returns
     returns-2
     has-room-requires
     returns-3
-    joins-of-requires
-    is-joined-requires
+    (λ c κs. search needs)
+    (λ c κs. search needs)
     returns-4
     lay-rows-requires
-    wide-requires
-    wide-requires-2
-    add-put-bytes
+    (λ c κs. search needs)
+    (λ c κs. search needs)
+    (λ c. omega arith)
     put-bytes-requires
     same-length
     same-length-2

@@ -27,12 +27,6 @@ loop-holds c = let p = c .before .before in let start = p .before .before .befor
 lay-record-requires : tie.Need-lay-record-requires Inv-loop μ-loop
 lay-record-requires c κs = let l = c .before .before .before in let start = l .before .before .before .before .before .before .before .before .before in going-ready _ _ _ (l .loop .inv) (c .before .before .loop-test .taken) (start .pre .1)
 
-enum-known-next : tie.Need-enum-known-next Inv-loop μ-loop
-enum-known-next c = search needs
-
-enum-told : tie.Need-enum-told Inv-loop μ-loop
-enum-told c = search needs
-
 same-length : tie.Need-same-length Inv-loop μ-loop
 same-length c = let l = c .before .before .before .before .before .before .before .before .before .before in let start = l .before .before .before .before .before .before .before .before .before in c .before .before .before .before .before .before .lay-record .kept .1 .1 .1 .0 ∙ going-whole _ _ _ (l .loop .inv) (start .pre .1) .0 ∙ sym (ap length (start .pre .2) ∙ length-replicate {A = ℕ} messageWords 0)
 
@@ -41,12 +35,6 @@ same-length-2 c = let l = c .before .before .before .before .before .before .bef
 
 returns : tie.Need-returns Inv-loop μ-loop
 returns c = let l = c .before .before .before .before .before .before .before .before .before .before in let start = l .before .before .before .before .before .before .before .before .before in unfold layoutTold in going-refused _ _ _ (l .loop .inv) (c .before .before .before .before .before .before .before .before .before .loop-test .taken) (omega (arith, start .pre .0, records-length (start .args .records .now))) (sym (c .before .before .before .before .before .before .lay-record .ensures .0) ∙ c .enum-told .given .1)
-
-add-i : tie.Need-add-i Inv-loop μ-loop
-add-i c = omega arith
-
-loop-less : tie.Need-loop-less Inv-loop μ-loop
-loop-less c = omega arith
 
 loop-again : tie.Need-loop-again Inv-loop μ-loop
 loop-again c = let l = c .before .before .before .before .before .before .before .before .before .before .before in let start = l .before .before .before .before .before .before .before .before .before in going-on _ _ _ (l .loop .inv) (c .before .before .before .before .before .before .before .before .before .before .loop-test .taken) (omega (arith, start .pre .0, records-length (start .args .records .now))) _ _ _ (sym (c .before .before .before .before .before .before .before .lay-record .ensures .0) ∙ c .before .next .given .1) (rw (c .before .next .given .1) at (c .before .before .before .before .before .before .before .lay-record .ensures .1))
@@ -78,13 +66,13 @@ lay-records-spec =
     put-row-requires
     loop-holds
     lay-record-requires
-    enum-known-next
-    enum-told
+    (λ c. search needs)
+    (λ c. search needs)
     same-length
     same-length-2
     returns
-    add-i
-    loop-less
+    (λ c. omega arith)
+    (λ c. omega arith)
     loop-again
     open-parts-requires
     cast-words

@@ -9,12 +9,6 @@ use Rattle.message_take_over.proofs.lay_rows.Tie as tie
 open-parts-requires : tie.Need-open-parts-requires
 open-parts-requires c κs = (omega arith, omega arith, omega arith, omega arith)
 
-add-level : tie.Need-add-level
-add-level c = omega arith
-
-enum-told : tie.Need-enum-told
-enum-told c = search needs
-
 put-row-requires : tie.Need-put-row-requires
 put-row-requires c κs = let o = c .before .before .before .before .before .before in (omega (arith, o .open-parts .ensures .1), omega (arith, o .open-parts .ensures .0 .whole))
 
@@ -23,9 +17,6 @@ same-length c = let p = c .before .before in p .put-row .ensures .whole ∙ p .b
 
 returns : tie.Need-returns
 returns c = let p = c .before .before in lays-open _ _ _ (p .before .before .enum-told .given .1) (p .before .before .before .before .before .before .before .open-parts .ensures .0) (p .put-row .ensures)
-
-enum-known-joined : tie.Need-enum-known-joined
-enum-known-joined c = search needs
 
 put-row-requires-2 : tie.Need-put-row-requires-2
 put-row-requires-2 c κs = let o = c .before .before .before .before .before .before .before in (omega (arith, o .open-parts .ensures .1), omega (arith, o .open-parts .ensures .0 .whole))
@@ -39,9 +30,6 @@ same-length-2 c = let q = c .before .before in let p = q .before .before .before
 returns-2 : tie.Need-returns-2
 returns-2 c = let q = c .before .before in let p = q .before .before .before .before in lays-entry _ _ _ _ (p .before .before .before .joined .given .1) (p .before .before .before .before .before .before .before .before .open-parts .ensures .0) (p .put-row2 .ensures) (q .put-row3 .ensures)
 
-enum-told-2 : tie.Need-enum-told-2
-enum-told-2 c = search needs
-
 same-length-3 : tie.Need-same-length-3
 same-length-3 c = c .before .before .before .before .before .open-parts .ensures .0 .whole
 
@@ -53,16 +41,16 @@ lay-rows-spec =
     tie.close
     (tie.spec
     open-parts-requires
-    add-level
-    enum-told
+    (λ c. omega arith)
+    (λ c. search needs)
     put-row-requires
     same-length
     returns
-    enum-known-joined
+    (λ c. search needs)
     put-row-requires-2
     put-row-requires-3
     same-length-2
     returns-2
-    enum-told-2
+    (λ c. search needs)
     same-length-3
     returns-3)

@@ -20,23 +20,11 @@ abbrev μ-loop : tie.MeasureT-loop
 loop-holds : tie.Need-loop-holds Inv-loop μ-loop
 loop-holds c = (omega arith, refl)
 
-sub-record-at : tie.Need-sub-record-at Inv-loop μ-loop
-sub-record-at c = omega arith
-
-record-at-requires : tie.Need-record-at-requires Inv-loop μ-loop
-record-at-requires c κs = search needs
-
 returns : tie.Need-returns Inv-loop μ-loop
 returns c = let r = c .before .before in
     let l = r .before .before in
     let e = r .record-at .ensures in
     ap Is e ∙ sym (l .loop .inv .1 ∙ nearest-here _ _ _ (r .before .loop-test .taken) (omega (arith, ap (λ (q : Record). q .depth) e)))
-
-sub-i : tie.Need-sub-i Inv-loop μ-loop
-sub-i c = omega arith
-
-loop-less : tie.Need-loop-less Inv-loop μ-loop
-loop-less c = omega arith
 
 loop-again : tie.Need-loop-again Inv-loop μ-loop
 loop-again c = let r = c .before .before in
@@ -54,10 +42,10 @@ nearest-before-spec =
     Inv-loop
     μ-loop
     loop-holds
-    sub-record-at
-    record-at-requires
+    (λ c. omega arith)
+    (λ c κs. search needs)
     returns
-    sub-i
-    loop-less
+    (λ c. omega arith)
+    (λ c. omega arith)
     loop-again
     returns-2)

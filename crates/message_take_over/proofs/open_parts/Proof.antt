@@ -17,14 +17,8 @@ abbrev μ-loop : tie.MeasureT-loop
 loop-holds : tie.Need-loop-holds Inv-loop μ-loop
 loop-holds c = (omega arith, omega arith, rw (heads-none _) (adds-none _ _))
 
-add-open : tie.Need-add-open Inv-loop μ-loop
-add-open c = omega arith
-
 put-row-requires : tie.Need-put-row-requires Inv-loop μ-loop
 put-row-requires c κs = let l = c .before .before in let a = l .loop .inv .2 in (omega (arith, a .counts, heads-length (l .loop .«open» - l .before .before .args .part) (l .before .before .args .part)), omega (arith, a .whole))
-
-loop-less : tie.Need-loop-less Inv-loop μ-loop
-loop-less c = omega arith
 
 loop-again : tie.Need-loop-again Inv-loop μ-loop
 loop-again c = let p = c .before .before in
@@ -47,9 +41,9 @@ open-parts-spec =
     Inv-loop
     μ-loop
     loop-holds
-    add-open
+    (λ c. omega arith)
     put-row-requires
-    loop-less
+    (λ c. omega arith)
     loop-again
     same-length
     returns)

@@ -18,35 +18,11 @@ returns-3 c = sym (take-past _ _ _ _ _ (c .if3 .taken))
 returns-4 : tie.Need-returns-4
 returns-4 c = sym (take-many _ _ _ _ _ (c .if4 .taken))
 
-slice-aggregate-new-words : tie.Need-slice-aggregate-new-words
-slice-aggregate-new-words c = search needs
-
-slice-aggregate-new-values : tie.Need-slice-aggregate-new-values
-slice-aggregate-new-values c = search needs
-
-lay-records-requires : tie.Need-lay-records-requires
-lay-records-requires c κs = search needs
-
 returns-5 : tie.Need-returns-5
 returns-5 c = sym (take-refused _ _ _ _ _ (c .before .before .before .before .before .before .before .before .before .before .before .before .before .before .before .if1 .left) (c .before .before .before .before .before .before .before .before .before .before .before .before .before .before .if2 .left) (c .before .before .before .before .before .before .before .before .before .before .before .before .before .if3 .left) (c .before .before .before .before .before .before .before .before .before .before .before .before .if4 .left) _ _ _ (c .before .before .before .before .before .before .before .lay-records .ensures) (not-true _ (c .before .before .if5 .taken)))
 
-is-message-requires : tie.Need-is-message-requires
-is-message-requires c κs = search needs
-
 returns-6 : tie.Need-returns-6
 returns-6 c = sym (take-no-message _ _ _ _ _ (c .before .before .before .before .before .before .before .before .before .before .before .before .before .before .before .before .before .before .before .if1 .left) (c .before .before .before .before .before .before .before .before .before .before .before .before .before .before .before .before .before .before .if2 .left) (c .before .before .before .before .before .before .before .before .before .before .before .before .before .before .before .before .before .if3 .left) (c .before .before .before .before .before .before .before .before .before .before .before .before .before .before .before .before .if4 .left) _ _ _ (c .before .before .before .before .before .before .before .before .before .before .before .lay-records .ensures) (not-false _ (c .before .before .before .before .before .before .if5 .left)) (sym (c .before .before .before .is-message .ensures) ∙ not-true _ (c .before .before .if6 .taken)))
-
-put-words-requires : tie.Need-put-words-requires
-put-words-requires c κs = search needs
-
-put-bytes-requires : tie.Need-put-bytes-requires
-put-bytes-requires c κs = search needs
-
-same-length : tie.Need-same-length
-same-length c = search needs
-
-same-length-2 : tie.Need-same-length-2
-same-length-2 c = search needs
 
 returns-7 : tie.Need-returns-7
 returns-7 c = sym (take-made _ _ _ _ _ (c .before .before .before .before .before .before .before .before .before .before .before .before .before .before .before .before .before .before .before .before .before .before .before .before .before .before .before .before .before .if1 .left) (c .before .before .before .before .before .before .before .before .before .before .before .before .before .before .before .before .before .before .before .before .before .before .before .before .before .before .before .before .if2 .left) (c .before .before .before .before .before .before .before .before .before .before .before .before .before .before .before .before .before .before .before .before .before .before .before .before .before .before .before .if3 .left) (c .before .before .before .before .before .before .before .before .before .before .before .before .before .before .before .before .before .before .before .before .before .before .before .before .before .before .if4 .left) _ _ _ (c .before .before .before .before .before .before .before .before .before .before .before .before .before .before .before .before .before .before .before .before .before .lay-records .ensures) (not-false _ (c .before .before .before .before .before .before .before .before .before .before .before .before .before .before .before .before .if5 .left)) (sym (c .before .before .before .before .before .before .before .before .before .before .before .before .before .is-message .ensures) ∙ not-false _ (c .before .before .before .before .before .before .before .before .before .before .before .before .if6 .left)) _ _ (c .before .before .before .before .before .before .before .before .before .put-words .ensures .1) (c .before .before .before .put-bytes .ensures .1))
@@ -59,14 +35,14 @@ take-over-spec =
     returns-2
     returns-3
     returns-4
-    slice-aggregate-new-words
-    slice-aggregate-new-values
-    lay-records-requires
+    (λ c. search needs)
+    (λ c. search needs)
+    (λ c κs. search needs)
     returns-5
-    is-message-requires
+    (λ c κs. search needs)
     returns-6
-    put-words-requires
-    put-bytes-requires
-    same-length
-    same-length-2
+    (λ c κs. search needs)
+    (λ c κs. search needs)
+    (λ c. search needs)
+    (λ c. search needs)
     returns-7)

@@ -13,32 +13,11 @@ Inv-loop input₀ i₀ input i = (i ≤ length input) × (length input ≡ lengt
 abbrev μ-loop : tie.MeasureT-loop
 μ-loop input₀ i₀ input i = length input - i
 
-loop-holds : tie.Need-loop-holds Inv-loop μ-loop
-loop-holds c = search needs
-
-slice-read-separated : tie.Need-slice-read-separated Inv-loop μ-loop
-slice-read-separated c = search needs
-
-separated-requires : tie.Need-separated-requires Inv-loop μ-loop
-separated-requires c κs = search needs
-
-slice-write-input : tie.Need-slice-write-input Inv-loop μ-loop
-slice-write-input c = search needs
-
-add-i : tie.Need-add-i Inv-loop μ-loop
-add-i c = search needs
-
 loop-less : tie.Need-loop-less Inv-loop μ-loop
 loop-less c = simp length-set (omega arith)
 
 loop-again : tie.Need-loop-again Inv-loop μ-loop
 loop-again c = (simp length-set (omega arith), simp length-set (c .before .before .before .loop .inv .1))
-
-same-length : tie.Need-same-length Inv-loop μ-loop
-same-length c = search needs
-
-returns : tie.Need-returns Inv-loop μ-loop
-returns c = search needs
 
 pub bars-to-separators-spec : {M : Type 1} → statement M
 bars-to-separators-spec =
@@ -46,12 +25,12 @@ bars-to-separators-spec =
     (tie.spec
     Inv-loop
     μ-loop
-    loop-holds
-    slice-read-separated
-    separated-requires
-    slice-write-input
-    add-i
+    (λ c. search needs)
+    (λ c. search needs)
+    (λ c κs. search needs)
+    (λ c. search needs)
+    (λ c. search needs)
     loop-less
     loop-again
-    same-length
-    returns)
+    (λ c. search needs)
+    (λ c. search needs))

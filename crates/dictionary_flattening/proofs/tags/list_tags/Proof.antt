@@ -52,16 +52,10 @@ read-rises : (c : tie.After-known-told Inv-loop μ-loop) → let h = c .before .
     (h .loop .at < c .before .«record» .given .0 .1 .0) × (c .before .«record» .given .0 .1 .0 ≤ length (a .dictionary .now))
 read-rises c = record-falls _ _ _ _ (read-here c)
 
-enum-known-record-2 : tie.Need-enum-known-record-2 Inv-loop μ-loop
-enum-known-record-2 c = search needs
-
 -- src/tags.rt:33:25
 field-here : (c : tie.After-known-told2 Inv-loop μ-loop) → let k = c .before .before .before in let h = k .before .before .before .before in let a = h .before .before .before .args in
     recordAt (a .dictionary .now) (h .loop .at) ≡ Whole (FieldItem (c .before .record2 .given .0 .0) (c .before .record2 .given .0 .1 .0)) (k .before .«record» .given .0 .1 .0)
 field-here c = read-as (read-here (c .before .before .before)) (c .before .record2 .given .1)
-
-same-length-2 : tie.Need-same-length-2 Inv-loop μ-loop
-same-length-2 c = search needs
 
 -- src/tags.rt:33:25
 returns-2 : tie.Need-returns-2 Inv-loop μ-loop
@@ -166,8 +160,8 @@ list-tags-spec =
     enum-known-record
     same-length
     returns
-    enum-known-record-2
-    same-length-2
+    (λ c. search needs)
+    (λ c. search needs)
     returns-2
     mul-tags
     slice-write-tags

@@ -4,21 +4,6 @@ use borrow.Author.Needs.{needs}
 use Rattle.gateway.proofs.messages.gateway_encode.Statement.{statement}
 use Rattle.gateway.proofs.messages.gateway_encode.Tie as tie
 
-encode-requires : tie.Need-encode-requires
-encode-requires c κs = search needs
-
-tell-encoding-requires : tie.Need-tell-encoding-requires
-tell-encoding-requires c κs = search needs
-
-same-length : tie.Need-same-length
-same-length c = search needs
-
-same-length-2 : tie.Need-same-length-2
-same-length-2 c = search needs
-
-same-length-3 : tie.Need-same-length-3
-same-length-3 c = search needs
-
 returns : tie.Need-returns
 returns c =
     let e = c .before .before .before .before .before .before .before .before .encode .ensures in
@@ -28,9 +13,9 @@ pub gateway-encode-spec : {M : Type 1} → statement M
 gateway-encode-spec =
     tie.close
     (tie.spec
-    encode-requires
-    tell-encoding-requires
-    same-length
-    same-length-2
-    same-length-3
+    (λ c κs. search needs)
+    (λ c κs. search needs)
+    (λ c. search needs)
+    (λ c. search needs)
+    (λ c. search needs)
     returns)

@@ -12,53 +12,20 @@ Inv-loop out₀ at text next₀ from₀ out next from = (length out ≡ length o
 abbrev μ-loop : tie.MeasureT-loop
 μ-loop out₀ at text next₀ from₀ out next from = length text + 1 - from
 
-loop-holds : tie.Need-loop-holds Inv-loop μ-loop
-loop-holds c = search needs
-
-end-of-requires : tie.Need-end-of-requires Inv-loop μ-loop
-end-of-requires c κs = search needs
-
-sub-record : tie.Need-sub-record Inv-loop μ-loop
-sub-record c = search needs
-
-part-record-start : tie.Need-part-record-start Inv-loop μ-loop
-part-record-start c = search needs
-
-part-record-end : tie.Need-part-record-end Inv-loop μ-loop
-part-record-end c = search needs
-
-record-requires : tie.Need-record-requires Inv-loop μ-loop
-record-requires c κs = search needs
-
-add-from : tie.Need-add-from Inv-loop μ-loop
-add-from c = search needs
-
-loop-less : tie.Need-loop-less Inv-loop μ-loop
-loop-less c = search needs
-
-loop-again : tie.Need-loop-again Inv-loop μ-loop
-loop-again c = search needs
-
-same-length : tie.Need-same-length Inv-loop μ-loop
-same-length c = search needs
-
-returns : tie.Need-returns Inv-loop μ-loop
-returns c = search needs
-
 pub records-spec : {M : Type 1} → statement M
 records-spec =
     tie.close
     (tie.spec
     Inv-loop
     μ-loop
-    loop-holds
-    end-of-requires
-    sub-record
-    part-record-start
-    part-record-end
-    record-requires
-    add-from
-    loop-less
-    loop-again
-    same-length
-    returns)
+    (λ c. search needs)
+    (λ c κs. search needs)
+    (λ c. search needs)
+    (λ c. search needs)
+    (λ c. search needs)
+    (λ c κs. search needs)
+    (λ c. search needs)
+    (λ c. search needs)
+    (λ c. search needs)
+    (λ c. search needs)
+    (λ c. search needs))
