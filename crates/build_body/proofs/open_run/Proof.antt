@@ -35,15 +35,5 @@ returns-2 c = let s = c .before .before .before .before in
 pub open-run-spec : {M : Type 1} → statement M
 open-run-spec =
     tie.close
-    (tie.spec
-    (λ c κs. search needs)
-    (λ c. search needs)
-    add-place
-    drop-run-requires
-    (λ c. search needs)
-    (λ c. search needs)
-    (λ c. search needs)
-    same-length
-    returns
-    (λ c. search needs)
-    returns-2)
+    (tie.spec (λ c κs. search needs) (λ c. search needs) add-place drop-run-requires (λ c. search needs)
+    (λ c. search needs) (λ c. search needs) same-length returns (λ c. search needs) returns-2)

@@ -129,26 +129,7 @@ returns-3 c = let h = c .before in
 pub read-body-spec : {M : Type 1} → statement M
 read-body-spec =
     tie.close
-    (tie.spec
-    Inv-loop
-    μ-loop
-    loop-holds
-    (λ c. search needs)
-    (λ c. search needs)
-    same-length
-    returns
-    (λ c κs. search needs)
-    (λ c. search needs)
-    read-plain-requires
-    loop-less
-    loop-again
-    (λ c. search needs)
-    read-group-requires
-    loop-less-2
-    loop-again-2
-    (λ c. search needs)
-    (λ c κs. search needs)
-    same-length-2
-    returns-2
-    same-length-3
-    returns-3)
+    (tie.spec Inv-loop μ-loop loop-holds (λ c. search needs) (λ c. search needs) same-length returns
+    (λ c κs. search needs) (λ c. search needs) read-plain-requires loop-less loop-again (λ c. search needs)
+    read-group-requires loop-less-2 loop-again-2 (λ c. search needs) (λ c κs. search needs) same-length-2 returns-2
+    same-length-3 returns-3)

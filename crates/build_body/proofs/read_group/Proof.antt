@@ -60,19 +60,6 @@ returns-3 c = let h = c .before .before in
 pub read-group-spec : {M : Type 1} → statement M
 read-group-spec =
     tie.close
-    (tie.spec
-    record-of-requires
-    open-run-requires
-    read-run-requires
-    (λ c. search needs)
-    (λ c κs. search needs)
-    (λ c. search needs)
-    check-run-requires
-    (λ c. search needs)
-    (λ c. search needs)
-    (λ c. search needs)
-    returns
-    (λ c. search needs)
-    returns-2
-    (λ c. search needs)
-    returns-3)
+    (tie.spec record-of-requires open-run-requires read-run-requires (λ c. search needs) (λ c κs. search needs)
+    (λ c. search needs) check-run-requires (λ c. search needs) (λ c. search needs) (λ c. search needs) returns
+    (λ c. search needs) returns-2 (λ c. search needs) returns-3)

@@ -43,14 +43,5 @@ returns-2 c = let g = c .before in
 pub read-plain-spec : {M : Type 1} → statement M
 read-plain-spec =
     tie.close
-    (tie.spec
-    record-of-requires
-    keep-requires
-    (λ c κs. search needs)
-    (λ c. search needs)
-    (λ c. search needs)
-    sub-t15
-    (λ c. search needs)
-    returns
-    (λ c. search needs)
-    returns-2)
+    (tie.spec record-of-requires keep-requires (λ c κs. search needs) (λ c. search needs) (λ c. search needs) sub-t15
+    (λ c. search needs) returns (λ c. search needs) returns-2)

@@ -46,19 +46,6 @@ returns-7 c = let k = c .before .before .before .before .before .before .before 
 pub kind-of-spec : {M : Type 1} → statement M
 kind-of-spec =
     tie.close
-    (tie.spec
-    (λ c κs. search needs)
-    returns
-    (λ c κs. search needs)
-    (λ c. search needs)
-    (λ c. search needs)
-    (λ c κs. search needs)
-    returns-2
-    returns-3
-    returns-4
-    (λ c κs. search needs)
-    (λ c. search needs)
-    (λ c. search needs)
-    returns-5
-    returns-6
-    returns-7)
+    (tie.spec (λ c κs. search needs) returns (λ c κs. search needs) (λ c. search needs) (λ c. search needs)
+    (λ c κs. search needs) returns-2 returns-3 returns-4 (λ c κs. search needs) (λ c. search needs) (λ c. search needs)
+    returns-5 returns-6 returns-7)

@@ -17,11 +17,5 @@ returns-3 c = sym (next-field-law _ _ _ (sym (c .before .before .before .before 
 pub next-field-spec : {M : Type 1} → statement M
 next-field-spec =
     tie.close
-    (tie.spec
-    (λ c κs. search needs)
-    (λ c. search needs)
-    (λ c. search needs)
-    returns
-    (λ c. search needs)
-    returns-2
+    (tie.spec (λ c κs. search needs) (λ c. search needs) (λ c. search needs) returns (λ c. search needs) returns-2
     returns-3)

@@ -38,14 +38,5 @@ returns-4 c =
 pub length-agrees-spec : {M : Type 1} → statement M
 length-agrees-spec =
     tie.close
-    (tie.spec
-    (λ c κs. search needs)
-    (λ c κs. search needs)
-    (λ c. search needs)
-    (λ c. search needs)
-    returns
-    returns-2
-    (λ c. search needs)
-    returns-3
-    (λ c κs. search needs)
-    returns-4)
+    (tie.spec (λ c κs. search needs) (λ c κs. search needs) (λ c. search needs) (λ c. search needs) returns returns-2
+    (λ c. search needs) returns-3 (λ c κs. search needs) returns-4)

@@ -40,16 +40,6 @@ returns-3 c =
 pub sum-agrees-spec : {M : Type 1} → statement M
 sum-agrees-spec =
     tie.close
-    (tie.spec
-    (λ c κs. search needs)
-    (λ c κs. search needs)
-    (λ c. search needs)
-    (λ c. search needs)
-    returns
-    (λ c κs. search needs)
-    (λ c κs. search needs)
-    returns-2
-    slice-aggregate-sum-of
-    (λ c κs. search needs)
-    (λ c κs. search needs)
-    returns-3)
+    (tie.spec (λ c κs. search needs) (λ c κs. search needs) (λ c. search needs) (λ c. search needs) returns
+    (λ c κs. search needs) (λ c κs. search needs) returns-2 slice-aggregate-sum-of (λ c κs. search needs)
+    (λ c κs. search needs) returns-3)

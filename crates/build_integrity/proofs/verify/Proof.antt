@@ -113,32 +113,8 @@ returns-11 c = let k = c .before .before in
 pub verify-spec : {M : Type 1} → statement M
 verify-spec =
     tie.close
-    (tie.spec
-    (λ c κs. search needs)
-    (λ c κs. search needs)
-    (λ c. search needs)
-    (λ c. search needs)
-    returns
-    returns-2
-    (λ c κs. search needs)
-    (λ c. search needs)
-    (λ c. search needs)
-    returns-3
-    returns-4
-    (λ c κs. search needs)
-    returns-5
-    sub-start-at
-    (λ c κs. search needs)
-    (λ c κs. search needs)
-    (λ c. search needs)
-    (λ c. search needs)
-    returns-6
-    returns-7
-    (λ c κs. search needs)
-    returns-8
-    (λ c κs. search needs)
-    (λ c. search needs)
-    (λ c. search needs)
-    returns-9
-    returns-10
-    returns-11)
+    (tie.spec (λ c κs. search needs) (λ c κs. search needs) (λ c. search needs) (λ c. search needs) returns returns-2
+    (λ c κs. search needs) (λ c. search needs) (λ c. search needs) returns-3 returns-4 (λ c κs. search needs) returns-5
+    sub-start-at (λ c κs. search needs) (λ c κs. search needs) (λ c. search needs) (λ c. search needs) returns-6
+    returns-7 (λ c κs. search needs) returns-8 (λ c κs. search needs) (λ c. search needs) (λ c. search needs) returns-9
+    returns-10 returns-11)

@@ -77,20 +77,6 @@ loop-again c = let k = c .before .before .before in
 pub read-header-spec : {M : Type 1} → statement M
 read-header-spec =
     tie.close
-    (tie.spec
-    Inv-loop
-    μ-loop
-    loop-holds
-    (λ c κs. search needs)
-    (λ c. search needs)
-    same-length
-    returns
-    (λ c. search needs)
-    sub-room
-    (λ c κs. search needs)
-    same-length-2
-    returns-2
-    record-of-requires
-    keep-requires
-    loop-less
-    loop-again)
+    (tie.spec Inv-loop μ-loop loop-holds (λ c κs. search needs) (λ c. search needs) same-length returns
+    (λ c. search needs) sub-room (λ c κs. search needs) same-length-2 returns-2 record-of-requires keep-requires
+    loop-less loop-again)

@@ -80,21 +80,6 @@ loop-again c = let k = c .before .before .before .before .before .before .before
 pub read-trailer-spec : {M : Type 1} → statement M
 read-trailer-spec =
     tie.close
-    (tie.spec
-    Inv-loop
-    μ-loop
-    loop-holds
-    same-length
-    returns
-    same-length-2
-    returns-2
-    (λ c. omega arith)
-    record-of-requires
-    keep-requires
-    (λ c κs. search needs)
-    (λ c. search needs)
-    (λ c. search needs)
-    same-length-3
-    returns-3
-    (λ c. omega arith)
-    loop-again)
+    (tie.spec Inv-loop μ-loop loop-holds same-length returns same-length-2 returns-2 (λ c. omega arith)
+    record-of-requires keep-requires (λ c κs. search needs) (λ c. search needs) (λ c. search needs) same-length-3
+    returns-3 (λ c. omega arith) loop-again)

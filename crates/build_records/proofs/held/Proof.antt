@@ -47,14 +47,5 @@ returns-3 c = sym (c .before .loop .inv ∙ held-end _ _ _ _ _ (omega arith))
 pub held-spec : {M : Type 1} → statement M
 held-spec =
     tie.close
-    (tie.spec
-    Inv-loop
-    μ-loop
-    loop-holds
-    returns
-    (λ c κs. search needs)
-    returns-2
-    (λ c. search needs)
-    (λ c. omega arith)
-    loop-again
-    returns-3)
+    (tie.spec Inv-loop μ-loop loop-holds returns (λ c κs. search needs) returns-2 (λ c. search needs) (λ c. omega arith)
+    loop-again returns-3)

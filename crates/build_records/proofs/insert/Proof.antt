@@ -44,17 +44,5 @@ returns-3 c = let l = c .before .before .before .before .before in
 pub insert-spec : {M : Type 1} → statement M
 insert-spec =
     tie.close
-    (tie.spec
-    Inv-loop
-    μ-loop
-    returns
-    returns-2
-    loop-holds
-    (λ c κs. search needs)
-    (λ c κs. search needs)
-    (λ c. search needs)
-    (λ c. omega arith)
-    loop-again
-    (λ c κs. search needs)
-    (λ c. search needs)
-    returns-3)
+    (tie.spec Inv-loop μ-loop returns returns-2 loop-holds (λ c κs. search needs) (λ c κs. search needs)
+    (λ c. search needs) (λ c. omega arith) loop-again (λ c κs. search needs) (λ c. search needs) returns-3)

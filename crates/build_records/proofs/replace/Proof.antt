@@ -33,25 +33,7 @@ returns-2 c = replaced-words _ _ _ (omega arith)
 pub replace-spec : {M : Type 1} → statement M
 replace-spec =
     tie.close
-    (tie.spec
-    returns
-    (λ c. search needs)
-    (λ c. search needs)
-    (λ c. search needs)
-    (λ c. search needs)
-    (λ c. search needs)
-    slice-write-words-2
-    (λ c. search needs)
-    (λ c. search needs)
-    slice-write-words-3
-    (λ c. search needs)
-    (λ c. search needs)
-    slice-write-words-4
-    (λ c. search needs)
-    (λ c. search needs)
-    slice-write-words-5
-    (λ c. search needs)
-    (λ c. search needs)
-    slice-write-words-6
-    (λ c. search needs)
-    returns-2)
+    (tie.spec returns (λ c. search needs) (λ c. search needs) (λ c. search needs) (λ c. search needs)
+    (λ c. search needs) slice-write-words-2 (λ c. search needs) (λ c. search needs) slice-write-words-3
+    (λ c. search needs) (λ c. search needs) slice-write-words-4 (λ c. search needs) (λ c. search needs)
+    slice-write-words-5 (λ c. search needs) (λ c. search needs) slice-write-words-6 (λ c. search needs) returns-2)

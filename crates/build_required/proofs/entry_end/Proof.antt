@@ -36,14 +36,5 @@ returns-2 c = sym (c .before .loop .inv ∙ end-over _ _ _ _ (omega arith))
 pub entry-end-spec : {M : Type 1} → statement M
 entry-end-spec =
     tie.close
-    (tie.spec
-    Inv-loop
-    μ-loop
-    loop-holds
-    (λ c κs. search needs)
-    (λ c κs. search needs)
-    returns
-    (λ c. search needs)
-    (λ c. omega arith)
-    loop-again
-    returns-2)
+    (tie.spec Inv-loop μ-loop loop-holds (λ c κs. search needs) (λ c κs. search needs) returns (λ c. search needs)
+    (λ c. omega arith) loop-again returns-2)

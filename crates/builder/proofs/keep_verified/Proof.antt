@@ -35,12 +35,5 @@ returns c = let n = c .before .before in
 pub keep-verified-spec : {M : Type 1} → statement M
 keep-verified-spec =
     tie.close
-    (tie.spec
-    record-of-requires
-    record-of-requires-2
-    record-of-requires-3
-    (λ c κs. search needs)
-    keep-requires-2
-    keep-requires-3
-    (λ c. search needs)
-    returns)
+    (tie.spec record-of-requires record-of-requires-2 record-of-requires-3 (λ c κs. search needs) keep-requires-2
+    keep-requires-3 (λ c. search needs) returns)

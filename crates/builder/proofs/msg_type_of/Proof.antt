@@ -40,14 +40,5 @@ returns-2 c = let l = c .before .before in
 pub msg-type-of-spec : {M : Type 1} → statement M
 msg-type-of-spec =
     tie.close
-    (tie.spec
-    Inv-loop
-    μ-loop
-    loop-holds
-    (λ c κs. search needs)
-    returns
-    (λ c. search needs)
-    (λ c. omega arith)
-    loop-again
-    (λ c κs. search needs)
-    returns-2)
+    (tie.spec Inv-loop μ-loop loop-holds (λ c κs. search needs) returns (λ c. search needs) (λ c. omega arith)
+    loop-again (λ c κs. search needs) returns-2)

@@ -78,19 +78,6 @@ returns-2 c = let m = c .before in
 pub read-headed-spec : {M : Type 1} → statement M
 read-headed-spec =
     tie.close
-    (tie.spec
-    msg-type-of-requires
-    (λ c. search needs)
-    (λ c. search needs)
-    (λ c. search needs)
-    (λ c. search needs)
-    (λ c. search needs)
-    part-message-table-end
-    (λ c κs. search needs)
-    (λ c. search needs)
-    slice-aggregate-finish
-    finish-requires
-    (λ c. search needs)
-    returns
-    (λ c. search needs)
-    returns-2)
+    (tie.spec msg-type-of-requires (λ c. search needs) (λ c. search needs) (λ c. search needs) (λ c. search needs)
+    (λ c. search needs) part-message-table-end (λ c κs. search needs) (λ c. search needs) slice-aggregate-finish
+    finish-requires (λ c. search needs) returns (λ c. search needs) returns-2)

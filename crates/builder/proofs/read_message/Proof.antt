@@ -45,23 +45,7 @@ returns-3 c = let r = c .before .before .before .before .before .before .read-he
 pub read-message-spec : {M : Type 1} → statement M
 read-message-spec =
     tie.close
-    (tie.spec
-    (λ c κs. search needs)
-    (λ c κs. search needs)
-    array-share-prefix-header-tags
-    slice-aggregate-begin
-    (λ c κs. search needs)
-    (λ c. search needs)
-    (λ c. search needs)
-    array-share-prefix-trailer-tags
-    slice-aggregate-read-headed
-    read-headed-requires
-    (λ c. search needs)
-    (λ c. search needs)
-    (λ c κs. search needs)
-    (λ c. search needs)
-    returns
-    (λ c. search needs)
-    returns-2
-    (λ c. search needs)
-    returns-3)
+    (tie.spec (λ c κs. search needs) (λ c κs. search needs) array-share-prefix-header-tags slice-aggregate-begin
+    (λ c κs. search needs) (λ c. search needs) (λ c. search needs) array-share-prefix-trailer-tags
+    slice-aggregate-read-headed read-headed-requires (λ c. search needs) (λ c. search needs) (λ c κs. search needs)
+    (λ c. search needs) returns (λ c. search needs) returns-2 (λ c. search needs) returns-3)

@@ -52,35 +52,9 @@ returns-2 c = let k = c .before .before in let w = k .before .before in
 pub enter-spec : {M : Type 1} → statement M
 enter-spec =
     tie.close
-    (tie.spec
-    (λ c κs. search needs)
-    returns
-    (λ c. search needs)
-    (λ c κs. search needs)
-    (λ c κs. search needs)
-    (λ c. search needs)
-    (λ c. search needs)
-    mul-index
-    slice-read-index
-    (λ c. search needs)
-    (λ c. search needs)
-    (λ c. search needs)
-    (λ c. search needs)
-    slice-write-index-2
-    (λ c. search needs)
-    (λ c. search needs)
-    slice-write-index-3
-    (λ c. search needs)
-    (λ c. search needs)
-    slice-write-index-4
-    (λ c. search needs)
-    (λ c. search needs)
-    slice-write-index-5
-    (λ c. search needs)
-    (λ c. search needs)
-    slice-write-index-6
-    (λ c. search needs)
-    mul-index-8
-    slice-write-index-7
-    same-length
-    returns-2)
+    (tie.spec (λ c κs. search needs) returns (λ c. search needs) (λ c κs. search needs) (λ c κs. search needs)
+    (λ c. search needs) (λ c. search needs) mul-index slice-read-index (λ c. search needs) (λ c. search needs)
+    (λ c. search needs) (λ c. search needs) slice-write-index-2 (λ c. search needs) (λ c. search needs)
+    slice-write-index-3 (λ c. search needs) (λ c. search needs) slice-write-index-4 (λ c. search needs)
+    (λ c. search needs) slice-write-index-5 (λ c. search needs) (λ c. search needs) slice-write-index-6
+    (λ c. search needs) mul-index-8 slice-write-index-7 same-length returns-2)

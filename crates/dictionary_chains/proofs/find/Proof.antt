@@ -40,23 +40,6 @@ returns-3 c = sym (c .before .loop .inv .1 ∙ follow-none _ _ _ _ _ (c .loop-te
 pub find-spec : {M : Type 1} → statement M
 find-spec =
     tie.close
-    (tie.spec
-    Inv-loop
-    μ-loop
-    (λ c κs. search needs)
-    mul-wide
-    shared-slice-read-wide
-    (λ c κs. search needs)
-    loop-holds
-    returns
-    (λ c κs. search needs)
-    (λ c κs. search needs)
-    returns-2
-    (λ c. search needs)
-    (λ c. search needs)
-    (λ c. search needs)
-    (λ c. search needs)
-    (λ c κs. search needs)
-    (λ c. search needs)
-    loop-again
-    returns-3)
+    (tie.spec Inv-loop μ-loop (λ c κs. search needs) mul-wide shared-slice-read-wide (λ c κs. search needs) loop-holds
+    returns (λ c κs. search needs) (λ c κs. search needs) returns-2 (λ c. search needs) (λ c. search needs)
+    (λ c. search needs) (λ c. search needs) (λ c κs. search needs) (λ c. search needs) loop-again returns-3)

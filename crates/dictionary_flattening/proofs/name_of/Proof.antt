@@ -47,18 +47,5 @@ returns-4 c = sym (name-good _ _ _ (omega (arith, c .loop-test .left)) (c .befor
 pub name-of-spec : {M : Type 1} → statement M
 name-of-spec =
     tie.close
-    (tie.spec
-    Inv-loop
-    μ-loop
-    returns
-    returns-2
-    loop-holds
-    (λ c. search needs)
-    shared-slice-read-byte
-    returns-3
-    mul-number
-    (λ c κs. search needs)
-    add-number
-    (λ c. omega arith)
-    loop-again
-    returns-4)
+    (tie.spec Inv-loop μ-loop returns returns-2 loop-holds (λ c. search needs) shared-slice-read-byte returns-3
+    mul-number (λ c κs. search needs) add-number (λ c. omega arith) loop-again returns-4)

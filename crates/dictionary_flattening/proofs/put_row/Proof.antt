@@ -32,21 +32,7 @@ returns c = rw (stored (c .args .required), stored (c .args .is-group))
 pub put-row-spec : {M : Type 1} → statement M
 put-row-spec =
     tie.close
-    (tie.spec
-    (λ c. search needs)
-    (λ c. search needs)
-    (λ c. search needs)
-    (λ c. search needs)
-    (λ c. search needs)
-    (λ c. search needs)
-    slice-write-table-2
-    (λ c. search needs)
-    (λ c. search needs)
-    (λ c. search needs)
-    slice-write-table-3
-    (λ c. search needs)
-    (λ c. search needs)
-    (λ c. search needs)
-    slice-write-table-4
-    (λ c. search needs)
-    returns)
+    (tie.spec (λ c. search needs) (λ c. search needs) (λ c. search needs) (λ c. search needs) (λ c. search needs)
+    (λ c. search needs) slice-write-table-2 (λ c. search needs) (λ c. search needs) (λ c. search needs)
+    slice-write-table-3 (λ c. search needs) (λ c. search needs) (λ c. search needs) slice-write-table-4
+    (λ c. search needs) returns)

@@ -40,17 +40,5 @@ returns-2 c = sym (position-walk _ _ _ (c .before .before .stop-of .ensures) _ �
 pub position-of-spec : {M : Type 1} → statement M
 position-of-spec =
     tie.close
-    (tie.spec
-    Inv-loop
-    μ-loop
-    (λ c κs. search needs)
-    loop-holds
-    (λ c. search needs)
-    (λ c. search needs)
-    (λ c. search needs)
-    returns
-    (λ c κs. search needs)
-    (λ c. search needs)
-    loop-less
-    loop-again
-    returns-2)
+    (tie.spec Inv-loop μ-loop (λ c κs. search needs) loop-holds (λ c. search needs) (λ c. search needs)
+    (λ c. search needs) returns (λ c κs. search needs) (λ c. search needs) loop-less loop-again returns-2)

@@ -61,27 +61,7 @@ returns-8 c = let n = c .match .rest in sym (body-other _ _ (n .0 .0 .0 .0 .0 .0
 pub body-of-spec : {M : Type 1} → statement M
 body-of-spec =
     tie.close
-    (tie.spec
-    four-requires
-    (λ c κs. search needs)
-    two-requires
-    message-of-requires
-    four-requires-2
-    shared-slice-read-mark
-    (λ c κs. search needs)
-    (λ c κs. search needs)
-    shared-slice-read-mark-2
-    two-requires-2
-    (λ c κs. search needs)
-    four-requires-3
-    shared-slice-read-mark-3
-    (λ c κs. search needs)
-    (λ c κs. search needs)
-    returns
-    returns-2
-    returns-3
-    returns-4
-    returns-5
-    returns-6
-    returns-7
-    returns-8)
+    (tie.spec four-requires (λ c κs. search needs) two-requires message-of-requires four-requires-2
+    shared-slice-read-mark (λ c κs. search needs) (λ c κs. search needs) shared-slice-read-mark-2 two-requires-2
+    (λ c κs. search needs) four-requires-3 shared-slice-read-mark-3 (λ c κs. search needs) (λ c κs. search needs)
+    returns returns-2 returns-3 returns-4 returns-5 returns-6 returns-7 returns-8)

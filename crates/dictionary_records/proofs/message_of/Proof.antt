@@ -18,10 +18,4 @@ returns-3 c = unfold opensMessage in rw (ne-eqb _ _ (c .before .before .if1 .lef
 pub message-of-spec : {M : Type 1} → statement M
 message-of-spec =
     tie.close
-    (tie.spec
-    (λ c. search needs)
-    returns
-    (λ c κs. search needs)
-    (λ c κs. search needs)
-    returns-2
-    returns-3)
+    (tie.spec (λ c. search needs) returns (λ c κs. search needs) (λ c κs. search needs) returns-2 returns-3)

@@ -20,12 +20,5 @@ returns c = let a = c .before .before .before .before .before .args in
 pub two-spec : {M : Type 1} → statement M
 two-spec =
     tie.close
-    (tie.spec
-    (λ c. search needs)
-    (λ c κs. search needs)
-    (λ c. search needs)
-    (λ c. search needs)
-    (λ c κs. search needs)
-    mul-result
-    add-result
-    returns)
+    (tie.spec (λ c. search needs) (λ c κs. search needs) (λ c. search needs) (λ c. search needs) (λ c κs. search needs)
+    mul-result add-result returns)

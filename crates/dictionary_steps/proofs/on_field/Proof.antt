@@ -30,13 +30,5 @@ returns-4 c = sym (field-goes _ _ _ (c .before .before .before .before .before .
 pub on-field-spec : {M : Type 1} → statement M
 on-field-spec =
     tie.close
-    (tie.spec
-    (λ c. search needs)
-    (λ c. search needs)
-    returns
-    (λ c κs. search needs)
-    returns-2
-    returns-3
-    (λ c. search needs)
-    (λ c κs. search needs)
-    returns-4)
+    (tie.spec (λ c. search needs) (λ c. search needs) returns (λ c κs. search needs) returns-2 returns-3
+    (λ c. search needs) (λ c κs. search needs) returns-4)

@@ -18,13 +18,5 @@ returns-3 c = unfold onMessage atTop onceMessage looksAt in rw (c .before .befor
 pub on-message-spec : {M : Type 1} → statement M
 on-message-spec =
     tie.close
-    (tie.spec
-    (λ c. search needs)
-    (λ c. search needs)
-    returns
-    (λ c κs. search needs)
-    (λ c. search needs)
-    (λ c. search needs)
-    returns-2
-    (λ c κs. search needs)
-    returns-3)
+    (tie.spec (λ c. search needs) (λ c. search needs) returns (λ c κs. search needs) (λ c. search needs)
+    (λ c. search needs) returns-2 (λ c κs. search needs) returns-3)

@@ -34,13 +34,5 @@ returns c = let l = c .before in (omega (arith, l .loop .inv .2, bytes-end (l .b
 pub bytes-between-spec : {M : Type 1} → statement M
 bytes-between-spec =
     tie.close
-    (tie.spec
-    Inv-loop
-    μ-loop
-    loop-holds
-    (λ c κs. omega arith)
-    add-size
-    (λ c. omega arith)
-    (λ c. omega arith)
-    loop-again
+    (tie.spec Inv-loop μ-loop loop-holds (λ c κs. omega arith) add-size (λ c. omega arith) (λ c. omega arith) loop-again
     returns)

@@ -35,13 +35,5 @@ returns-2 c = sym (c .before .loop .inv .1 ∙ uncounted-end _ _ _ (c .loop-test
 pub has-uncounted-spec : {M : Type 1} → statement M
 has-uncounted-spec =
     tie.close
-    (tie.spec
-    Inv-loop
-    μ-loop
-    loop-holds
-    (λ c κs. omega arith)
-    returns
-    (λ c. omega arith)
-    (λ c. omega arith)
-    loop-again
+    (tie.spec Inv-loop μ-loop loop-holds (λ c κs. omega arith) returns (λ c. omega arith) (λ c. omega arith) loop-again
     returns-2)

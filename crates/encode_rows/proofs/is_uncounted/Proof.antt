@@ -33,12 +33,5 @@ returns-4 c = rw (eq-eqb _ 2 (sym (c .before .before .before .before .before .be
 pub is-uncounted-spec : {M : Type 1} → statement M
 is-uncounted-spec =
     tie.close
-    (tie.spec
-    (λ c κs. search needs)
-    returns
-    (λ c κs. search needs)
-    returns-2
-    (λ c κs. search needs)
-    (λ c κs. search needs)
-    returns-3
-    returns-4)
+    (tie.spec (λ c κs. search needs) returns (λ c κs. search needs) returns-2 (λ c κs. search needs)
+    (λ c κs. search needs) returns-3 returns-4)

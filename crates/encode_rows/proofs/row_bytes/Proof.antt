@@ -35,13 +35,5 @@ returns-2 c = (rw (ne-eqb _ 1 (λ e. c .if1 .left (c .before .kind-of .ensures �
 pub row-bytes-spec : {M : Type 1} → statement M
 row-bytes-spec =
     tie.close
-    (tie.spec
-    (λ c κs. search needs)
-    (λ c κs. search needs)
-    (λ c κs. search needs)
-    (λ c κs. search needs)
-    (λ c κs. search needs)
-    add-result
-    add-result-2
-    returns
-    returns-2)
+    (tie.spec (λ c κs. search needs) (λ c κs. search needs) (λ c κs. search needs) (λ c κs. search needs)
+    (λ c κs. search needs) add-result add-result-2 returns returns-2)

@@ -44,16 +44,6 @@ returns-2 c = let k = c .before .before .before .before .before .before .before 
 pub write-field-spec : {M : Type 1} → statement M
 write-field-spec =
     tie.close
-    (tie.spec
-    (λ c κs. search needs)
-    (λ c. search needs)
-    (λ c. search needs)
-    (λ c. search needs)
-    returns
-    (λ c. search needs)
-    write-bytes-requires
-    write-bytes-requires-2
-    (λ c. search needs)
-    write-bytes-requires-3
-    (λ c. search needs)
-    returns-2)
+    (tie.spec (λ c κs. search needs) (λ c. search needs) (λ c. search needs) (λ c. search needs) returns
+    (λ c. search needs) write-bytes-requires write-bytes-requires-2 (λ c. search needs) write-bytes-requires-3
+    (λ c. search needs) returns-2)

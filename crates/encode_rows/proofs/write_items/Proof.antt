@@ -58,17 +58,5 @@ returns c = let l = c .before in going-done _ _ _ _ _ _ _ _ _ _ _ _ _ (l .before
 pub write-items-spec : {M : Type 1} → statement M
 write-items-spec =
     tie.close
-    (tie.spec
-    Inv-loop
-    μ-loop
-    size-between-requires
-    loop-holds
-    row-on-requires
-    write-row-requires
-    size-of-requires
-    add-place
-    add-i
-    loop-less
-    loop-again
-    same-length
-    returns)
+    (tie.spec Inv-loop μ-loop size-between-requires loop-holds row-on-requires write-row-requires size-of-requires
+    add-place add-i loop-less loop-again same-length returns)

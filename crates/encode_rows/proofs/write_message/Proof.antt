@@ -82,24 +82,7 @@ returns-5 c = let k = c .before .before .before .before .before .before .before 
 pub write-message-spec : {M : Type 1} → statement M
 write-message-spec =
     tie.close
-    (tie.spec
-    (λ c κs. search needs)
-    (λ c. search needs)
-    (λ c. search needs)
-    returns
-    (λ c κs. search needs)
-    (λ c. search needs)
-    (λ c. search needs)
-    returns-2
-    (λ c κs. search needs)
-    (λ c. search needs)
-    (λ c. search needs)
-    returns-3
-    bytes-between-requires
-    add-if1
-    returns-4
-    write-text-requires
-    write-tail-requires
-    add-t15
-    (λ c. search needs)
-    returns-5)
+    (tie.spec (λ c κs. search needs) (λ c. search needs) (λ c. search needs) returns (λ c κs. search needs)
+    (λ c. search needs) (λ c. search needs) returns-2 (λ c κs. search needs) (λ c. search needs) (λ c. search needs)
+    returns-3 bytes-between-requires add-if1 returns-4 write-text-requires write-tail-requires add-t15
+    (λ c. search needs) returns-5)

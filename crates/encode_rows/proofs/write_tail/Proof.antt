@@ -48,14 +48,5 @@ returns c = rest-done _ _ _ _ _ (room-at (c .before .before .before .before .bef
 pub write-tail-spec : {M : Type 1} → statement M
 write-tail-spec =
     tie.close
-    (tie.spec
-    (λ c κs. search needs)
-    (λ c κs. search needs)
-    (λ c. search needs)
-    write-bytes-requires
-    (λ c. search needs)
-    write-bytes-requires-2
-    (λ c. search needs)
-    write-bytes-requires-3
-    (λ c. search needs)
-    returns)
+    (tie.spec (λ c κs. search needs) (λ c κs. search needs) (λ c. search needs) write-bytes-requires (λ c. search needs)
+    write-bytes-requires-2 (λ c. search needs) write-bytes-requires-3 (λ c. search needs) returns)

@@ -77,12 +77,5 @@ returns c = let s = c .before .before .before .before .before .before .before .b
 pub write-text-spec : {M : Type 1} → statement M
 write-text-spec =
     tie.close
-    (tie.spec
-    write-items-requires
-    write-items-requires-2
-    write-items-requires-3
-    write-items-requires-4
-    write-items-requires-5
-    write-items-requires-6
-    (λ c. search needs)
-    returns)
+    (tie.spec write-items-requires write-items-requires-2 write-items-requires-3 write-items-requires-4
+    write-items-requires-5 write-items-requires-6 (λ c. search needs) returns)

@@ -16,12 +16,5 @@ returns c = rw (c .before .before .field-bytes .ensures .0, c .before .field-byt
 pub body-length-spec : {M : Type 1} → statement M
 body-length-spec =
     tie.close
-    (tie.spec
-    (λ c κs. search needs)
-    (λ c κs. search needs)
-    (λ c κs. search needs)
-    (λ c κs. search needs)
-    (λ c. search needs)
-    (λ c. search needs)
-    sub-result
-    returns)
+    (tie.spec (λ c κs. search needs) (λ c κs. search needs) (λ c κs. search needs) (λ c κs. search needs)
+    (λ c. search needs) (λ c. search needs) sub-result returns)

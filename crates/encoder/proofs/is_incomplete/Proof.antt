@@ -25,12 +25,5 @@ returns-4 c = rw (sym (c .before .before .before .before .before .before .holds 
 pub is-incomplete-spec : {M : Type 1} → statement M
 is-incomplete-spec =
     tie.close
-    (tie.spec
-    (λ c κs. search needs)
-    returns
-    (λ c κs. search needs)
-    returns-2
-    (λ c κs. search needs)
-    returns-3
-    (λ c κs. search needs)
-    returns-4)
+    (tie.spec (λ c κs. search needs) returns (λ c κs. search needs) returns-2 (λ c κs. search needs) returns-3
+    (λ c κs. search needs) returns-4)

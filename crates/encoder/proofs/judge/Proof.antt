@@ -114,30 +114,7 @@ returns-9 c =
 pub judge-spec : {M : Type 1} → statement M
 judge-spec =
     tie.close
-    (tie.spec
-    (λ c κs. search needs)
-    (λ c. search needs)
-    (λ c. search needs)
-    returns
-    (λ c κs. search needs)
-    (λ c. search needs)
-    (λ c. search needs)
-    returns-2
-    (λ c κs. search needs)
-    returns-3
-    is-incomplete-requires
-    returns-4
-    body-length-requires
-    returns-5
-    field-bytes-requires
-    (λ c. search needs)
-    (λ c κs. search needs)
-    add-length
-    add-length-2
-    add-length-3
-    returns-6
-    fields-with-requires
-    returns-7
-    returns-8
-    (λ c. search needs)
-    returns-9)
+    (tie.spec (λ c κs. search needs) (λ c. search needs) (λ c. search needs) returns (λ c κs. search needs)
+    (λ c. search needs) (λ c. search needs) returns-2 (λ c κs. search needs) returns-3 is-incomplete-requires returns-4
+    body-length-requires returns-5 field-bytes-requires (λ c. search needs) (λ c κs. search needs) add-length
+    add-length-2 add-length-3 returns-6 fields-with-requires returns-7 returns-8 (λ c. search needs) returns-9)

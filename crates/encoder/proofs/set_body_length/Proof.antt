@@ -45,15 +45,6 @@ returns-2 c =
 pub set-body-length-spec : {M : Type 1} → statement M
 set-body-length-spec =
     tie.close
-    (tie.spec
-    (λ c. search needs)
-    (λ c κs. search needs)
-    (λ c. search needs)
-    (λ c. search needs)
-    returns
-    array-share-prefix-digits
-    slice-aggregate-store
-    (λ c κs. search needs)
-    (λ c. search needs)
-    (λ c. search needs)
+    (tie.spec (λ c. search needs) (λ c κs. search needs) (λ c. search needs) (λ c. search needs) returns
+    array-share-prefix-digits slice-aggregate-store (λ c κs. search needs) (λ c. search needs) (λ c. search needs)
     returns-2)

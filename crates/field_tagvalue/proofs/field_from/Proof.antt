@@ -71,26 +71,7 @@ returns-4 c = let a = c .before in
 pub field-from-spec : {M : Type 1} → statement M
 field-from-spec =
     tie.close
-    (tie.spec
-    (λ c κs. search needs)
-    (λ c. search needs)
-    (λ c. search needs)
-    returns
-    add-value
-    sub-find
-    part-find-start
-    (λ c. search needs)
-    (λ c κs. search needs)
-    (λ c. search needs)
-    (λ c. search needs)
-    returns-2
-    slice-aggregate-tag-of
-    (λ c κs. search needs)
-    (λ c. search needs)
-    (λ c. search needs)
-    returns-3
-    add-place
-    add-start-at
-    add-start-at-2
-    (λ c κs. search needs)
-    returns-4)
+    (tie.spec (λ c κs. search needs) (λ c. search needs) (λ c. search needs) returns add-value sub-find part-find-start
+    (λ c. search needs) (λ c κs. search needs) (λ c. search needs) (λ c. search needs) returns-2 slice-aggregate-tag-of
+    (λ c κs. search needs) (λ c. search needs) (λ c. search needs) returns-3 add-place add-start-at add-start-at-2
+    (λ c κs. search needs) returns-4)

@@ -24,10 +24,4 @@ returns-2 c = rw rest-part at (c .field-from .ensures)
 pub next-field-spec : {M : Type 1} → statement M
 next-field-spec =
     tie.close
-    (tie.spec
-    returns
-    (λ c. search needs)
-    (λ c. search needs)
-    (λ c. search needs)
-    field-from-requires
-    returns-2)
+    (tie.spec returns (λ c. search needs) (λ c. search needs) (λ c. search needs) field-from-requires returns-2)

@@ -53,20 +53,6 @@ returns-5 c = let h = c .loop-test .left in
 pub number-of-spec : {M : Type 1} → statement M
 number-of-spec =
     tie.close
-    (tie.spec
-    Inv-loop
-    μ-loop
-    returns
-    loop-holds
-    (λ c. search needs)
-    returns-2
-    returns-3
-    (λ c. search needs)
-    (λ c κs. search needs)
-    (λ c. search needs)
-    returns-4
-    (λ c. search needs)
-    (λ c. search needs)
-    loop-again
-    (λ c. search needs)
-    returns-5)
+    (tie.spec Inv-loop μ-loop returns loop-holds (λ c. search needs) returns-2 returns-3 (λ c. search needs)
+    (λ c κs. search needs) (λ c. search needs) returns-4 (λ c. search needs) (λ c. search needs) loop-again
+    (λ c. search needs) returns-5)

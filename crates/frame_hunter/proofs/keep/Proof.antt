@@ -46,17 +46,5 @@ returns-2 c = let l = c .before .loop in moved-all _ _ _ _ (l .i) (l .inv .1) (l
 pub keep-spec : {M : Type 1} → statement M
 keep-spec =
     tie.close
-    (tie.spec
-    Inv-loop
-    μ-loop
-    returns
-    loop-holds
-    (λ c. search needs)
-    (λ c. search needs)
-    slice-read-store
-    slice-write-store
-    (λ c. search needs)
-    (λ c. search needs)
-    loop-again
-    same-length
-    returns-2)
+    (tie.spec Inv-loop μ-loop returns loop-holds (λ c. search needs) (λ c. search needs) slice-read-store
+    slice-write-store (λ c. search needs) (λ c. search needs) loop-again same-length returns-2)

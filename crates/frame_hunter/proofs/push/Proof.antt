@@ -55,16 +55,5 @@ returns-4 c = let a = c .before .before .before .before .before .before .before 
 pub push-spec : {M : Type 1} → statement M
 push-spec =
     tie.close
-    (tie.spec
-    (λ c κs. search needs)
-    returns
-    returns-2
-    sub-if3
-    returns-3
-    sub-copy
-    part-copy-start
-    (λ c. search needs)
-    copy-requires
-    (λ c. search needs)
-    (λ c. search needs)
-    returns-4)
+    (tie.spec (λ c κs. search needs) returns returns-2 sub-if3 returns-3 sub-copy part-copy-start (λ c. search needs)
+    copy-requires (λ c. search needs) (λ c. search needs) returns-4)

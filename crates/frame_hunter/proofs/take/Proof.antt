@@ -90,23 +90,7 @@ returns-3 c = let h = c .before .before .before .before .before .before .before 
 pub take-spec : {M : Type 1} → statement M
 take-spec =
     tie.close
-    (tie.spec
-    (λ c κs. search needs)
-    (λ c κs. search needs)
-    returns
-    (λ c κs. search needs)
-    returns-2
-    slice-reshare-prefix-hunt
-    slice-aggregate-hunt
-    (λ c κs. search needs)
-    add-rest
-    (λ c. search needs)
-    (λ c. search needs)
-    part-copy-end
-    copy-requires
-    keep-requires
-    sub-t11
-    (λ c κs. search needs)
-    (λ c. search needs)
-    (λ c. search needs)
-    returns-3)
+    (tie.spec (λ c κs. search needs) (λ c κs. search needs) returns (λ c κs. search needs) returns-2
+    slice-reshare-prefix-hunt slice-aggregate-hunt (λ c κs. search needs) add-rest (λ c. search needs)
+    (λ c. search needs) part-copy-end copy-requires keep-requires sub-t11 (λ c κs. search needs) (λ c. search needs)
+    (λ c. search needs) returns-3)

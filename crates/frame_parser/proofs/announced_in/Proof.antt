@@ -65,23 +65,7 @@ returns-5 c = sym (announced-at (c .before .before) ∙ limit-ends _ (omega arit
 pub announced-in-spec : {M : Type 1} → statement M
 announced-in-spec =
     tie.close
-    (tie.spec
-    (λ c κs. search needs)
-    (λ c. search needs)
-    (λ c. search needs)
-    returns
-    add-value-from
-    (λ c κs. search needs)
-    (λ c. search needs)
-    (λ c. search needs)
-    returns-2
-    sub-nominal-length
-    part-nominal-length-start
-    part-nominal-length-end
-    (λ c κs. search needs)
-    add-head
-    add-head-2
-    returns-3
-    returns-4
-    (λ c. search needs)
-    returns-5)
+    (tie.spec (λ c κs. search needs) (λ c. search needs) (λ c. search needs) returns add-value-from
+    (λ c κs. search needs) (λ c. search needs) (λ c. search needs) returns-2 sub-nominal-length
+    part-nominal-length-start part-nominal-length-end (λ c κs. search needs) add-head add-head-2 returns-3 returns-4
+    (λ c. search needs) returns-5)

@@ -28,13 +28,5 @@ returns-4 c = c .answers4 .ensures ∙ end-accepted _ _ (usable-at (c .before .b
 pub end-spec : {M : Type 1} → statement M
 end-spec =
     tie.close
-    (tie.spec
-    (λ c κs. search needs)
-    (λ c κs. search needs)
-    returns
-    (λ c κs. search needs)
-    returns-2
-    (λ c κs. search needs)
-    returns-3
-    (λ c κs. search needs)
-    returns-4)
+    (tie.spec (λ c κs. search needs) (λ c κs. search needs) returns (λ c κs. search needs) returns-2
+    (λ c κs. search needs) returns-3 (λ c κs. search needs) returns-4)

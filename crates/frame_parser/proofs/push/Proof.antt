@@ -65,26 +65,7 @@ returns-5 c =
 pub push-spec : {M : Type 1} → statement M
 push-spec =
     tie.close
-    (tie.spec
-    (λ c κs. search needs)
-    (λ c κs. search needs)
-    (λ c. search needs)
-    returns
-    (λ c κs. search needs)
-    (λ c. search needs)
-    returns-2
-    (λ c κs. search needs)
-    (λ c. search needs)
-    returns-3
-    sub-if4
-    (λ c κs. search needs)
-    (λ c. search needs)
-    returns-4
-    sub-copy
-    part-copy-start
-    (λ c. search needs)
-    copy-requires
-    (λ c. search needs)
-    (λ c κs. search needs)
-    (λ c. search needs)
-    returns-5)
+    (tie.spec (λ c κs. search needs) (λ c κs. search needs) (λ c. search needs) returns (λ c κs. search needs)
+    (λ c. search needs) returns-2 (λ c κs. search needs) (λ c. search needs) returns-3 sub-if4 (λ c κs. search needs)
+    (λ c. search needs) returns-4 sub-copy part-copy-start (λ c. search needs) copy-requires (λ c. search needs)
+    (λ c κs. search needs) (λ c. search needs) returns-5)

@@ -99,35 +99,9 @@ returns-6 c =
 pub take-spec : {M : Type 1} → statement M
 take-spec =
     tie.close
-    (tie.spec
-    (λ c κs. search needs)
-    (λ c κs. search needs)
-    (λ c. search needs)
-    returns
-    (λ c κs. search needs)
-    (λ c. search needs)
-    returns-2
-    (λ c κs. search needs)
-    (λ c. search needs)
-    returns-3
-    slice-reshare-prefix-announced-in
-    slice-aggregate-announced-in
-    (λ c κs. search needs)
-    (λ c κs. search needs)
-    (λ c. search needs)
-    (λ c. search needs)
-    (λ c κs. search needs)
-    (λ c. search needs)
-    returns-4
-    (λ c κs. search needs)
-    (λ c. search needs)
-    returns-5
-    slice-reshare-prefix-copy
-    slice-aggregate-copy
-    copy-requires
-    move-to-front-requires
-    sub-t11
-    (λ c κs. search needs)
-    (λ c. search needs)
-    (λ c. search needs)
-    returns-6)
+    (tie.spec (λ c κs. search needs) (λ c κs. search needs) (λ c. search needs) returns (λ c κs. search needs)
+    (λ c. search needs) returns-2 (λ c κs. search needs) (λ c. search needs) returns-3 slice-reshare-prefix-announced-in
+    slice-aggregate-announced-in (λ c κs. search needs) (λ c κs. search needs) (λ c. search needs) (λ c. search needs)
+    (λ c κs. search needs) (λ c. search needs) returns-4 (λ c κs. search needs) (λ c. search needs) returns-5
+    slice-reshare-prefix-copy slice-aggregate-copy copy-requires move-to-front-requires sub-t11 (λ c κs. search needs)
+    (λ c. search needs) (λ c. search needs) returns-6)

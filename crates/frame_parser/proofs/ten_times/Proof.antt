@@ -18,9 +18,4 @@ returns c = tenfold _ _ _ _ _ (c .before .before .before .wrapping-add-u64 .ensu
 pub ten-times-spec : {M : Type 1} → statement M
 ten-times-spec =
     tie.close
-    (tie.spec
-    (λ c κs. search needs)
-    (λ c κs. search needs)
-    (λ c κs. search needs)
-    (λ c κs. search needs)
-    returns)
+    (tie.spec (λ c κs. search needs) (λ c κs. search needs) (λ c κs. search needs) (λ c κs. search needs) returns)

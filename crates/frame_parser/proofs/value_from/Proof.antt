@@ -29,14 +29,5 @@ returns-3 c = sym (value-between _ _ _ _ (equals-at (c .before .before .before .
 pub value-from-spec : {M : Type 1} → statement M
 value-from-spec =
     tie.close
-    (tie.spec
-    (λ c κs. search needs)
-    (λ c. search needs)
-    (λ c. search needs)
-    returns
-    add-first
-    (λ c κs. search needs)
-    (λ c. search needs)
-    (λ c. search needs)
-    returns-2
-    returns-3)
+    (tie.spec (λ c κs. search needs) (λ c. search needs) (λ c. search needs) returns add-first (λ c κs. search needs)
+    (λ c. search needs) (λ c. search needs) returns-2 returns-3)

@@ -47,17 +47,5 @@ returns-4 c = let l = c .before .loop in sym (l .inv .2 ∙ text-none _ (l .plac
 pub begin-string-at-spec : {M : Type 1} → statement M
 begin-string-at-spec =
     tie.close
-    (tie.spec
-    Inv-loop
-    μ-loop
-    loop-holds
-    (λ c. search needs)
-    returns
-    (λ c. search needs)
-    returns-2
-    returns-3
-    (λ c. search needs)
-    (λ c. search needs)
-    (λ c. search needs)
-    loop-again
-    returns-4)
+    (tie.spec Inv-loop μ-loop loop-holds (λ c. search needs) returns (λ c. search needs) returns-2 returns-3
+    (λ c. search needs) (λ c. search needs) (λ c. search needs) loop-again returns-4)

@@ -66,25 +66,6 @@ returns-7 c = let l = c .before .loop in sym (l .inv .4 ∙ length-none _ (l .pl
 pub body-length-at-spec : {M : Type 1} → statement M
 body-length-at-spec =
     tie.close
-    (tie.spec
-    Inv-loop
-    μ-loop
-    loop-holds
-    (λ c. search needs)
-    returns
-    (λ c. search needs)
-    returns-2
-    returns-3
-    returns-4
-    returns-5
-    (λ c. search needs)
-    (λ c. search needs)
-    (λ c. search needs)
-    (λ c κs. search needs)
-    (λ c. search needs)
-    (λ c κs. search needs)
-    returns-6
-    (λ c. search needs)
-    (λ c. search needs)
-    loop-again
-    returns-7)
+    (tie.spec Inv-loop μ-loop loop-holds (λ c. search needs) returns (λ c. search needs) returns-2 returns-3 returns-4
+    returns-5 (λ c. search needs) (λ c. search needs) (λ c. search needs) (λ c κs. search needs) (λ c. search needs)
+    (λ c κs. search needs) returns-6 (λ c. search needs) (λ c. search needs) loop-again returns-7)

@@ -57,28 +57,8 @@ returns-6 c = length-waits _ _ (numbered (c .before .before .before)) (sym (c .e
 pub verdict-of-spec : {M : Type 1} → statement M
 verdict-of-spec =
     tie.close
-    (tie.spec
-    (λ c. search needs)
-    (λ c κs. search needs)
-    (λ c. search needs)
-    (λ c κs. search needs)
-    returns
-    begin-string-at-requires
-    (λ c. search needs)
-    (λ c κs. search needs)
-    returns-2
-    (λ c. search needs)
-    literal-at-requires-2
-    (λ c. search needs)
-    (λ c κs. search needs)
-    returns-3
-    (λ c. search needs)
-    sub-body-length-at-2
-    body-length-at-requires
-    (λ c. search needs)
-    verdict-of-body-requires
-    (λ c. search needs)
-    (λ c. search needs)
-    returns-4
-    returns-5
-    returns-6)
+    (tie.spec (λ c. search needs) (λ c κs. search needs) (λ c. search needs) (λ c κs. search needs) returns
+    begin-string-at-requires (λ c. search needs) (λ c κs. search needs) returns-2 (λ c. search needs)
+    literal-at-requires-2 (λ c. search needs) (λ c κs. search needs) returns-3 (λ c. search needs) sub-body-length-at-2
+    body-length-at-requires (λ c. search needs) verdict-of-body-requires (λ c. search needs) (λ c. search needs)
+    returns-4 returns-5 returns-6)

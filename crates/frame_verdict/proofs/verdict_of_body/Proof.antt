@@ -76,34 +76,9 @@ returns-6 c = c .verdict-from5 .ensures ∙ ap asVerdict (closed _ _ _ (c .befor
 pub verdict-of-body-spec : {M : Type 1} → statement M
 verdict-of-body-spec =
     tie.close
-    (tie.spec
-    (λ c. search needs)
-    (λ c κs. search needs)
-    (λ c. search needs)
-    (λ c κs. search needs)
-    returns
-    (λ c. search needs)
-    (λ c. search needs)
-    returns-2
-    (λ c. search needs)
-    (λ c κs. search needs)
-    (λ c. search needs)
-    (λ c κs. search needs)
-    returns-3
-    (λ c. search needs)
-    literal-at-requires-3
-    (λ c. search needs)
-    (λ c κs. search needs)
-    returns-4
-    slice-aggregate-sum-of
-    (λ c κs. search needs)
-    (λ c κs. search needs)
-    (λ c. search needs)
-    literal-at-requires-4
-    (λ c. search needs)
-    (λ c κs. search needs)
-    returns-5
-    (λ c. search needs)
-    literal-at-requires-5
-    (λ c κs. search needs)
-    returns-6)
+    (tie.spec (λ c. search needs) (λ c κs. search needs) (λ c. search needs) (λ c κs. search needs) returns
+    (λ c. search needs) (λ c. search needs) returns-2 (λ c. search needs) (λ c κs. search needs) (λ c. search needs)
+    (λ c κs. search needs) returns-3 (λ c. search needs) literal-at-requires-3 (λ c. search needs)
+    (λ c κs. search needs) returns-4 slice-aggregate-sum-of (λ c κs. search needs) (λ c κs. search needs)
+    (λ c. search needs) literal-at-requires-4 (λ c. search needs) (λ c κs. search needs) returns-5 (λ c. search needs)
+    literal-at-requires-5 (λ c κs. search needs) returns-6)

@@ -140,46 +140,10 @@ returns-4 c = let f = c .before .before .before .before .before .before .before 
 pub cut-rows-spec : {M : Type 1} → statement M
 cut-rows-spec =
     tie.close
-    (tie.spec
-    size-between-requires
-    size-between-requires-2
-    size-between-requires-3
-    size-between-requires-4
-    size-between-requires-5
-    sub-fits
-    add-fits
-    sub-fits-2
-    add-fits-2
-    sub-fits-3
-    add-fits-3
-    (λ c κs. search needs)
-    (λ c. search needs)
-    returns
-    (λ c. search needs)
-    returns-2
-    (λ c. search needs)
-    returns-3
-    sub-left
-    add-left
-    sub-left-2
-    add-left-2
-    sub-left-3
-    add-left-3
-    mul-splice-words
-    add-splice-words
-    mul-splice-words-2
-    add-splice-words-2
-    mul-splice-words-3
-    add-splice-words-3
-    mul-splice-words-4
-    add-splice-words-4
-    mul-splice-words-5
-    add-splice-words-5
-    splice-words-requires
-    add-words
-    cast-words
-    (λ c. search needs)
-    splice-bytes-requires
-    (λ c. search needs)
-    (λ c. search needs)
-    returns-4)
+    (tie.spec size-between-requires size-between-requires-2 size-between-requires-3 size-between-requires-4
+    size-between-requires-5 sub-fits add-fits sub-fits-2 add-fits-2 sub-fits-3 add-fits-3 (λ c κs. search needs)
+    (λ c. search needs) returns (λ c. search needs) returns-2 (λ c. search needs) returns-3 sub-left add-left sub-left-2
+    add-left-2 sub-left-3 add-left-3 mul-splice-words add-splice-words mul-splice-words-2 add-splice-words-2
+    mul-splice-words-3 add-splice-words-3 mul-splice-words-4 add-splice-words-4 mul-splice-words-5 add-splice-words-5
+    splice-words-requires add-words cast-words (λ c. search needs) splice-bytes-requires (λ c. search needs)
+    (λ c. search needs) returns-4)

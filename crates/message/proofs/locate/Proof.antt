@@ -67,17 +67,5 @@ returns-4 c = rw (is-at (c .before .before .before .before .before), c .enum-tol
 pub locate-spec : {M : Type 1} → statement M
 locate-spec =
     tie.close
-    (tie.spec
-    (λ c κs. search needs)
-    returns
-    row-count-requires
-    end-of-requires
-    add-body
-    end-of-requires-2
-    add-trailer
-    (λ c. search needs)
-    returns-2
-    (λ c. search needs)
-    returns-3
-    (λ c. search needs)
-    returns-4)
+    (tie.spec (λ c κs. search needs) returns row-count-requires end-of-requires add-body end-of-requires-2 add-trailer
+    (λ c. search needs) returns-2 (λ c. search needs) returns-3 (λ c. search needs) returns-4)

@@ -57,22 +57,6 @@ returns-2 c = c .before .before .before .before .cut-rows2 .ensures ∙ put-last
 pub put-field-spec : {M : Type 1} → statement M
 put-field-spec =
     tie.close
-    (tie.spec
-    cast-t17
-    find-row-requires
-    add-t21
-    add-t22
-    add-t23
-    (λ c. search needs)
-    cut-rows-requires
-    (λ c. search needs)
-    (λ c. search needs)
-    returns
-    find-row-requires-2
-    run-end-requires
-    (λ c. search needs)
-    add-cut-rows
-    cut-rows-requires-2
-    (λ c. search needs)
-    (λ c. search needs)
-    returns-2)
+    (tie.spec cast-t17 find-row-requires add-t21 add-t22 add-t23 (λ c. search needs) cut-rows-requires
+    (λ c. search needs) (λ c. search needs) returns find-row-requires-2 run-end-requires (λ c. search needs)
+    add-cut-rows cut-rows-requires-2 (λ c. search needs) (λ c. search needs) returns-2)

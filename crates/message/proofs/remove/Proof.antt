@@ -86,27 +86,7 @@ returns-3 c = let f = c .before .before .before .before .before .before .before 
 pub remove-spec : {M : Type 1} → statement M
 remove-spec =
     tie.close
-    (tie.spec
-    (λ c κs. search needs)
-    (λ c. search needs)
-    (λ c. search needs)
-    (λ c. search needs)
-    (λ c. search needs)
-    returns
-    find-row-requires
-    (λ c. search needs)
-    (λ c. search needs)
-    returns-2
-    fields-in-requires
-    add-cut-rows
-    add-t25
-    add-t26
-    (λ c. search needs)
-    (λ c. search needs)
-    (λ c. search needs)
-    (λ c. search needs)
-    sub-cut-rows
-    cut-rows-requires
-    (λ c. search needs)
-    (λ c. search needs)
-    returns-3)
+    (tie.spec (λ c κs. search needs) (λ c. search needs) (λ c. search needs) (λ c. search needs) (λ c. search needs)
+    returns find-row-requires (λ c. search needs) (λ c. search needs) returns-2 fields-in-requires add-cut-rows add-t25
+    add-t26 (λ c. search needs) (λ c. search needs) (λ c. search needs) (λ c. search needs) sub-cut-rows
+    cut-rows-requires (λ c. search needs) (λ c. search needs) returns-3)

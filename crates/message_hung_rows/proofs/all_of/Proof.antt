@@ -38,13 +38,5 @@ returns-2 c = let l = c .before in sym (l .loop .inv .1 ∙ all-end _ _ _ (c .lo
 pub all-of-spec : {M : Type 1} → statement M
 all-of-spec =
     tie.close
-    (tie.spec
-    Inv-loop
-    μ-loop
-    loop-holds
-    is-of-requires
-    returns
-    (λ c. omega arith)
-    (λ c. omega arith)
-    loop-again
+    (tie.spec Inv-loop μ-loop loop-holds is-of-requires returns (λ c. omega arith) (λ c. omega arith) loop-again
     returns-2)

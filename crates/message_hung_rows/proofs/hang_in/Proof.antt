@@ -92,19 +92,6 @@ returns-2 c = done-at (c .before .before .before .before) ∙ sym (hang-some _ _
 pub hang-in-spec : {M : Type 1} → statement M
 hang-in-spec =
     tie.close
-    (tie.spec
-    row-count-requires
-    returns
-    tag-of-requires
-    extra-of-requires
-    all-of-requires
-    hung-place-requires
-    run-end-requires
-    fields-in-requires
-    fields-in-requires-2
-    sub-insert-run
-    add-insert-run
-    insert-run-requires
-    (λ c. search needs)
-    (λ c. search needs)
-    returns-2)
+    (tie.spec row-count-requires returns tag-of-requires extra-of-requires all-of-requires hung-place-requires
+    run-end-requires fields-in-requires fields-in-requires-2 sub-insert-run add-insert-run insert-run-requires
+    (λ c. search needs) (λ c. search needs) returns-2)

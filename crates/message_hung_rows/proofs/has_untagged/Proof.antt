@@ -37,13 +37,5 @@ returns-2 c = let l = c .before in sym (l .loop .inv .1 ∙ untagged-end _ _ _ (
 pub has-untagged-spec : {M : Type 1} → statement M
 has-untagged-spec =
     tie.close
-    (tie.spec
-    Inv-loop
-    μ-loop
-    loop-holds
-    is-untagged-requires
-    returns
-    (λ c. omega arith)
-    (λ c. omega arith)
-    loop-again
+    (tie.spec Inv-loop μ-loop loop-holds is-untagged-requires returns (λ c. omega arith) (λ c. omega arith) loop-again
     returns-2)

@@ -107,35 +107,9 @@ returns-5 c = refused-same _ _ _ _ _ _ _ _ _ _ _ TooManyFields (λ e. let z : _�
 pub insert-run-spec : {M : Type 1} → statement M
 insert-run-spec =
     tie.close
-    (tie.spec
-    row-count-requires
-    size-between-requires
-    mul-end
-    add-end
-    (λ c. search needs)
-    part-cut-rows-start
-    part-cut-rows-end
-    slice-aggregate-cut-rows
-    cut-rows-requires
-    (λ c. search needs)
-    add-raise-rows
-    raise-rows-requires
-    (λ c. search needs)
-    (λ c. search needs)
-    returns
-    (λ c. search needs)
-    (λ c. search needs)
-    (λ c. search needs)
-    returns-2
-    (λ c. search needs)
-    (λ c. search needs)
-    (λ c. search needs)
-    returns-3
-    (λ c. search needs)
-    (λ c. search needs)
-    (λ c. search needs)
-    returns-4
-    (λ c. search needs)
-    (λ c. search needs)
-    (λ c. search needs)
+    (tie.spec row-count-requires size-between-requires mul-end add-end (λ c. search needs) part-cut-rows-start
+    part-cut-rows-end slice-aggregate-cut-rows cut-rows-requires (λ c. search needs) add-raise-rows raise-rows-requires
+    (λ c. search needs) (λ c. search needs) returns (λ c. search needs) (λ c. search needs) (λ c. search needs)
+    returns-2 (λ c. search needs) (λ c. search needs) (λ c. search needs) returns-3 (λ c. search needs)
+    (λ c. search needs) (λ c. search needs) returns-4 (λ c. search needs) (λ c. search needs) (λ c. search needs)
     returns-5)

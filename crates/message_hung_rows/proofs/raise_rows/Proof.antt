@@ -68,18 +68,5 @@ returns c = let l = c .before in sym (l .loop .inv .3 ∙ raise-end _ _ _ (c .lo
 pub raise-rows-spec : {M : Type 1} → statement M
 raise-rows-spec =
     tie.close
-    (tie.spec
-    Inv-loop
-    μ-loop
-    loop-holds
-    level-of-requires
-    add-words
-    mul-words
-    add-words-2
-    mul-words-2
-    slice-write-words
-    (λ c. omega arith)
-    (λ c. omega arith)
-    loop-again
-    same-length
-    returns)
+    (tie.spec Inv-loop μ-loop loop-holds level-of-requires add-words mul-words add-words-2 mul-words-2 slice-write-words
+    (λ c. omega arith) (λ c. omega arith) loop-again same-length returns)

@@ -35,11 +35,4 @@ returns-5 c = rw (ne-eqb _ 0 (c .before .before .before .before .before .if1 .le
 pub field-allowed-spec : {M : Type 1} → statement M
 field-allowed-spec =
     tie.close
-    (tie.spec
-    returns
-    returns-2
-    (λ c κs. search needs)
-    returns-3
-    (λ c κs. search needs)
-    returns-4
-    returns-5)
+    (tie.spec returns returns-2 (λ c κs. search needs) returns-3 (λ c κs. search needs) returns-4 returns-5)

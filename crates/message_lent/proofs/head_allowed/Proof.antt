@@ -39,14 +39,5 @@ returns-6 c = rw (ne-eqb _ 0 (c .before .before .before .before .before .before 
 pub head-allowed-spec : {M : Type 1} → statement M
 head-allowed-spec =
     tie.close
-    (tie.spec
-    returns
-    returns-2
-    returns-3
-    (λ c κs. search needs)
-    (λ c κs. search needs)
-    returns-4
-    (λ c κs. search needs)
-    (λ c κs. search needs)
-    returns-5
-    returns-6)
+    (tie.spec returns returns-2 returns-3 (λ c κs. search needs) (λ c κs. search needs) returns-4 (λ c κs. search needs)
+    (λ c κs. search needs) returns-5 returns-6)

@@ -37,17 +37,5 @@ returns-3 c = sym (c .before .loop .inv .1 ∙ held-none _ _ _ _ _ (c .loop-test
 pub held-before-spec : {M : Type 1} → statement M
 held-before-spec =
     tie.close
-    (tie.spec
-    Inv-loop
-    μ-loop
-    loop-holds
-    (λ c. omega arith)
-    (λ c κs. omega arith)
-    returns
-    (λ c. omega arith)
-    (λ c κs. omega arith)
-    returns-2
-    (λ c. omega arith)
-    (λ c. omega arith)
-    loop-again
-    returns-3)
+    (tie.spec Inv-loop μ-loop loop-holds (λ c. omega arith) (λ c κs. omega arith) returns (λ c. omega arith)
+    (λ c κs. omega arith) returns-2 (λ c. omega arith) (λ c. omega arith) loop-again returns-3)

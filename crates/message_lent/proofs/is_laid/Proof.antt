@@ -36,12 +36,5 @@ returns-5 c = rw (eq-eqb _ _ (c .before .before .before .before .before .before 
 pub is-laid-spec : {M : Type 1} → statement M
 is-laid-spec =
     tie.close
-    (tie.spec
-    returns
-    returns-2
-    (λ c κs. search needs)
-    returns-3
-    (λ c κs. search needs)
-    returns-4
-    (λ c κs. search needs)
+    (tie.spec returns returns-2 (λ c κs. search needs) returns-3 (λ c κs. search needs) returns-4 (λ c κs. search needs)
     returns-5)

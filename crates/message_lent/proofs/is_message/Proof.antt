@@ -38,11 +38,5 @@ returns-3 c = rw (sym (c .before .before .before .before .before .is-laid .ensur
 pub is-message-spec : {M : Type 1} → statement M
 is-message-spec =
     tie.close
-    (tie.spec
-    (λ c κs. search needs)
-    returns
-    row-count-requires
-    has-parts-requires
-    returns-2
-    fields-in-requires
+    (tie.spec (λ c κs. search needs) returns row-count-requires has-parts-requires returns-2 fields-in-requires
     returns-3)

@@ -37,17 +37,5 @@ returns-3 c = sym (c .before .loop .inv .2 ∙ own-end _ _ _ (c .loop-test .left
 pub own-below-spec : {M : Type 1} → statement M
 own-below-spec =
     tie.close
-    (tie.spec
-    Inv-loop
-    μ-loop
-    (λ c κs. omega arith)
-    (λ c. omega arith)
-    loop-holds
-    (λ c κs. omega arith)
-    returns
-    (λ c κs. omega arith)
-    returns-2
-    (λ c. omega arith)
-    (λ c. omega arith)
-    loop-again
-    returns-3)
+    (tie.spec Inv-loop μ-loop (λ c κs. omega arith) (λ c. omega arith) loop-holds (λ c κs. omega arith) returns
+    (λ c κs. omega arith) returns-2 (λ c. omega arith) (λ c. omega arith) loop-again returns-3)

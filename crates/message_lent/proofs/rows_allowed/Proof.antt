@@ -36,13 +36,5 @@ returns-2 c = sym (c .before .loop .inv .1 ∙ allowed-end _ _ _ (c .loop-test .
 pub rows-allowed-spec : {M : Type 1} → statement M
 rows-allowed-spec =
     tie.close
-    (tie.spec
-    Inv-loop
-    μ-loop
-    loop-holds
-    (λ c κs. omega arith)
-    returns
-    (λ c. omega arith)
-    (λ c. omega arith)
-    loop-again
+    (tie.spec Inv-loop μ-loop loop-holds (λ c κs. omega arith) returns (λ c. omega arith) (λ c. omega arith) loop-again
     returns-2)

@@ -32,12 +32,5 @@ returns-4 c = (rw (ne-eqb _ 1 (λ e. c .before .before .before .before .if1 .lef
 pub weight-of-spec : {M : Type 1} → statement M
 weight-of-spec =
     tie.close
-    (tie.spec
-    (λ c κs. search needs)
-    returns
-    (λ c κs. search needs)
-    returns-2
-    (λ c. search needs)
-    (λ c κs. search needs)
-    returns-3
-    returns-4)
+    (tie.spec (λ c κs. search needs) returns (λ c κs. search needs) returns-2 (λ c. search needs) (λ c κs. search needs)
+    returns-3 returns-4)

@@ -40,14 +40,5 @@ returns-2 c = let l = c .before in sym (l .loop .inv .2 ∙ entry-end _ _ _ (c .
 pub entry-from-spec : {M : Type 1} → statement M
 entry-from-spec =
     tie.close
-    (tie.spec
-    Inv-loop
-    μ-loop
-    loop-holds
-    is-row-requires
-    returns
-    (λ c. omega arith)
-    (λ c. omega arith)
-    (λ c. omega arith)
-    loop-again
-    returns-2)
+    (tie.spec Inv-loop μ-loop loop-holds is-row-requires returns (λ c. omega arith) (λ c. omega arith)
+    (λ c. omega arith) loop-again returns-2)

@@ -33,12 +33,5 @@ returns-3 c = c .entry-from .ensures ∙ entry-open _ _ _ _ _ _ (told-at (c .bef
 pub entry-in-spec : {M : Type 1} → statement M
 entry-in-spec =
     tie.close
-    (tie.spec
-    (λ c κs. search needs)
-    (λ c. search needs)
-    returns
-    (λ c. search needs)
-    returns-2
-    (λ c. search needs)
-    entry-from-requires
-    returns-3)
+    (tie.spec (λ c κs. search needs) (λ c. search needs) returns (λ c. search needs) returns-2 (λ c. search needs)
+    entry-from-requires returns-3)

@@ -33,12 +33,5 @@ returns-3 c = c .value-from .ensures ∙ field-open _ _ _ _ _ (told-at (c .befor
 pub field-in-spec : {M : Type 1} → statement M
 field-in-spec =
     tie.close
-    (tie.spec
-    (λ c κs. search needs)
-    (λ c. search needs)
-    returns
-    (λ c. search needs)
-    returns-2
-    (λ c. search needs)
-    value-from-requires
-    returns-3)
+    (tie.spec (λ c κs. search needs) (λ c. search needs) returns (λ c. search needs) returns-2 (λ c. search needs)
+    value-from-requires returns-3)

@@ -66,15 +66,5 @@ returns-4 c = let k = c .before .before in
 pub open-map-spec : {M : Type 1} → statement M
 open-map-spec =
     tie.close
-    (tie.spec
-    (λ c κs. search needs)
-    returns
-    row-count-requires
-    returns-2
-    kind-of-requires
-    returns-3
-    level-of-requires
-    (λ c. search needs)
-    end-of-requires
-    add-t10
-    returns-4)
+    (tie.spec (λ c κs. search needs) returns row-count-requires returns-2 kind-of-requires returns-3 level-of-requires
+    (λ c. search needs) end-of-requires add-t10 returns-4)

@@ -51,16 +51,5 @@ returns-2 c = let l = c .before in unfold placeOf in rw (← c .before .before .
 pub value-from-spec : {M : Type 1} → statement M
 value-from-spec =
     tie.close
-    (tie.spec
-    Inv-loop
-    μ-loop
-    size-between-requires
-    loop-holds
-    size-of-requires
-    is-row-requires
-    returns
-    add-place
-    (λ c. omega arith)
-    (λ c. omega arith)
-    loop-again
-    returns-2)
+    (tie.spec Inv-loop μ-loop size-between-requires loop-holds size-of-requires is-row-requires returns add-place
+    (λ c. omega arith) (λ c. omega arith) loop-again returns-2)

@@ -33,13 +33,5 @@ returns c = omega (arith, c .before .loop .inv .2, sizes-end (c .before .before 
 pub size-between-spec : {M : Type 1} → statement M
 size-between-spec =
     tie.close
-    (tie.spec
-    Inv-loop
-    μ-loop
-    loop-holds
-    (λ c κs. omega arith)
-    add-size
-    (λ c. omega arith)
-    (λ c. omega arith)
-    loop-again
+    (tie.spec Inv-loop μ-loop loop-holds (λ c κs. omega arith) add-size (λ c. omega arith) (λ c. omega arith) loop-again
     returns)

@@ -22,13 +22,5 @@ returns c = let x = c .before .before .before in let a5 = x .before .before .bef
 pub splice-bytes-spec : {M : Type 1} → statement M
 splice-bytes-spec =
     tie.close
-    (tie.spec
-    (λ c. search needs)
-    (λ c κs. search needs)
-    (λ c κs. search needs)
-    (λ c κs. search needs)
-    (λ c κs. search needs)
-    (λ c κs. search needs)
-    copy-requires
-    (λ c. search needs)
-    returns)
+    (tie.spec (λ c. search needs) (λ c κs. search needs) (λ c κs. search needs) (λ c κs. search needs)
+    (λ c κs. search needs) (λ c κs. search needs) copy-requires (λ c. search needs) returns)

@@ -51,18 +51,6 @@ returns-2 c = c .before .before .before .before .cut-rows .ensures
 pub add-entry-spec : {M : Type 1} → statement M
 add-entry-spec =
     tie.close
-    (tie.spec
-    (λ c κs. search needs)
-    (λ c. search needs)
-    (λ c. search needs)
-    returns
-    row-count-requires
-    fields-in-requires
-    (λ c. search needs)
-    (λ c. search needs)
-    (λ c. search needs)
-    add-cut-rows
-    cut-rows-requires
-    (λ c. search needs)
-    (λ c. search needs)
-    returns-2)
+    (tie.spec (λ c κs. search needs) (λ c. search needs) (λ c. search needs) returns row-count-requires
+    fields-in-requires (λ c. search needs) (λ c. search needs) (λ c. search needs) add-cut-rows cut-rows-requires
+    (λ c. search needs) (λ c. search needs) returns-2)

@@ -67,24 +67,7 @@ returns-4 c = let k = c .before .before .before .before .before .before .before 
 pub hang-spec : {M : Type 1} → statement M
 hang-spec =
     tie.close
-    (tie.spec
-    (λ c κs. search needs)
-    (λ c. search needs)
-    (λ c. search needs)
-    (λ c. search needs)
-    (λ c. search needs)
-    returns
-    (λ c κs. search needs)
-    (λ c. search needs)
-    (λ c. search needs)
-    returns-2
-    row-count-requires
-    has-untagged-requires
-    (λ c. search needs)
-    (λ c. search needs)
-    returns-3
-    fields-in-requires
-    hang-in-requires
-    (λ c. search needs)
-    (λ c. search needs)
-    returns-4)
+    (tie.spec (λ c κs. search needs) (λ c. search needs) (λ c. search needs) (λ c. search needs) (λ c. search needs)
+    returns (λ c κs. search needs) (λ c. search needs) (λ c. search needs) returns-2 row-count-requires
+    has-untagged-requires (λ c. search needs) (λ c. search needs) returns-3 fields-in-requires hang-in-requires
+    (λ c. search needs) (λ c. search needs) returns-4)

@@ -78,27 +78,7 @@ returns-5 c = let e = entry-at (c .before .before .before .before .before .befor
 pub hang-last-spec : {M : Type 1} → statement M
 hang-last-spec =
     tie.close
-    (tie.spec
-    (λ c κs. search needs)
-    (λ c. search needs)
-    (λ c. search needs)
-    returns
-    (λ c κs. search needs)
-    (λ c. search needs)
-    (λ c. search needs)
-    returns-2
-    row-count-requires
-    has-untagged-requires
-    (λ c. search needs)
-    (λ c. search needs)
-    returns-3
-    row-count-requires-2
-    last-start-requires
-    (λ c. search needs)
-    (λ c. search needs)
-    returns-4
-    fields-in-requires
-    hang-in-requires
-    (λ c. search needs)
-    (λ c. search needs)
-    returns-5)
+    (tie.spec (λ c κs. search needs) (λ c. search needs) (λ c. search needs) returns (λ c κs. search needs)
+    (λ c. search needs) (λ c. search needs) returns-2 row-count-requires has-untagged-requires (λ c. search needs)
+    (λ c. search needs) returns-3 row-count-requires-2 last-start-requires (λ c. search needs) (λ c. search needs)
+    returns-4 fields-in-requires hang-in-requires (λ c. search needs) (λ c. search needs) returns-5)

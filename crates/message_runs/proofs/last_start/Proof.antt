@@ -40,13 +40,5 @@ returns c = let l = c .before in sym (l .loop .inv .1 ∙ last-end _ _ _ (c .loo
 pub last-start-spec : {M : Type 1} → statement M
 last-start-spec =
     tie.close
-    (tie.spec
-    Inv-loop
-    μ-loop
-    loop-holds
-    level-of-requires
-    add-start
-    (λ c. omega arith)
-    (λ c. omega arith)
-    loop-again
+    (tie.spec Inv-loop μ-loop loop-holds level-of-requires add-start (λ c. omega arith) (λ c. omega arith) loop-again
     returns)

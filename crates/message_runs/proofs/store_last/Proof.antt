@@ -82,27 +82,7 @@ returns-5 c = let e = entry-at (c .before .before .before .before .before .befor
 pub store-last-spec : {M : Type 1} → statement M
 store-last-spec =
     tie.close
-    (tie.spec
-    (λ c κs. search needs)
-    (λ c. search needs)
-    (λ c. search needs)
-    returns
-    (λ c. search needs)
-    (λ c. search needs)
-    returns-2
-    row-count-requires
-    last-start-requires
-    (λ c. search needs)
-    (λ c. search needs)
-    returns-3
-    (λ c. search needs)
-    (λ c. search needs)
-    returns-4
-    (λ c. search needs)
-    fields-in-requires
-    fields-in-requires-2
-    add-put-field
-    put-field-requires
-    (λ c. search needs)
-    (λ c. search needs)
-    returns-5)
+    (tie.spec (λ c κs. search needs) (λ c. search needs) (λ c. search needs) returns (λ c. search needs)
+    (λ c. search needs) returns-2 row-count-requires last-start-requires (λ c. search needs) (λ c. search needs)
+    returns-3 (λ c. search needs) (λ c. search needs) returns-4 (λ c. search needs) fields-in-requires
+    fields-in-requires-2 add-put-field put-field-requires (λ c. search needs) (λ c. search needs) returns-5)

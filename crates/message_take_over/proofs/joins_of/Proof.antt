@@ -33,19 +33,6 @@ returns-8 c = let k = c .before .before .before .before .before .before .before 
 pub joins-of-spec : {M : Type 1} → statement M
 joins-of-spec =
     tie.close
-    (tie.spec
-    returns
-    returns-2
-    (λ c κs. search needs)
-    (λ c. search needs)
-    (λ c. search needs)
-    returns-3
-    returns-4
-    (λ c κs. search needs)
-    returns-5
-    (λ c κs. search needs)
-    (λ c κs. search needs)
-    (λ c. search needs)
-    returns-6
-    returns-7
-    returns-8)
+    (tie.spec returns returns-2 (λ c κs. search needs) (λ c. search needs) (λ c. search needs) returns-3 returns-4
+    (λ c κs. search needs) returns-5 (λ c κs. search needs) (λ c κs. search needs) (λ c. search needs) returns-6
+    returns-7 returns-8)

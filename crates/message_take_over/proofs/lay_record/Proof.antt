@@ -41,20 +41,6 @@ returns-5 c = let next = next-joined _ _ _ _ _ (c .before .before .before .befor
 pub lay-record-spec : {M : Type 1} → statement M
 lay-record-spec =
     tie.close
-    (tie.spec
-    (λ c κs. search needs)
-    returns
-    returns-2
-    has-room-requires
-    returns-3
-    (λ c κs. search needs)
-    (λ c κs. search needs)
-    returns-4
-    lay-rows-requires
-    (λ c κs. search needs)
-    (λ c κs. search needs)
-    (λ c. omega arith)
-    put-bytes-requires
-    same-length
-    same-length-2
-    returns-5)
+    (tie.spec (λ c κs. search needs) returns returns-2 has-room-requires returns-3 (λ c κs. search needs)
+    (λ c κs. search needs) returns-4 lay-rows-requires (λ c κs. search needs) (λ c κs. search needs) (λ c. omega arith)
+    put-bytes-requires same-length same-length-2 returns-5)

@@ -60,23 +60,6 @@ returns-2 c = let l = c .before .before .before .before .before in let start = l
 pub lay-records-spec : {M : Type 1} → statement M
 lay-records-spec =
     tie.close
-    (tie.spec
-    Inv-loop
-    μ-loop
-    put-row-requires
-    loop-holds
-    lay-record-requires
-    (λ c. search needs)
-    (λ c. search needs)
-    same-length
-    same-length-2
-    returns
-    (λ c. omega arith)
-    (λ c. omega arith)
-    loop-again
-    open-parts-requires
-    cast-words
-    slice-write-words
-    same-length-3
-    same-length-4
-    returns-2)
+    (tie.spec Inv-loop μ-loop put-row-requires loop-holds lay-record-requires (λ c. search needs) (λ c. search needs)
+    same-length same-length-2 returns (λ c. omega arith) (λ c. omega arith) loop-again open-parts-requires cast-words
+    slice-write-words same-length-3 same-length-4 returns-2)

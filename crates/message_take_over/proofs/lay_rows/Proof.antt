@@ -39,18 +39,6 @@ returns-3 c = lays-nowhere _ _ _ (c .enum-told2 .given .1) (c .before .before .b
 pub lay-rows-spec : {M : Type 1} → statement M
 lay-rows-spec =
     tie.close
-    (tie.spec
-    open-parts-requires
-    (λ c. omega arith)
-    (λ c. search needs)
-    put-row-requires
-    same-length
-    returns
-    (λ c. search needs)
-    put-row-requires-2
-    put-row-requires-3
-    same-length-2
-    returns-2
-    (λ c. search needs)
-    same-length-3
+    (tie.spec open-parts-requires (λ c. omega arith) (λ c. search needs) put-row-requires same-length returns
+    (λ c. search needs) put-row-requires-2 put-row-requires-3 same-length-2 returns-2 (λ c. search needs) same-length-3
     returns-3)

@@ -38,14 +38,5 @@ returns-2 c = sym (c .before .loop .inv .1 ∙ nearest-none _ _ _ (c .loop-test 
 pub nearest-before-spec : {M : Type 1} → statement M
 nearest-before-spec =
     tie.close
-    (tie.spec
-    Inv-loop
-    μ-loop
-    loop-holds
-    (λ c. omega arith)
-    (λ c κs. search needs)
-    returns
-    (λ c. omega arith)
-    (λ c. omega arith)
-    loop-again
-    returns-2)
+    (tie.spec Inv-loop μ-loop loop-holds (λ c. omega arith) (λ c κs. search needs) returns (λ c. omega arith)
+    (λ c. omega arith) loop-again returns-2)

@@ -37,13 +37,5 @@ returns c = let l = c .before in
 pub open-parts-spec : {M : Type 1} → statement M
 open-parts-spec =
     tie.close
-    (tie.spec
-    Inv-loop
-    μ-loop
-    loop-holds
-    (λ c. omega arith)
-    put-row-requires
-    (λ c. omega arith)
-    loop-again
-    same-length
+    (tie.spec Inv-loop μ-loop loop-holds (λ c. omega arith) put-row-requires (λ c. omega arith) loop-again same-length
     returns)

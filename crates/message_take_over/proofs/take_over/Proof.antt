@@ -30,19 +30,6 @@ returns-7 c = sym (take-made _ _ _ _ _ (c .before .before .before .before .befor
 pub take-over-spec : {M : Type 1} → statement M
 take-over-spec =
     tie.close
-    (tie.spec
-    returns
-    returns-2
-    returns-3
-    returns-4
-    (λ c. search needs)
-    (λ c. search needs)
-    (λ c κs. search needs)
-    returns-5
-    (λ c κs. search needs)
-    returns-6
-    (λ c κs. search needs)
-    (λ c κs. search needs)
-    (λ c. search needs)
-    (λ c. search needs)
-    returns-7)
+    (tie.spec returns returns-2 returns-3 returns-4 (λ c. search needs) (λ c. search needs) (λ c κs. search needs)
+    returns-5 (λ c κs. search needs) returns-6 (λ c κs. search needs) (λ c κs. search needs) (λ c. search needs)
+    (λ c. search needs) returns-7)

@@ -14,14 +14,5 @@ slice-aggregate-call-2 c = simp length-take (omega arith)
 pub in-hand-spec : {M : Type 1} → statement M
 in-hand-spec =
     tie.close
-    (tie.spec
-    (λ c. search needs)
-    slice-aggregate-call
-    (λ c. search needs)
-    slice-aggregate-call-2
-    (λ c κs. search needs)
-    (λ c. search needs)
-    (λ c. search needs)
-    (λ c. search needs)
-    (λ c. search needs)
-    (λ c. search needs))
+    (tie.spec (λ c. search needs) slice-aggregate-call (λ c. search needs) slice-aggregate-call-2 (λ c κs. search needs)
+    (λ c. search needs) (λ c. search needs) (λ c. search needs) (λ c. search needs) (λ c. search needs))

@@ -22,15 +22,5 @@ loop-again c = (simp length-set (omega arith), simp length-set (c .before .befor
 pub bars-to-separators-spec : {M : Type 1} → statement M
 bars-to-separators-spec =
     tie.close
-    (tie.spec
-    Inv-loop
-    μ-loop
-    (λ c. search needs)
-    (λ c. search needs)
-    (λ c κs. search needs)
-    (λ c. search needs)
-    (λ c. search needs)
-    loop-less
-    loop-again
-    (λ c. search needs)
-    (λ c. search needs))
+    (tie.spec Inv-loop μ-loop (λ c. search needs) (λ c. search needs) (λ c κs. search needs) (λ c. search needs)
+    (λ c. search needs) loop-less loop-again (λ c. search needs) (λ c. search needs))

@@ -11,14 +11,5 @@ slice-aggregate-fields c = simp length-take (omega (arith, c .before .before .be
 pub main-spec : {M : Type 1} → statement M
 main-spec =
     tie.close
-    (tie.spec
-    (λ c. search needs)
-    (λ c κs. search needs)
-    (λ c. search needs)
-    (λ c κs. search needs)
-    (λ c. search needs)
-    (λ c κs. search needs)
-    (λ c. search needs)
-    slice-aggregate-fields
-    (λ c κs. search needs)
-    (λ c. search needs))
+    (tie.spec (λ c. search needs) (λ c κs. search needs) (λ c. search needs) (λ c κs. search needs) (λ c. search needs)
+    (λ c κs. search needs) (λ c. search needs) slice-aggregate-fields (λ c κs. search needs) (λ c. search needs))

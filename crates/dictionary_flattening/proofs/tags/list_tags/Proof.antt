@@ -152,36 +152,7 @@ returns-4 c = sym (c .before .before .before .before .before .loop .inv .3 ∙ t
 pub list-tags-spec : {M : Type 1} → statement M
 list-tags-spec =
     tie.close
-    (tie.spec
-    Inv-loop
-    μ-loop
-    loop-holds
-    record-at-requires
-    enum-known-record
-    same-length
-    returns
-    (λ c. search needs)
-    (λ c. search needs)
-    returns-2
-    mul-tags
-    slice-write-tags
-    add-count
-    loop-less
-    loop-again
-    loop-less-2
-    loop-again-2
-    enum-told
-    loop-less-3
-    loop-again-3
-    enum-told-2
-    add-groups
-    loop-less-4
-    loop-again-4
-    enum-told-3
-    same-length-3
-    returns-3
-    sub-groups
-    loop-less-5
-    loop-again-5
-    same-length-4
-    returns-4)
+    (tie.spec Inv-loop μ-loop loop-holds record-at-requires enum-known-record same-length returns (λ c. search needs)
+    (λ c. search needs) returns-2 mul-tags slice-write-tags add-count loop-less loop-again loop-less-2 loop-again-2
+    enum-told loop-less-3 loop-again-3 enum-told-2 add-groups loop-less-4 loop-again-4 enum-told-3 same-length-3
+    returns-3 sub-groups loop-less-5 loop-again-5 same-length-4 returns-4)

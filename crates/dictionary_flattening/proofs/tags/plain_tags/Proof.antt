@@ -43,12 +43,5 @@ returns-2 c = let k = c .before .before in
 pub plain-tags-spec : {M : Type 1} → statement M
 plain-tags-spec =
     tie.close
-    (tie.spec
-    component-of-requires
-    enum-known-component
-    enum-told
-    returns
-    wide-requires
-    add-list-tags
-    list-tags-requires
-    returns-2)
+    (tie.spec component-of-requires enum-known-component enum-told returns wide-requires add-list-tags
+    list-tags-requires returns-2)
