@@ -26,6 +26,16 @@ numberOfEncoding TooLong = 20
 numberOfEncoding TooManyFields = 21
 numberOfEncoding NoRoom = 23
 
+-- the length that an encoding returns, 0 where it is refused
+unfoldable pub lengthOfEncoding : Encoding → ℕ
+lengthOfEncoding (Written length) = length
+lengthOfEncoding NoMessage = 0
+lengthOfEncoding InvalidSeparator = 0
+lengthOfEncoding Incomplete = 0
+lengthOfEncoding TooLong = 0
+lengthOfEncoding TooManyFields = 0
+lengthOfEncoding NoRoom = 0
+
 -- "a run without its count field": what is left of a map has an entry whose start tag the map lacks, or an entry has one in its own map
 unfoldable pub lacksCount : Map → Map → Bool
 lacksCount map end = false

@@ -7,9 +7,7 @@ use Rattle.field_rules.specs.Choice.{pick}
 use Rattle.message_rules.specs.declared.Part.{Part}
 use Rattle.message_rules.specs.declared.Part.the-variants.{Header, Body, Trailer}
 use Rattle.message_rules.specs.Changes.{After, after, numberOfChange}
-use Rattle.encode_rules.specs.declared.Encoding.{Encoding}
-use Rattle.encode_rules.specs.declared.Encoding.the-variants.{Written, NoMessage, InvalidSeparator, Incomplete, TooLong, TooManyFields, NoRoom}
-use Rattle.encode_rules.specs.Encode.{Left, left, numberOfEncoding}
+use Rattle.encode_rules.specs.Encode.{Left, left, numberOfEncoding, lengthOfEncoding}
 use Rattle.message_rules.specs.declared.FoundValue.{FoundValue}
 use Rattle.message_rules.specs.declared.FoundValue.the-variants as value
 use Rattle.message_rules.specs.declared.FoundMap.{FoundMap}
@@ -47,16 +45,6 @@ unfoldable pub takenValues : AfterTaking → List ℕ
 takenValues (afterTaking taken words values) = values
 
 -- ===== an encoding: its number and length, and what it leaves =====
-
--- the length that an encoding returns, 0 where it is refused
-unfoldable pub lengthOfEncoding : Encoding → ℕ
-lengthOfEncoding (Written length) = length
-lengthOfEncoding NoMessage = 0
-lengthOfEncoding InvalidSeparator = 0
-lengthOfEncoding Incomplete = 0
-lengthOfEncoding TooLong = 0
-lengthOfEncoding TooManyFields = 0
-lengthOfEncoding NoRoom = 0
 
 unfoldable pub encodingNumber : Left → ℕ
 encodingNumber (left encoding words values output) = numberOfEncoding encoding

@@ -6,18 +6,17 @@ use message_rules::Change;
 use message_rules::FoundMap;
 use message_rules::FoundValue;
 use message_rules::Part;
-use message_take_over::Taken;
 ghost use mathlib.Core.Path.{_≡_};
 ghost use Prim.Native.Nat.{_*_, _%_, _^_, _≤_};
 ghost use lib.ListN.{take, replicate};
 ghost use Rattle.message_rules.specs.Changes.{numberOfChange};
-ghost use Rattle.encode_rules.specs.Encode.{numberOfEncoding};
-ghost use Rattle.message_take_over.specs.Taking.{numberOfTaken, takingOver};
+ghost use Rattle.encode_rules.specs.Encode.{numberOfEncoding, lengthOfEncoding};
+ghost use Rattle.message_take_over.specs.Taking.{takingOver};
 ghost use Rattle.build_records.specs.Records.{onRecords, replaced, recordWords, stride};
 ghost use Rattle.message_rules.specs.LookUps.{numberOfValue, numberOfMap};
 ghost use Rattle.builder.specs.Build.{buildOf};
 ghost use Rattle.build_config.specs.Settings.{configOf};
-ghost use Rattle.face_messages.specs.Told.{told, partNumbered, lengthOfEncoding, toldMap, toldValue, takingNumber, takenWords, takenValues};
+ghost use Rattle.face_messages.specs.Told.{told, partNumbered, toldMap, toldValue, takingNumber, takenWords, takenValues};
 ghost use Rattle.face_messages.specs.Lent.{fieldRecordAt, shownOf, toldOf, recordOfLent, readCount};
 
 // A record as it is lent: twelve bytes. Depth and entry are 0 outside groups, else they start from 1.
@@ -173,7 +172,8 @@ pub fn take_over(
     tell(out, 0, 0, 0);
     let end = build_records::STRIDE * read;
     let records = &laid[..];
-    taken_number(message_take_over::take_over(&records[..end], count, message, words, values))
+    let taken = message_take_over::take_over(&records[..end], count, message, words, values);
+    message_answers::taken_number(taken)
 }
 
 // A part by its number; every number other than 1 and 2 is the trailer.
@@ -189,69 +189,20 @@ pub fn part_numbered(number: u8) -> Part
     Part::Trailer
 }
 
-fn change_number(change: Change) -> u32
-    ensures { λ r. ⌜ r ≡ numberOfChange change ⌝ }
-{
-    match change {
-        Change::Made => 0,
-        Change::NoMessage => 27,
-        Change::NotStorable => 41,
-        Change::NoRun => 42,
-        Change::TooManyFields => 21,
-    }
-}
-
-fn taken_number(taken: Taken) -> u32
-    ensures { λ r. ⌜ r ≡ numberOfTaken taken ⌝ }
-{
-    match taken {
-        Taken::Made => 0,
-        Taken::NoMessage => 27,
-    }
-}
-
-fn encoding_number(encoding: Encoding) -> u32
-    ensures { λ r. ⌜ r ≡ numberOfEncoding encoding ⌝ }
-{
-    match encoding {
-        Encoding::Written(_) => 0,
-        Encoding::NoMessage => 27,
-        Encoding::InvalidSeparator => 22,
-        Encoding::Incomplete => 43,
-        Encoding::TooLong => 20,
-        Encoding::TooManyFields => 21,
-        Encoding::NoRoom => 23,
-    }
-}
-
-fn encoding_length(encoding: Encoding) -> usize
-    ensures { λ r. ⌜ r ≡ lengthOfEncoding encoding ⌝ }
-{
-    match encoding {
-        Encoding::Written(length) => length,
-        Encoding::NoMessage => 0,
-        Encoding::InvalidSeparator => 0,
-        Encoding::Incomplete => 0,
-        Encoding::TooLong => 0,
-        Encoding::TooManyFields => 0,
-        Encoding::NoRoom => 0,
-    }
-}
-
 // A change of a message: its number.
 pub fn tell_change(out: &mut [u32; 4], change: Change) -> u32
     ensures { λ r. ⌜ (r ≡ numberOfChange change) × (now (out .exit) ≡ told 0 (0, 0)) ⌝ }
 {
     tell(out, 0, 0, 0);
-    change_number(change)
+    message_answers::change_number(change)
 }
 
 // An encoding: its number, and its length as the first value.
 pub fn tell_encoding(out: &mut [u32; 4], encoding: Encoding) -> u32
     ensures { λ r. ⌜ (r ≡ numberOfEncoding encoding) × (now (out .exit) ≡ told 0 (lengthOfEncoding encoding, 0)) ⌝ }
 {
-    tell(out, 0, encoding_length(encoding), 0);
-    encoding_number(encoding)
+    tell(out, 0, message_answers::encoding_length(encoding), 0);
+    message_answers::encoding_number(encoding)
 }
 
 // A map that was looked up: its number, how many were found, and its row as the first value.

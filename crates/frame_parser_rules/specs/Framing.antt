@@ -1,5 +1,5 @@
 -- THE FRAMING. A stream of whole messages of the standard of at most 8,192 bytes each, cut anyhow into chunks of at most 8,192 bytes,
--- all that is ready being taken after each, comes out message by message, in order, none lost, and 25 never occurs: `face_framers` while the
+-- all that is ready being taken after each, comes out message by message, in order, none lost, and 25 never occurs: `framing` while the
 -- stream goes on, `framing-whole` when it has arrived, and `framing-goes-on` that the calling rule can always be kept.
 use mathlib.Core.Path.{_≡_, refl, sym, ap, _∙_, subst}
 use mathlib.Core.Logic.{_⊎_, inl, inr, ⊎-elim}

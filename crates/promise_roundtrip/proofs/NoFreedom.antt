@@ -81,6 +81,14 @@ use Rattle.message_runs.proofs.hang.Reads as of-message-runs-hang
 use Rattle.message_runs.proofs.hang.Kinds as in-message-runs-hang
 use Rattle.message_take_over.proofs.take_over.Reads as of-message-take-over-take-over
 use Rattle.message_take_over.proofs.take_over.Kinds as in-message-take-over-take-over
+use Rattle.message_answers.proofs.change_number.Reads as of-message-answers-change-number
+use Rattle.message_answers.proofs.change_number.Kinds as in-message-answers-change-number
+use Rattle.message_answers.proofs.taken_number.Reads as of-message-answers-taken-number
+use Rattle.message_answers.proofs.taken_number.Kinds as in-message-answers-taken-number
+use Rattle.message_answers.proofs.encoding_number.Reads as of-message-answers-encoding-number
+use Rattle.message_answers.proofs.encoding_number.Kinds as in-message-answers-encoding-number
+use Rattle.message_answers.proofs.encoding_length.Reads as of-message-answers-encoding-length
+use Rattle.message_answers.proofs.encoding_length.Kinds as in-message-answers-encoding-length
 use Rattle.encoder.proofs.encode.Reads as of-encoder-encode
 use Rattle.encoder.proofs.encode.Kinds as in-encoder-encode
 use Rattle.frame_parser.proofs.push.Reads as of-frame-parser-push
@@ -222,6 +230,18 @@ message-runs-hang κs a x y left other p q = let e = same p q in (cc, cc, cc)
 
 pub message-take-over-take-over : NoFreedom 4 in-message-take-over-take-over.ps in-message-take-over-take-over.r of-message-take-over-take-over.Post (λ κs x y left other. (x ≡ y) × (now (left .1 .1 .1 .0) ≡ now (other .1 .1 .1 .0)) × (now (left .1 .1 .1 .1 .0) ≡ now (other .1 .1 .1 .1 .0)))
 message-take-over-take-over κs a x y left other p q = let e = same p q in (cc, cc, cc)
+
+pub message-answers-change-number : NoFreedom 0 in-message-answers-change-number.ps in-message-answers-change-number.r of-message-answers-change-number.Post (λ κs x y left other. x ≡ y)
+message-answers-change-number κs a x y left other p q = same p q
+
+pub message-answers-taken-number : NoFreedom 0 in-message-answers-taken-number.ps in-message-answers-taken-number.r of-message-answers-taken-number.Post (λ κs x y left other. x ≡ y)
+message-answers-taken-number κs a x y left other p q = same p q
+
+pub message-answers-encoding-number : NoFreedom 0 in-message-answers-encoding-number.ps in-message-answers-encoding-number.r of-message-answers-encoding-number.Post (λ κs x y left other. x ≡ y)
+message-answers-encoding-number κs a x y left other p q = same p q
+
+pub message-answers-encoding-length : NoFreedom 0 in-message-answers-encoding-length.ps in-message-answers-encoding-length.r of-message-answers-encoding-length.Post (λ κs x y left other. x ≡ y)
+message-answers-encoding-length κs a x y left other p q = same p q
 
 pub encoder-encode : NoFreedom 3 in-encoder-encode.ps in-encoder-encode.r of-encoder-encode.Post (λ κs x y left other. (x ≡ y) × (now (left .0) ≡ now (other .0)) × (now (left .1 .0) ≡ now (other .1 .0)) × (now (left .1 .1 .0) ≡ now (other .1 .1 .0)))
 encoder-encode κs a x y left other p q = let e = same p q in (cc, cc, cc, cc)

@@ -1,139 +1,111 @@
-// Reads one field from each of a few texts and writes what was read. Its file `stdout` was written from the rules.
+// sample_fields: reads fields and numbers at the edges of stage one, and writes what was read. The lines of `stdout` were written from the rules.
+// Its script (see sample_kit) has these words:
+//   f4,1:8=a|35=D|   the field at a place of these bytes, with that byte as separator
+//   n0005  s163      what a text is worth as a number; as a CheckSum
+//   +8=F|            the sum of these bytes
+//   d7               the digits of a CheckSum
+//   w8192,3          the digits of a number, from a place on of an output of twelve dots
 use field_rules::Cause;
 use field_rules::FieldRead;
 use field_rules::Number;
 use field_rules::Written;
+use sample_kit::messages;
+use sample_kit::saying;
+use sample_kit::scripts;
+use sample_kit::texts;
 
-fn wide(n: u32) -> u64 {
-    n as u64
+fn read(text: &[u8]) -> FieldRead {
+    let mut message = [0u8; 100];
+    let numbers = texts::before(text, b':');
+    let place = texts::number_at(numbers, b',', 0) as usize;
+    let separator = (texts::number_at(numbers, b',', 1) % 256) as u8;
+    let size = messages::spell(&mut message, 0, texts::behind(text, b':'), separator);
+    let mode = field_tagvalue::separated_by(separator);
+    let cursor = field_tagvalue::start_at(place);
+    field_tagvalue::next_field(cursor, texts::first(&message, size), mode)
 }
 
-fn number(label: &[u8], n: usize) {
-    io::write_all(1, label);
-    io::print_decimal(1, n as u64);
-}
-
-// The field at a place of a message, in one line.
-fn field(name: &[u8], message: &[u8], at: usize, separator: u8) {
-    io::write_all(1, name);
-    let cursor = field_tagvalue::start_at(at);
-    match field_tagvalue::next_field(cursor, message, field_tagvalue::separated_by(separator)) {
-        FieldRead::Read(f) => {
-            io::write_all(1, b"  tag ");
-            io::print_decimal(1, wide(f.tag));
-            number(b", from ", f.first);
-            number(b", value at ", f.place);
-            number(b" of length ", f.length);
-            let next = f.next;
-            number(b", next at ", next.at);
+fn field(read: FieldRead) {
+    match read {
+        FieldRead::Read(field) => {
+            saying::marked(b"  tag ", field.tag as u64);
+            saying::marked(b", from ", field.first as u64);
+            saying::marked(b", value at ", field.place as u64);
+            saying::marked(b" of length ", field.length as u64);
+            let next = field.next;
+            saying::marked(b", next at ", next.at as u64);
         }
         FieldRead::Unreadable(cause, place) => {
             match cause {
-                Cause::NoEquals => {
-                    io::write_all(1, b"  no equals");
-                }
-                Cause::NoSeparator => {
-                    io::write_all(1, b"  no separator");
-                }
-                Cause::BadTag => {
-                    io::write_all(1, b"  bad tag");
-                }
+                Cause::NoEquals => saying::say(b"  no equals"),
+                Cause::NoSeparator => saying::say(b"  no separator"),
+                Cause::BadTag => saying::say(b"  bad tag"),
             }
-            number(b" at ", place);
+            saying::marked(b" at ", place as u64);
         }
     }
-    io::write_all(1, b"\n");
 }
 
-fn worth(name: &[u8], n: Number) {
-    io::write_all(1, name);
-    match n {
-        Number::Worth(w) => {
-            io::write_all(1, b"  ");
-            io::print_decimal(1, wide(w));
-        }
-        Number::NoNumber => {
-            io::write_all(1, b"  no number");
-        }
+fn worth(number: Number) {
+    match number {
+        Number::Worth(n) => saying::marked(b"  ", n as u64),
+        Number::NoNumber => saying::say(b"  no number"),
     }
-    io::write_all(1, b"\n");
 }
 
-// The digits of n from a place on of an output of twelve dots.
-fn written(n: u32, at: usize) {
-    let mut output = [46u8; 12];
-    io::print_decimal(1, wide(n));
-    match field_tagvalue::write_number(&mut output, at, n) {
-        Written::Next(next) => {
-            number(b"  next at ", next);
-        }
-        Written::NoRoom => {
-            io::write_all(1, b"  no room");
-        }
+fn sum(text: &[u8]) {
+    let mut bytes = [0u8; 100];
+    let size = messages::spell(&mut bytes, 0, text, 1);
+    saying::marked(
+        b"  ",
+        field_tagvalue::sum_of(texts::first(&bytes, size)) as u64,
+    );
+}
+
+fn digits(n: u32) {
+    let digits = field_tagvalue::checksum_digits((n % 256) as u8);
+    saying::say(b"  ");
+    saying::say(&digits);
+}
+
+fn written(n: u32, place: usize) {
+    let mut output = [b'.'; 12];
+    match field_tagvalue::write_number(&mut output, place, n) {
+        Written::Next(next) => saying::marked(b"  next at ", next as u64),
+        Written::NoRoom => saying::say(b"  no room"),
     }
-    number(b", digits ", field_tagvalue::digit_count(n));
-    io::write_all(1, b"  ");
-    io::write_all(1, &output);
-    io::write_all(1, b"\n");
+    saying::marked(b", digits ", field_tagvalue::digit_count(n) as u64);
+    saying::say(b"  ");
+    saying::say(&output);
 }
 
-fn fields() {
-    field(b"4294967295=x|", b"4294967295=x\x01", 0, 1);
-    field(b"4294967296=x|", b"4294967296=x\x01", 0, 1);
-    field(b"0=x|", b"0=x\x01", 0, 1);
-    field(b"=x|", b"=x\x01", 0, 1);
-    field(b"1a=x|", b"1a=x\x01", 0, 1);
-    field(b"1=x", b"1=x", 0, 1);
-    field(b"1a=x", b"1a=x", 0, 1);
-    field(b"1", b"1", 0, 1);
-    field(b"0035=x|", b"0035=x\x01", 0, 1);
-    field(
-        b"0000000000000000000035=x|",
-        b"0000000000000000000035=x\x01",
-        0,
-        1,
-    );
-    field(b"58=|", b"58=\x01", 0, 1);
-    field(b"58=a=b|", b"58=a=b\x01", 0, 1);
-    field(b"8=a|35=D| at 4", b"8=a\x0135=D\x01", 4, 1);
-    field(b"8=a|35=D| at 9", b"8=a\x0135=D\x01", 9, 1);
-    field(b"8=a|35=D| at 10", b"8=a\x0135=D\x01", 10, 1);
-    field(b"8=a^35=D^ at 4, separator ^", b"8=a^35=D^", 4, 94);
-    field(b"95=1|96=|| at 5", b"95=1\x0196=\x01\x01", 5, 1);
+fn step(piece: &[u8]) {
+    let text = texts::from(piece, 1);
+    match texts::first_byte(piece) {
+        b'f' => field(read(text)),
+        b'n' => worth(field_tagvalue::number_of(text)),
+        b's' => worth(field_tagvalue::checksum_of(text)),
+        b'+' => sum(text),
+        b'd' => digits(texts::number(text)),
+        b'w' => written(
+            texts::number_at(text, b',', 0),
+            texts::number_at(text, b',', 1) as usize,
+        ),
+        _ => saying::piece(piece, b""),
+    }
 }
 
-fn numbers() {
-    worth(b"BodyLength 0", field_tagvalue::number_of(b"0"));
-    worth(b"BodyLength 0005", field_tagvalue::number_of(b"0005"));
-    worth(
-        b"BodyLength 4294967296",
-        field_tagvalue::number_of(b"4294967296"),
-    );
-    worth(
-        b"BodyLength 18446744073709551621",
-        field_tagvalue::number_of(b"18446744073709551621"),
-    );
-    worth(b"BodyLength +5", field_tagvalue::number_of(b"+5"));
-    worth(b"BodyLength empty", field_tagvalue::number_of(b""));
-    worth(b"CheckSum 163", field_tagvalue::checksum_of(b"163"));
-    worth(b"CheckSum 999", field_tagvalue::checksum_of(b"999"));
-    worth(b"CheckSum abc", field_tagvalue::checksum_of(b"abc"));
-    worth(b"CheckSum 63", field_tagvalue::checksum_of(b"63"));
-    let sum = field_tagvalue::sum_of(b"8=FIX.4.4\x019=5\x0135=0\x01");
-    number(b"sum before P1's CheckSum  ", sum as usize);
-    let digits = field_tagvalue::checksum_digits(7);
-    io::write_all(1, b"\nCheckSum of 7  ");
-    io::write_all(1, &digits);
-    io::write_all(1, b"\n");
+fn play(script: &[u8]) {
+    let mut from: usize = 0;
+    while from < script.len() {
+        let end = texts::end_of(script, from, b'\n');
+        step(&script[from..end]);
+        from = end + 1;
+    }
 }
 
 fn main() {
-    fields();
-    numbers();
-    written(0, 0);
-    written(8192, 3);
-    written(4294967295, 2);
-    written(4294967295, 3);
-    written(35, 12);
-    written(35, 4000000000);
+    let mut script = scripts::room();
+    let size = scripts::read(&mut script);
+    play(texts::first(&script, size));
 }

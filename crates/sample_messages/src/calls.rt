@@ -38,33 +38,13 @@ fn encode(words: &mut [u32], values: &mut [u8], separator: u8, room: usize) {
     }
 }
 
-fn take_listed(
-    words: &mut [u32],
-    values: &mut [u8],
-    records: &[u32; 24],
-    size: usize,
-    count: usize,
-) {
-    let listed = laying::first(&records[..], size);
-    showing::taken(message_take_over::take_over(listed, count, b"ABCDEFGHIJ", words, values));
-}
-
 // `1:2,0,0,38,9,1`
 fn take(words: &mut [u32], values: &mut [u8], text: &[u8]) {
     let mut records = [0u32; 24];
     let count = texts::number(texts::before(text, b':')) as usize;
     let size = laying::numbers(&mut records, texts::behind(text, b':'));
-    take_listed(words, values, &records, size, count);
-}
-
-fn take_over(
-    words: &mut [u32],
-    values: &mut [u8],
-    message: &[u8],
-    records: &[u32; build_records::WORDS],
-    count: usize,
-) {
-    showing::taken(message_take_over::take_over(&records[..], count, message, words, values));
+    let listed = laying::first(&records, size);
+    showing::taken(message_take_over::take_over(listed, count, b"ABCDEFGHIJ", words, values));
 }
 
 fn take_built(words: &mut [u32], values: &mut [u8], message: &[u8], dictionary: &[u8]) {
@@ -72,9 +52,8 @@ fn take_built(words: &mut [u32], values: &mut [u8], message: &[u8], dictionary: 
     let mut records = [0u32; build_records::WORDS];
     let built = builder::build(message, config, dictionary, 1024, &mut records);
     let answer = built.answer;
-    let count = built.records;
     saying::marked(b" ", build_answers::number_of(answer) as u64);
-    take_over(words, values, message, &records, count);
+    showing::taken(message_take_over::take_over(&records, built.records, message, words, values));
 }
 
 fn build(words: &mut [u32], values: &mut [u8], script: &[u8], text: &[u8]) {
@@ -108,9 +87,16 @@ fn store_last(words: &mut [u32], values: &mut [u8], text: &[u8]) {
     showing::changed(message_runs::store_last(words, values, tag, value));
 }
 
-fn name(words: &mut [u32], values: &mut [u8], piece: &[u8]) {
-    saying::piece(piece, b":");
-    message::empty(words, values);
+// Hangs what was laid aside: `b` on a part, and with no letter in the last entry.
+fn hang(words: &mut [u32], values: &mut [u8], text: &[u8], aside: &[u32], bytes: &[u8]) {
+    if text.len() == 0 {
+        saying::say(b" nested");
+        showing::changed(message_runs::hang_last(words, values, aside, bytes));
+    } else {
+        let part = part_of(texts::first_byte(text));
+        saying::say(b" hung");
+        showing::changed(message_runs::hang(words, values, part, aside, bytes));
+    }
 }
 
 fn other_call(words: &mut [u32], values: &mut [u8], piece: &[u8]) {
@@ -121,14 +107,30 @@ fn other_call(words: &mut [u32], values: &mut [u8], piece: &[u8]) {
         b'?' => showing::message(words, values),
         b'+' => add_entry(words, values, text),
         b'v' => store_last(words, values, text),
+        b';' => {
+            message::empty(words, values);
+        }
+        b'd' => {
+            message_runs::empty(words, values);
+        }
+        b':' => {
+            saying::piece(piece, b":");
+            message::empty(words, values);
+        }
         _ => laying::lay(words, values, piece),
     }
 }
 
-pub fn call(words: &mut [u32], values: &mut [u8], script: &[u8], piece: &[u8]) {
+pub fn call(
+    words: &mut [u32],
+    values: &mut [u8],
+    aside: &[u32],
+    bytes: &[u8],
+    script: &[u8],
+    piece: &[u8],
+) {
     let text = texts::from(piece, 1);
     match texts::first_byte(piece) {
-        b':' => name(words, values, piece),
         b'h' | b'b' | b't' => change(words, values, piece),
         b'!' => encode(words, values, 1, texts::number(text) as usize),
         b'%' => encode(words, values, texts::first_byte(text), 8192),
@@ -136,6 +138,7 @@ pub fn call(words: &mut [u32], values: &mut [u8], script: &[u8], piece: &[u8]) {
         b'@' => take(words, values, text),
         b'0' => showing::changed(message::empty(words, values)),
         b'n' => new_message(words, values, text),
+        b'^' => hang(words, values, text, aside, bytes),
         _ => other_call(words, values, piece),
     }
 }

@@ -19,31 +19,6 @@ pub fn first(words: &[u32], size: usize) -> &[u32] {
     &words[..size]
 }
 
-// The words from a place on.
-pub fn from(words: &[u32], place: usize) -> &[u32] {
-    if words.len() < place {
-        return &words[..0];
-    }
-    &words[place..]
-}
-
-// Keeps the first words behind a place.
-pub fn keep_words(words: &mut [u32], place: usize) {
-    let mut i: usize = 0;
-    while i < message_maps::WORDS {
-        put(words, place % 100000 + i, texts::word_at(words, i));
-        i += 1;
-    }
-}
-
-pub fn keep_bytes(bytes: &mut [u8], place: usize) {
-    let mut i: usize = 0;
-    while i < 8192 {
-        texts::put(bytes, place % 100000 + i, texts::byte_at(bytes, i));
-        i += 1;
-    }
-}
-
 // Puts a word at a place where there is room.
 fn put(words: &mut [u32], place: usize, n: u32) {
     if place < words.len() {
@@ -52,12 +27,12 @@ fn put(words: &mut [u32], place: usize, n: u32) {
 }
 
 // The numbers of a text with commas between them; how many they are.
-pub fn numbers(out: &mut [u32; 24], text: &[u8]) -> usize {
+pub fn numbers(out: &mut [u32], text: &[u8]) -> usize {
     let mut count: usize = 0;
     let mut from: usize = 0;
     while from < text.len() {
         let end = texts::end_of(text, from, b',');
-        put(&mut out[..], count, texts::number(&text[from..end]));
+        put(out, count, texts::number(&text[from..end]));
         count = count % 24 + 1;
         from = end + 1;
     }
@@ -106,56 +81,30 @@ fn used(words: &[u32]) -> usize {
     size
 }
 
-// Puts a value behind those of all rows.
-fn put_value(words: &[u32], values: &mut [u8], value: &[u8]) {
-    if value.len() == 0 {
-        return;
-    }
-    texts::copy(values, used(words), value);
-}
-
-// `LEVEL,TAG=VALUE`
+// `LEVEL,TAG=VALUE`, the value behind those of all rows
 fn field(words: &mut [u32], values: &mut [u8], text: &[u8]) {
     let level = texts::number_at(text, b',', 0);
     let tag = texts::number(texts::before(texts::behind(text, b','), b'='));
     let value = texts::behind(text, b'=');
-    put_value(words, values, value);
+    if 0 < value.len() {
+        texts::copy(values, used(words), value);
+    }
     row(words, 1, level, tag, (value.len() % 10000) as u32);
 }
 
-// `LEVEL,START,DELIMITER`
-fn entry(words: &mut [u32], text: &[u8]) {
-    let level = texts::number_at(text, b',', 0);
-    let start = texts::number_at(text, b',', 1);
-    row(words, 2, level, start, texts::number_at(text, b',', 2));
-}
-
-// `KIND,LEVEL,TAG,LENGTH`
-fn any_row(words: &mut [u32], text: &[u8]) {
-    let kind = texts::number_at(text, b',', 0);
-    let level = texts::number_at(text, b',', 1);
-    let tag = texts::number_at(text, b',', 2);
-    row(words, kind, level, tag, texts::number_at(text, b',', 3));
-}
-
-fn make_message(words: &mut [u32], values: &mut [u8]) {
-    message::empty(words, values);
-}
-
-fn make_draft(words: &mut [u32], values: &mut [u8]) {
-    message_runs::empty(words, values);
+// Of `1,38,600` one number.
+fn at(text: &[u8], place: usize) -> u32 {
+    texts::number_at(text, b',', place)
 }
 
 pub fn lay(words: &mut [u32], values: &mut [u8], piece: &[u8]) {
     let text = texts::from(piece, 1);
     match texts::first_byte(piece) {
-        b';' => make_message(words, values),
-        b'd' => make_draft(words, values),
         b'~' => put(words, 0, 0),
         b'p' => row(words, 2, 0, texts::number(text), 0),
         b'f' => field(words, values, text),
-        b'e' => entry(words, text),
-        b'#' => any_row(words, text),
+        b'e' => row(words, 2, at(text, 0), at(text, 1), at(text, 2)),
+        b'#' => row(words, at(text, 0), at(text, 1), at(text, 2), at(text, 3)),
         b'w' => put(words, 0, texts::number(text)),
         _ => saying::piece(piece, b":"),
     }

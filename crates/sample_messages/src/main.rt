@@ -17,14 +17,8 @@ mod laying;
 mod looking;
 mod showing;
 
-use sample_kit::saying;
 use sample_kit::scripts;
 use sample_kit::texts;
-
-// Behind the words and value bytes in hand, from these places on, lie those that were laid aside.
-const WORDS: usize = 8206;
-
-const BYTES: usize = 8193;
 
 // How many words and value bytes are lent.
 struct Lent {
@@ -47,83 +41,68 @@ fn lent_after(lent: Lent, piece: &[u8]) -> Lent {
     }
 }
 
-fn lay_aside(words: &mut [u32], values: &mut [u8], piece: &[u8]) {
-    if texts::first_byte(piece) != b';' {
-        return;
-    }
-    laying::keep_words(words, WORDS);
-    laying::keep_bytes(values, BYTES);
-}
-
-fn hang_on(words: &mut [u32], values: &mut [u8], text: &[u8], aside: &[u32], bytes: &[u8]) {
-    if text.len() == 0 {
-        saying::say(b" nested");
-        showing::changed(message_runs::hang_last(words, values, aside, bytes));
-    } else {
-        let part = calls::part_of(texts::first_byte(text));
-        saying::say(b" hung");
-        showing::changed(message_runs::hang(words, values, part, aside, bytes));
-    }
-}
-
-fn hang(words: &mut [u32], values: &mut [u8], text: &[u8]) {
-    let mut aside = [0u32; message_maps::WORDS];
-    let mut bytes = [0u8; 8192];
-    laying::copy(&mut aside, laying::from(words, WORDS));
-    texts::copy(&mut bytes, 0, texts::from(values, BYTES));
-    if message_maps::WORDS <= words.len() {
-        if 8192 <= values.len() {
-            hang_on(
-                &mut words[..message_maps::WORDS],
-                &mut values[..8192],
-                text,
-                &aside,
-                &bytes,
-            );
-        }
-    }
-}
-
-fn in_hand(lent: Lent, words: &mut [u32], values: &mut [u8], script: &[u8], piece: &[u8]) {
+// A piece, with what is in hand and what was laid aside.
+fn step(
+    before: Lent,
+    words: &mut [u32],
+    values: &mut [u8],
+    aside: &mut [u32],
+    bytes: &mut [u8],
+    script: &[u8],
+    piece: &[u8],
+) -> Lent {
+    let lent = lent_after(before, piece);
     let word_count = lent.words;
     let byte_count = lent.bytes;
+    if texts::first_byte(piece) == b';' {
+        laying::copy(aside, words);
+        texts::copy(bytes, 0, values);
+    }
     if word_count <= words.len() {
         if byte_count <= values.len() {
             calls::call(
                 &mut words[..word_count],
                 &mut values[..byte_count],
+                aside,
+                bytes,
                 script,
                 piece,
             );
         }
     }
-}
-
-fn step(before: Lent, words: &mut [u32], values: &mut [u8], script: &[u8], piece: &[u8]) -> Lent {
-    let lent = lent_after(before, piece);
-    lay_aside(words, values, piece);
-    if texts::first_byte(piece) == b'^' {
-        hang(words, values, texts::from(piece, 1));
-        return lent;
-    }
-    in_hand(lent, words, values, script, piece);
     lent
 }
 
-fn play(words: &mut [u32], values: &mut [u8], script: &[u8]) {
+fn play(words: &mut [u32], values: &mut [u8], aside: &mut [u32], bytes: &mut [u8], script: &[u8]) {
     let mut lent = Lent { words: 0, bytes: 0 };
     let mut from: usize = 0;
     while from < script.len() {
         let end = texts::end_of(script, from, b'\n');
-        lent = step(lent, words, values, script, &script[from..end]);
+        lent = step(
+            lent,
+            words,
+            values,
+            aside,
+            bytes,
+            script,
+            &script[from..end],
+        );
         from = end + 1;
     }
 }
 
 fn main() {
     let mut script = scripts::room();
-    let mut words = [0u32; 16411];
-    let mut values = [0u8; 16385];
+    let mut words = [0u32; 8206];
+    let mut values = [0u8; 8193];
+    let mut aside = [0u32; message_maps::WORDS];
+    let mut bytes = [0u8; 8192];
     let size = scripts::read(&mut script);
-    play(&mut words, &mut values, texts::first(&script, size));
+    play(
+        &mut words,
+        &mut values,
+        &mut aside,
+        &mut bytes,
+        texts::first(&script, size),
+    );
 }

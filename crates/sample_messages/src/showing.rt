@@ -6,38 +6,12 @@ use message_take_over::Taken;
 use sample_kit::saying;
 use sample_kit::texts;
 
-// The rules' numbers.
-fn number_of_change(change: Change) -> u64 {
-    match change {
-        Change::Made => 0,
-        Change::NoMessage => 27,
-        Change::NotStorable => 41,
-        Change::NoRun => 42,
-        Change::TooManyFields => 21,
-    }
-}
-
 pub fn changed(change: Change) {
-    saying::marked(b" ", number_of_change(change));
+    saying::marked(b" ", message_answers::change_number(change) as u64);
 }
 
 pub fn taken(taken: Taken) {
-    match taken {
-        Taken::Made => saying::say(b" 0"),
-        Taken::NoMessage => saying::say(b" 27"),
-    }
-}
-
-fn number_of_encoding(encoding: Encoding) -> u64 {
-    match encoding {
-        Encoding::Written(_) => 0,
-        Encoding::NoMessage => 27,
-        Encoding::InvalidSeparator => 22,
-        Encoding::Incomplete => 43,
-        Encoding::TooLong => 20,
-        Encoding::TooManyFields => 21,
-        Encoding::NoRoom => 23,
-    }
+    saying::marked(b" ", message_answers::taken_number(taken) as u64);
 }
 
 // Whether an output that was all `_` still is, from a place on.
@@ -56,17 +30,16 @@ fn stays(output: &[u8], place: usize) -> bool {
 
 // The answer; the length and, where it is short, the encoding; a word where more of the output was written over.
 pub fn encoded(encoding: Encoding, output: &[u8]) {
-    saying::marked(b" ", number_of_encoding(encoding));
-    let mut written: usize = 0;
-    if let Encoding::Written(length) = encoding {
-        written = length;
+    saying::marked(b" ", message_answers::encoding_number(encoding) as u64);
+    let length = message_answers::encoding_length(encoding);
+    if 0 < length {
         saying::marked(b" ", length as u64);
         if length < 200 {
             saying::say(b" ");
             saying::bytes(texts::first(output, length));
         }
     }
-    if !stays(output, written) {
+    if !stays(output, length) {
         saying::say(b" overwritten");
     }
 }

@@ -1,312 +1,203 @@
-// sample_parser: runs the ported framer on the cases that the rules name and writes what each call answers. The lines of `stdout` come
-// from 01. A line has the call, its number, a take's length, and the state that is left.
+// sample_parser: runs the ported framer on the cases that the rules name, and writes a line for each call: its number, a take's length, and
+// the state that is left. The lines of `stdout` come from 01.
+// Its script (see sample_kit) has these words, each a call on the state in hand:
+//   r  R        reset; the same and no line
+//   p8=F|  e    push these bytes; end
+//   t  T        take; take into an output of 8191 bytes
+//   m30,33      take, and show so many bytes of the output and of the store
+//   c5:8=F|     of these bytes as a stream of its own, cut behind so many: how many came out after each of the two chunks
+//   l16383  x   lend so many bytes of the store, until the next reset; a used length of 16385, ended and over
 use frame_parser_rules::Answer;
 use frame_parser_rules::Outcome;
 use frame_parser_rules::State;
+use sample_kit::messages;
+use sample_kit::saying;
+use sample_kit::scripts;
+use sample_kit::texts;
 
-fn say(text: &[u8]) {
-    io::write_all(1, text);
+const STORE: usize = 16384;
+
+// The state in hand, and how many bytes of the store are lent.
+struct Held {
+    state: State,
+    lent: usize,
 }
 
-fn say_number(n: u64) {
-    io::print_decimal(1, n);
-}
-
-fn say_state(state: State) {
-    say(b" used ");
-    say_number(state.used as u64);
+fn shown(state: State) -> State {
+    saying::marked(b" used ", state.used as u64);
     if state.ended {
-        say(b" ended");
+        saying::say(b" ended");
     }
     if state.over {
-        say(b" over");
+        saying::say(b" over");
     }
-    say(b"\n");
-}
-
-fn tell(name: &[u8], outcome: Outcome) -> State {
-    say(name);
-    say(b" ");
-    let answer = outcome.answer;
-    say_number(frame_parser::number(answer) as u64);
-    if let Answer::Message(length) = answer {
-        say(b" length ");
-        say_number(length as u64);
-    }
-    let state = outcome.state;
-    say_state(state);
+    saying::say(b"\n");
     state
 }
 
-fn push(state: State, store: &mut [u8], chunk: &[u8]) -> State {
-    tell(b"push", frame_parser::push(state, store, chunk))
-}
-
-// A chunk of so many zeros.
-fn push_zeros(state: State, store: &mut [u8], count: usize) -> State {
-    let space = [0u8; 16385];
-    let zeros = &space[..];
-    if zeros.len() < count {
-        return state;
+fn told(name: &[u8], outcome: Outcome) -> State {
+    let answer = outcome.answer;
+    let state = outcome.state;
+    saying::say(name);
+    saying::marked(b" ", frame_parser::number(answer) as u64);
+    if let Answer::Message(length) = answer {
+        saying::marked(b" length ", length as u64);
     }
-    let none: usize = 0;
-    push(state, store, &zeros[none..count])
+    shown(state)
 }
 
-fn take(state: State, store: &mut [u8]) -> State {
+fn push(state: State, store: &mut [u8], text: &[u8]) -> State {
+    let mut chunk = [0u8; 16385];
+    let size = messages::spell(&mut chunk, 0, text, 1);
+    told(
+        b"push",
+        frame_parser::push(state, store, texts::first(&chunk, size)),
+    )
+}
+
+fn take(state: State, store: &mut [u8], shown: &[u8]) -> State {
     let mut output = [0u8; 8192];
-    tell(b"take", frame_parser::take(state, store, &mut output))
+    let left = told(b"take", frame_parser::take(state, store, &mut output));
+    if 0 < shown.len() {
+        saying::bytes(texts::first(&output, texts::number_at(shown, b',', 0) as usize));
+        saying::say(b"\n");
+        saying::bytes(texts::first(store, texts::number_at(shown, b',', 1) as usize));
+        saying::say(b"\n");
+    }
+    left
 }
 
 fn take_short(state: State, store: &mut [u8]) -> State {
     let mut output = [0u8; 8191];
-    tell(
+    told(
         b"take into 8191",
         frame_parser::take(state, store, &mut output),
     )
 }
 
-fn end(state: State, store: &[u8]) -> State {
-    tell(b"end", frame_parser::end(state, store))
-}
-
-fn reset() -> State {
-    say(b"reset");
-    let state = frame_parser::reset();
-    say_state(state);
-    state
-}
-
-// A byte as the rules write it: `|` for the separator, `_` for a zero.
-fn show_byte(bytes: &[u8], at: usize) {
-    if at < bytes.len() {
-        let byte = bytes[at];
-        if byte == 1 {
-            say(b"|");
-        } else if byte == 0 {
-            say(b"_");
-        } else {
-            say(&[byte]);
-        }
-    }
-}
-
-fn show(bytes: &[u8], count: usize) {
-    let mut at: usize = 0;
-    while at < count {
-        show_byte(bytes, at);
-        at += 1;
-    }
-    say(b"\n");
-}
-
-// How much of the stream came out, message by message.
+// How much of a stream came out, message by message.
 struct Came {
     state: State,
     bytes: usize,
 }
 
-// A take, and whether its message is the one that the stream has there.
+// A take; its message counts where it is the one that the stream has there.
 fn take_next(came: Came, store: &mut [u8], stream: &[u8]) -> Came {
     let mut output = [0u8; 8192];
     let outcome = frame_parser::take(came.state, store, &mut output);
     let answer = outcome.answer;
     let state = outcome.state;
-    let Answer::Message(length) = answer else {
-        return Came {
-            state,
-            bytes: came.bytes,
-        };
-    };
-    Came {
-        state,
-        bytes: same_from(stream, came.bytes, &output, length),
+    let length = frame_parser::length_of(answer);
+    let mut bytes = came.bytes;
+    if check::same(
+        texts::part(stream, bytes, length),
+        texts::first(&output, length),
+    ) {
+        bytes = bytes % 8192 + length % 8193;
     }
+    Came { state, bytes }
 }
 
-// Takes enough for two messages and the answer 0.
-fn take_all(came: Came, store: &mut [u8], stream: &[u8]) -> Came {
-    let first = take_next(came, store, stream);
+// A chunk, and takes enough for two messages and the answer 0.
+fn chunk(came: Came, store: &mut [u8], chunk: &[u8], stream: &[u8]) -> Came {
+    let state = frame_parser::push(came.state, store, chunk).state;
+    let bytes = came.bytes;
+    let first = take_next(Came { state, bytes }, store, stream);
     let second = take_next(first, store, stream);
     take_next(second, store, stream)
 }
 
-// Where the stream goes on behind a message that stands at a place of it, or the place itself where another stands there.
-fn same_from(stream: &[u8], at: usize, message: &[u8], length: usize) -> usize {
-    if stream.len() < at {
-        return at;
-    }
-    if stream.len() - at < length {
-        return at;
-    }
-    if message.len() < length {
-        return at;
-    }
-    let end = at + length;
-    let none: usize = 0;
-    if check::same(&stream[at..end], &message[none..length]) {
-        end
-    } else {
-        at
-    }
-}
-
-// The stream in two chunks: how many of its bytes came out after each.
-fn cut(stream: &[u8], at: usize) {
-    if stream.len() < at {
-        return;
-    }
-    let mut store = [0u8; 16384];
-    let none: usize = 0;
-    let first = frame_parser::push(frame_parser::reset(), &mut store, &stream[none..at]).state;
-    let some = take_all(
-        Came {
-            state: first,
-            bytes: 0,
-        },
+fn cut(text: &[u8]) {
+    let mut store = [0u8; STORE];
+    let mut space = [0u8; 100];
+    let at = texts::number(texts::before(text, b':')) as usize;
+    let size = messages::spell(&mut space, 0, texts::behind(text, b':'), 1);
+    let stream = texts::first(&space, size);
+    let state = frame_parser::reset();
+    let some = chunk(
+        Came { state, bytes: 0 },
         &mut store,
+        texts::first(stream, at),
         stream,
     );
-    let second = frame_parser::push(some.state, &mut store, &stream[at..]).state;
-    let all = take_all(
-        Came {
-            state: second,
-            bytes: some.bytes,
-        },
-        &mut store,
-        stream,
-    );
-    say_number(some.bytes as u64);
-    say(b" ");
-    say_number(all.bytes as u64);
-    say(b"\n");
+    let all = chunk(some, &mut store, texts::from(stream, at), stream);
+    saying::marked(b"", some.bytes as u64);
+    saying::marked(b" ", all.bytes as u64);
+    saying::say(b"\n");
 }
 
-fn cuts() {
-    say(b"- every cut of two messages of 26 bytes: what came out after each chunk\n");
-    let stream = b"8=FIX.4.4\x019=5\x0135=0\x0110=163\x018=FIX.4.4\x019=5\x0135=1\x0110=164\x01";
-    let mut at: usize = 0;
-    while at <= 52 {
-        cut(stream, at);
-        at += 1;
+fn call(state: State, store: &mut [u8], piece: &[u8]) -> State {
+    let text = texts::from(piece, 1);
+    match texts::first_byte(piece) {
+        b'p' => return push(state, store, text),
+        b'e' => return told(b"end", frame_parser::end(state, store)),
+        b't' | b'm' => return take(state, store, text),
+        b'T' => return take_short(state, store),
+        b'c' => cut(text),
+        b'-' => saying::piece(piece, b""),
+        _ => {}
     }
+    state
 }
 
-fn sizes() {
-    let mut store = [0u8; 16384];
-    say(b"- chunks of 8193, 16384 and 16385 bytes into an empty store\n");
-    push_zeros(frame_parser::reset(), &mut store, 8193);
-    push_zeros(frame_parser::reset(), &mut store, 16384);
-    push_zeros(frame_parser::reset(), &mut store, 16385);
-    say(b"- a store that is just full\n");
-    let most = push_zeros(frame_parser::reset(), &mut store, 16383);
-    let full = push_zeros(most, &mut store, 1);
-    push_zeros(full, &mut store, 1);
-    push_zeros(full, &mut store, 0);
-    take(full, &mut store);
-}
-
-fn orders() {
-    let mut store = [0u8; 16384];
-    say(b"- calls before anything, and after the end\n");
-    let begun = take(reset(), &mut store);
-    let ended = end(begun, &store);
-    let still = push(ended, &mut store, b"8");
-    let twice = end(still, &store);
-    take(twice, &mut store);
-    say(b"- a message is taken after the end\n");
-    let held = push(
-        reset(),
-        &mut store,
-        b"8=FIX.4.4\x019=5\x0135=0\x0110=163\x01",
-    );
-    take(end(held, &store), &mut store);
-}
-
-fn mark() {
-    let mut store = [0u8; 16384];
-    say(b"- every call after a length of 8193 was announced\n");
-    let held = end(push(reset(), &mut store, b"8=\x019=8176\x01"), &store);
-    let marked = take(held, &mut store);
-    let pushed = push(marked, &mut store, b"8");
-    let ended = end(pushed, &store);
-    let short = take_short(ended, &mut store);
-    take(short, &mut store);
-    push(reset(), &mut store, b"8");
-}
-
-fn limits() {
-    let mut store = [0u8; 16384];
-    say(b"- a message of 8192 bytes\n");
-    let head = take(push(reset(), &mut store, b"8=\x019=8175\x01"), &mut store);
-    let most = take(push_zeros(head, &mut store, 8181), &mut store);
-    let whole = push_zeros(most, &mut store, 1);
-    take_short(whole, &mut store);
-    take(whole, &mut store);
-}
-
-fn numbers() {
-    let mut store = [0u8; 16384];
-    say(b"- numbers that wrap: 18446744073709551621, /, and a sum that does not\n");
-    let wrapped = take(
-        push(reset(), &mut store, b"8=\x019=18446744073709551621\x01"),
-        &mut store,
-    );
-    take(push(wrapped, &mut store, b"35=0\x0110=163\x01"), &mut store);
-    let slash = take(push(reset(), &mut store, b"8=\x019=/\x01"), &mut store);
-    let most = take(push_zeros(slash, &mut store, 261), &mut store);
-    take(push_zeros(most, &mut store, 1), &mut store);
-    take(
-        push(reset(), &mut store, b"8=\x019=18446744073709551615\x01"),
-        &mut store,
-    );
-    say(b"- no second separator, no second `=`, no bytes\n");
-    take(push(reset(), &mut store, b"8=FIX.4.4\x019=5"), &mut store);
-    take(
-        push(reset(), &mut store, b"8=FIX.4.4\x0195\x01"),
-        &mut store,
-    );
-    take(reset(), &mut store);
-}
-
-fn bad_stores() {
-    let mut small = [0u8; 16383];
-    let mut store = [0u8; 16384];
-    say(b"- a store of 16383 bytes, and a used length of 16385\n");
-    push(frame_parser::reset(), &mut small, b"8");
-    end(frame_parser::reset(), &small);
-    take_short(frame_parser::reset(), &mut small);
-    let past = State {
-        used: 16385,
-        ended: true,
-        over: true,
+// What a word does to what is in hand, before its call.
+fn set(held: Held, piece: &[u8]) -> Held {
+    let state = held.state;
+    let fresh = Held {
+        state: frame_parser::reset(),
+        lent: STORE,
     };
-    push(past, &mut store, b"8");
-    end(past, &store);
-    take_short(past, &mut store);
+    match texts::first_byte(piece) {
+        b'r' => {
+            saying::say(b"reset");
+            shown(frame_parser::reset());
+            fresh
+        }
+        b'R' => fresh,
+        b'l' => Held {
+            state,
+            lent: texts::number(texts::from(piece, 1)) as usize,
+        },
+        b'x' => Held {
+            state: State {
+                used: 16385,
+                ended: true,
+                over: true,
+            },
+            lent: STORE,
+        },
+        _ => held,
+    }
 }
 
-fn contents() {
-    let mut store = [0u8; 16384];
-    let mut output = [0u8; 8192];
-    say(b"- what stands in output and store after a take\n");
-    let held = push(
-        reset(),
-        &mut store,
-        b"8=FIX.4.4\x019=5\x0135=0\x0110=163\x0149=A\x01",
-    );
-    tell(b"take", frame_parser::take(held, &mut store, &mut output));
-    show(&output, 30);
-    show(&store, 33);
+fn step(before: Held, store: &mut [u8; STORE], piece: &[u8]) -> Held {
+    let held = set(before, piece);
+    let lent = held.lent;
+    if lent <= STORE {
+        return Held {
+            state: call(held.state, &mut store[..lent], piece),
+            lent,
+        };
+    }
+    held
+}
+
+fn play(script: &[u8], store: &mut [u8; STORE]) {
+    let mut held = Held {
+        state: frame_parser::reset(),
+        lent: STORE,
+    };
+    let mut from: usize = 0;
+    while from < script.len() {
+        let end = texts::end_of(script, from, b'\n');
+        held = step(held, store, &script[from..end]);
+        from = end + 1;
+    }
 }
 
 fn main() {
-    cuts();
-    sizes();
-    orders();
-    mark();
-    limits();
-    numbers();
-    bad_stores();
-    contents();
+    let mut script = scripts::room();
+    let mut store = [0u8; STORE];
+    let size = scripts::read(&mut script);
+    play(texts::first(&script, size), &mut store);
 }

@@ -7,19 +7,8 @@ use message_rules::Part;
 use sample_kit::saying;
 use sample_kit::texts;
 
-// The rules' numbers.
-pub fn number_of(change: Change) -> u32 {
-    match change {
-        Change::Made => 0,
-        Change::NoMessage => 27,
-        Change::NotStorable => 41,
-        Change::NoRun => 42,
-        Change::TooManyFields => 21,
-    }
-}
-
 fn changed(change: Change) {
-    saying::marked(b"", number_of(change) as u64);
+    saying::marked(b"", message_answers::change_number(change) as u64);
 }
 
 // `STEP.PART..`

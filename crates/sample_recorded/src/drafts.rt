@@ -1,6 +1,5 @@
 // Runs made by calls, from rows `f.LEVEL.TAG.VALUE` and `h.LEVEL.START.DELIMITER` with commas between: each entry is added and its fields are
 // stored; heads one level deeper that have one start tag and follow each other are a run of their own, made first and hung in the entry.
-use crate::calling;
 use crate::hexadecimal;
 use sample_kit::texts;
 ghost use Prim.Native.Nat.{_≤_};
@@ -63,10 +62,20 @@ fn add(words: &mut [u32], values: &mut [u8], row: &[u8]) -> u32 {
     let tag = tag_of(row);
     let last = texts::piece(row, b'.', 3);
     if texts::first_byte(row) == b'h' {
-        return calling::number_of(message_runs::add_entry(words, values, tag, texts::number(last)));
+        return message_answers::change_number(message_runs::add_entry(
+            words,
+            values,
+            tag,
+            texts::number(last),
+        ));
     }
     let size = hexadecimal::read(&mut space, last);
-    calling::number_of(message_runs::store_last(words, values, tag, texts::first(&space, size)))
+    message_answers::change_number(message_runs::store_last(
+        words,
+        values,
+        tag,
+        texts::first(&space, size),
+    ))
 }
 
 // A row of the draft's own, or a nested run.
@@ -83,12 +92,12 @@ fn piece(words: &mut [u32], values: &mut [u8], text: &[u8], level: u32) -> u32 {
     if 0 < made {
         return made;
     }
-    calling::number_of(message_runs::hang_last(words, values, &run_words, &run_values))
+    message_answers::change_number(message_runs::hang_last(words, values, &run_words, &run_values))
 }
 
 // Makes a draft of rows, `-` for none; the number of the first call that refuses.
 pub fn draft(words: &mut [u32], values: &mut [u8], rows: &[u8], level: u32) -> u32 {
-    let mut number = calling::number_of(message_runs::empty(words, values));
+    let mut number = message_answers::change_number(message_runs::empty(words, values));
     if texts::first_byte(rows) == b'-' {
         return number;
     }

@@ -1,22 +1,8 @@
 // An encoding, and the whole message after it as rows.
 use crate::hexadecimal;
-use encode_rules::Encoding;
 use sample_kit::saying;
 use sample_kit::texts;
 ghost use Prim.Native.Nat.{_<_};
-
-// The rules' numbers.
-fn number_of(encoding: Encoding) -> u64 {
-    match encoding {
-        Encoding::Written(_) => 0,
-        Encoding::NoMessage => 27,
-        Encoding::InvalidSeparator => 22,
-        Encoding::Incomplete => 43,
-        Encoding::TooLong => 20,
-        Encoding::TooManyFields => 21,
-        Encoding::NoRoom => 23,
-    }
-}
 
 // A row: `h.LEVEL.START.DELIMITER`, or `f.LEVEL.TAG.VALUE` with the value that starts at a place. Where the next value starts.
 fn row(words: &[u32], values: &[u8], from: usize, place: usize) -> usize
@@ -58,10 +44,11 @@ fn rows(words: &[u32], values: &[u8]) {
 pub fn encode(words: &mut [u32], values: &mut [u8], separator: u8) {
     let mut output = [0u8; 2000];
     let encoding = encoder::encode(words, values, &mut output, separator);
-    saying::marked(b"", number_of(encoding));
-    if let Encoding::Written(length) = encoding {
+    let number = message_answers::encoding_number(encoding);
+    saying::marked(b"", number as u64);
+    if number == 0 {
         saying::say(b":");
-        hexadecimal::say(texts::first(&output, length));
+        hexadecimal::say(texts::first(&output, message_answers::encoding_length(encoding)));
         saying::say(b":");
         rows(words, values);
     }

@@ -118,7 +118,7 @@ fn show(message: &[u8], f: Field, tags: &[u32; 1024], count: usize) {
     io::write_all(1, b"\n");
 }
 
-// BodyLength and CheckSum against the bytes, once the field with tag 10 is met; `build_body` is the place behind the BodyLength field.
+// BodyLength and CheckSum against the bytes, once the field with tag 10 is met; `body` is the place behind the BodyLength field.
 fn verify(message: &[u8], f: Field, body: usize, says: Number) {
     let first = f.first;
     if message.len() < first {

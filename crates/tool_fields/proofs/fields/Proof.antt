@@ -1,4 +1,4 @@
--- `tool_fields` ends: at most 1,024 fields are shown, and each has a row of the table.
+-- `fields` ends: at most 1,024 fields are shown, and each has a row of the table.
 use mathlib.Core.Path.{_≡_}
 use lib.ListN.{length}
 use Prim.Native.Nat.{_-_, _≤_}

@@ -1,4 +1,4 @@
--- `build_records` is safe and ends.
+-- `records` is safe and ends.
 use mathlib.Core.Path.{_≡_}
 use Prim.Native.Nat.{_+_, _-_, _≤_}
 use borrow.Author.Needs.{needs}

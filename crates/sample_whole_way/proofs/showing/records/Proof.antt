@@ -1,4 +1,4 @@
--- `build_records` is safe and ends: any record can be shown,
+-- `records` is safe and ends: any record can be shown,
 -- and how many are left falls.
 use Prim.Native.Nat.{_-_, _≤_}
 use borrow.Author.Needs.{needs}

@@ -1,8 +1,8 @@
 -- `taken_number` meets its contract: each arm knows which answer it was.
 use Rattle.message_take_over.specs.Taking.{numberOfTaken}
 use borrow.Author.Needs.{needs}
-use Rattle.face_messages.proofs.taken_number.Statement.{statement}
-use Rattle.face_messages.proofs.taken_number.Tie as tie
+use Rattle.message_answers.proofs.taken_number.Statement.{statement}
+use Rattle.message_answers.proofs.taken_number.Tie as tie
 
 enum-told : tie.Need-enum-told
 enum-told c = search needs

@@ -1,8 +1,8 @@
 -- `change_number` meets its contract: each arm knows which answer it was.
 use Rattle.message_rules.specs.Changes.{numberOfChange}
 use borrow.Author.Needs.{needs}
-use Rattle.face_messages.proofs.change_number.Statement.{statement}
-use Rattle.face_messages.proofs.change_number.Tie as tie
+use Rattle.message_answers.proofs.change_number.Statement.{statement}
+use Rattle.message_answers.proofs.change_number.Tie as tie
 
 returns : tie.Need-returns
 unfolding numberOfChange

@@ -1,9 +1,9 @@
 -- `encoding_length` meets its contract: each arm knows which answer it was.
 use mathlib.Core.Path.{sym, ap}
-use Rattle.face_messages.specs.Told.{lengthOfEncoding}
+use Rattle.encode_rules.specs.Encode.{lengthOfEncoding}
 use borrow.Author.Needs.{needs}
-use Rattle.face_messages.proofs.encoding_length.Statement.{statement}
-use Rattle.face_messages.proofs.encoding_length.Tie as tie
+use Rattle.message_answers.proofs.encoding_length.Statement.{statement}
+use Rattle.message_answers.proofs.encoding_length.Tie as tie
 
 returns : tie.Need-returns
 unfolding lengthOfEncoding

@@ -1,8 +1,8 @@
 -- `encoding_number` meets its contract: each arm knows which answer it was.
 use Rattle.encode_rules.specs.Encode.{numberOfEncoding}
 use borrow.Author.Needs.{needs}
-use Rattle.face_messages.proofs.encoding_number.Statement.{statement}
-use Rattle.face_messages.proofs.encoding_number.Tie as tie
+use Rattle.message_answers.proofs.encoding_number.Statement.{statement}
+use Rattle.message_answers.proofs.encoding_number.Tie as tie
 
 returns : tie.Need-returns
 unfolding numberOfEncoding
