@@ -7,7 +7,7 @@ use Rattle.message_rules.specs.declared.Change.{Change}
 use Rattle.message_rules.specs.Changes.{After, after, numberOfChange, storing, removing}
 use Rattle.message_rules.specs.Runs.{hanging}
 use Rattle.encode_rules.specs.declared.Encoding.{Encoding}
-use Rattle.encode_rules.specs.Encode.{Left, left, numberOfEncoding}
+use Rattle.encode_rules.specs.Encode.{Left, left, numberOfEncoding, lengthOfEncoding}
 use Rattle.face_messages.specs.Told.{told, changeNumber, changedWords, changedValues, encodingNumber, encodingLength, leftWords, leftValues, leftOutput}
 
 -- the part by its number

@@ -47,13 +47,24 @@ fn take(words: &mut [u32], values: &mut [u8], text: &[u8]) {
     showing::taken(message_take_over::take_over(listed, count, b"ABCDEFGHIJ", words, values));
 }
 
+fn take_over(
+    words: &mut [u32],
+    values: &mut [u8],
+    message: &[u8],
+    records: &[u32; build_records::WORDS],
+    count: usize,
+) {
+    showing::taken(message_take_over::take_over(&records[..], count, message, words, values));
+}
+
 fn take_built(words: &mut [u32], values: &mut [u8], message: &[u8], dictionary: &[u8]) {
     let config = build_config::config_of(1, 1);
     let mut records = [0u32; build_records::WORDS];
     let built = builder::build(message, config, dictionary, 1024, &mut records);
     let answer = built.answer;
+    let count = built.records;
     saying::marked(b" ", build_answers::number_of(answer) as u64);
-    showing::taken(message_take_over::take_over(&records, built.records, message, words, values));
+    take_over(words, values, message, &records, count);
 }
 
 fn build(words: &mut [u32], values: &mut [u8], script: &[u8], text: &[u8]) {

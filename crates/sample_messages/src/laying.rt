@@ -86,9 +86,7 @@ fn field(words: &mut [u32], values: &mut [u8], text: &[u8]) {
     let level = texts::number_at(text, b',', 0);
     let tag = texts::number(texts::before(texts::behind(text, b','), b'='));
     let value = texts::behind(text, b'=');
-    if 0 < value.len() {
-        texts::copy(values, used(words), value);
-    }
+    texts::copy(values, used(words), value);
     row(words, 1, level, tag, (value.len() % 10000) as u32);
 }
 

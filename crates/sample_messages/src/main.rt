@@ -41,23 +41,26 @@ fn lent_after(lent: Lent, piece: &[u8]) -> Lent {
     }
 }
 
-// A piece, with what is in hand and what was laid aside.
-fn step(
-    before: Lent,
+fn lay_aside(aside: &mut [u32], bytes: &mut [u8], words: &[u32], values: &[u8], piece: &[u8]) {
+    if texts::first_byte(piece) != b';' {
+        return;
+    }
+    laying::copy(aside, words);
+    texts::copy(bytes, 0, values);
+}
+
+// A call on as much of the words and value bytes in hand as is lent.
+fn in_hand(
+    lent: Lent,
     words: &mut [u32],
     values: &mut [u8],
-    aside: &mut [u32],
-    bytes: &mut [u8],
+    aside: &[u32],
+    bytes: &[u8],
     script: &[u8],
     piece: &[u8],
-) -> Lent {
-    let lent = lent_after(before, piece);
+) {
     let word_count = lent.words;
     let byte_count = lent.bytes;
-    if texts::first_byte(piece) == b';' {
-        laying::copy(aside, words);
-        texts::copy(bytes, 0, values);
-    }
     if word_count <= words.len() {
         if byte_count <= values.len() {
             calls::call(
@@ -70,6 +73,20 @@ fn step(
             );
         }
     }
+}
+
+fn step(
+    before: Lent,
+    words: &mut [u32],
+    values: &mut [u8],
+    aside: &mut [u32],
+    bytes: &mut [u8],
+    script: &[u8],
+    piece: &[u8],
+) -> Lent {
+    let lent = lent_after(before, piece);
+    lay_aside(aside, bytes, words, values, piece);
+    in_hand(lent, words, values, aside, bytes, script, piece);
     lent
 }
 

@@ -70,21 +70,9 @@ read-entry-record-of-requires t c κs = let fits = c .before .before .before .be
 read-entry-add-requires : (t : ℕ) → read-entry-lts.Need-add-requires (entry-calls t) (read-entry-at t) read-entry.Post read-entry-Inv-loop read-entry-μ-loop
 read-entry-add-requires t c κs = let fits = c .before .before .before .before .before .pre .1 in (omega (arith, fits .counted), omega (arith, fits .placed))
 
-read-entry-next-field-requires : (t : ℕ) → read-entry-lts.Need-next-field-requires (entry-calls t) (read-entry-at t) read-entry.Post read-entry-Inv-loop read-entry-μ-loop
-read-entry-next-field-requires t c κs = search needs
-
 read-entry-loop-holds : (t : ℕ) → read-entry-lts.Need-loop-holds (entry-calls t) (read-entry-at t) read-entry.Post read-entry-Inv-loop read-entry-μ-loop
 read-entry-loop-holds t c = let fits = c .before .before .before .before .before .before .before .before .before .pre .1 in
     (refl, stored-follows _ _ _ _ _ _ 1 _ (omega arith) fits (c .before .before .before .add .ensures .0) (c .next-field .ensures) .fits, refl)
-
-read-entry-enum-known-reading : (t : ℕ) → read-entry-lts.Need-enum-known-reading (entry-calls t) (read-entry-at t) read-entry.Post read-entry-Inv-loop read-entry-μ-loop
-read-entry-enum-known-reading t c = search needs
-
-read-entry-enum-told : (t : ℕ) → read-entry-lts.Need-enum-told (entry-calls t) (read-entry-at t) read-entry.Post read-entry-Inv-loop read-entry-μ-loop
-read-entry-enum-told t c = search needs
-
-read-entry-same-length : (t : ℕ) → read-entry-lts.Need-same-length (entry-calls t) (read-entry-at t) read-entry.Post read-entry-Inv-loop read-entry-μ-loop
-read-entry-same-length t c = search needs
 
 -- the entry reader at its loop, and where it has read a field
 abbrev EntryLoop : ℕ → Type 0
@@ -116,17 +104,8 @@ read-entry-returns t c = left-refused _ _ _ _ _ _ _ _ (c .enum-told .given .1) �
 read-entry-record-of-requires-2 : (t : ℕ) → read-entry-lts.Need-record-of-requires-2 (entry-calls t) (read-entry-at t) read-entry.Post read-entry-Inv-loop read-entry-μ-loop
 read-entry-record-of-requires-2 t c κs = let fits = entry-fits t (c .before) in (omega (arith, fits .short, fits .inside .within), omega (arith, fits .short, fits .inside .within))
 
-read-entry-kind-of-requires : (t : ℕ) → read-entry-lts.Need-kind-of-requires (entry-calls t) (read-entry-at t) read-entry.Post read-entry-Inv-loop read-entry-μ-loop
-read-entry-kind-of-requires t c κs = search needs
-
-read-entry-enum-known-position : (t : ℕ) → read-entry-lts.Need-enum-known-position (entry-calls t) (read-entry-at t) read-entry.Post read-entry-Inv-loop read-entry-μ-loop
-read-entry-enum-known-position t c = search needs
-
 read-entry-add-requires-2 : (t : ℕ) → read-entry-lts.Need-add-requires-2 (entry-calls t) (read-entry-at t) read-entry.Post read-entry-Inv-loop read-entry-μ-loop
 read-entry-add-requires-2 t c κs = let fits = entry-fits t (c .before .before .before .before .before .before .before) in (omega (arith, fits .counted), omega (arith, fits .placed))
-
-read-entry-next-field-requires-2 : (t : ℕ) → read-entry-lts.Need-next-field-requires-2 (entry-calls t) (read-entry-at t) read-entry.Post read-entry-Inv-loop read-entry-μ-loop
-read-entry-next-field-requires-2 t c κs = search needs
 
 -- where reading stands after each kind of field
 after-plain : (t : ℕ) (c : read-entry-lts.After-next-field2 (entry-calls t) (read-entry-at t) read-entry.Post read-entry-Inv-loop read-entry-μ-loop) → let k = c .before .before .before .before .before .before .before .before .before .before .before in
@@ -155,9 +134,6 @@ read-entry-loop-again t c = let k = c .before .before .before .before .before .b
       i .2 ∙ turn-plain _ _ _ _ _ _ _ _ _ _ (entry-stands t k) _ _ _ (c .before .before .before .before .before .before .before .before .kind-of .ensures) _ (c .before .before .before .before .before .before .before .before .before .record-of2 .ensures) _ _ _ (added .ensures .0) (added .ensures .1) _ (c .before .before .before .before .before .before .position .given .1) (c .next-field2 .ensures),
     )
 
-read-entry-enum-known-level : (t : ℕ) → read-entry-lts.Need-enum-known-level (entry-calls t) (read-entry-at t) read-entry.Post read-entry-Inv-loop read-entry-μ-loop
-read-entry-enum-known-level t c = search needs
-
 read-entry-add-requires-3 : (t : ℕ) → read-entry-lts.Need-add-requires-3 (entry-calls t) (read-entry-at t) read-entry.Post read-entry-Inv-loop read-entry-μ-loop
 read-entry-add-requires-3 t c κs = let fits = entry-fits t (c .before .before .before .before .before .before .before) in (omega (arith, fits .counted), omega (arith, fits .placed))
 
@@ -183,14 +159,8 @@ read-entry-loop-again-2 t c = let k = c .before .before .before .before .before 
       i .2 ∙ turn-count _ _ _ _ _ _ _ _ _ _ (entry-stands t k) _ _ _ (c .before .before .before .before .before .before .before .before .before .before .before .before .kind-of .ensures) _ (c .before .before .before .before .before .before .before .before .before .before .before .before .before .record-of2 .ensures) _ _ _ (added .ensures .0) (added .ensures .1) _ _ (c .before .before .before .before .before .before .before .before .before .before .level .given .1) _ (ran .ensures),
     )
 
-read-entry-enum-told-2 : (t : ℕ) → read-entry-lts.Need-enum-told-2 (entry-calls t) (read-entry-at t) read-entry.Post read-entry-Inv-loop read-entry-μ-loop
-read-entry-enum-told-2 t c = search needs
-
 read-entry-join-requires : (t : ℕ) → read-entry-lts.Need-join-requires (entry-calls t) (read-entry-at t) read-entry.Post read-entry-Inv-loop read-entry-μ-loop
 read-entry-join-requires t c κs = let fits = entry-fits t (c .before .before .before .before .before .before) in (omega (arith, fits .counted), omega (arith, fits .placed))
-
-read-entry-next-field-requires-3 : (t : ℕ) → read-entry-lts.Need-next-field-requires-3 (entry-calls t) (read-entry-at t) read-entry.Post read-entry-Inv-loop read-entry-μ-loop
-read-entry-next-field-requires-3 t c κs = search needs
 
 read-entry-loop-less-3 : (t : ℕ) → read-entry-lts.Need-loop-less-3 (entry-calls t) (read-entry-at t) read-entry.Post read-entry-Inv-loop read-entry-μ-loop
 read-entry-loop-less-3 t c = room-falls _ _ _ _ _ (entry-stands t (c .before .before .before .before .before .before .before .before .before .before)) (after-user t c)
@@ -204,21 +174,9 @@ read-entry-loop-again-3 t c = let k = c .before .before .before .before .before 
       i .2 ∙ turn-joins _ _ _ _ _ _ _ _ _ _ (entry-stands t k) _ _ _ (c .before .before .before .before .before .before .before .kind-of .ensures) _ (c .before .before .before .before .before .before .before .before .record-of2 .ensures) _ _ _ (c .before .before .before .before .before .enum-told2 .given .1) (joined .ensures .0) (joined .ensures .1) (c .next-field3 .ensures),
     )
 
-read-entry-enum-told-3 : (t : ℕ) → read-entry-lts.Need-enum-told-3 (entry-calls t) (read-entry-at t) read-entry.Post read-entry-Inv-loop read-entry-μ-loop
-read-entry-enum-told-3 t c = search needs
-
-read-entry-same-length-2 : (t : ℕ) → read-entry-lts.Need-same-length-2 (entry-calls t) (read-entry-at t) read-entry.Post read-entry-Inv-loop read-entry-μ-loop
-read-entry-same-length-2 t c = search needs
-
 read-entry-returns-2 : (t : ℕ) → read-entry-lts.Need-returns-2 (entry-calls t) (read-entry-at t) read-entry.Post read-entry-Inv-loop read-entry-μ-loop
 read-entry-returns-2 t c = let k = c .before .before .before .before .before in
     left-wrong _ _ _ _ _ _ _ _ _ _ (entry-stands t k) _ _ _ (c .before .before .kind-of .ensures) (c .enum-told3 .given .1) ∙ sym (entry-whole t (entry-loop t k))
-
-read-entry-enum-told-4 : (t : ℕ) → read-entry-lts.Need-enum-told-4 (entry-calls t) (read-entry-at t) read-entry.Post read-entry-Inv-loop read-entry-μ-loop
-read-entry-enum-told-4 t c = search needs
-
-read-entry-same-length-3 : (t : ℕ) → read-entry-lts.Need-same-length-3 (entry-calls t) (read-entry-at t) read-entry.Post read-entry-Inv-loop read-entry-μ-loop
-read-entry-same-length-3 t c = search needs
 
 read-entry-returns-3 : (t : ℕ) → read-entry-lts.Need-returns-3 (entry-calls t) (read-entry-at t) read-entry.Post read-entry-Inv-loop read-entry-μ-loop
 read-entry-returns-3 t c = let k = c .before .before .before .before .before in
@@ -230,21 +188,9 @@ read-run-Inv-loop message config table index group words₀ reading₀ number₀
 abbrev read-run-μ-loop : read-run-lts.MeasureT-loop
 read-run-μ-loop message config table index group words₀ reading₀ number₀ words reading number = roomOf reading
 
-read-run-next-field-requires : (t : ℕ) → read-run-lts.Need-next-field-requires (run-calls t) (read-run-at t) read-run.Post read-run-Inv-loop read-run-μ-loop
-read-run-next-field-requires t c κs = search needs
-
 read-run-loop-holds : (t : ℕ) → read-run-lts.Need-loop-holds (run-calls t) (read-run-at t) read-run.Post read-run-Inv-loop read-run-μ-loop
 read-run-loop-holds t c = let fits = c .before .before .before .before .pre .1 in
     (refl, omega arith, rw (c .next-field .ensures) (next-follows _ _ _ _ fits .fits), refl)
-
-read-run-enum-known-reading : (t : ℕ) → read-run-lts.Need-enum-known-reading (run-calls t) (read-run-at t) read-run.Post read-run-Inv-loop read-run-μ-loop
-read-run-enum-known-reading t c = search needs
-
-read-run-enum-told : (t : ℕ) → read-run-lts.Need-enum-told (run-calls t) (read-run-at t) read-run.Post read-run-Inv-loop read-run-μ-loop
-read-run-enum-told t c = search needs
-
-read-run-same-length : (t : ℕ) → read-run-lts.Need-same-length (run-calls t) (read-run-at t) read-run.Post read-run-Inv-loop read-run-μ-loop
-read-run-same-length t c = search needs
 
 -- the run reader at its loop, and where it has read a field
 abbrev RunLoop : ℕ → Type 0
@@ -280,18 +226,9 @@ run-number t c =
 read-run-returns : (t : ℕ) → read-run-lts.Need-returns (run-calls t) (read-run-at t) read-run.Post read-run-Inv-loop read-run-μ-loop
 read-run-returns t c = left-refused _ _ _ _ _ _ _ _ (c .enum-told .given .1) ∙ sym (run-whole t (c .before .before))
 
-read-run-opens-requires : (t : ℕ) → read-run-lts.Need-opens-requires (run-calls t) (read-run-at t) read-run.Post read-run-Inv-loop read-run-μ-loop
-read-run-opens-requires t c κs = search needs
-
-read-run-same-length-2 : (t : ℕ) → read-run-lts.Need-same-length-2 (run-calls t) (read-run-at t) read-run.Post read-run-Inv-loop read-run-μ-loop
-read-run-same-length-2 t c = search needs
-
 read-run-returns-2 : (t : ℕ) → read-run-lts.Need-returns-2 (run-calls t) (read-run-at t) read-run.Post read-run-Inv-loop read-run-μ-loop
 read-run-returns-2 t c = let k = c .before .before .before in
     left-first _ _ _ _ _ _ _ _ _ _ (run-stands t k) (sym (c .before .before .opens .ensures) ∙ not-true _ (c .before .if1 .taken)) (c .if2 .taken) ∙ sym (run-whole t (run-loop t k))
-
-read-run-same-length-3 : (t : ℕ) → read-run-lts.Need-same-length-3 (run-calls t) (read-run-at t) read-run.Post read-run-Inv-loop read-run-μ-loop
-read-run-same-length-3 t c = search needs
 
 read-run-returns-3 : (t : ℕ) → read-run-lts.Need-returns-3 (run-calls t) (read-run-at t) read-run.Post read-run-Inv-loop read-run-μ-loop
 read-run-returns-3 t c = let k = c .before .before .before in
@@ -322,59 +259,17 @@ read-run-loop-again t c = let k = c .before .before .before .before .before .bef
 
 pub +read-entry+read-run-spec : {M : Type 1} → statement M
 +read-entry+read-run-spec = close μ-read-entry μ-read-run (λ t. read-entry-lts.spec (entry-calls t)
-    (read-entry-at t)
-    read-entry.Post
-    read-entry-Inv-loop
-    read-entry-μ-loop
-    (read-entry-record-of-requires t)
-    (read-entry-add-requires t)
-    (read-entry-next-field-requires t)
-    (read-entry-loop-holds t)
-    (read-entry-enum-known-reading t)
-    (read-entry-enum-told t)
-    (read-entry-same-length t)
-    (read-entry-returns t)
-    (read-entry-record-of-requires-2 t)
-    (read-entry-kind-of-requires t)
-    (read-entry-enum-known-position t)
-    (read-entry-add-requires-2 t)
-    (read-entry-next-field-requires-2 t)
-    (read-entry-loop-less t)
-    (read-entry-loop-again t)
-    (read-entry-enum-known-level t)
-    (read-entry-add-requires-3 t)
-    (read-entry-add-t33 t)
-    (read-entry-read-run-requires t)
-    (read-entry-loop-less-2 t)
-    (read-entry-loop-again-2 t)
-    (read-entry-enum-told-2 t)
-    (read-entry-join-requires t)
-    (read-entry-next-field-requires-3 t)
-    (read-entry-loop-less-3 t)
-    (read-entry-loop-again-3 t)
-    (read-entry-enum-told-3 t)
-    (read-entry-same-length-2 t)
-    (read-entry-returns-2 t)
-    (read-entry-enum-told-4 t)
-    (read-entry-same-length-3 t)
+    (read-entry-at t) read-entry.Post read-entry-Inv-loop read-entry-μ-loop (read-entry-record-of-requires t)
+    (read-entry-add-requires t) (λ c κs. search needs) (read-entry-loop-holds t) (λ c. search needs) (λ c. search needs)
+    (λ c. search needs) (read-entry-returns t) (read-entry-record-of-requires-2 t) (λ c κs. search needs)
+    (λ c. search needs) (read-entry-add-requires-2 t) (λ c κs. search needs) (read-entry-loop-less t)
+    (read-entry-loop-again t) (λ c. search needs) (read-entry-add-requires-3 t) (read-entry-add-t33 t)
+    (read-entry-read-run-requires t) (read-entry-loop-less-2 t) (read-entry-loop-again-2 t) (λ c. search needs)
+    (read-entry-join-requires t) (λ c κs. search needs) (read-entry-loop-less-3 t) (read-entry-loop-again-3 t)
+    (λ c. search needs) (λ c. search needs) (read-entry-returns-2 t) (λ c. search needs) (λ c. search needs)
     (read-entry-returns-3 t))
     λ t. read-run-lts.spec (run-calls t)
-    (read-run-at t)
-    read-run.Post
-    read-run-Inv-loop
-    read-run-μ-loop
-    (read-run-next-field-requires t)
-    (read-run-loop-holds t)
-    (read-run-enum-known-reading t)
-    (read-run-enum-told t)
-    (read-run-same-length t)
-    (read-run-returns t)
-    (read-run-opens-requires t)
-    (read-run-same-length-2 t)
-    (read-run-returns-2 t)
-    (read-run-same-length-3 t)
-    (read-run-returns-3 t)
-    (read-run-add-number t)
-    (read-run-read-entry-requires t)
-    (read-run-loop-less t)
-    (read-run-loop-again t)
+    (read-run-at t) read-run.Post read-run-Inv-loop read-run-μ-loop (λ c κs. search needs) (read-run-loop-holds t)
+    (λ c. search needs) (λ c. search needs) (λ c. search needs) (read-run-returns t) (λ c κs. search needs)
+    (λ c. search needs) (read-run-returns-2 t) (λ c. search needs) (read-run-returns-3 t) (read-run-add-number t)
+    (read-run-read-entry-requires t) (read-run-loop-less t) (read-run-loop-again t)

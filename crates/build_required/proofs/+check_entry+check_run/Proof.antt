@@ -62,35 +62,11 @@ check-entry-Inv-loop words table group from to at₀ at = nestedLeft table group
 abbrev check-entry-μ-loop : check-entry-lts.MeasureT-loop
 check-entry-μ-loop words table group from to at₀ at = to - at
 
-check-entry-check-fields-requires : (t : ℕ) → check-entry-lts.Need-check-fields-requires (entry-calls t) (check-entry-at t) check-entry.Post check-entry-Inv-loop check-entry-μ-loop
-check-entry-check-fields-requires t c κs = search needs
-
-check-entry-enum-told : (t : ℕ) → check-entry-lts.Need-enum-told (entry-calls t) (check-entry-at t) check-entry.Post check-entry-Inv-loop check-entry-μ-loop
-check-entry-enum-told t c = search needs
-
-check-entry-enum-told-2 : (t : ℕ) → check-entry-lts.Need-enum-told-2 (entry-calls t) (check-entry-at t) check-entry.Post check-entry-Inv-loop check-entry-μ-loop
-check-entry-enum-told-2 t c = search needs
-
 check-entry-returns : (t : ℕ) → check-entry-lts.Need-returns (entry-calls t) (check-entry-at t) check-entry.Post check-entry-Inv-loop check-entry-μ-loop
 check-entry-returns t c = entry-missing _ _ _ _ (c .before .before .check-fields .ensures) _ _ (c .enum-told2 .given .1)
 
 check-entry-loop-holds : (t : ℕ) → check-entry-lts.Need-loop-holds (entry-calls t) (check-entry-at t) check-entry.Post check-entry-Inv-loop check-entry-μ-loop
 check-entry-loop-holds t c = refl
-
-check-entry-record-at-requires : (t : ℕ) → check-entry-lts.Need-record-at-requires (entry-calls t) (check-entry-at t) check-entry.Post check-entry-Inv-loop check-entry-μ-loop
-check-entry-record-at-requires t c κs = search needs
-
-check-entry-add-at : (t : ℕ) → check-entry-lts.Need-add-at (entry-calls t) (check-entry-at t) check-entry.Post check-entry-Inv-loop check-entry-μ-loop
-check-entry-add-at t c = search needs
-
-check-entry-count-at-requires : (t : ℕ) → check-entry-lts.Need-count-at-requires (entry-calls t) (check-entry-at t) check-entry.Post check-entry-Inv-loop check-entry-μ-loop
-check-entry-count-at-requires t c κs = search needs
-
-check-entry-enum-known-level : (t : ℕ) → check-entry-lts.Need-enum-known-level (entry-calls t) (check-entry-at t) check-entry.Post check-entry-Inv-loop check-entry-μ-loop
-check-entry-enum-known-level t c = search needs
-
-check-entry-enum-told-3 : (t : ℕ) → check-entry-lts.Need-enum-told-3 (entry-calls t) (check-entry-at t) check-entry.Post check-entry-Inv-loop check-entry-μ-loop
-check-entry-enum-told-3 t c = search needs
 
 -- the entry check at its loop: where it looks, and what is left there of the whole
 entry-within : (t : ℕ) (c : check-entry-lts.In-loop (entry-calls t) (check-entry-at t) check-entry.Post check-entry-Inv-loop check-entry-μ-loop) → c .before .loop .at < c .before .before .before .before .before .before .before .args .to
@@ -108,9 +84,6 @@ after-run : (t : ℕ) (c : check-entry-lts.After-check-run (entry-calls t) (chec
 after-run t c = let l = c .before .before .before .before .before .before .before .before .before in
     turn-run _ _ _ _ _ (entry-within t (c .before .before .before .before .before .before .before .before)) (entry-long t l) _ (c .before .before .before .before .before .before .before .record-at .ensures) _ _ (c .before .before .before .before .before .before .count-at .ensures) (c .before .before .before .before .level .given .1) _ (c .before .run-end .ensures) _ (c .check-run .ensures)
 
-check-entry-loop-less : (t : ℕ) → check-entry-lts.Need-loop-less (entry-calls t) (check-entry-at t) check-entry.Post check-entry-Inv-loop check-entry-μ-loop
-check-entry-loop-less t c = omega arith
-
 check-entry-loop-again : (t : ℕ) → check-entry-lts.Need-loop-again (entry-calls t) (check-entry-at t) check-entry.Post check-entry-Inv-loop check-entry-μ-loop
 check-entry-loop-again t c = let l = c .before .before .before .before .before in
     l .loop .inv ∙ turn-plain _ _ _ _ _ (entry-within t (c .before .before .before .before)) (entry-long t l) _ (c .before .before .before .record-at .ensures) _ (c .before .before .count-at .ensures) (c .enum-told3 .given .1)
@@ -118,25 +91,13 @@ check-entry-loop-again t c = let l = c .before .before .before .before .before i
 check-entry-add-t15 : (t : ℕ) → check-entry-lts.Need-add-t15 (entry-calls t) (check-entry-at t) check-entry.Post check-entry-Inv-loop check-entry-μ-loop
 check-entry-add-t15 t c = let l = c .before .before .before .before .before .before .before in omega (arith, l .before .before .before .before .before .before .pre .1 .1)
 
-check-entry-run-end-requires : (t : ℕ) → check-entry-lts.Need-run-end-requires (entry-calls t) (check-entry-at t) check-entry.Post check-entry-Inv-loop check-entry-μ-loop
-check-entry-run-end-requires t c κs = search needs
-
 check-entry-check-run-requires : (t : ℕ) → check-entry-lts.Need-check-run-requires (entry-calls t) (check-entry-at t) check-entry.Post check-entry-Inv-loop check-entry-μ-loop
 check-entry-check-run-requires t c κs = let l = c .before .before .before .before .before .before .before .before in
     (omega (arith, l .before .before .before .before .before .before .pre .0, l .before .before .before .before .before .before .pre .1 .1), end-fits _ _ _ _ _ (entry-within t (c .before .before .before .before .before .before .before)) (l .before .before .before .before .before .before .pre .1 .0) (c .run-end .ensures))
 
-check-entry-enum-told-4 : (t : ℕ) → check-entry-lts.Need-enum-told-4 (entry-calls t) (check-entry-at t) check-entry.Post check-entry-Inv-loop check-entry-μ-loop
-check-entry-enum-told-4 t c = search needs
-
-check-entry-loop-less-2 : (t : ℕ) → check-entry-lts.Need-loop-less-2 (entry-calls t) (check-entry-at t) check-entry.Post check-entry-Inv-loop check-entry-μ-loop
-check-entry-loop-less-2 t c = omega arith
-
 check-entry-loop-again-2 : (t : ℕ) → check-entry-lts.Need-loop-again-2 (entry-calls t) (check-entry-at t) check-entry.Post check-entry-Inv-loop check-entry-μ-loop
 check-entry-loop-again-2 t c = let l = c .before .before .before .before .before .before .before .before .before .before .before in
     l .loop .inv ∙ after-run t (c .before .before) ∙ else-complete _ _ (c .enum-told4 .given .1)
-
-check-entry-enum-told-5 : (t : ℕ) → check-entry-lts.Need-enum-told-5 (entry-calls t) (check-entry-at t) check-entry.Post check-entry-Inv-loop check-entry-μ-loop
-check-entry-enum-told-5 t c = search needs
 
 check-entry-returns-2 : (t : ℕ) → check-entry-lts.Need-returns-2 (entry-calls t) (check-entry-at t) check-entry.Post check-entry-Inv-loop check-entry-μ-loop
 check-entry-returns-2 t c = let l = c .before .before .before .before .before .before .before .before .before .before .before in
@@ -156,18 +117,6 @@ check-run-returns t c = sym (run-deep _ _ _ (c .if1 .taken))
 
 check-run-loop-holds : (t : ℕ) → check-run-lts.Need-loop-holds (run-calls t) (check-run-at t) check-run.Post check-run-Inv-loop check-run-μ-loop
 check-run-loop-holds t c = refl
-
-check-run-add-at : (t : ℕ) → check-run-lts.Need-add-at (run-calls t) (check-run-at t) check-run.Post check-run-Inv-loop check-run-μ-loop
-check-run-add-at t c = search needs
-
-check-run-record-at-requires : (t : ℕ) → check-run-lts.Need-record-at-requires (run-calls t) (check-run-at t) check-run.Post check-run-Inv-loop check-run-μ-loop
-check-run-record-at-requires t c κs = search needs
-
-check-run-starts-requires : (t : ℕ) → check-run-lts.Need-starts-requires (run-calls t) (check-run-at t) check-run.Post check-run-Inv-loop check-run-μ-loop
-check-run-starts-requires t c κs = search needs
-
-check-run-entry-end-requires : (t : ℕ) → check-run-lts.Need-entry-end-requires (run-calls t) (check-run-at t) check-run.Post check-run-Inv-loop check-run-μ-loop
-check-run-entry-end-requires t c κs = search needs
 
 -- the run check at its loop: where it looks, and what is left there of the whole
 run-within : (t : ℕ) (c : check-run-lts.In-loop (run-calls t) (check-run-at t) check-run.Post check-run-Inv-loop check-run-μ-loop) → c .before .loop .at < c .before .before .before .before .before .before .args .to
@@ -189,25 +138,13 @@ check-run-check-entry-requires : (t : ℕ) → check-run-lts.Need-check-entry-re
 check-run-check-entry-requires t c κs = let l = c .before .before .before .before .before in
     (omega (arith, l .before .before .before .before .before .pre .0), (end-fits _ _ _ _ _ (run-within t (c .before .before .before .before)) (l .before .before .before .before .before .pre .1) (c .entry-end .ensures), l .before .if1 .left))
 
-check-run-enum-told : (t : ℕ) → check-run-lts.Need-enum-told (run-calls t) (check-run-at t) check-run.Post check-run-Inv-loop check-run-μ-loop
-check-run-enum-told t c = search needs
-
-check-run-loop-less : (t : ℕ) → check-run-lts.Need-loop-less (run-calls t) (check-run-at t) check-run.Post check-run-Inv-loop check-run-μ-loop
-check-run-loop-less t c = omega arith
-
 check-run-loop-again : (t : ℕ) → check-run-lts.Need-loop-again (run-calls t) (check-run-at t) check-run.Post check-run-Inv-loop check-run-μ-loop
 check-run-loop-again t c = let l = c .before .before .before .before .before .before .before .before in
     l .loop .inv ∙ after-entry t (c .before .before) ∙ else-complete _ _ (c .enum-told .given .1)
 
-check-run-enum-told-2 : (t : ℕ) → check-run-lts.Need-enum-told-2 (run-calls t) (check-run-at t) check-run.Post check-run-Inv-loop check-run-μ-loop
-check-run-enum-told-2 t c = search needs
-
 check-run-returns-2 : (t : ℕ) → check-run-lts.Need-returns-2 (run-calls t) (check-run-at t) check-run.Post check-run-Inv-loop check-run-μ-loop
 check-run-returns-2 t c = let l = c .before .before .before .before .before .before .before .before in
     sym (run-whole t l ∙ l .loop .inv ∙ after-entry t (c .before .before) ∙ else-missing _ _ _ _ (c .enum-told2 .given .1))
-
-check-run-loop-less-2 : (t : ℕ) → check-run-lts.Need-loop-less-2 (run-calls t) (check-run-at t) check-run.Post check-run-Inv-loop check-run-μ-loop
-check-run-loop-less-2 t c = omega arith
 
 check-run-loop-again-2 : (t : ℕ) → check-run-lts.Need-loop-again-2 (run-calls t) (check-run-at t) check-run.Post check-run-Inv-loop check-run-μ-loop
 check-run-loop-again-2 t c = let l = c .before .before .before .before in
@@ -218,30 +155,11 @@ check-run-returns-3 t c = sym (run-whole t (c .before) ∙ c .before .loop .inv 
 
 pub +check-entry+check-run-spec : {M : Type 1} → statement M
 +check-entry+check-run-spec = close μ-check-entry μ-check-run (λ t. check-entry-lts.spec (entry-calls t)
-    (check-entry-at t)
-    check-entry.Post
-    check-entry-Inv-loop
-    check-entry-μ-loop
-    (check-entry-check-fields-requires t)
-    (check-entry-enum-told t)
-    (check-entry-enum-told-2 t)
-    (check-entry-returns t)
-    (check-entry-loop-holds t)
-    (check-entry-record-at-requires t)
-    (check-entry-add-at t)
-    (check-entry-count-at-requires t)
-    (check-entry-enum-known-level t)
-    (check-entry-enum-told-3 t)
-    (check-entry-loop-less t)
-    (check-entry-loop-again t)
-    (check-entry-add-t15 t)
-    (check-entry-run-end-requires t)
-    (check-entry-check-run-requires t)
-    (check-entry-enum-told-4 t)
-    (check-entry-loop-less-2 t)
-    (check-entry-loop-again-2 t)
-    (check-entry-enum-told-5 t)
-    (check-entry-returns-2 t)
+    (check-entry-at t) check-entry.Post check-entry-Inv-loop check-entry-μ-loop (λ c κs. search needs)
+    (λ c. search needs) (λ c. search needs) (check-entry-returns t) (check-entry-loop-holds t) (λ c κs. search needs)
+    (λ c. search needs) (λ c κs. search needs) (λ c. search needs) (λ c. search needs) (λ c. omega arith)
+    (check-entry-loop-again t) (check-entry-add-t15 t) (λ c κs. search needs) (check-entry-check-run-requires t)
+    (λ c. search needs) (λ c. omega arith) (check-entry-loop-again-2 t) (λ c. search needs) (check-entry-returns-2 t)
     (check-entry-returns-3 t))
     λ t. check-run-lts.spec (
       record-at-reads.Asked,
@@ -252,23 +170,7 @@ pub +check-entry+check-run-spec : {M : Type 1} → statement M
       entry-end-reads.Learnt,
       check-entry-below t,
       check-entry.Post,
-    )
-    (check-run-at t)
-    check-run.Post
-    check-run-Inv-loop
-    check-run-μ-loop
-    (check-run-returns t)
-    (check-run-loop-holds t)
-    (check-run-add-at t)
-    (check-run-record-at-requires t)
-    (check-run-starts-requires t)
-    (check-run-entry-end-requires t)
-    (check-run-check-entry-requires t)
-    (check-run-enum-told t)
-    (check-run-loop-less t)
-    (check-run-loop-again t)
-    (check-run-enum-told-2 t)
-    (check-run-returns-2 t)
-    (check-run-loop-less-2 t)
-    (check-run-loop-again-2 t)
-    (check-run-returns-3 t)
+    ) (check-run-at t) check-run.Post check-run-Inv-loop check-run-μ-loop (check-run-returns t) (check-run-loop-holds t)
+    (λ c. search needs) (λ c κs. search needs) (λ c κs. search needs) (λ c κs. search needs)
+    (check-run-check-entry-requires t) (λ c. search needs) (λ c. omega arith) (check-run-loop-again t)
+    (λ c. search needs) (check-run-returns-2 t) (λ c. omega arith) (check-run-loop-again-2 t) (check-run-returns-3 t)

@@ -57,15 +57,6 @@ lay-items-returns t c = sym (lay-deep _ _ _ _ _ _ (c .if1 .taken))
 lay-items-loop-holds : (t : ℕ) → lay-items-lts.Need-loop-holds (calls t) (lay-items-at t) lay-items.Post lay-items-Inv-loop lay-items-μ-loop
 lay-items-loop-holds t c = (omega arith, refl, lay-down _ _ _ _ _ _ (c .if1 .left))
 
-lay-items-record-at-requires : (t : ℕ) → lay-items-lts.Need-record-at-requires (calls t) (lay-items-at t) lay-items.Post lay-items-Inv-loop lay-items-μ-loop
-lay-items-record-at-requires t c κs = search needs
-
-lay-items-enum-known-record : (t : ℕ) → lay-items-lts.Need-enum-known-record (calls t) (lay-items-at t) lay-items.Post lay-items-Inv-loop lay-items-μ-loop
-lay-items-enum-known-record t c = search needs
-
-lay-items-same-length : (t : ℕ) → lay-items-lts.Need-same-length (calls t) (lay-items-at t) lay-items.Post lay-items-Inv-loop lay-items-μ-loop
-lay-items-same-length t c = search needs
-
 lay-items-returns-2 : (t : ℕ) → lay-items-lts.Need-returns-2 (calls t) (lay-items-at t) lay-items.Post lay-items-Inv-loop lay-items-μ-loop
 lay-items-returns-2 t c = sym (c .before .before .loop .inv .2 ∙ unread _ _ _ (lay-advances _ _ _) _ _ _ _ (c .before .record-at .ensures) (c .match .keys2))
 
@@ -84,27 +75,12 @@ read-rises : (t : ℕ) (c : Read t) → let h = c .before .before .before .befor
     (h .loop .at < c .before .«record» .given .0 .1 .0) × (c .before .«record» .given .0 .1 .0 ≤ length (a .bytes .now))
 read-rises t c = record-falls _ _ _ _ (read-here t c)
 
-lay-items-enum-known-record-2 : (t : ℕ) → lay-items-lts.Need-enum-known-record-2 (calls t) (lay-items-at t) lay-items.Post lay-items-Inv-loop lay-items-μ-loop
-lay-items-enum-known-record-2 t c = search needs
-
 field-here : (t : ℕ) (c : lay-items-lts.After-known-told2 (calls t) (lay-items-at t) lay-items.Post lay-items-Inv-loop lay-items-μ-loop) → let k = c .before .before .before in let h = k .before .before .before .before in let a = h .before .before .before .before .before .args in
     recordAt (a .bytes .now) (h .loop .at) ≡ Whole (FieldItem (c .before .record2 .given .0 .0) (c .before .record2 .given .0 .1 .0)) (k .before .«record» .given .0 .1 .0)
 field-here t c = read-as (read-here t (c .before .before .before)) (c .before .record2 .given .1)
 
-lay-items-same-length-2 : (t : ℕ) → lay-items-lts.Need-same-length-2 (calls t) (lay-items-at t) lay-items.Post lay-items-Inv-loop lay-items-μ-loop
-lay-items-same-length-2 t c = search needs
-
 lay-items-returns-3 : (t : ℕ) → lay-items-lts.Need-returns-3 (calls t) (lay-items-at t) lay-items.Post lay-items-Inv-loop lay-items-μ-loop
 lay-items-returns-3 t c = sym (c .before .before .before .before .before .before .before .before .loop .inv .2 ∙ lay-field-full _ _ _ (lay-advances _ _ _) _ _ _ _ _ _ (field-here t (c .before)) (c .if2 .taken))
-
-lay-items-add-put-row : (t : ℕ) → lay-items-lts.Need-add-put-row (calls t) (lay-items-at t) lay-items.Post lay-items-Inv-loop lay-items-μ-loop
-lay-items-add-put-row t c = search needs
-
-lay-items-put-row-requires : (t : ℕ) → lay-items-lts.Need-put-row-requires (calls t) (lay-items-at t) lay-items.Post lay-items-Inv-loop lay-items-μ-loop
-lay-items-put-row-requires t c κs = search needs
-
-lay-items-add-row : (t : ℕ) → lay-items-lts.Need-add-row (calls t) (lay-items-at t) lay-items.Post lay-items-Inv-loop lay-items-μ-loop
-lay-items-add-row t c = search needs
 
 lay-items-loop-less : (t : ℕ) → lay-items-lts.Need-loop-less (calls t) (lay-items-at t) lay-items.Post lay-items-Inv-loop lay-items-μ-loop
 lay-items-loop-less t c = omega (arith, read-rises t (c .before .before .before .before .before .before .before .before))
@@ -112,41 +88,17 @@ lay-items-loop-less t c = omega (arith, read-rises t (c .before .before .before 
 lay-items-loop-again : (t : ℕ) → lay-items-lts.Need-loop-again (calls t) (lay-items-at t) lay-items.Post lay-items-Inv-loop lay-items-μ-loop
 lay-items-loop-again t c = (omega (arith, c .before .before .before .before .if2 .left), c .before .before .put-row .kept .0 ∙ c .before .before .before .before .before .before .before .before .before .before .before .before .loop .inv .1, c .before .before .before .before .before .before .before .before .before .before .before .before .loop .inv .2 ∙ lay-field _ _ _ (lay-advances _ _ _) _ _ _ _ _ _ (field-here t (c .before .before .before .before .before)) (c .before .before .before .before .if2 .left) ∙ rw (c .before .before .put-row .ensures))
 
-lay-items-enum-known-record-3 : (t : ℕ) → lay-items-lts.Need-enum-known-record-3 (calls t) (lay-items-at t) lay-items.Post lay-items-Inv-loop lay-items-μ-loop
-lay-items-enum-known-record-3 t c = search needs
-
 group-here : (t : ℕ) (c : lay-items-lts.After-known-told3 (calls t) (lay-items-at t) lay-items.Post lay-items-Inv-loop lay-items-μ-loop) → let k = c .before .before .before in let h = k .before .before .before .before in let a = h .before .before .before .before .before .args in
     recordAt (a .bytes .now) (h .loop .at) ≡ Whole (OpensGroup (c .before .record3 .given .0 .0) (c .before .record3 .given .0 .1 .0)) (k .before .«record» .given .0 .1 .0)
 group-here t c = read-as (read-here t (c .before .before .before)) (c .before .record3 .given .1)
 
-lay-items-same-length-3 : (t : ℕ) → lay-items-lts.Need-same-length-3 (calls t) (lay-items-at t) lay-items.Post lay-items-Inv-loop lay-items-μ-loop
-lay-items-same-length-3 t c = search needs
-
 lay-items-returns-4 : (t : ℕ) → lay-items-lts.Need-returns-4 (calls t) (lay-items-at t) lay-items.Post lay-items-Inv-loop lay-items-μ-loop
 lay-items-returns-4 t c = sym (c .before .before .before .before .before .before .before .before .loop .inv .2 ∙ lay-group-full _ _ _ (lay-advances _ _ _) _ _ _ _ _ _ (group-here t (c .before)) (c .if3 .taken))
-
-lay-items-add-lay-items : (t : ℕ) → lay-items-lts.Need-add-lay-items (calls t) (lay-items-at t) lay-items.Post lay-items-Inv-loop lay-items-μ-loop
-lay-items-add-lay-items t c = search needs
-
-lay-items-sub-lay-items : (t : ℕ) → lay-items-lts.Need-sub-lay-items (calls t) (lay-items-at t) lay-items.Post lay-items-Inv-loop lay-items-μ-loop
-lay-items-sub-lay-items t c = search needs
-
-lay-items-lay-items-requires : (t : ℕ) → lay-items-lts.Need-lay-items-requires (calls t) (lay-items-at t) lay-items.Post lay-items-Inv-loop lay-items-μ-loop
-lay-items-lay-items-requires t c κs = omega arith
 
 -- what was laid within a group
 group-within : (t : ℕ) (c : lay-items-lts.After-lay-items (calls t) (lay-items-at t) lay-items.Post lay-items-Inv-loop lay-items-μ-loop) → let k = c .before .before .before .before .before .before in let h = k .before .before .before .before in let a = h .before .before .before .before .before .args in
     laying (c .lay-items .result) (c .lay-items .last .1 .1 .0) ≡ layItems (a .depth - 1) (a .bytes .now) (componentAt (a .index .now)) (k .before .«record» .given .0 .1 .0) (h .loop .row + 1) (h .loop .table)
 group-within t c = c .lay-items .ensures
-
-lay-items-enum-known-after : (t : ℕ) → lay-items-lts.Need-enum-known-after (calls t) (lay-items-at t) lay-items.Post lay-items-Inv-loop lay-items-μ-loop
-lay-items-enum-known-after t c = search needs
-
-lay-items-enum-told : (t : ℕ) → lay-items-lts.Need-enum-told (calls t) (lay-items-at t) lay-items.Post lay-items-Inv-loop lay-items-μ-loop
-lay-items-enum-told t c = search needs
-
-lay-items-same-length-4 : (t : ℕ) → lay-items-lts.Need-same-length-4 (calls t) (lay-items-at t) lay-items.Post lay-items-Inv-loop lay-items-μ-loop
-lay-items-same-length-4 t c = search needs
 
 lay-items-returns-5 : (t : ℕ) → lay-items-lts.Need-returns-5 (calls t) (lay-items-at t) lay-items.Post lay-items-Inv-loop lay-items-μ-loop
 lay-items-returns-5 t c = sym (c .before .before .before .before .before .before .before .before .before .before .before .before .before .before .loop .inv .2 ∙ lay-group-broken _ _ _ (lay-advances _ _ _) _ _ _ _ _ _ _ (group-here t (c .before .before .before .before .before .before .before)) (c .before .before .before .before .before .before .if3 .left) (laid-as (group-within t (c .before .before .before .before)) (c .enum-told .given .1)))
@@ -168,27 +120,12 @@ lay-items-loop-less-2 t c = omega (arith, group-reached t (c .before .before .be
 lay-items-loop-again-2 : (t : ℕ) → lay-items-lts.Need-loop-again-2 (calls t) (lay-items-at t) lay-items.Post lay-items-Inv-loop lay-items-μ-loop
 lay-items-loop-again-2 t c = (group-reached t (c .before .before .before .before) .3, c .before .before .put-row2 .kept .0 ∙ c .before .before .before .before .before .before .before .before .before .lay-items .kept .1 .1 .0 ∙ c .before .before .before .before .before .before .before .before .before .before .before .before .before .before .before .before .before .before .before .loop .inv .1, c .before .before .before .before .before .before .before .before .before .before .before .before .before .before .before .before .before .before .before .loop .inv .2 ∙ lay-group _ _ _ (lay-advances _ _ _) _ _ _ _ _ _ _ _ _ (group-here t (c .before .before .before .before .before .before .before .before .before .before .before .before)) (c .before .before .before .before .before .before .before .before .before .before .before .if3 .left) (group-laid t (c .before .before .before .before)) ∙ rw (c .before .before .put-row2 .ensures))
 
-lay-items-enum-known-record-4 : (t : ℕ) → lay-items-lts.Need-enum-known-record-4 (calls t) (lay-items-at t) lay-items.Post lay-items-Inv-loop lay-items-μ-loop
-lay-items-enum-known-record-4 t c = search needs
-
 component-here : (t : ℕ) (c : lay-items-lts.After-known-told5 (calls t) (lay-items-at t) lay-items.Post lay-items-Inv-loop lay-items-μ-loop) → let k = c .before .before .before in let h = k .before .before .before .before in let a = h .before .before .before .before .before .args in
     (required : Bool) × (recordAt (a .bytes .now) (h .loop .at) ≡ Whole (ComponentItem (c .before .record4 .given .0 .0) required) (k .before .«record» .given .0 .1 .0))
 component-here t c = (_, read-as (read-here t (c .before .before .before)) (c .before .record4 .given .1))
 
-lay-items-stands-at-requires : (t : ℕ) → lay-items-lts.Need-stands-at-requires (calls t) (lay-items-at t) lay-items.Post lay-items-Inv-loop lay-items-μ-loop
-lay-items-stands-at-requires t c κs = search needs
-
 stands-here : (t : ℕ) (c : lay-items-lts.After-stands-at (calls t) (lay-items-at t) lay-items.Post lay-items-Inv-loop lay-items-μ-loop) → let a = c .before .before .before .before .before .before .before .before .before .before .before .before .before .args in c .stands-at .result ≡ standsAt (componentAt (a .index .now)) (c .before .before .record4 .given .0 .0)
 stands-here t c = c .stands-at .ensures
-
-lay-items-enum-known-place : (t : ℕ) → lay-items-lts.Need-enum-known-place (calls t) (lay-items-at t) lay-items.Post lay-items-Inv-loop lay-items-μ-loop
-lay-items-enum-known-place t c = search needs
-
-lay-items-sub-lay-items-2 : (t : ℕ) → lay-items-lts.Need-sub-lay-items-2 (calls t) (lay-items-at t) lay-items.Post lay-items-Inv-loop lay-items-μ-loop
-lay-items-sub-lay-items-2 t c = search needs
-
-lay-items-lay-items-requires-2 : (t : ℕ) → lay-items-lts.Need-lay-items-requires-2 (calls t) (lay-items-at t) lay-items.Post lay-items-Inv-loop lay-items-μ-loop
-lay-items-lay-items-requires-2 t c κs = omega arith
 
 -- what was laid of a component
 component-within : (t : ℕ) (c : lay-items-lts.After-lay-items2 (calls t) (lay-items-at t) lay-items.Post lay-items-Inv-loop lay-items-μ-loop) → let h = c .before .before .before .before .before .before .before .before .before .before .before .before .before in let a = h .before .before .before .before .before .args in
@@ -198,20 +135,8 @@ component-within t c = c .lay-items2 .ensures
 component-at : (t : ℕ) (c : lay-items-lts.After-lay-items2 (calls t) (lay-items-at t) lay-items.Post lay-items-Inv-loop lay-items-μ-loop) → let a = c .before .before .before .before .before .before .before .before .before .before .before .before .before .before .before .before .before .before .args in standsAt (componentAt (a .index .now)) (c .before .before .before .before .before .before .before .record4 .given .0 .0) ≡ ItemsAt (c .before .before .before .place .given .0 .0)
 component-at t c = sym (stands-here t (c .before .before .before .before .before)) ∙ c .before .before .before .place .given .1
 
-lay-items-enum-known-end : (t : ℕ) → lay-items-lts.Need-enum-known-end (calls t) (lay-items-at t) lay-items.Post lay-items-Inv-loop lay-items-μ-loop
-lay-items-enum-known-end t c = search needs
-
-lay-items-enum-told-2 : (t : ℕ) → lay-items-lts.Need-enum-told-2 (calls t) (lay-items-at t) lay-items.Post lay-items-Inv-loop lay-items-μ-loop
-lay-items-enum-told-2 t c = search needs
-
-lay-items-same-length-5 : (t : ℕ) → lay-items-lts.Need-same-length-5 (calls t) (lay-items-at t) lay-items.Post lay-items-Inv-loop lay-items-μ-loop
-lay-items-same-length-5 t c = search needs
-
 lay-items-returns-6 : (t : ℕ) → lay-items-lts.Need-returns-6 (calls t) (lay-items-at t) lay-items.Post lay-items-Inv-loop lay-items-μ-loop
 lay-items-returns-6 t c = sym (c .before .before .before .before .before .before .before .before .before .before .before .before .before .before .before .before .before .loop .inv .2 ∙ lay-component-broken _ _ _ (lay-advances _ _ _) _ _ _ _ _ _ (component-here t (c .before .before .before .before .before .before .before .before .before .before) .1) _ _ (component-at t (c .before .before .before .before)) (laid-as (component-within t (c .before .before .before .before)) (c .enum-told2 .given .1)))
-
-lay-items-enum-told-3 : (t : ℕ) → lay-items-lts.Need-enum-told-3 (calls t) (lay-items-at t) lay-items.Post lay-items-Inv-loop lay-items-μ-loop
-lay-items-enum-told-3 t c = search needs
 
 component-laid : (t : ℕ) (c : lay-items-lts.After-known-told7 (calls t) (lay-items-at t) lay-items.Post lay-items-Inv-loop lay-items-μ-loop) → let h = c .before .before .before .before .before .before .before .before .before .before .before .before .before .before .before .before .before .before in let a = h .before .before .before .before .before .args in
     (after : ℕ) × (layItems (a .depth - 1) (a .bytes .now) (componentAt (a .index .now)) (c .before .before .before .before .before .before .before .before .place .given .0 .0) (h .loop .row) (h .loop .table) ≡ laying (Upto after (c .before .end .given .0 .1 .0)) (c .before .before .before .before .before .lay-items2 .last .1 .1 .0))
@@ -229,70 +154,22 @@ lay-items-loop-less-4 t c = omega (arith, read-rises t (c .before .before .befor
 lay-items-loop-again-4 : (t : ℕ) → lay-items-lts.Need-loop-again-4 (calls t) (lay-items-at t) lay-items.Post lay-items-Inv-loop lay-items-μ-loop
 lay-items-loop-again-4 t c = (c .before .before .before .before .before .before .before .before .before .before .loop .inv .0, c .before .before .before .before .before .before .before .before .before .before .loop .inv .1, c .before .before .before .before .before .before .before .before .before .before .loop .inv .2 ∙ lay-empty _ _ _ (lay-advances _ _ _) _ _ _ _ _ _ (component-here t (c .before .before .before) .1) (sym (stands-here t (c .before .before)) ∙ c .enum-told3 .given .1))
 
-lay-items-enum-told-4 : (t : ℕ) → lay-items-lts.Need-enum-told-4 (calls t) (lay-items-at t) lay-items.Post lay-items-Inv-loop lay-items-μ-loop
-lay-items-enum-told-4 t c = search needs
-
-lay-items-same-length-6 : (t : ℕ) → lay-items-lts.Need-same-length-6 (calls t) (lay-items-at t) lay-items.Post lay-items-Inv-loop lay-items-μ-loop
-lay-items-same-length-6 t c = search needs
-
 lay-items-returns-7 : (t : ℕ) → lay-items-lts.Need-returns-7 (calls t) (lay-items-at t) lay-items.Post lay-items-Inv-loop lay-items-μ-loop
 lay-items-returns-7 t c = sym (c .before .before .before .before .before .before .loop .inv .2 ∙ lay-close _ _ _ (lay-advances _ _ _) _ _ _ _ (read-as (read-here t (c .before .before)) (c .enum-told4 .given .1)))
-
-lay-items-same-length-7 : (t : ℕ) → lay-items-lts.Need-same-length-7 (calls t) (lay-items-at t) lay-items.Post lay-items-Inv-loop lay-items-μ-loop
-lay-items-same-length-7 t c = search needs
 
 lay-items-returns-8 : (t : ℕ) → lay-items-lts.Need-returns-8 (calls t) (lay-items-at t) lay-items.Post lay-items-Inv-loop lay-items-μ-loop
 lay-items-returns-8 t c = sym (c .before .before .before .before .before .loop .inv .2 ∙ top-level _ _ _ (lay-advances _ _ _) _ _ _ _ _ (read-here t (c .before)) (c .match2 .keys5))
 
 pub +lay-items-spec : {M : Type 1} → statement M
 +lay-items-spec = close μ-lay-items λ t. lay-items-lts.spec (calls t)
-    (lay-items-at t)
-    lay-items.Post
-    lay-items-Inv-loop
-    lay-items-μ-loop
-    (lay-items-returns t)
-    (lay-items-loop-holds t)
-    (lay-items-record-at-requires t)
-    (lay-items-enum-known-record t)
-    (lay-items-same-length t)
-    (lay-items-returns-2 t)
-    (lay-items-enum-known-record-2 t)
-    (lay-items-same-length-2 t)
-    (lay-items-returns-3 t)
-    (lay-items-add-put-row t)
-    (lay-items-put-row-requires t)
-    (lay-items-add-row t)
-    (lay-items-loop-less t)
-    (lay-items-loop-again t)
-    (lay-items-enum-known-record-3 t)
-    (lay-items-same-length-3 t)
-    (lay-items-returns-4 t)
-    (lay-items-add-lay-items t)
-    (lay-items-sub-lay-items t)
-    (lay-items-lay-items-requires t)
-    (lay-items-enum-known-after t)
-    (lay-items-enum-told t)
-    (lay-items-same-length-4 t)
-    (lay-items-returns-5 t)
-    (lay-items-put-row-requires-2 t)
-    (lay-items-loop-less-2 t)
-    (lay-items-loop-again-2 t)
-    (lay-items-enum-known-record-4 t)
-    (lay-items-stands-at-requires t)
-    (lay-items-enum-known-place t)
-    (lay-items-sub-lay-items-2 t)
-    (lay-items-lay-items-requires-2 t)
-    (lay-items-enum-known-end t)
-    (lay-items-enum-told-2 t)
-    (lay-items-same-length-5 t)
-    (lay-items-returns-6 t)
-    (lay-items-enum-told-3 t)
-    (lay-items-loop-less-3 t)
-    (lay-items-loop-again-3 t)
-    (lay-items-loop-less-4 t)
-    (lay-items-loop-again-4 t)
-    (lay-items-enum-told-4 t)
-    (lay-items-same-length-6 t)
-    (lay-items-returns-7 t)
-    (lay-items-same-length-7 t)
+    (lay-items-at t) lay-items.Post lay-items-Inv-loop lay-items-μ-loop (lay-items-returns t) (lay-items-loop-holds t)
+    (λ c κs. search needs) (λ c. search needs) (λ c. search needs) (lay-items-returns-2 t) (λ c. search needs)
+    (λ c. search needs) (lay-items-returns-3 t) (λ c. search needs) (λ c κs. search needs) (λ c. search needs)
+    (lay-items-loop-less t) (lay-items-loop-again t) (λ c. search needs) (λ c. search needs) (lay-items-returns-4 t)
+    (λ c. search needs) (λ c. search needs) (λ c κs. omega arith) (λ c. search needs) (λ c. search needs)
+    (λ c. search needs) (lay-items-returns-5 t) (lay-items-put-row-requires-2 t) (lay-items-loop-less-2 t)
+    (lay-items-loop-again-2 t) (λ c. search needs) (λ c κs. search needs) (λ c. search needs) (λ c. search needs)
+    (λ c κs. omega arith) (λ c. search needs) (λ c. search needs) (λ c. search needs) (lay-items-returns-6 t)
+    (λ c. search needs) (lay-items-loop-less-3 t) (lay-items-loop-again-3 t) (lay-items-loop-less-4 t)
+    (lay-items-loop-again-4 t) (λ c. search needs) (λ c. search needs) (lay-items-returns-7 t) (λ c. search needs)
     (lay-items-returns-8 t)

@@ -7,14 +7,15 @@ use Rattle.sample_messages.proofs.play.Statement.{statement}
 use Rattle.sample_messages.proofs.play.Tie as tie
 
 abbrev Inv-loop : tie.InvT-loop
-Inv-loop words₀ values₀ script lent₀ from₀ words values lent from = (length words ≡ length words₀) × (length values ≡ length values₀) × (from ≤ length script + 1)
+Inv-loop words₀ values₀ aside₀ bytes₀ script lent₀ from₀ words values aside bytes lent from =
+    (length words ≡ length words₀) × (length values ≡ length values₀) × (length aside ≡ length aside₀) × (length bytes ≡ length bytes₀) × (from ≤ length script + 1)
 
 abbrev μ-loop : tie.MeasureT-loop
-μ-loop words₀ values₀ script lent₀ from₀ words values lent from = length script + 1 - from
+μ-loop words₀ values₀ aside₀ bytes₀ script lent₀ from₀ words values aside bytes lent from = length script + 1 - from
 
 pub play-spec : {M : Type 1} → statement M
 play-spec =
     tie.close
     (tie.spec Inv-loop μ-loop (λ c. search needs) (λ c κs. search needs) (λ c. search needs) (λ c. search needs)
     (λ c. search needs) (λ c κs. search needs) (λ c. search needs) (λ c. search needs) (λ c. search needs)
-    (λ c. search needs) (λ c. search needs) (λ c. search needs))
+    (λ c. search needs) (λ c. search needs) (λ c. search needs) (λ c. search needs) (λ c. search needs))
