@@ -20,36 +20,13 @@ removing-in p q tag words values a e h = h ∙ ap (λ (x : Part). removing x tag
 pub hanging-in : (p q : Part) (runWords runValues words values : List ℕ) (a : After) → p ≡ q → a ≡ hanging p runWords runValues words values → a ≡ hanging q runWords runValues words values
 hanging-in p q runWords runValues words values a e h = h ∙ ap (λ (x : Part). hanging x runWords runValues words values) e
 
--- a change
-pub change-number : (k : Change) (words values : List ℕ) (o : After) (n : ℕ) → after k words values ≡ o → n ≡ numberOfChange k → n ≡ changeNumber o
-unfolding changeNumber
-change-number k words values o n e h = h ∙ ap changeNumber e
+-- a change: its number, what it leaves of words and values, and no values in `out`
+pub change-told : (k : Change) (words values : List ℕ) (o : After) (n : ℕ) (out : List ℕ) → after k words values ≡ o → (n ≡ numberOfChange k) × (out ≡ told 0 (0, 0)) → (n ≡ changeNumber o) × ((words ≡ changedWords o) × ((values ≡ changedValues o) × (out ≡ told 0 (0, 0))))
+unfolding changeNumber changedWords changedValues
+change-told k words values o n out e t = (t .0 ∙ ap changeNumber e, (ap changedWords e, (ap changedValues e, t .1)))
 
-pub change-words : (k : Change) (words values : List ℕ) (o : After) → after k words values ≡ o → words ≡ changedWords o
-unfolding changedWords
-change-words k words values o e = ap changedWords e
-
-pub change-values : (k : Change) (words values : List ℕ) (o : After) → after k words values ≡ o → values ≡ changedValues o
-unfolding changedValues
-change-values k words values o e = ap changedValues e
-
--- an encoding
-pub encoding-number : (k : Encoding) (words values output : List ℕ) (o : Left) (n : ℕ) → left k words values output ≡ o → n ≡ numberOfEncoding k → n ≡ encodingNumber o
-unfolding encodingNumber
-encoding-number k words values output o n e h = h ∙ ap encodingNumber e
-
-pub encoding-out : (k : Encoding) (words values output : List ℕ) (o : Left) (out : List ℕ) → left k words values output ≡ o → out ≡ told 0 (lengthOfEncoding k, 0) → out ≡ told 0 (encodingLength o, 0)
-unfolding encodingLength
-encoding-out k words values output o out e t = t ∙ ap (λ (x : Left). told 0 (encodingLength x, 0)) e
-
-pub encoding-words : (k : Encoding) (words values output : List ℕ) (o : Left) → left k words values output ≡ o → words ≡ leftWords o
-unfolding leftWords
-encoding-words k words values output o e = ap leftWords e
-
-pub encoding-values : (k : Encoding) (words values output : List ℕ) (o : Left) → left k words values output ≡ o → values ≡ leftValues o
-unfolding leftValues
-encoding-values k words values output o e = ap leftValues e
-
-pub encoding-output : (k : Encoding) (words values output : List ℕ) (o : Left) → left k words values output ≡ o → output ≡ leftOutput o
-unfolding leftOutput
-encoding-output k words values output o e = ap leftOutput e
+-- an encoding: its number, what it leaves, and its length in `out`
+pub encoding-told : (k : Encoding) (words values output : List ℕ) (o : Left) (n : ℕ) (out : List ℕ) → left k words values output ≡ o → (n ≡ numberOfEncoding k) × (out ≡ told 0 (lengthOfEncoding k, 0)) → (n ≡ encodingNumber o) × ((words ≡ leftWords o) × ((values ≡ leftValues o) × ((output ≡ leftOutput o) × (out ≡ told 0 (encodingLength o, 0)))))
+unfolding encodingNumber encodingLength leftWords leftValues leftOutput
+encoding-told k words values output o n out e t =
+    (t .0 ∙ ap encodingNumber e, (ap leftWords e, (ap leftValues e, (ap leftOutput e, t .1 ∙ ap (λ (x : Left). told 0 (encodingLength x, 0)) e))))

@@ -5,15 +5,6 @@ use Rattle.build_groups.specs.Reading.{answerOf}
 use Rattle.build_body.proofs.answer_of.Statement.{statement}
 use Rattle.build_body.proofs.answer_of.Tie as tie
 
-enum-known-refusal : tie.Need-enum-known-refusal
-enum-known-refusal c = search needs
-
-enum-told : tie.Need-enum-told
-enum-told c = search needs
-
-enum-known-refusal-2 : tie.Need-enum-known-refusal-2
-enum-known-refusal-2 c = search needs
-
 returns : tie.Need-returns
 unfolding answerOf
 returns c = sym (ap answerOf (c .before .refusal .given .1))
@@ -29,4 +20,4 @@ returns-3 c = sym (ap answerOf (c .before .refusal2 .given .1))
 pub answer-of-spec : {M : Type 1} → statement M
 answer-of-spec =
     tie.close
-    (tie.spec enum-known-refusal enum-told enum-known-refusal-2 returns returns-2 returns-3)
+    (tie.spec (λ c. search needs) (λ c. search needs) (λ c. search needs) returns returns-2 returns-3)

@@ -4,15 +4,9 @@ use Rattle.build_config.specs.Settings.{configOf}
 use Rattle.build_config.proofs.config_of.Statement.{statement}
 use Rattle.build_config.proofs.config_of.Tie as tie
 
-separated-by-requires : tie.Need-separated-by-requires
-separated-by-requires c κs = search needs
-
-validates-requires : tie.Need-validates-requires
-validates-requires c κs = search needs
-
 returns : tie.Need-returns
 unfolding configOf
 returns c = rw (c .validates .ensures, c .before .separated-by .ensures)
 
 pub config-of-spec : {M : Type 1} → statement M
-config-of-spec = tie.close (tie.spec separated-by-requires validates-requires returns)
+config-of-spec = tie.close (tie.spec (λ c κs. search needs) (λ c κs. search needs) returns)

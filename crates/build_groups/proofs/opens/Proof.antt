@@ -5,15 +5,6 @@ use Rattle.build_groups.proofs.LookUps.{no-delimiter, one-delimiter}
 use Rattle.build_groups.proofs.opens.Statement.{statement}
 use Rattle.build_groups.proofs.opens.Tie as tie
 
-delimiter-requires : tie.Need-delimiter-requires
-delimiter-requires c κs = search needs
-
-enum-known-delimiter : tie.Need-enum-known-delimiter
-enum-known-delimiter c = search needs
-
-enum-told : tie.Need-enum-told
-enum-told c = search needs
-
 returns : tie.Need-returns
 returns c = sym (no-delimiter _ _ _ (sym (c .before .before .delimiter .ensures) ∙ c .enum-told .given .1))
 
@@ -22,4 +13,4 @@ returns-2 c = sym (one-delimiter _ _ _ _ (sym (c .before .before .before .delimi
 
 pub opens-spec : {M : Type 1} → statement M
 opens-spec =
-    tie.close (tie.spec delimiter-requires enum-known-delimiter enum-told returns returns-2)
+    tie.close (tie.spec (λ c κs. search needs) (λ c. search needs) (λ c. search needs) returns returns-2)

@@ -8,15 +8,6 @@ use borrow.Author.Needs.{needs}
 use Rattle.build_parts.proofs.next_field.Statement.{statement}
 use Rattle.build_parts.proofs.next_field.Tie as tie
 
-next-field-requires : tie.Need-next-field-requires
-next-field-requires c κs = search needs
-
-enum-known-cause : tie.Need-enum-known-cause
-enum-known-cause c = search needs
-
-enum-known-field : tie.Need-enum-known-field
-enum-known-field c = search needs
-
 returns : tie.Need-returns
 returns c = sym (next-crowded _ _ _ (sym (c .before .before .before .before .next-field .ensures) ∙ c .before .before .field .given .1) (c .if1 .taken))
 
@@ -29,4 +20,4 @@ returns-3 c = sym (next-got _ _ _ (sym (c .before .before .before .before .next-
 pub next-field-spec : {M : Type 1} → statement M
 next-field-spec =
     tie.close
-    (tie.spec next-field-requires enum-known-cause enum-known-field returns returns-2 returns-3)
+    (tie.spec (λ c κs. search needs) (λ c. search needs) (λ c. search needs) returns returns-2 returns-3)

@@ -5,15 +5,9 @@ use borrow.Author.Needs.{needs}
 use Rattle.build_parts.proofs.record_of.Statement.{statement}
 use Rattle.build_parts.proofs.record_of.Tie as tie
 
-cast-t3 : tie.Need-cast-t3
-cast-t3 c = search needs
-
-cast-t4 : tie.Need-cast-t4
-cast-t4 c = search needs
-
 returns : tie.Need-returns
 unfolding partRecord
 returns c = refl
 
 pub record-of-spec : {M : Type 1} → statement M
-record-of-spec = tie.close (tie.spec cast-t3 cast-t4 returns)
+record-of-spec = tie.close (tie.spec (λ c. search needs) (λ c. search needs) returns)

@@ -9,11 +9,8 @@ use Rattle.build_required.proofs.count_at.Tie as tie
 returns : tie.Need-returns
 returns c = sym (count-not _ _ _ (c .if1 .taken))
 
-group-of-requires : tie.Need-group-of-requires
-group-of-requires c κs = search needs
-
 returns-2 : tie.Need-returns-2
 returns-2 c = c .group-of .ensures ∙ sym (count-own _ _ _ (c .before .if1 .left))
 
 pub count-at-spec : {M : Type 1} → statement M
-count-at-spec = tie.close (tie.spec returns group-of-requires returns-2)
+count-at-spec = tie.close (tie.spec returns (λ c κs. search needs) returns-2)

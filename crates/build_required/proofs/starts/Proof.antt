@@ -9,11 +9,8 @@ use Rattle.build_required.proofs.starts.Tie as tie
 returns : tie.Need-returns
 returns c = sym (starts-not _ _ _ (c .if1 .taken))
 
-opens-requires : tie.Need-opens-requires
-opens-requires c κs = search needs
-
 returns-2 : tie.Need-returns-2
 returns-2 c = c .opens .ensures ∙ sym (starts-own _ _ _ (c .before .if1 .left))
 
 pub starts-spec : {M : Type 1} → statement M
-starts-spec = tie.close (tie.spec returns opens-requires returns-2)
+starts-spec = tie.close (tie.spec returns (λ c κs. search needs) returns-2)

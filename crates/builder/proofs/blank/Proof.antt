@@ -16,34 +16,16 @@ Inv-loop words₀ records i₀ words i = (stride * records ≤ i) × (i ≤ reco
 abbrev μ-loop : tie.MeasureT-loop
 μ-loop words₀ records i₀ words i = recordWords - i
 
-mul-i : tie.Need-mul-i Inv-loop μ-loop
-mul-i c = search needs
-
 loop-holds : tie.Need-loop-holds Inv-loop μ-loop
 loop-holds c = (omega arith, omega arith, omega arith, blank-start (c .args .words .now) (stride * c .args .records))
-
-mul-words : tie.Need-mul-words Inv-loop μ-loop
-mul-words c = search needs
-
-slice-write-words : tie.Need-slice-write-words Inv-loop μ-loop
-slice-write-words c = search needs
-
-add-i : tie.Need-add-i Inv-loop μ-loop
-add-i c = search needs
-
-loop-less : tie.Need-loop-less Inv-loop μ-loop
-loop-less c = search needs
 
 loop-again : tie.Need-loop-again Inv-loop μ-loop
 loop-again c = let l = c .before in
     (omega arith, omega arith, simp length-set (omega arith), rw (l .loop .inv .3) (blank-step (l .before .args .words .now) (stride * l .before .args .records) (l .loop .i) (omega arith) (omega arith)))
-
-same-length : tie.Need-same-length Inv-loop μ-loop
-same-length c = search needs
 
 returns : tie.Need-returns Inv-loop μ-loop
 returns c = let l = c .before in
     l .loop .inv .3 ∙ blank-end (l .before .args .words .now) (stride * l .before .args .records) (l .loop .i) (omega arith) (omega arith)
 
 pub blank-spec : {M : Type 1} → statement M
-blank-spec = tie.close (tie.spec Inv-loop μ-loop mul-i loop-holds mul-words slice-write-words add-i loop-less loop-again same-length returns)
+blank-spec = tie.close (tie.spec Inv-loop μ-loop (λ c. search needs) loop-holds (λ c. search needs) (λ c. search needs) (λ c. search needs) (λ c. search needs) loop-again (λ c. search needs) returns)

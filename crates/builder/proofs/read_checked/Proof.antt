@@ -8,12 +8,6 @@ use Rattle.builder.specs.ReadingLaws.{refused-dictionary, passing-dictio
 use Rattle.builder.proofs.read_checked.Statement.{statement}
 use Rattle.builder.proofs.read_checked.Tie as tie
 
-prepare-requires : tie.Need-prepare-requires
-prepare-requires c κs = search needs
-
-number-of-requires : tie.Need-number-of-requires
-number-of-requires c κs = search needs
-
 returns : tie.Need-returns
 returns c = let k = c .before in
     (refused-dictionary _ _ _ _ (k .before .prepare .ensures .1) (λ z. c .if1 .taken (k .number-of .ensures ∙ z)) _, omega arith)
@@ -23,13 +17,10 @@ read-message-requires c κs = let k = c .before .before .before in
     let s = k .before .before .before .before .before .before in
     (s .pre .0, s .pre .1, prepared-by _ _ (k .before .prepare .ensures .1) (sym (k .number-of .ensures) ∙ c .before .before .if1 .left) _ _ (length-replicate {A = ℕ} 96150 0) (k .before .prepare .ensures .0))
 
-same-length : tie.Need-same-length
-same-length c = search needs
-
 returns-2 : tie.Need-returns-2
 returns-2 c = let r = c .before .before in
     let k = r .before .before .before .before in
     (r .read-message .ensures .0 ∙ passing-dictionary _ _ _ _ (k .before .prepare .ensures .1) (sym (k .number-of .ensures) ∙ r .before .before .before .if1 .left), r .read-message .ensures .1)
 
 pub read-checked-spec : {M : Type 1} → statement M
-read-checked-spec = tie.close (tie.spec prepare-requires number-of-requires returns read-message-requires same-length returns-2)
+read-checked-spec = tie.close (tie.spec (λ c κs. search needs) (λ c κs. search needs) returns read-message-requires (λ c. search needs) returns-2)

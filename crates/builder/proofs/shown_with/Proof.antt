@@ -6,9 +6,6 @@ use Rattle.builder.specs.BuildLaws.{shows-none, shows-nothing, shows-hea
 use Rattle.builder.proofs.shown_with.Statement.{statement}
 use Rattle.builder.proofs.shown_with.Tie as tie
 
-number-of-requires : tie.Need-number-of-requires
-number-of-requires c κs = search needs
-
 returns : tie.Need-returns
 returns c = sym (shows-none _ _ _ (c .before .number-of .ensures) (c .if1 .taken))
 
@@ -19,4 +16,4 @@ returns-3 : tie.Need-returns-3
 returns-3 c = sym (shows-header _ _ _ (c .before .before .number-of .ensures) (omega (arith, c .before .if1 .left)) (omega (arith, c .if2 .left)))
 
 pub shown-with-spec : {M : Type 1} → statement M
-shown-with-spec = tie.close (tie.spec number-of-requires returns returns-2 returns-3)
+shown-with-spec = tie.close (tie.spec (λ c κs. search needs) returns returns-2 returns-3)

@@ -15,15 +15,9 @@ prepared c = rw (c .before .before .before .clear .ensures) at (c .walk .ensures
 returns : tie.Need-returns
 returns c = (sym (prepared-long _ _ (c .if1 .taken)), sym (check-long _ (c .if1 .taken)))
 
-clear-requires : tie.Need-clear-requires
-clear-requires c κs = search needs
-
-walk-requires : tie.Need-walk-requires
-walk-requires c κs = search needs
-
 returns-2 : tie.Need-returns-2
 returns-2 c = let a = c .before .before .before .before .before .before .before .before .args in
     (prepared c, unfold answerOf in ap answerOf (prepared c) ∙ prepared-answer (a .dictionary .now) (a .index .now) (omega arith))
 
 pub prepare-spec : {M : Type 1} → statement M
-prepare-spec = tie.close (tie.spec returns clear-requires walk-requires returns-2)
+prepare-spec = tie.close (tie.spec returns (λ c κs. search needs) (λ c κs. search needs) returns-2)

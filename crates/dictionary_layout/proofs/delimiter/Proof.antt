@@ -8,9 +8,6 @@ use Rattle.dictionary_layout_rules.specs.TableLaws.{stop-within, first-some, fi
 use Rattle.dictionary_layout.proofs.delimiter.Statement.{statement}
 use Rattle.dictionary_layout.proofs.delimiter.Tie as tie
 
-stop-of-requires : tie.Need-stop-of-requires
-stop-of-requires c κs = search needs
-
 -- the first row lies in the table
 place : (c : tie.Then1) → let a = c .before .before .before .args in a .level .first < length (a .table .now) / 4
 place c = let a = c .before .before .before .args in
@@ -33,4 +30,4 @@ returns-2 c = sym (delimiter-walk _ _ _ (c .before .stop-of .ensures) ∙ first-
 
 pub delimiter-spec : {M : Type 1} → statement M
 delimiter-spec =
-    tie.close (tie.spec stop-of-requires mul-t6 mul-t7 shared-slice-read-t9 returns returns-2)
+    tie.close (tie.spec (λ c κs. search needs) mul-t6 mul-t7 shared-slice-read-t9 returns returns-2)

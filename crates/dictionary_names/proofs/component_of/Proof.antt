@@ -15,12 +15,6 @@ at-of : (c : tie.After-find) → let a = c .before .before .before .args in foun
 at-of c = let a = c .before .before .before .args in
     ap (λ (k : ℕ). found Components (a .index .now) k) (sym (c .before .wide .ensures)) ∙ sym (c .find .ensures)
 
-wide-requires : tie.Need-wide-requires
-wide-requires c κs = search needs
-
-find-requires : tie.Need-find-requires
-find-requires c κs = search needs
-
 returns : tie.Need-returns
 returns c = sym (component-missing _ _ (at-of (c .before) ∙ c .if1 .taken))
 
@@ -33,4 +27,4 @@ returns-2 c = let f = c .before .before in
 
 pub component-of-spec : {M : Type 1} → statement M
 component-of-spec =
-    tie.close (tie.spec wide-requires find-requires returns entry-at-requires returns-2)
+    tie.close (tie.spec (λ c κs. search needs) (λ c κs. search needs) returns entry-at-requires returns-2)

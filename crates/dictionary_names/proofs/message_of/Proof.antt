@@ -7,9 +7,6 @@ use Rattle.dictionary_rules.specs.IndexLaws.{message-nowhere, message-placed}
 use Rattle.dictionary_names.proofs.message_of.Statement.{statement}
 use Rattle.dictionary_names.proofs.message_of.Tie as tie
 
-find-requires : tie.Need-find-requires
-find-requires c κs = search needs
-
 returns : tie.Need-returns
 returns c = sym (message-nowhere _ _ (sym (c .before .find .ensures) ∙ c .if1 .taken))
 
@@ -21,4 +18,4 @@ returns-2 c = let f = c .before .before in
     sym (message-placed _ _ _ (sym (f .find .ensures)) (c .before .if1 .left) ∙ rw (c .entry-at .ensures))
 
 pub message-of-spec : {M : Type 1} → statement M
-message-of-spec = tie.close (tie.spec find-requires returns entry-at-requires returns-2)
+message-of-spec = tie.close (tie.spec (λ c κs. search needs) returns entry-at-requires returns-2)

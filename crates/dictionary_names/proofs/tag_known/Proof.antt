@@ -6,9 +6,6 @@ use Rattle.dictionary_rules.specs.Index.{tagAt}
 use Rattle.dictionary_names.proofs.tag_known.Statement.{statement}
 use Rattle.dictionary_names.proofs.tag_known.Tie as tie
 
-find-requires : tie.Need-find-requires
-find-requires c κs = search needs
-
 returns : tie.Need-returns
 returns c = unfold tagAt in rw (eq-eqb _ _ (sym (c .before .find .ensures) ∙ c .if1 .taken))
 
@@ -16,4 +13,4 @@ returns-2 : tie.Need-returns-2
 returns-2 c = unfold tagAt in rw (ne-eqb _ _ (λ e. c .if1 .left (c .before .find .ensures ∙ e)))
 
 pub tag-known-spec : {M : Type 1} → statement M
-tag-known-spec = tie.close (tie.spec find-requires returns returns-2)
+tag-known-spec = tie.close (tie.spec (λ c κs. search needs) returns returns-2)

@@ -8,11 +8,8 @@ use Rattle.dictionary_steps.proofs.close_group.Tie as tie
 returns : tie.Need-returns
 returns c = unfold closesGroup notEmpty in rw (eq-eqb _ _ (c .if1 .taken))
 
-grow-requires : tie.Need-grow-requires
-grow-requires c κs = search needs
-
 returns-2 : tie.Need-returns-2
 returns-2 c = unfold closesGroup notEmpty in rw (ne-eqb _ _ (c .before .if1 .left), c .grow .ensures)
 
 pub close-group-spec : {M : Type 1} → statement M
-close-group-spec = tie.close (tie.spec returns grow-requires returns-2)
+close-group-spec = tie.close (tie.spec returns (λ c κs. search needs) returns-2)

@@ -8,15 +8,6 @@ use Rattle.dictionary_steps.proofs.hold.Tie as tie
 returns : tie.Need-returns
 returns c = unfold heldWith in rw (eq-eqb _ _ (c .if1 .taken))
 
-enum-told : tie.Need-enum-told
-enum-told c = search needs
-
-enum-told-2 : tie.Need-enum-told-2
-enum-told-2 c = search needs
-
-enum-told-3 : tie.Need-enum-told-3
-enum-told-3 c = search needs
-
 returns-2 : tie.Need-returns-2
 returns-2 c = unfold heldWith heldAlso in rw (ne-eqb _ _ (c .before .before .if1 .left), c .enum-told .given .1)
 
@@ -28,4 +19,5 @@ returns-4 c = unfold heldWith heldAlso in rw (ne-eqb _ _ (c .before .before .if1
 
 pub hold-spec : {M : Type 1} → statement M
 hold-spec =
-    tie.close (tie.spec returns enum-told enum-told-2 enum-told-3 returns-2 returns-3 returns-4)
+    tie.close
+    (tie.spec returns (λ c. search needs) (λ c. search needs) (λ c. search needs) returns-2 returns-3 returns-4)

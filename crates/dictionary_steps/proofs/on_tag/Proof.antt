@@ -6,17 +6,8 @@ use Rattle.dictionary_rules.specs.Index.{looksAt}
 use Rattle.dictionary_steps.proofs.on_tag.Statement.{statement}
 use Rattle.dictionary_steps.proofs.on_tag.Tie as tie
 
-enum-told : tie.Need-enum-told
-enum-told c = search needs
-
-enum-told-2 : tie.Need-enum-told-2
-enum-told-2 c = search needs
-
 returns : tie.Need-returns
 returns c = unfold onTag atTop in rw (c .enum-told2 .given .1)
-
-tag-known-requires : tie.Need-tag-known-requires
-tag-known-requires c κs = search needs
 
 returns-2 : tie.Need-returns-2
 returns-2 c = unfold onTag atTop looksAt in rw (c .before .before .enum-told .given .1, sym (c .before .tag-known .ensures) ∙ c .if1 .taken)
@@ -26,4 +17,4 @@ returns-3 c = unfold onTag atTop looksAt in rw (c .before .before .enum-told .gi
 
 pub on-tag-spec : {M : Type 1} → statement M
 on-tag-spec =
-    tie.close (tie.spec enum-told enum-told-2 returns tag-known-requires returns-2 returns-3)
+    tie.close (tie.spec (λ c. search needs) (λ c. search needs) returns (λ c κs. search needs) returns-2 returns-3)

@@ -4,15 +4,6 @@ use Rattle.dictionary_rules.specs.Step.{standsFor}
 use Rattle.dictionary_steps.proofs.stands_for.Statement.{statement}
 use Rattle.dictionary_steps.proofs.stands_for.Tie as tie
 
-enum-known-held : tie.Need-enum-known-held
-enum-known-held c = search needs
-
-enum-told : tie.Need-enum-told
-enum-told c = search needs
-
-enum-told-2 : tie.Need-enum-told-2
-enum-told-2 c = search needs
-
 returns : tie.Need-returns
 returns c = unfold standsFor in rw (c .before .held .given .1)
 
@@ -24,4 +15,4 @@ returns-3 c = unfold standsFor in rw (c .enum-told2 .given .1)
 
 pub stands-for-spec : {M : Type 1} → statement M
 stands-for-spec =
-    tie.close (tie.spec enum-known-held enum-told enum-told-2 returns returns-2 returns-3)
+    tie.close (tie.spec (λ c. search needs) (λ c. search needs) (λ c. search needs) returns returns-2 returns-3)

@@ -13,15 +13,6 @@ use Rattle.encode_rows.specs.Writing.{chosen, rowOn}
 use Rattle.encode_rows.proofs.row_on.Statement.{statement}
 use Rattle.encode_rows.proofs.row_on.Tie as tie
 
-level-of-requires : tie.Need-level-of-requires
-level-of-requires c κs = search needs
-
-tag-of-requires : tie.Need-tag-of-requires
-tag-of-requires c κs = search needs
-
-is-chosen-requires : tie.Need-is-chosen-requires
-is-chosen-requires c κs = search needs
-
 returns : tie.Need-returns
 unfolding rowOn rowAt levelOf
 returns c = rw (eq-eqb _ 1 (sym (c .before .before .before .level-of .ensures) ∙ c .before .before .if1 .taken)) (rw (c .before .tag-of .ensures) at (c .is-chosen .ensures))
@@ -32,4 +23,4 @@ returns-2 c = rw (ne-eqb _ 1 (λ e. c .if1 .left (c .before .level-of .ensures �
 
 pub row-on-spec : {M : Type 1} → statement M
 row-on-spec =
-    tie.close (tie.spec level-of-requires tag-of-requires is-chosen-requires returns returns-2)
+    tie.close (tie.spec (λ c κs. search needs) (λ c κs. search needs) (λ c κs. search needs) returns returns-2)

@@ -14,11 +14,5 @@ use Rattle.encode_rows.proofs.sum_before.Tie as tie
 slice-aggregate-sum-of : tie.Need-slice-aggregate-sum-of
 slice-aggregate-sum-of c = simp length-take (omega arith)
 
-sum-of-requires : tie.Need-sum-of-requires
-sum-of-requires c κs = search needs
-
-returns : tie.Need-returns
-returns c = search needs
-
 pub sum-before-spec : {M : Type 1} → statement M
-sum-before-spec = tie.close (tie.spec slice-aggregate-sum-of sum-of-requires returns)
+sum-before-spec = tie.close (tie.spec slice-aggregate-sum-of (λ c κs. search needs) (λ c. search needs))

@@ -6,9 +6,6 @@ use Rattle.encoder.specs.Judging.{addedAt}
 use Rattle.encoder.proofs.added.Statement.{statement}
 use Rattle.encoder.proofs.added.Tie as tie
 
-holds-requires : tie.Need-holds-requires
-holds-requires c κs = search needs
-
 returns : tie.Need-returns
 unfolding addedAt
 returns c = (rw (sym (c .before .holds .ensures) ∙ c .if1 .taken), omega arith)
@@ -18,4 +15,4 @@ unfolding addedAt
 returns-2 c = (rw (sym (c .before .holds .ensures) ∙ c .if1 .left), omega arith)
 
 pub added-spec : {M : Type 1} → statement M
-added-spec = tie.close (tie.spec holds-requires returns returns-2)
+added-spec = tie.close (tie.spec (λ c κs. search needs) returns returns-2)

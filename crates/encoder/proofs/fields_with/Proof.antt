@@ -9,18 +9,6 @@ use Rattle.encoder.specs.JudgingLaws.{fields-few}
 use Rattle.encoder.proofs.fields_with.Statement.{statement}
 use Rattle.encoder.proofs.fields_with.Tie as tie
 
-fields-in-requires : tie.Need-fields-in-requires
-fields-in-requires c κs = search needs
-
-added-requires : tie.Need-added-requires
-added-requires c κs = search needs
-
-added-requires-2 : tie.Need-added-requires-2
-added-requires-2 c κs = search needs
-
-add-result : tie.Need-add-result
-add-result c = search needs
-
 add-result-2 : tie.Need-add-result-2
 add-result-2 c =
     let a = c .before .before .before .before .args in
@@ -34,4 +22,4 @@ returns c = rw (c .before .before .fields-in .ensures, c .before .added .ensures
 pub fields-with-spec : {M : Type 1} → statement M
 fields-with-spec =
     tie.close
-    (tie.spec fields-in-requires added-requires added-requires-2 add-result add-result-2 returns)
+    (tie.spec (λ c κs. search needs) (λ c κs. search needs) (λ c κs. search needs) (λ c. search needs) add-result-2 returns)

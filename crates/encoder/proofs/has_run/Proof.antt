@@ -8,12 +8,9 @@ use Rattle.encoder.specs.Judging.{hungAt}
 use Rattle.encoder.proofs.has_run.Statement.{statement}
 use Rattle.encoder.proofs.has_run.Tie as tie
 
-find-row-requires : tie.Need-find-row-requires
-find-row-requires c κs = search needs
-
 returns : tie.Need-returns
 unfolding hungAt runPlace
 returns c = ap (λ (n : ℕ). ltb n (c .before .before .args .span .to)) (c .find-row .ensures)
 
 pub has-run-spec : {M : Type 1} → statement M
-has-run-spec = tie.close (tie.spec find-row-requires returns)
+has-run-spec = tie.close (tie.spec (λ c κs. search needs) returns)

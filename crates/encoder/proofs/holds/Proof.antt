@@ -8,12 +8,9 @@ use Rattle.encoder.specs.Judging.{heldAt}
 use Rattle.encoder.proofs.holds.Statement.{statement}
 use Rattle.encoder.proofs.holds.Tie as tie
 
-find-row-requires : tie.Need-find-row-requires
-find-row-requires c κs = search needs
-
 returns : tie.Need-returns
 unfolding heldAt fieldPlace
 returns c = ap (λ (n : ℕ). ltb n (c .before .before .args .span .to)) (c .find-row .ensures)
 
 pub holds-spec : {M : Type 1} → statement M
-holds-spec = tie.close (tie.spec find-row-requires returns)
+holds-spec = tie.close (tie.spec (λ c κs. search needs) returns)

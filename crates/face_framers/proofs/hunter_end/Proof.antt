@@ -4,22 +4,11 @@ use borrow.Author.Needs.{needs}
 use Rattle.face_framers.proofs.hunter_end.Statement.{statement}
 use Rattle.face_framers.proofs.hunter_end.Tie as tie
 
-tell-requires : tie.Need-tell-requires
-tell-requires c κs = search needs
-
-hunter-in-requires : tie.Need-hunter-in-requires
-hunter-in-requires c κs = search needs
-
-end-requires : tie.Need-end-requires
-end-requires c κs = search needs
-
-hunter-told-requires : tie.Need-hunter-told-requires
-hunter-told-requires c κs = search needs
-
 returns : tie.Need-returns
 returns c =
     (hunter-tells _ _ _ (finishes-from _ _ _ _ (c .before .before .before .hunter-in .ensures) (c .before .before .end .ensures) .reply-is) (c .hunter-told .ensures), c .before .before .before .before .tell .ensures)
 
 pub hunter-end-spec : {M : Type 1} → statement M
 hunter-end-spec =
-    tie.close (tie.spec tell-requires hunter-in-requires end-requires hunter-told-requires returns)
+    tie.close
+    (tie.spec (λ c κs. search needs) (λ c κs. search needs) (λ c κs. search needs) (λ c κs. search needs) returns)

@@ -4,11 +4,8 @@ use borrow.Author.Needs.{needs}
 use Rattle.face_framers.proofs.hunter_in.Statement.{statement}
 use Rattle.face_framers.proofs.hunter_in.Tie as tie
 
-is-set-requires : tie.Need-is-set-requires
-is-set-requires c κs = search needs
-
 returns : tie.Need-returns
 returns c = hunter-read _ _ (c .is-set .ensures)
 
 pub hunter-in-spec : {M : Type 1} → statement M
-hunter-in-spec = tie.close (tie.spec is-set-requires returns)
+hunter-in-spec = tie.close (tie.spec (λ c κs. search needs) returns)

@@ -8,19 +8,10 @@ use borrow.Author.Needs.{needs}
 use Rattle.face_framers.proofs.hunter_reset.Statement.{statement}
 use Rattle.face_framers.proofs.hunter_reset.Tie as tie
 
-tell-requires : tie.Need-tell-requires
-tell-requires c κs = search needs
-
-reset-requires : tie.Need-reset-requires
-reset-requires c κs = search needs
-
-hunter-told-requires : tie.Need-hunter-told-requires
-hunter-told-requires c κs = search needs
-
 returns : tie.Need-returns
 unfolding numberOfHunter
 returns c =
     (c .hunter-told .ensures ∙ ap (λ (s : State). hunterTold s Fine) (c .before .reset .ensures), c .before .before .tell .ensures)
 
 pub hunter-reset-spec : {M : Type 1} → statement M
-hunter-reset-spec = tie.close (tie.spec tell-requires reset-requires hunter-told-requires returns)
+hunter-reset-spec = tie.close (tie.spec (λ c κs. search needs) (λ c κs. search needs) (λ c κs. search needs) returns)

@@ -4,14 +4,8 @@ use borrow.Author.Needs.{needs}
 use Rattle.face_framers.proofs.hunter_told.Statement.{statement}
 use Rattle.face_framers.proofs.hunter_told.Tie as tie
 
-mark-of-requires : tie.Need-mark-of-requires
-mark-of-requires c κs = search needs
-
-number-requires : tie.Need-number-requires
-number-requires c κs = search needs
-
 returns : tie.Need-returns
 returns c = hunter-reply _ _ _ _ (c .before .mark-of .ensures) (c .number .ensures)
 
 pub hunter-told-spec : {M : Type 1} → statement M
-hunter-told-spec = tie.close (tie.spec mark-of-requires number-requires returns)
+hunter-told-spec = tie.close (tie.spec (λ c κs. search needs) (λ c κs. search needs) returns)

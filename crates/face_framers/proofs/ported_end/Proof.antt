@@ -4,22 +4,11 @@ use borrow.Author.Needs.{needs}
 use Rattle.face_framers.proofs.ported_end.Statement.{statement}
 use Rattle.face_framers.proofs.ported_end.Tie as tie
 
-tell-requires : tie.Need-tell-requires
-tell-requires c κs = search needs
-
-ported-in-requires : tie.Need-ported-in-requires
-ported-in-requires c κs = search needs
-
-end-requires : tie.Need-end-requires
-end-requires c κs = search needs
-
-ported-told-requires : tie.Need-ported-told-requires
-ported-told-requires c κs = search needs
-
 returns : tie.Need-returns
 returns c =
     (ported-tells _ _ _ (finished-from _ _ _ _ (c .before .before .before .ported-in .ensures) (c .before .before .end .ensures)) (c .ported-told .ensures), c .before .before .before .before .tell .ensures)
 
 pub ported-end-spec : {M : Type 1} → statement M
 ported-end-spec =
-    tie.close (tie.spec tell-requires ported-in-requires end-requires ported-told-requires returns)
+    tie.close
+    (tie.spec (λ c κs. search needs) (λ c κs. search needs) (λ c κs. search needs) (λ c κs. search needs) returns)

@@ -4,14 +4,8 @@ use borrow.Author.Needs.{needs}
 use Rattle.face_framers.proofs.ported_in.Statement.{statement}
 use Rattle.face_framers.proofs.ported_in.Tie as tie
 
-is-set-requires : tie.Need-is-set-requires
-is-set-requires c κs = search needs
-
-is-set-requires-2 : tie.Need-is-set-requires-2
-is-set-requires-2 c κs = search needs
-
 returns : tie.Need-returns
 returns c = ported-read _ _ _ (c .before .is-set .ensures) (c .is-set2 .ensures)
 
 pub ported-in-spec : {M : Type 1} → statement M
-ported-in-spec = tie.close (tie.spec is-set-requires is-set-requires-2 returns)
+ported-in-spec = tie.close (tie.spec (λ c κs. search needs) (λ c κs. search needs) returns)

@@ -8,19 +8,10 @@ use borrow.Author.Needs.{needs}
 use Rattle.face_framers.proofs.ported_reset.Statement.{statement}
 use Rattle.face_framers.proofs.ported_reset.Tie as tie
 
-tell-requires : tie.Need-tell-requires
-tell-requires c κs = search needs
-
-reset-requires : tie.Need-reset-requires
-reset-requires c κs = search needs
-
-ported-told-requires : tie.Need-ported-told-requires
-ported-told-requires c κs = search needs
-
 returns : tie.Need-returns
 unfolding numberOfParser
 returns c =
     (c .ported-told .ensures ∙ ap (λ (s : State). portedTold s Accepted) (c .before .reset .ensures), c .before .before .tell .ensures)
 
 pub ported-reset-spec : {M : Type 1} → statement M
-ported-reset-spec = tie.close (tie.spec tell-requires reset-requires ported-told-requires returns)
+ported-reset-spec = tie.close (tie.spec (λ c κs. search needs) (λ c κs. search needs) (λ c κs. search needs) returns)

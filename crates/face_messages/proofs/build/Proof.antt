@@ -4,21 +4,6 @@ use borrow.Author.Needs.{needs}
 use Rattle.face_messages.proofs.build.Statement.{statement}
 use Rattle.face_messages.proofs.build.Tie as tie
 
-config-of-requires : tie.Need-config-of-requires
-config-of-requires c κs = search needs
-
-build-requires : tie.Need-build-requires
-build-requires c κs = search needs
-
-values-of-requires : tie.Need-values-of-requires
-values-of-requires c κs = search needs
-
-tell-requires : tie.Need-tell-requires
-tell-requires c κs = search needs
-
-number-of-requires : tie.Need-number-of-requires
-number-of-requires c κs = search needs
-
 returns : tie.Need-returns
 returns c =
     let s = c .before .before .before .before in
@@ -30,4 +15,6 @@ returns c =
 
 pub build-spec : {M : Type 1} → statement M
 build-spec =
-    tie.close (tie.spec config-of-requires build-requires values-of-requires tell-requires number-of-requires returns)
+    tie.close
+    (tie.spec (λ c κs. search needs) (λ c κs. search needs) (λ c κs. search needs) (λ c κs. search needs)
+    (λ c κs. search needs) returns)

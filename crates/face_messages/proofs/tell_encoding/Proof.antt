@@ -6,18 +6,9 @@ use borrow.Author.Needs.{needs}
 use Rattle.face_messages.proofs.tell_encoding.Statement.{statement}
 use Rattle.face_messages.proofs.tell_encoding.Tie as tie
 
-encoding-length-requires : tie.Need-encoding-length-requires
-encoding-length-requires c κs = search needs
-
-tell-requires : tie.Need-tell-requires
-tell-requires c κs = search needs
-
-encoding-number-requires : tie.Need-encoding-number-requires
-encoding-number-requires c κs = search needs
-
 returns : tie.Need-returns
 returns c = (c .encoding-number .ensures, c .before .tell .ensures ∙ ap (λ (n : ℕ). told 0 (n, 0)) (c .before .before .encoding-length .ensures))
 
 pub tell-encoding-spec : {M : Type 1} → statement M
 tell-encoding-spec =
-    tie.close (tie.spec encoding-length-requires tell-requires encoding-number-requires returns)
+    tie.close (tie.spec (λ c κs. search needs) (λ c κs. search needs) (λ c κs. search needs) returns)

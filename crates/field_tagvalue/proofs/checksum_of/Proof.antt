@@ -8,11 +8,8 @@ use Rattle.field_tagvalue.proofs.checksum_of.Tie as tie
 returns : tie.Need-returns
 returns c = sym (checksum-other _ (c .if1 .taken))
 
-number-of-requires : tie.Need-number-of-requires
-number-of-requires c κs = search needs
-
 returns-2 : tie.Need-returns-2
 returns-2 c = c .number-of .ensures ∙ sym (checksum-three _ (c .before .if1 .left))
 
 pub checksum-of-spec : {M : Type 1} → statement M
-checksum-of-spec = tie.close (tie.spec returns number-of-requires returns-2)
+checksum-of-spec = tie.close (tie.spec returns (λ c κs. search needs) returns-2)

@@ -5,15 +5,6 @@ use Rattle.field_rules.specs.NumberLaws.{tag-none, tag-zero, tag-good}
 use Rattle.field_tagvalue.proofs.tag_of.Statement.{statement}
 use Rattle.field_tagvalue.proofs.tag_of.Tie as tie
 
-number-of-requires : tie.Need-number-of-requires
-number-of-requires c κs = search needs
-
-enum-known-tag : tie.Need-enum-known-tag
-enum-known-tag c = search needs
-
-enum-told : tie.Need-enum-told
-enum-told c = search needs
-
 returns : tie.Need-returns
 returns c = sym (tag-none _ (sym (c .before .before .number-of .ensures) ∙ c .enum-told .given .1))
 
@@ -27,4 +18,4 @@ returns-3 c =
 
 pub tag-of-spec : {M : Type 1} → statement M
 tag-of-spec =
-    tie.close (tie.spec number-of-requires enum-known-tag enum-told returns returns-2 returns-3)
+    tie.close (tie.spec (λ c κs. search needs) (λ c. search needs) (λ c. search needs) returns returns-2 returns-3)

@@ -4,15 +4,6 @@ use Rattle.frame_hunter_rules.specs.Hunt.{actOn}
 use Rattle.frame_hunter.proofs.act_on.Statement.{statement}
 use Rattle.frame_hunter.proofs.act_on.Tie as tie
 
-enum-known-verdict : tie.Need-enum-known-verdict
-enum-known-verdict c = search needs
-
-enum-told : tie.Need-enum-told
-enum-told c = search needs
-
-enum-told-2 : tie.Need-enum-told-2
-enum-told-2 c = search needs
-
 returns : tie.Need-returns
 unfolding actOn
 returns c = rw (c .before .enum-told2 .given .1, c .if1 .taken)
@@ -32,4 +23,4 @@ returns-4 c = rw (c .before .enum-told2 .given .1, c .if1 .left)
 pub act-on-spec : {M : Type 1} → statement M
 act-on-spec =
     tie.close
-    (tie.spec enum-known-verdict enum-told enum-told-2 returns returns-2 returns-3 returns-4)
+    (tie.spec (λ c. search needs) (λ c. search needs) (λ c. search needs) returns returns-2 returns-3 returns-4)

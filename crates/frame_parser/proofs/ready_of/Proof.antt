@@ -7,15 +7,6 @@ use borrow.Author.Needs.{needs}
 use Rattle.frame_parser.proofs.ready_of.Statement.{statement}
 use Rattle.frame_parser.proofs.ready_of.Tie as tie
 
-enum-known-announced : tie.Need-enum-known-announced
-enum-known-announced c = search needs
-
-enum-told : tie.Need-enum-told
-enum-told c = search needs
-
-enum-told-2 : tie.Need-enum-told-2
-enum-told-2 c = search needs
-
 returns : tie.Need-returns
 returns c = sym (ap (readyOf _) (c .before .before .announced .given .1) ∙ ready-whole _ _ (c .if1 .taken))
 
@@ -33,4 +24,4 @@ returns-4 c = rw (c .enum-told2 .given .1)
 pub ready-of-spec : {M : Type 1} → statement M
 ready-of-spec =
     tie.close
-    (tie.spec enum-known-announced enum-told enum-told-2 returns returns-2 returns-3 returns-4)
+    (tie.spec (λ c. search needs) (λ c. search needs) (λ c. search needs) returns returns-2 returns-3 returns-4)

@@ -5,15 +5,6 @@ use Rattle.frame_verdict_rules.specs.Verdict.{asVerdict}
 use Rattle.frame_verdict.proofs.verdict_from.Statement.{statement}
 use Rattle.frame_verdict.proofs.verdict_from.Tie as tie
 
-enum-known-stage : tie.Need-enum-known-stage
-enum-known-stage c = search needs
-
-enum-told : tie.Need-enum-told
-enum-told c = search needs
-
-enum-told-2 : tie.Need-enum-told-2
-enum-told-2 c = search needs
-
 returns : tie.Need-returns
 unfolding asVerdict
 returns c = sym (ap asVerdict (c .before .stage .given .1))
@@ -28,4 +19,4 @@ returns-3 c = sym (ap asVerdict (c .enum-told2 .given .1))
 
 pub verdict-from-spec : {M : Type 1} → statement M
 verdict-from-spec =
-    tie.close (tie.spec enum-known-stage enum-told enum-told-2 returns returns-2 returns-3)
+    tie.close (tie.spec (λ c. search needs) (λ c. search needs) (λ c. search needs) returns returns-2 returns-3)

@@ -13,21 +13,12 @@ use Rattle.message_hung_rows.specs.RowLaws.{place-count, place-run}
 use Rattle.message_hung_rows.proofs.hung_place.Statement.{statement}
 use Rattle.message_hung_rows.proofs.hung_place.Tie as tie
 
-find-row-requires : tie.Need-find-row-requires
-find-row-requires c κs = search needs
-
-add-result : tie.Need-add-result
-add-result c = search needs
-
 place-at : (c : tie.After-find-row) → c .find-row .result ≡ fieldPlace (c .before .before .args .span) (c .before .before .args .start) (c .before .before .args .words .now)
 unfolding fieldPlace
 place-at c = c .find-row .ensures
 
 returns : tie.Need-returns
 returns c = sym (place-count _ _ _ _ (place-at (c .before)) (c .if1 .taken))
-
-find-row-requires-2 : tie.Need-find-row-requires-2
-find-row-requires-2 c κs = search needs
 
 run-at : (c : tie.After-find-row2) → c .find-row2 .result ≡ runPlace (c .before .before .before .before .args .span) (c .before .before .before .before .args .start) (c .before .before .before .before .args .words .now)
 unfolding runPlace
@@ -38,4 +29,4 @@ returns-2 c = sym (place-run _ _ _ _ (place-at (c .before .before)) (c .before .
 
 pub hung-place-spec : {M : Type 1} → statement M
 hung-place-spec =
-    tie.close (tie.spec find-row-requires add-result returns find-row-requires-2 returns-2)
+    tie.close (tie.spec (λ c κs. search needs) (λ c. search needs) returns (λ c κs. search needs) returns-2)

@@ -13,20 +13,11 @@ use Rattle.message_hung_rows.specs.RowLaws.{of-below, of-other, of-start
 use Rattle.message_hung_rows.proofs.is_of.Statement.{statement}
 use Rattle.message_hung_rows.proofs.is_of.Tie as tie
 
-level-of-requires : tie.Need-level-of-requires
-level-of-requires c κs = search needs
-
 returns : tie.Need-returns
 returns c = sym (of-below _ _ _ _ (λ e. c .if1 .taken (c .before .level-of .ensures ∙ e)))
 
-tag-of-requires : tie.Need-tag-of-requires
-tag-of-requires c κs = search needs
-
 returns-2 : tie.Need-returns-2
 returns-2 c = sym (of-other _ _ _ _ (sym (c .before .before .before .level-of .ensures) ∙ c .before .before .if1 .left) (λ e. c .if2 .taken (c .before .tag-of .ensures ∙ e)))
-
-extra-of-requires : tie.Need-extra-of-requires
-extra-of-requires c κs = search needs
 
 returns-3 : tie.Need-returns-3
 returns-3 c = rw (c .extra-of .ensures) (sym (of-start _ _ _ _ (sym (c .before .before .before .before .level-of .ensures) ∙ c .before .before .before .if1 .left) (sym (c .before .before .tag-of .ensures) ∙ c .before .if2 .left)))
@@ -34,4 +25,4 @@ returns-3 c = rw (c .extra-of .ensures) (sym (of-start _ _ _ _ (sym (c .before .
 pub is-of-spec : {M : Type 1} → statement M
 is-of-spec =
     tie.close
-    (tie.spec level-of-requires returns tag-of-requires returns-2 extra-of-requires returns-3)
+    (tie.spec (λ c κs. search needs) returns (λ c κs. search needs) returns-2 (λ c κs. search needs) returns-3)

@@ -13,20 +13,11 @@ use Rattle.message_hung_rows.specs.RowLaws.{tagged-below, tagged-start, 
 use Rattle.message_hung_rows.proofs.is_untagged.Statement.{statement}
 use Rattle.message_hung_rows.proofs.is_untagged.Tie as tie
 
-level-of-requires : tie.Need-level-of-requires
-level-of-requires c κs = search needs
-
 returns : tie.Need-returns
 returns c = sym (tagged-below _ _ (λ e. c .if1 .taken (c .before .level-of .ensures ∙ e)))
 
-tag-of-requires : tie.Need-tag-of-requires
-tag-of-requires c κs = search needs
-
 returns-2 : tie.Need-returns-2
 returns-2 c = sym (tagged-start _ _ (sym (c .before .before .before .level-of .ensures) ∙ c .before .before .if1 .left) (sym (c .before .tag-of .ensures) ∙ c .if2 .taken))
-
-extra-of-requires : tie.Need-extra-of-requires
-extra-of-requires c κs = search needs
 
 returns-3 : tie.Need-returns-3
 returns-3 c = rw (c .extra-of .ensures) (sym (tagged-delimiter _ _ (sym (c .before .before .before .before .level-of .ensures) ∙ c .before .before .before .if1 .left) (λ e. c .before .if2 .left (c .before .before .tag-of .ensures ∙ e))))
@@ -34,4 +25,4 @@ returns-3 c = rw (c .extra-of .ensures) (sym (tagged-delimiter _ _ (sym (c .befo
 pub is-untagged-spec : {M : Type 1} → statement M
 is-untagged-spec =
     tie.close
-    (tie.spec level-of-requires returns tag-of-requires returns-2 extra-of-requires returns-3)
+    (tie.spec (λ c κs. search needs) returns (λ c κs. search needs) returns-2 (λ c κs. search needs) returns-3)

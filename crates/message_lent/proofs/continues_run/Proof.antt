@@ -12,18 +12,9 @@ use Rattle.message_lent.specs.Lent.{continues, delimiterIs}
 use Rattle.message_lent.proofs.continues_run.Statement.{statement}
 use Rattle.message_lent.proofs.continues_run.Tie as tie
 
-is-row-requires : tie.Need-is-row-requires
-is-row-requires c κs = search needs
-
 returns : tie.Need-returns
 unfolding continues
 returns c = rw (sym (c .before .is-row .ensures) ∙ c .if1 .taken)
-
-is-row-requires-2 : tie.Need-is-row-requires-2
-is-row-requires-2 c κs = search needs
-
-extra-of-requires : tie.Need-extra-of-requires
-extra-of-requires c κs = search needs
 
 returns-2 : tie.Need-returns-2
 unfolding continues delimiterIs rowAt
@@ -36,4 +27,4 @@ returns-3 c = rw (sym (c .before .before .before .is-row .ensures) ∙ c .before
 pub continues-run-spec : {M : Type 1} → statement M
 continues-run-spec =
     tie.close
-    (tie.spec is-row-requires returns is-row-requires-2 extra-of-requires returns-2 returns-3)
+    (tie.spec (λ c κs. search needs) returns (λ c κs. search needs) (λ c κs. search needs) returns-2 returns-3)

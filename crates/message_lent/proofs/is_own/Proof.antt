@@ -13,18 +13,9 @@ use Rattle.message_lent.specs.Lent.{isOwn}
 use Rattle.message_lent.proofs.is_own.Statement.{statement}
 use Rattle.message_lent.proofs.is_own.Tie as tie
 
-kind-of-requires : tie.Need-kind-of-requires
-kind-of-requires c κs = search needs
-
 returns : tie.Need-returns
 unfolding isOwn rowAt
 returns c = rw (ne-eqb _ 1 (λ e. c .if1 .taken (c .before .kind-of .ensures ∙ e)))
-
-level-of-requires : tie.Need-level-of-requires
-level-of-requires c κs = search needs
-
-wide-requires : tie.Need-wide-requires
-wide-requires c κs = search needs
 
 returns-2 : tie.Need-returns-2
 unfolding isOwn rowAt levelOf
@@ -32,4 +23,4 @@ returns-2 c = rw (eq-eqb _ 1 (sym (c .before .before .before .kind-of .ensures) 
 
 pub is-own-spec : {M : Type 1} → statement M
 is-own-spec =
-    tie.close (tie.spec kind-of-requires returns level-of-requires wide-requires returns-2)
+    tie.close (tie.spec (λ c κs. search needs) returns (λ c κs. search needs) (λ c κs. search needs) returns-2)

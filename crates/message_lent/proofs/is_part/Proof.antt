@@ -12,12 +12,6 @@ use Rattle.message_lent.specs.Lent.{isPart, delimiterIs}
 use Rattle.message_lent.proofs.is_part.Statement.{statement}
 use Rattle.message_lent.proofs.is_part.Tie as tie
 
-is-row-requires : tie.Need-is-row-requires
-is-row-requires c κs = search needs
-
-extra-of-requires : tie.Need-extra-of-requires
-extra-of-requires c κs = search needs
-
 returns : tie.Need-returns
 unfolding isPart delimiterIs rowAt
 returns c = rw (sym (c .before .before .is-row .ensures) ∙ c .before .if1 .taken, c .extra-of .ensures)
@@ -27,4 +21,4 @@ unfolding isPart
 returns-2 c = rw (sym (c .before .is-row .ensures) ∙ c .if1 .left)
 
 pub is-part-spec : {M : Type 1} → statement M
-is-part-spec = tie.close (tie.spec is-row-requires extra-of-requires returns returns-2)
+is-part-spec = tie.close (tie.spec (λ c κs. search needs) (λ c κs. search needs) returns returns-2)

@@ -13,18 +13,9 @@ use Rattle.message_lent.specs.Lent.{nextPart, isPart}
 use Rattle.message_lent.proofs.next_part.Statement.{statement}
 use Rattle.message_lent.proofs.next_part.Tie as tie
 
-level-of-requires : tie.Need-level-of-requires
-level-of-requires c κs = search needs
-
 returns : tie.Need-returns
 unfolding nextPart
 returns c = (rw (ne-eqb _ 0 (λ e. c .if1 .taken (c .before .level-of .ensures ∙ e))), omega arith)
-
-is-part-requires : tie.Need-is-part-requires
-is-part-requires c κs = search needs
-
-add-result : tie.Need-add-result
-add-result c = search needs
 
 returns-2 : tie.Need-returns-2
 unfolding nextPart
@@ -36,4 +27,4 @@ returns-3 c = (rw (eq-eqb _ 0 (sym (c .before .before .before .level-of .ensures
 
 pub next-part-spec : {M : Type 1} → statement M
 next-part-spec =
-    tie.close (tie.spec level-of-requires returns is-part-requires add-result returns-2 returns-3)
+    tie.close (tie.spec (λ c κs. search needs) returns (λ c κs. search needs) (λ c. search needs) returns-2 returns-3)

@@ -11,15 +11,9 @@ use Rattle.message_lent.specs.Lent.{rowCount}
 use Rattle.message_lent.proofs.row_count.Statement.{statement}
 use Rattle.message_lent.proofs.row_count.Tie as tie
 
-shared-slice-read-wide : tie.Need-shared-slice-read-wide
-shared-slice-read-wide c = search needs
-
-wide-requires : tie.Need-wide-requires
-wide-requires c κs = search needs
-
 returns : tie.Need-returns
 unfolding rowCount
 returns c = c .wide .ensures
 
 pub row-count-spec : {M : Type 1} → statement M
-row-count-spec = tie.close (tie.spec shared-slice-read-wide wide-requires returns)
+row-count-spec = tie.close (tie.spec (λ c. search needs) (λ c κs. search needs) returns)

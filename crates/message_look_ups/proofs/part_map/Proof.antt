@@ -15,15 +15,6 @@ use Rattle.message_look_ups.specs.LookUpLaws.{part-row, part-none, part-
 use Rattle.message_look_ups.proofs.part_map.Statement.{statement}
 use Rattle.message_look_ups.proofs.part_map.Tie as tie
 
-locate-requires : tie.Need-locate-requires
-locate-requires c κs = search needs
-
-enum-known-span : tie.Need-enum-known-span
-enum-known-span c = search needs
-
-enum-told : tie.Need-enum-told
-enum-told c = search needs
-
 returns : tie.Need-returns
 returns c = sym (part-none _ _ _ (located-no _ _ _ (sym (c .before .before .locate .ensures) ∙ c .enum-told .given .1)))
 
@@ -40,4 +31,4 @@ returns-2 c = let l = located-at _ _ _ _ (sym (c .before .before .before .locate
 
 pub part-map-spec : {M : Type 1} → statement M
 part-map-spec =
-    tie.close (tie.spec locate-requires enum-known-span enum-told returns sub-t7 returns-2)
+    tie.close (tie.spec (λ c κs. search needs) (λ c. search needs) (λ c. search needs) returns sub-t7 returns-2)

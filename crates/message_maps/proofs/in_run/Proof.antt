@@ -12,19 +12,13 @@ use Rattle.message_maps.specs.Rows.{rowAt, levelOf, inRun, matches}
 use Rattle.message_maps.proofs.in_run.Statement.{statement}
 use Rattle.message_maps.proofs.in_run.Tie as tie
 
-level-of-requires : tie.Need-level-of-requires
-level-of-requires c κs = search needs
-
 returns : tie.Need-returns
 unfolding inRun
 returns c = rw (← c .before .level-of .ensures, lt-ltb _ _ (c .if1 .taken))
-
-is-row-requires : tie.Need-is-row-requires
-is-row-requires c κs = search needs
 
 returns-2 : tie.Need-returns-2
 unfolding inRun
 returns-2 c = rw (← c .before .before .level-of .ensures, le-ltb _ _ (c .before .if1 .left)) (c .is-row .ensures)
 
 pub in-run-spec : {M : Type 1} → statement M
-in-run-spec = tie.close (tie.spec level-of-requires returns is-row-requires returns-2)
+in-run-spec = tie.close (tie.spec (λ c κs. search needs) returns (λ c κs. search needs) returns-2)

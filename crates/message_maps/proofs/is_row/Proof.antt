@@ -12,22 +12,13 @@ use Rattle.message_maps.specs.Rows.{rowAt, levelOf, matches}
 use Rattle.message_maps.proofs.is_row.Statement.{statement}
 use Rattle.message_maps.proofs.is_row.Tie as tie
 
-kind-of-requires : tie.Need-kind-of-requires
-kind-of-requires c κs = search needs
-
 returns : tie.Need-returns
 unfolding rowAt levelOf matches
 returns c = rw (ne-eqb _ _ (λ e. c .if1 .taken (c .before .kind-of .ensures ∙ e)))
 
-level-of-requires : tie.Need-level-of-requires
-level-of-requires c κs = search needs
-
 returns-2 : tie.Need-returns-2
 unfolding rowAt levelOf matches
 returns-2 c = rw (eq-eqb _ _ (sym (c .before .before .before .kind-of .ensures) ∙ c .before .before .if1 .left), ne-eqb _ _ (λ e. c .if2 .taken (c .before .level-of .ensures ∙ e)))
-
-tag-of-requires : tie.Need-tag-of-requires
-tag-of-requires c κs = search needs
 
 returns-3 : tie.Need-returns-3
 unfolding rowAt levelOf matches
@@ -36,4 +27,4 @@ returns-3 c = rw (eq-eqb _ _ (sym (c .before .before .before .before .kind-of .e
 pub is-row-spec : {M : Type 1} → statement M
 is-row-spec =
     tie.close
-    (tie.spec kind-of-requires returns level-of-requires returns-2 tag-of-requires returns-3)
+    (tie.spec (λ c κs. search needs) returns (λ c κs. search needs) returns-2 (λ c κs. search needs) returns-3)

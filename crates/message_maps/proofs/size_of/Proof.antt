@@ -12,15 +12,6 @@ use Rattle.message_maps.specs.Rows.{rowAt, sizeOf}
 use Rattle.message_maps.proofs.size_of.Statement.{statement}
 use Rattle.message_maps.proofs.size_of.Tie as tie
 
-kind-of-requires : tie.Need-kind-of-requires
-kind-of-requires c κs = search needs
-
-extra-of-requires : tie.Need-extra-of-requires
-extra-of-requires c κs = search needs
-
-wide-requires : tie.Need-wide-requires
-wide-requires c κs = search needs
-
 returns : tie.Need-returns
 unfolding rowAt sizeOf
 returns c = (rw (eq-eqb _ 1 (sym (c .before .before .before .kind-of .ensures) ∙ c .before .before .if1 .taken)) (c .wide .ensures ∙ c .before .extra-of .ensures), omega (arith, c .wide .ensures))
@@ -31,4 +22,4 @@ returns-2 c = (rw (ne-eqb _ 1 (λ e. c .if1 .left (c .before .kind-of .ensures �
 
 pub size-of-spec : {M : Type 1} → statement M
 size-of-spec =
-    tie.close (tie.spec kind-of-requires extra-of-requires wide-requires returns returns-2)
+    tie.close (tie.spec (λ c κs. search needs) (λ c κs. search needs) (λ c κs. search needs) returns returns-2)

@@ -15,9 +15,6 @@ use Rattle.message_runs.specs.RowLaws.{draft-not, draft-on}
 use Rattle.message_runs.proofs.is_draft.Statement.{statement}
 use Rattle.message_runs.proofs.is_draft.Tie as tie
 
-is-laid-requires : tie.Need-is-laid-requires
-is-laid-requires c κs = search needs
-
 returns : tie.Need-returns
 returns c = sym (draft-not _ _ (sym (c .before .is-laid .ensures) ∙ not-true _ (c .if1 .taken)))
 
@@ -39,4 +36,4 @@ returns-2 c = rw (fields-at c) (sym (draft-on _ _ (laid-at (c .before .before)))
 
 pub is-draft-spec : {M : Type 1} → statement M
 is-draft-spec =
-    tie.close (tie.spec is-laid-requires returns row-count-requires fields-in-requires returns-2)
+    tie.close (tie.spec (λ c κs. search needs) returns row-count-requires fields-in-requires returns-2)

@@ -5,15 +5,6 @@ use Rattle.message_take_over.specs.Taking.{isJoined}
 use Rattle.message_take_over.proofs.is_joined.Statement.{statement}
 use Rattle.message_take_over.proofs.is_joined.Tie as tie
 
-enum-told : tie.Need-enum-told
-enum-told c = search needs
-
-enum-told-2 : tie.Need-enum-told-2
-enum-told-2 c = search needs
-
-enum-told-3 : tie.Need-enum-told-3
-enum-told-3 c = search needs
-
 returns : tie.Need-returns
 returns c = unfold isJoined in sym (ap isJoined (c .enum-told .given .1))
 
@@ -24,4 +15,4 @@ returns-3 : tie.Need-returns-3
 returns-3 c = unfold isJoined in sym (ap isJoined (c .enum-told3 .given .1))
 
 pub is-joined-spec : {M : Type 1} → statement M
-is-joined-spec = tie.close (tie.spec enum-told enum-told-2 enum-told-3 returns returns-2 returns-3)
+is-joined-spec = tie.close (tie.spec (λ c. search needs) (λ c. search needs) (λ c. search needs) returns returns-2 returns-3)

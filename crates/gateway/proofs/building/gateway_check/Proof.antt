@@ -4,21 +4,6 @@ use borrow.Author.Needs.{needs}
 use Rattle.gateway.proofs.building.gateway_check.Statement.{statement}
 use Rattle.gateway.proofs.building.gateway_check.Tie as tie
 
-check-requires : tie.Need-check-requires
-check-requires c κs = search needs
-
-value-of-requires : tie.Need-value-of-requires
-value-of-requires c κs = search needs
-
-cast-tell : tie.Need-cast-tell
-cast-tell c = search needs
-
-tell-requires : tie.Need-tell-requires
-tell-requires c κs = search needs
-
-number-of-requires : tie.Need-number-of-requires
-number-of-requires c κs = search needs
-
 returns : tie.Need-returns
 returns c =
     let check = c .before .before .before .before .check in (
@@ -29,4 +14,4 @@ returns c =
 pub gateway-check-spec : {M : Type 1} → statement M
 gateway-check-spec =
     tie.close
-    (tie.spec check-requires value-of-requires cast-tell tell-requires number-of-requires returns)
+    (tie.spec (λ c κs. search needs) (λ c κs. search needs) (λ c. search needs) (λ c κs. search needs) (λ c κs. search needs) returns)

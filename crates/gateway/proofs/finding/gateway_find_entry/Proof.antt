@@ -4,16 +4,10 @@ use borrow.Author.Needs.{needs}
 use Rattle.gateway.proofs.finding.gateway_find_entry.Statement.{statement}
 use Rattle.gateway.proofs.finding.gateway_find_entry.Tie as tie
 
-entry-in-requires : tie.Need-entry-in-requires
-entry-in-requires c κs = search needs
-
-tell-map-requires : tie.Need-tell-map-requires
-tell-map-requires c κs = search needs
-
 returns : tie.Need-returns
 returns c =
     let e = c .before .before .entry-in .ensures in
     (map-number _ _ _ e (c .tell-map .ensures .0), map-out _ _ _ e (c .tell-map .ensures .1))
 
 pub gateway-find-entry-spec : {M : Type 1} → statement M
-gateway-find-entry-spec = tie.close (tie.spec entry-in-requires tell-map-requires returns)
+gateway-find-entry-spec = tie.close (tie.spec (λ c κs. search needs) (λ c κs. search needs) returns)

@@ -4,16 +4,10 @@ use borrow.Author.Needs.{needs}
 use Rattle.gateway.proofs.finding.gateway_find_field.Statement.{statement}
 use Rattle.gateway.proofs.finding.gateway_find_field.Tie as tie
 
-field-in-requires : tie.Need-field-in-requires
-field-in-requires c κs = search needs
-
-tell-value-requires : tie.Need-tell-value-requires
-tell-value-requires c κs = search needs
-
 returns : tie.Need-returns
 returns c =
     let e = c .before .before .field-in .ensures in
     (value-number _ _ _ e (c .tell-value .ensures .0), value-out _ _ _ e (c .tell-value .ensures .1))
 
 pub gateway-find-field-spec : {M : Type 1} → statement M
-gateway-find-field-spec = tie.close (tie.spec field-in-requires tell-value-requires returns)
+gateway-find-field-spec = tie.close (tie.spec (λ c κs. search needs) (λ c κs. search needs) returns)

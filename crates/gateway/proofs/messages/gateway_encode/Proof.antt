@@ -1,13 +1,11 @@
 -- `gateway_encode` meets its contract: it tells what the encoding leaves.
-use Rattle.gateway.specs.MessageLaws.{encoding-number, encoding-out, encoding-words, encoding-values, encoding-output}
+use Rattle.gateway.specs.MessageLaws.{encoding-told}
 use borrow.Author.Needs.{needs}
 use Rattle.gateway.proofs.messages.gateway_encode.Statement.{statement}
 use Rattle.gateway.proofs.messages.gateway_encode.Tie as tie
 
 returns : tie.Need-returns
-returns c =
-    let e = c .before .before .before .before .before .before .before .before .encode .ensures in
-    (encoding-number _ _ _ _ _ _ e (c .tell-encoding .ensures .0), (encoding-words _ _ _ _ _ e, (encoding-values _ _ _ _ _ e, (encoding-output _ _ _ _ _ e, encoding-out _ _ _ _ _ _ e (c .tell-encoding .ensures .1)))))
+returns c = encoding-told _ _ _ _ _ _ _ (c .before .before .before .before .before .before .before .before .encode .ensures) (c .tell-encoding .ensures)
 
 pub gateway-encode-spec : {M : Type 1} → statement M
 gateway-encode-spec =

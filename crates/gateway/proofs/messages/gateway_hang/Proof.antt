@@ -1,13 +1,14 @@
 -- `gateway_hang` meets its contract: it tells what the change leaves.
-use Rattle.gateway.specs.MessageLaws.{change-number, change-words, change-values, hanging-in}
+use Rattle.gateway.specs.MessageLaws.{change-told, hanging-in}
 use borrow.Author.Needs.{needs}
 use Rattle.gateway.proofs.messages.gateway_hang.Statement.{statement}
 use Rattle.gateway.proofs.messages.gateway_hang.Tie as tie
 
 returns : tie.Need-returns
 returns c =
-    let e = hanging-in _ _ _ _ _ _ _ (c .before .before .before .before .before .before .before .part-numbered .ensures) (c .before .before .before .before .before .before .hang .ensures) in
-    (change-number _ _ _ _ _ e (c .tell-change .ensures .0), (change-words _ _ _ _ e, (change-values _ _ _ _ e, c .tell-change .ensures .1)))
+    change-told _ _ _ _ _ _
+    (hanging-in _ _ _ _ _ _ _ (c .before .before .before .before .before .before .before .part-numbered .ensures) (c .before .before .before .before .before .before .hang .ensures))
+    (c .tell-change .ensures)
 
 pub gateway-hang-spec : {M : Type 1} → statement M
 gateway-hang-spec =

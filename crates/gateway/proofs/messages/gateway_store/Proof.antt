@@ -1,13 +1,14 @@
 -- `gateway_store` meets its contract: it tells what the change leaves.
-use Rattle.gateway.specs.MessageLaws.{change-number, change-words, change-values, storing-in}
+use Rattle.gateway.specs.MessageLaws.{change-told, storing-in}
 use borrow.Author.Needs.{needs}
 use Rattle.gateway.proofs.messages.gateway_store.Statement.{statement}
 use Rattle.gateway.proofs.messages.gateway_store.Tie as tie
 
 returns : tie.Need-returns
 returns c =
-    let e = storing-in _ _ _ _ _ _ _ (c .before .before .before .before .before .before .before .part-numbered .ensures) (c .before .before .before .before .before .before .store .ensures) in
-    (change-number _ _ _ _ _ e (c .tell-change .ensures .0), (change-words _ _ _ _ e, (change-values _ _ _ _ e, c .tell-change .ensures .1)))
+    change-told _ _ _ _ _ _
+    (storing-in _ _ _ _ _ _ _ (c .before .before .before .before .before .before .before .part-numbered .ensures) (c .before .before .before .before .before .before .store .ensures))
+    (c .tell-change .ensures)
 
 pub gateway-store-spec : {M : Type 1} → statement M
 gateway-store-spec =
