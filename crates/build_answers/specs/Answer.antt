@@ -5,7 +5,7 @@ use lib.Dec.{eqb}
 use lib.ListN.{getD}
 use Rattle.field_rules.specs.Choice.{pick}
 use Rattle.dictionary_rules.specs.Check.{numberOfCheck, valuesOfCheck}
-use Rattle.build_integrity.specs.Integrity.{numberOfReason}
+use Rattle.build_integrity_rules.specs.Integrity.{numberOfReason}
 use Rattle.build_answers.specs.declared.Answer.{Answer}
 use Rattle.build_answers.specs.declared.Answer.the-variants.{Valid, InvalidField, InvalidOrderInGroup, InvalidMsgType, RequiredFieldMissing, Malformed, Garbled, TooLong, TooManyFields, InvalidSeparator, TooFewRecords, BadDictionary}
 

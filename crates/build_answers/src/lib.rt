@@ -1,10 +1,10 @@
 // build_answers: the answer to a message, with its number and the values returned with it. A new answer is one more case here.
 // It reads nothing and decides nothing: whoever refuses says which answer it is.
-use build_integrity::GarbledReason;
+use build_integrity_rules::GarbledReason;
 use dictionary_rules::Checked;
 use field_rules::Cause;
 ghost use mathlib.Core.Path.{_≡_};
-ghost use Rattle.build_integrity.specs.Integrity.{numberOfReason};
+ghost use Rattle.build_integrity_rules.specs.Integrity.{numberOfReason};
 ghost use Rattle.build_answers.specs.Answer.{numberOf, valuesOf};
 
 // The answer to a message. Numbers are a tag and the tag of its group, or the place and length of a value.

@@ -1,16 +1,18 @@
 // build_body: the body of a message, its fields and its repeating groups, between header and trailer.
 // It reads through look-ups only and keeps records through `build_records` only; only the builder calls it.
 use build_answers::Answer;
+use build_body_rules::BodyKind;
+use build_body_rules::Opening;
 use build_config::Config;
-use build_groups::Group;
-use build_groups::Reading;
-use build_groups::Refusal;
+use build_group_rules::Group;
+use build_group_rules::Reading;
+use build_group_rules::Refusal;
 use build_parts::Next;
 use build_parts::PartRead;
 use build_parts::Progress;
 use build_records::Record;
 use build_records::Standing;
-use build_required::Lack;
+use build_required_rules::Lack;
 use dictionary_layout_rules::Level;
 use dictionary_layout_rules::Nested;
 use dictionary_layout_rules::Position;
@@ -21,24 +23,11 @@ ghost use Prim.Native.Nat.{suc, _+_, _≤_, _<_, _/_, _^_};
 ghost use lib.ListN.{length};
 ghost use Rattle.field_rules.specs.Fields.{field, fieldsFrom, Inside};
 ghost use Rattle.build_records.specs.Records.{stored, stride};
-ghost use Rattle.build_groups.specs.Reading.{tableRules, answerOf};
-ghost use Rattle.build_required.specs.Checking.{tableDemands};
+ghost use Rattle.build_group_rules.specs.Reading.{tableRules, answerOf};
+ghost use Rattle.build_required_rules.specs.Checking.{tableDemands};
 ghost use Rattle.build_parts.specs.Parts.{partRecord, partOf, partTold, Stays};
-ghost use Rattle.build_body.specs.Kinds.{meantBy, kindOf, runFrom, bodyOf};
-ghost use Rattle.build_body.specs.Body.{nextFrom, withRun, bodyFrom, RunEnd, Dropped, Opened};
-
-// Where a run comes in: behind its count, among so many records.
-pub struct Opening {
-    pub records: usize,
-    pub place: usize,
-}
-
-// What a tag is to the body: a field of the layout or an accepted one, a count, or neither.
-enum BodyKind {
-    Plain,
-    Counts(Level),
-    Other,
-}
+ghost use Rattle.build_body_rules.specs.Kinds.{meantBy, kindOf, runFrom, bodyOf};
+ghost use Rattle.build_body_rules.specs.Body.{nextFrom, withRun, bodyFrom, RunEnd, Dropped, Opened};
 
 // With validation off, unknown user-defined tags are the body's too.
 fn kind_of(config: Config, table: &[u32], index: &[u16; 96150], level: Level, tag: u32) -> BodyKind
@@ -171,7 +160,7 @@ fn read_group(
         tag: count.tag,
         depth: 1,
     };
-    let start = build_groups::Progress {
+    let start = build_group_rules::Progress {
         room: progress.room,
         records: opening.records,
         place: opening.place,

@@ -12,9 +12,9 @@ use Rattle.dictionary_layout_rules.specs.declared.Level.{Level}
 use Rattle.dictionary_layout_rules.specs.declared.Position.the-variants.{At, Nowhere}
 use Rattle.dictionary_layout_rules.specs.declared.Nested.the-variants.{Within, NoGroup}
 use Rattle.dictionary_layout_rules.specs.declared.FirstTag.the-variants.{First, NoTag}
-use Rattle.build_groups.specs.Groups.{isDelimiter, opens, plain, count, joins, wrong, ends, counting, declared, kindOf}
-use Rattle.build_groups.specs.Reading.{accepted, openedBy, tableRules, opensAt, kindAt}
-use Rattle.build_groups.specs.declared.Group.{Group}
+use Rattle.build_group_rules.specs.Groups.{isDelimiter, opens, plain, count, joins, wrong, ends, counting, declared, kindOf}
+use Rattle.build_group_rules.specs.Reading.{accepted, openedBy, tableRules, opensAt, kindAt}
+use Rattle.build_group_rules.specs.declared.Group.{Group}
 
 module _ (config : Config) (known : ℕ → Bool) (tag : ℕ) where
   pub validated : config .validate ≡ true → accepted config known tag ≡ false

@@ -19,18 +19,18 @@ use Rattle.dictionary_layout_rules.specs.declared.Position.{Position}
 use Rattle.dictionary_layout_rules.specs.declared.Position.the-variants.{At as position-at, Nowhere}
 use Rattle.build_records.specs.Records.{onRecords, inserted, storedBetween}
 use Rattle.build_records.specs.declared.Record.{Record}
-use Rattle.build_groups.specs.Groups.{Opened, none, opened, Rules, opens, plain, count, joins, wrong, ends, counting, declared, kindOf, Frame, run, entry, entryRecord, RunOutcome, walk, taking}
-use Rattle.build_groups.specs.GroupLaws.{run-entry, run-first, run-over, entry-plain, entry-count, entry-joins, entry-wrong, entry-ends}
-use Rattle.build_groups.specs.Reading.{tableRules, opensAt, meant, kindAt, Memory, memory, addedWords, makes, standingIn, joinedWords, wordStore, further, nextOf, toldBy, runOf, entryOf, Fits, FitsAt}
-use Rattle.build_groups.specs.ReadingLaws.{going, walk-next, going-on, Follows, roomOf, next-follows, told-follows}
-use Rattle.build_groups.specs.declared.Group.{Group}
-use Rattle.build_groups.specs.declared.Progress.{Progress}
-use Rattle.build_groups.specs.declared.Refusal.{Refusal}
-use Rattle.build_groups.specs.declared.Refusal.the-variants.{InvalidOrderInGroup}
-use Rattle.build_groups.specs.declared.Reading.{Reading}
-use Rattle.build_groups.specs.declared.Reading.the-variants.{At, Refused}
-use Rattle.build_groups.specs.declared.Kind.{Kind as CodeKind}
-use Rattle.build_groups.specs.declared.Kind.the-variants.{Plain, Count, Joins, Wrong, Ends}
+use Rattle.build_group_rules.specs.Groups.{Opened, none, opened, Rules, opens, plain, count, joins, wrong, ends, counting, declared, kindOf, Frame, run, entry, entryRecord, RunOutcome, walk, taking}
+use Rattle.build_group_rules.specs.GroupLaws.{run-entry, run-first, run-over, entry-plain, entry-count, entry-joins, entry-wrong, entry-ends}
+use Rattle.build_group_rules.specs.Reading.{tableRules, opensAt, meant, kindAt, Memory, memory, addedWords, makes, standingIn, joinedWords, wordStore, further, nextOf, toldBy, runOf, entryOf, Fits, FitsAt}
+use Rattle.build_group_rules.specs.ReadingLaws.{going, walk-next, going-on, Follows, roomOf, next-follows, told-follows}
+use Rattle.build_group_rules.specs.declared.Group.{Group}
+use Rattle.build_group_rules.specs.declared.Progress.{Progress}
+use Rattle.build_group_rules.specs.declared.Refusal.{Refusal}
+use Rattle.build_group_rules.specs.declared.Refusal.the-variants.{InvalidOrderInGroup}
+use Rattle.build_group_rules.specs.declared.Reading.{Reading}
+use Rattle.build_group_rules.specs.declared.Reading.the-variants.{At, Refused}
+use Rattle.build_group_rules.specs.declared.Kind.{Kind as CodeKind}
+use Rattle.build_group_rules.specs.declared.Kind.the-variants.{Plain, Count, Joins, Wrong, Ends}
 use Rattle.build_groups.proofs.LookUps.{opens-table}
 
 -- a count that starts a run leaves a level below

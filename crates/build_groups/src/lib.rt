@@ -1,13 +1,17 @@
 // build_groups: reading repeating groups. The run reader and the entry reader call each other, and the depth that is left falls.
 // It reads through look-up tables only, counts fields by the room that is left for them, and never compares a count's value.
 use build_config::Config;
+use build_group_rules::Group;
+use build_group_rules::Kind;
+use build_group_rules::Progress;
+use build_group_rules::Reading;
+use build_group_rules::Refusal;
 use build_records::Record;
 use build_records::Standing;
 use dictionary_layout_rules::FirstTag;
 use dictionary_layout_rules::Level;
 use dictionary_layout_rules::Nested;
 use dictionary_layout_rules::Position;
-use field_rules::Cause;
 use field_rules::Cursor;
 use field_rules::Field;
 use field_rules::FieldRead;
@@ -15,51 +19,12 @@ ghost use mathlib.Core.Path.{_≡_};
 ghost use Rattle.dictionary_rules.specs.Index.{tagAt};
 ghost use Prim.Native.Nat.{_<_, _^_};
 ghost use Rattle.field_rules.specs.Field.{fieldAt};
-ghost use Rattle.build_groups.specs.Groups.{entryRecord};
+ghost use Rattle.build_group_rules.specs.Groups.{entryRecord};
 ghost use Rattle.build_records.specs.Records.{onRecords, inserted, storedBetween};
-ghost use Rattle.build_groups.specs.Reading.{accepted, opensAt, kindAt, meant, nextOf, further, makes, standingIn, toldBy, runOf, entryOf, Fits, FitsAt};
-
-// How deep groups nest.
-const LEVELS: u32 = 4;
+ghost use Rattle.build_group_rules.specs.Reading.{accepted, opensAt, kindAt, meant, nextOf, further, makes, standingIn, toldBy, runOf, entryOf, Fits, FitsAt};
 
 // The first of the tags that users define.
 const USER_DEFINED: u32 = 5000;
-
-// A group whose count was read: the level of its entries, the count's tag, and the depth of its records.
-pub struct Group {
-    pub level: Level,
-    pub tag: u32,
-    pub depth: u32,
-}
-
-// How far reading has come: how many fields may still be read, how many records there are, and where the next one goes.
-pub struct Progress {
-    pub room: usize,
-    pub records: usize,
-    pub place: usize,
-}
-
-// Why reading was refused. The numbers are a tag and the tag of its group.
-pub enum Refusal {
-    Malformed(Cause, usize),
-    TooManyFields,
-    InvalidOrderInGroup(u32, u32),
-}
-
-// Where reading stands: at a field that is read already, or it was refused.
-pub enum Reading {
-    At(Field, Progress),
-    Refused(Refusal),
-}
-
-// What a tag is to an open entry. A tag of the level comes with its position.
-enum Kind {
-    Plain(usize),
-    Count(Level, usize),
-    Joins,
-    Wrong,
-    Ends,
-}
 
 // With validation off, a user-defined tag that the dictionary lacks.
 pub fn accepted(config: Config, index: &[u16; 96150], tag: u32) -> bool
@@ -112,7 +77,7 @@ fn kind_of(
     let Nested::Within(inner) = dictionary_layout::group_of(table, level, tag) else {
         return Kind::Plain(position);
     };
-    if group.depth < LEVELS {
+    if group.depth < build_group_rules::LEVELS {
         return Kind::Count(inner, position);
     }
     Kind::Plain(position)

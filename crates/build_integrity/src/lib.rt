@@ -1,34 +1,15 @@
 // build_integrity: whether a message's frame is sound, before anything else is read (11 to 14).
 // It looks at four fields and knows no dictionary; what it answers is all that later reading needs of them.
+use build_integrity_rules::GarbledReason;
+use build_integrity_rules::Integrity;
+use build_integrity_rules::Verified;
+use field_numbers::wide;
 use field_rules::Field;
 use field_rules::FieldRead;
 use field_rules::Mode;
 use field_rules::Number;
-use field_tagvalue::wide;
 ghost use mathlib.Core.Path.{_≡_};
-ghost use Rattle.build_integrity.specs.Integrity.{integrityOf, lengthAgrees, sumAgrees};
-
-// Why a message is garbled.
-pub enum GarbledReason {
-    Malformed,
-    InvalidBeginString,
-    InvalidBodyLength,
-    InvalidMsgType,
-    InvalidChecksum,
-}
-
-// The fields that were verified; reading goes on behind MsgType.
-pub struct Verified {
-    pub begin_string: Field,
-    pub body_length: Field,
-    pub checksum: Field,
-    pub msg_type: Field,
-}
-
-pub enum Integrity {
-    Sound(Verified),
-    Garbled(GarbledReason),
-}
+ghost use Rattle.build_integrity_rules.specs.Integrity.{integrityOf, lengthAgrees, sumAgrees};
 
 fn widened(byte: u8) -> u32
     ensures { λ r. ⌜ r ≡ byte ⌝ }
@@ -42,7 +23,7 @@ fn length_agrees(message: &[u8], body_length: Field) -> bool
 {
     let next = body_length.next;
     let after = next.at;
-    let Number::Worth(n) = field_tagvalue::number_of(field_tagvalue::value_of(message, body_length))
+    let Number::Worth(n) = field_numbers::number_of(field_tagvalue::value_of(message, body_length))
     else {
         return false;
     };
@@ -61,14 +42,14 @@ fn sum_agrees(message: &[u8], checksum: Field) -> bool
     ensures { λ r. ⌜ r ≡ sumAgrees (now (message .entry)) checksum ⌝ }
 {
     let first = checksum.first;
-    let Number::Worth(n) = field_tagvalue::checksum_of(field_tagvalue::value_of(message, checksum))
+    let Number::Worth(n) = field_numbers::checksum_of(field_tagvalue::value_of(message, checksum))
     else {
         return true;
     };
     if message.len() < first {
-        return n == widened(field_tagvalue::sum_of(message));
+        return n == widened(field_numbers::sum_of(message));
     }
-    n == widened(field_tagvalue::sum_of(&message[..first]))
+    n == widened(field_numbers::sum_of(&message[..first]))
 }
 
 // The checks in their order: 11, 12, 12, 14, 14, 13.

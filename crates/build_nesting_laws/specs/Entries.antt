@@ -12,8 +12,8 @@ use Rattle.dictionary_layout_rules.specs.Layout.{Layout, end, field, group, fir
 use Rattle.dictionary_layout_rules.specs.declared.Position.the-variants.{At, Nowhere}
 use Rattle.build_records.specs.Records.{stored}
 use Rattle.build_records.specs.declared.Record.{Record}
-use Rattle.build_groups.specs.Groups.{Rules, isDelimiter, opens}
-use Rattle.build_groups.specs.Reading.{layoutRules}
+use Rattle.build_group_rules.specs.Groups.{Rules, isDelimiter, opens}
+use Rattle.build_group_rules.specs.Reading.{layoutRules}
 use Rattle.build_nesting_laws.specs.Formed.{Part, entriesOf, fieldsOf, Own, Formed, no-entry, next-entry, starts, rises, hangs, user}
 
 -- each record of a list has a property

@@ -7,7 +7,7 @@ use Prim.Native.Nat.{ℕ, _+_, _-_, _<_}
 use Rattle.dictionary_layout_rules.specs.declared.Position.the-variants.{At, Nowhere}
 use Rattle.build_records.specs.Records.{stored}
 use Rattle.build_records.specs.declared.Record.{Record}
-use Rattle.build_groups.specs.Groups.{opened, Rules, opens}
+use Rattle.build_group_rules.specs.Groups.{opened, Rules, opens}
 
 -- the entries of a level at a depth, so many of them; or an entry of a number whose last declared tag has a position
 pub data Part (L : Type 0) : Type 0 where

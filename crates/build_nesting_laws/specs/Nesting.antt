@@ -16,8 +16,8 @@ use Rattle.dictionary_layout_rules.specs.declared.Position.{Position}
 use Rattle.dictionary_layout_rules.specs.declared.Position.the-variants.{At, Nowhere}
 use Rattle.build_records.specs.Records.{stored}
 use Rattle.build_records.specs.declared.Record.{Record}
-use Rattle.build_groups.specs.Groups.{Opened, none, opened, Rules, opens, Kind, plain, count, joins, wrong, ends, counting, declared, kindOf, Frame, run, entry, Move, adds, joinsAt, disorders, leaves, inEntry, decide, entryRecord, ended, moved, walk}
-use Rattle.build_groups.specs.Reading.{joinedList, listStore}
+use Rattle.build_group_rules.specs.Groups.{Opened, none, opened, Rules, opens, Kind, plain, count, joins, wrong, ends, counting, declared, kindOf, Frame, run, entry, Move, adds, joinsAt, disorders, leaves, inEntry, decide, entryRecord, ended, moved, walk}
+use Rattle.build_group_rules.specs.Reading.{joinedList, listStore}
 use Rattle.build_nesting_laws.specs.Formed.{entriesOf, fieldsOf, Own, Formed, no-entry, next-entry, starts, rises, hangs, user}
 
 own-record : (depth number : ℕ) (f : Field) → Own depth number (entryRecord depth number f)

@@ -8,10 +8,10 @@ use lib.ListN.{length}
 use Rattle.field_rules.specs.Fields.{Fields, unreadable, field, Each, each-end, each-field}
 use Rattle.field_rules.specs.declared.Field.{Field}
 use Rattle.build_records.specs.declared.Record.{Record}
-use Rattle.build_groups.specs.Groups.{Rules, Frame, Move, adds, joinsAt, disorders, leaves, decide, moved, walk}
-use Rattle.build_groups.specs.Groups.{ended as ran, entryRecord}
-use Rattle.build_groups.specs.GroupLaws.{keeps}
-use Rattle.build_groups.specs.Reading.{listStore, joinedList}
+use Rattle.build_group_rules.specs.Groups.{Rules, Frame, Move, adds, joinsAt, disorders, leaves, decide, moved, walk}
+use Rattle.build_group_rules.specs.Groups.{ended as ran, entryRecord}
+use Rattle.build_group_rules.specs.GroupLaws.{keeps}
+use Rattle.build_group_rules.specs.Reading.{listStore, joinedList}
 use Rattle.build_order_laws.specs.Agree.{Agree, enough, same, Similar, none, more}
 use Rattle.build_order_laws.specs.Alongside.{Alongside, one-more, at-first}
 use Rattle.build_order_laws.specs.SimilarLaws.{similar-length, similar-append, similar-joined, alike-entry}

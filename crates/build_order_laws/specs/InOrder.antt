@@ -9,13 +9,13 @@ use lib.ListN.{length, length-append}
 use Rattle.build_config.specs.declared.Config.{Config}
 use Rattle.field_rules.specs.Field.{startAt}
 use Rattle.field_rules.specs.Fields.{Fields, field, fieldsFrom}
-use Rattle.build_integrity.specs.VerifiedLaws.{verified-read}
-use Rattle.build_integrity.specs.declared.Verified.{Verified}
+use Rattle.build_integrity_rules.specs.VerifiedLaws.{verified-read}
+use Rattle.build_integrity_rules.specs.declared.Verified.{Verified}
 use Rattle.dictionary_layout_rules.specs.Tree.{Dictionary, knows, headerTags, trailerTags}
 use Rattle.build_records.specs.Records.{stored}
 use Rattle.build_records.specs.declared.Record.{Record}
-use Rattle.build_groups.specs.Reading.{accepted, layoutRules}
-use Rattle.build_required.specs.Checking.{layoutDemands}
+use Rattle.build_group_rules.specs.Reading.{accepted, layoutRules}
+use Rattle.build_required_rules.specs.Checking.{layoutDemands}
 use Rattle.build_nesting_laws.specs.Entries.{All, all-none, all-more, all-stored}
 use Rattle.build_nesting_laws.specs.Formed.{Own}
 use Rattle.build_answers.specs.declared.Answer.the-variants.{Valid}

@@ -6,9 +6,9 @@ use mathlib.Core.List.{List, [], _∷_}
 use Prim.Native.Nat.{ℕ, zero, suc, _+_}
 use Rattle.field_rules.specs.Choice.{pick}
 use Rattle.build_records.specs.declared.Record.{Record}
-use Rattle.build_groups.specs.Groups.{Opened, none as no-group, opened}
-use Rattle.build_required.specs.Required.{Demands, has, fieldsLack, before, shallow, runLacks, nestedLack, entriesLack, opensEntry, entryLack, runLack}
-use Rattle.build_required.specs.declared.Lack.{Lack}
+use Rattle.build_group_rules.specs.Groups.{Opened, none as no-group, opened}
+use Rattle.build_required_rules.specs.Required.{Demands, has, fieldsLack, before, shallow, runLacks, nestedLack, entriesLack, opensEntry, entryLack, runLack}
+use Rattle.build_required_rules.specs.declared.Lack.{Lack}
 use Rattle.build_order_laws.specs.Agree.{Alike, Similar, none, more}
 
 has-same : (depth tag : ℕ) {rs qs : List Record} → Similar rs qs → has depth tag rs ≡ has depth tag qs

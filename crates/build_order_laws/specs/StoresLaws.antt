@@ -12,7 +12,7 @@ use Rattle.field_rules.specs.Fields.{Fields, field}
 use Rattle.field_rules.specs.declared.Field.{Field}
 use Rattle.build_records.specs.Records.{stored}
 use Rattle.build_records.specs.declared.Record.{Record}
-use Rattle.build_groups.specs.Reading.{joinedList}
+use Rattle.build_group_rules.specs.Reading.{joinedList}
 use Rattle.build_parts.specs.Parts.{partRecord}
 use Rattle.message_read_laws.specs.Counting.{Of}
 use Rattle.message_read_laws.specs.PartReading.{of-field}

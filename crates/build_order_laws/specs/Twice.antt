@@ -9,20 +9,20 @@ use Rattle.build_config.specs.declared.Config.{Config}
 use Rattle.field_rules.specs.Choice.{pick}
 use Rattle.field_rules.specs.Fields.{Fields, unreadable, field, fieldsFrom}
 use Rattle.field_rules.specs.declared.Field.{Field}
-use Rattle.build_integrity.specs.Integrity.{integrityOf}
-use Rattle.build_integrity.specs.declared.Integrity.{Integrity}
-use Rattle.build_integrity.specs.declared.Integrity.the-variants.{Sound, Garbled}
+use Rattle.build_integrity_rules.specs.Integrity.{integrityOf}
+use Rattle.build_integrity_rules.specs.declared.Integrity.{Integrity}
+use Rattle.build_integrity_rules.specs.declared.Integrity.the-variants.{Sound, Garbled}
 use Rattle.dictionary_layout_rules.specs.Tree.{Dictionary, knows, headerTags, trailerTags, holdsTag, Choice, noMessage, laidOut, layoutOf}
 use Rattle.build_records.specs.Records.{stored, valueAt}
 use Rattle.build_records.specs.declared.Record.{Record}
-use Rattle.build_groups.specs.Groups.{Rules, Frame, run, Move, adds, joinsAt, disorders, leaves, decide}
-use Rattle.build_groups.specs.Groups.{entryRecord}
-use Rattle.build_groups.specs.Reading.{accepted, layoutRules, joinedList}
-use Rattle.build_required.specs.Required.{Demands, has}
-use Rattle.build_required.specs.Checking.{layoutDemands}
+use Rattle.build_group_rules.specs.Groups.{Rules, Frame, run, Move, adds, joinsAt, disorders, leaves, decide}
+use Rattle.build_group_rules.specs.Groups.{entryRecord}
+use Rattle.build_group_rules.specs.Reading.{accepted, layoutRules, joinedList}
+use Rattle.build_required_rules.specs.Required.{Demands, has}
+use Rattle.build_required_rules.specs.Checking.{layoutDemands}
 use Rattle.build_parts.specs.Parts.{Reading, ended, refused, partRecord}
-use Rattle.build_body.specs.Body.{Kind, plain, counts, other, Body, withRun, bodyFrom}
-use Rattle.build_body.specs.Kinds.{bodyOf}
+use Rattle.build_body_rules.specs.Body.{Kind, plain, counts, other, Body, withRun, bodyFrom}
+use Rattle.build_body_rules.specs.Kinds.{bodyOf}
 use Rattle.build_rules.specs.Beginning.{headerOf, verifiedRecords, msgTypeRecord}
 
 -- "Header tags go to the header; the first other field ends it."

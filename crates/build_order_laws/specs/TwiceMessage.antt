@@ -9,11 +9,11 @@ use lib.ListN.{length}
 use Rattle.build_config.specs.declared.Config.{Config}
 use Rattle.field_rules.specs.Choice.{pick}
 use Rattle.field_rules.specs.Fields.{field, fieldsFrom}
-use Rattle.build_integrity.specs.declared.Verified.{Verified}
+use Rattle.build_integrity_rules.specs.declared.Verified.{Verified}
 use Rattle.dictionary_layout_rules.specs.Tree.{Dictionary, knows, headerTags, trailerTags}
 use Rattle.build_records.specs.Records.{stored}
-use Rattle.build_groups.specs.Reading.{accepted, layoutRules}
-use Rattle.build_required.specs.Checking.{layoutDemands}
+use Rattle.build_group_rules.specs.Reading.{accepted, layoutRules}
+use Rattle.build_required_rules.specs.Checking.{layoutDemands}
 use Rattle.build_answers.specs.declared.Answer.the-variants.{Valid}
 use Rattle.build_parts.specs.Parts.{partRecord}
 use Rattle.build_rules.specs.Beginning.{headerOf, verifiedRecords}

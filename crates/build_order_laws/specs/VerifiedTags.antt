@@ -9,13 +9,13 @@ use lib.Dec.{eqb}
 use borrow.Author.Tests.{eqb-true}
 use Rattle.field_rules.specs.declared.Mode.{Mode}
 use Rattle.field_rules.specs.Choice.{pick}
-use Rattle.build_integrity.specs.Integrity.{integrityOf, begun, counted, summed, typed, lengthAgrees, sumAgrees}
-use Rattle.build_integrity.specs.VerifiedLaws.{verified-read}
-use Rattle.build_integrity.specs.declared.Integrity.{Integrity}
-use Rattle.build_integrity.specs.declared.Integrity.the-variants.{Sound, Garbled}
-use Rattle.build_integrity.specs.declared.GarbledReason.{GarbledReason}
-use Rattle.build_integrity.specs.declared.GarbledReason.the-variants.{InvalidBeginString, InvalidBodyLength, InvalidMsgType, InvalidChecksum}
-use Rattle.build_integrity.specs.declared.Verified.{Verified}
+use Rattle.build_integrity_rules.specs.Integrity.{integrityOf, begun, counted, summed, typed, lengthAgrees, sumAgrees}
+use Rattle.build_integrity_rules.specs.VerifiedLaws.{verified-read}
+use Rattle.build_integrity_rules.specs.declared.Integrity.{Integrity}
+use Rattle.build_integrity_rules.specs.declared.Integrity.the-variants.{Sound, Garbled}
+use Rattle.build_integrity_rules.specs.declared.GarbledReason.{GarbledReason}
+use Rattle.build_integrity_rules.specs.declared.GarbledReason.the-variants.{InvalidBeginString, InvalidBodyLength, InvalidMsgType, InvalidChecksum}
+use Rattle.build_integrity_rules.specs.declared.Verified.{Verified}
 
 -- 8, 9 and 35 at the message's start, and 10 at its end
 pub record VerifiedTags (v : Verified) : Type 0 where

@@ -15,14 +15,14 @@ use Rattle.dictionary_layout_rules.specs.declared.Nested.the-variants.{Within, 
 use Rattle.build_records.specs.Records.{recordsOf, recordAt, between, stride}
 use Rattle.build_records.specs.WordLaws.{records-length}
 use Rattle.build_records.specs.declared.Record.{Record}
-use Rattle.build_groups.specs.Groups.{none, opened}
-use Rattle.build_groups.specs.Reading.{openedBy}
-use Rattle.build_groups.specs.declared.Group.{Group}
-use Rattle.build_required.specs.Required.{orElse, shallow, nestedLack, entriesLack, entryLack, runLack}
-use Rattle.build_required.specs.Checking.{tableDemands, startsAt, countAt, endFrom, lackOfFields, lackOfEntry, lackOfRun}
-use Rattle.build_required.specs.RequiredLaws.{else-missing, else-complete, end-within, entries-over, entries-skip, entries-open, nested-over, nested-deep, nested-plain, nested-run}
-use Rattle.build_required.specs.declared.Lack.{Lack}
-use Rattle.build_required.specs.declared.Lack.the-variants.{Missing, Complete}
+use Rattle.build_group_rules.specs.Groups.{none, opened}
+use Rattle.build_group_rules.specs.Reading.{openedBy}
+use Rattle.build_group_rules.specs.declared.Group.{Group}
+use Rattle.build_required_rules.specs.Required.{orElse, shallow, nestedLack, entriesLack, entryLack, runLack}
+use Rattle.build_required_rules.specs.Checking.{tableDemands, startsAt, countAt, endFrom, lackOfFields, lackOfEntry, lackOfRun}
+use Rattle.build_required_rules.specs.RequiredLaws.{else-missing, else-complete, end-within, entries-over, entries-skip, entries-open, nested-over, nested-deep, nested-plain, nested-run}
+use Rattle.build_required_rules.specs.declared.Lack.{Lack}
+use Rattle.build_required_rules.specs.declared.Lack.the-variants.{Missing, Complete}
 
 -- a record that no run hangs on
 data NoCount (table : List ℕ) (group : Group) (r : Record) : Type 0 where

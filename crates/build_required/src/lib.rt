@@ -1,26 +1,17 @@
 // build_required: whether the entries of a body group that was read hold their required fields (4).
 // The run check and the entry check call each other, and the depth that is left falls. It only looks at records and tables.
-use build_groups::Group;
+use build_group_rules::Group;
 use build_records::Record;
 use build_records::Standing;
-use dictionary_layout_rules::Level;
+use build_required_rules::Lack;
 use dictionary_layout_rules::Marked;
 use dictionary_layout_rules::Nested;
 ghost use mathlib.Core.Path.{_≡_};
 ghost use Prim.Native.Nat.{_/_, _≤_, _-_};
 ghost use lib.ListN.{length};
 ghost use Rattle.build_records.specs.Records.{recordsOf, between, stride};
-ghost use Rattle.build_required.specs.Required.{shallow};
-ghost use Rattle.build_required.specs.Checking.{startsAt, countAt, endFrom, lackOfFields, lackOfEntry, lackOfRun};
-
-// How deep groups nest.
-const LEVELS: u32 = 4;
-
-// The first required field that an entry lacks: its tag and its group's.
-pub enum Lack {
-    Missing(u32, u32),
-    Complete,
-}
+ghost use Rattle.build_required_rules.specs.Required.{shallow};
+ghost use Rattle.build_required_rules.specs.Checking.{startsAt, countAt, endFrom, lackOfFields, lackOfEntry, lackOfRun};
 
 // The record opens an entry of the group.
 fn starts(table: &[u32], group: Group, found: Record) -> bool
@@ -94,7 +85,7 @@ pub fn check_run(words: &[u32], table: &[u32], group: Group, from: usize, to: us
     requires { ⌜ to ≤ length (now words) / stride ⌝ }
     ensures { λ r. ⌜ r ≡ lackOfRun (now (table .entry)) group (between from to (recordsOf (now (words .entry)))) ⌝ }
 {
-    if LEVELS < group.depth {
+    if build_group_rules::LEVELS < group.depth {
         return Lack::Complete;
     }
     let mut at = from;

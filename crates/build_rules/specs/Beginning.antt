@@ -8,10 +8,10 @@ use Rattle.field_rules.specs.Choice.{pick}
 use Rattle.field_rules.specs.Fields.{Fields, fieldsFrom}
 use Rattle.field_rules.specs.declared.Field.{Field}
 use Rattle.build_config.specs.declared.Config.{Config}
-use Rattle.build_integrity.specs.Integrity.{integrityOf}
-use Rattle.build_integrity.specs.declared.Integrity.{Integrity}
-use Rattle.build_integrity.specs.declared.Integrity.the-variants.{Sound, Garbled}
-use Rattle.build_integrity.specs.declared.Verified.{Verified}
+use Rattle.build_integrity_rules.specs.Integrity.{integrityOf}
+use Rattle.build_integrity_rules.specs.declared.Integrity.{Integrity}
+use Rattle.build_integrity_rules.specs.declared.Integrity.the-variants.{Sound, Garbled}
+use Rattle.build_integrity_rules.specs.declared.Verified.{Verified}
 use Rattle.build_records.specs.Records.{blank, stored}
 use Rattle.build_records.specs.declared.Record.{Record}
 use Rattle.build_answers.specs.declared.Answer.{Answer}

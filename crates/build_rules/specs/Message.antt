@@ -11,8 +11,8 @@ use Rattle.field_rules.specs.declared.Field.{Field}
 use Rattle.dictionary_layout_rules.specs.Layout.{Layout}
 use Rattle.dictionary_layout_rules.specs.Tree.{Dictionary, knows, headerTags, trailerTags, Choice, noMessage, laidOut, layoutOf}
 use Rattle.build_records.specs.declared.Record.{Record}
-use Rattle.build_groups.specs.Reading.{accepted, layoutRules}
-use Rattle.build_required.specs.Checking.{layoutDemands}
+use Rattle.build_group_rules.specs.Reading.{accepted, layoutRules}
+use Rattle.build_required_rules.specs.Checking.{layoutDemands}
 use Rattle.build_answers.specs.declared.Answer.{Answer}
 use Rattle.build_answers.specs.declared.Answer.the-variants.{Valid, InvalidMsgType, TooManyFields}
 use Rattle.build_rules.specs.declared.Stop.{Stop}
@@ -21,8 +21,8 @@ use Rattle.build_answers.specs.Answer.{numberOf}
 use Rattle.build_parts.specs.Parts.{Reading, ended, refused, partRecord}
 use Rattle.build_parts.specs.Trailer.{Trailer, stopped, unstopped, crowded, trailerFrom}
 use Rattle.build_rules.specs.Beginning.{Start, started, unsound, startOf, msgTypeRecord}
-use Rattle.build_body.specs.Body.{bodyFrom}
-use Rattle.build_body.specs.Kinds.{bodyOf}
+use Rattle.build_body_rules.specs.Body.{bodyFrom}
+use Rattle.build_body_rules.specs.Kinds.{bodyOf}
 
 -- the answer, the records that are shown with it, and what stopped the trailer
 pub record Outcome : Type 0 where

@@ -9,11 +9,11 @@ use Rattle.field_rules.specs.declared.Mode.{Mode}
 use Rattle.build_config.specs.declared.Config.{Config}
 use Rattle.field_rules.specs.Fields.{fieldsFrom}
 use Rattle.field_rules.specs.declared.Field.{Field}
-use Rattle.build_integrity.specs.Integrity.{integrityOf}
-use Rattle.build_integrity.specs.VerifiedLaws.{verified-read}
-use Rattle.build_integrity.specs.declared.Integrity.the-variants.{Sound, Garbled}
-use Rattle.build_integrity.specs.declared.GarbledReason.{GarbledReason}
-use Rattle.build_integrity.specs.declared.Verified.{Verified}
+use Rattle.build_integrity_rules.specs.Integrity.{integrityOf}
+use Rattle.build_integrity_rules.specs.VerifiedLaws.{verified-read}
+use Rattle.build_integrity_rules.specs.declared.Integrity.the-variants.{Sound, Garbled}
+use Rattle.build_integrity_rules.specs.declared.GarbledReason.{GarbledReason}
+use Rattle.build_integrity_rules.specs.declared.Verified.{Verified}
 use Rattle.build_records.specs.declared.Record.{Record}
 use Rattle.build_answers.specs.declared.Answer.{Answer}
 use Rattle.build_answers.specs.declared.Answer.the-variants.{Garbled as garbled}

@@ -20,8 +20,8 @@ use Rattle.build_parts.specs.declared.TrailerRead.the-variants.{Stopped, Unstop
 use Rattle.build_rules.specs.declared.Stop.the-variants.{At as stops, Nowhere}
 use Rattle.builder.specs.declared.Finished.the-variants.{Whole, Refused as RefusedWhole}
 use Rattle.build_parts.specs.Parts.{Reading, partRecord, partOf, partTold, Kept}
-use Rattle.build_body.specs.RunLaws.{between-split}
-use Rattle.build_body.specs.GroupReading.{front-is, front-parts}
+use Rattle.build_body_rules.specs.RunLaws.{between-split}
+use Rattle.build_body_rules.specs.GroupReading.{front-is, front-parts}
 use Rattle.build_parts.specs.Trailer.{trailerFrom, trailerTold, trailerCounts}
 use Rattle.build_rules.specs.Message.{afterTrailer, afterBody}
 use Rattle.builder.specs.Reading.{finishTold}

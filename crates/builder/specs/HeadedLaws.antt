@@ -23,13 +23,13 @@ use Rattle.dictionary_meaning_rules.specs.Theorem.{TableOf, no-table, a-table, 
 use Rattle.dictionary_meaning_rules.specs.KnownTags.{tags-known}
 use Rattle.dictionary_meaning_rules.specs.declared.MessageTable.{MessageTable}
 use Rattle.dictionary_meaning_rules.specs.declared.MessageTable.the-variants.{Rows}
-use Rattle.build_groups.specs.Reading.{tableRules}
-use Rattle.build_required.specs.Checking.{tableDemands}
+use Rattle.build_group_rules.specs.Reading.{tableRules}
+use Rattle.build_required_rules.specs.Checking.{tableDemands}
 use Rattle.build_answers.specs.declared.Answer.the-variants.{InvalidMsgType}
 use Rattle.build_parts.specs.Parts.{partOf}
-use Rattle.build_body.specs.Kinds.{bodyOf}
-use Rattle.build_body.specs.Body.{bodyFrom}
-use Rattle.build_body.specs.Meaning.{body-means}
+use Rattle.build_body_rules.specs.Kinds.{bodyOf}
+use Rattle.build_body_rules.specs.Body.{bodyFrom}
+use Rattle.build_body_rules.specs.Meaning.{body-means}
 use Rattle.builder.specs.declared.Finished.the-variants.{Refused}
 use Rattle.build_rules.specs.Beginning.{msgTypeRecord}
 use Rattle.build_rules.specs.Message.{afterBody, afterType}

@@ -13,16 +13,16 @@ use Rattle.build_config.specs.declared.Config.{Config}
 use Rattle.field_rules.specs.Choice.{pick}
 use Rattle.field_rules.specs.Fields.{Fields, unreadable, field, Each, each-end, each-field, Inside}
 use Rattle.field_rules.specs.declared.Field.{Field}
-use Rattle.build_integrity.specs.Integrity.{integrityOf}
-use Rattle.build_integrity.specs.declared.Integrity.the-variants.{Sound}
-use Rattle.build_integrity.specs.declared.Verified.{Verified}
+use Rattle.build_integrity_rules.specs.Integrity.{integrityOf}
+use Rattle.build_integrity_rules.specs.declared.Integrity.the-variants.{Sound}
+use Rattle.build_integrity_rules.specs.declared.Verified.{Verified}
 use Rattle.dictionary_layout_rules.specs.Tree.{holdsTag}
 use Rattle.build_records.specs.Records.{stored}
 use Rattle.build_records.specs.declared.Record.{Record}
 use Rattle.build_parts.specs.Parts.{ended, partRecord}
 use Rattle.build_parts.specs.Header.{headerFrom}
 use Rattle.build_rules.specs.Beginning.{verifiedRecords, roomBehind, headerOf, msgTypeRecord}
-use Rattle.build_integrity.specs.VerifiedLaws.{VerifiedRead, verified-read}
+use Rattle.build_integrity_rules.specs.VerifiedLaws.{VerifiedRead, verified-read}
 
 -- a record's value lies in the message where its field's does
 abbrev RecordIn : List ℕ → Record → Type 0

@@ -9,7 +9,7 @@ use Rattle.build_records.specs.Records.{stride}
 use Rattle.field_rules.specs.Choice.{pick}
 use Rattle.field_rules.specs.Fields.{fieldsFrom, Inside}
 use Rattle.field_rules.specs.declared.Mode.{Mode}
-use Rattle.build_integrity.specs.declared.Verified.{Verified}
+use Rattle.build_integrity_rules.specs.declared.Verified.{Verified}
 use Rattle.dictionary_rules.specs.Check.{checkOf, storeOf, preparedOf}
 use Rattle.dictionary_rules.specs.declared.Checked.the-variants.{Passes}
 use Rattle.dictionary_layout_rules.specs.Tree.{Dictionary, headerTags, trailerTags}

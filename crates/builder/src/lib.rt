@@ -2,8 +2,8 @@
 // It reads a dictionary through the index and the tables that are made of it, and keeps records through `build_records` only.
 use build_answers::Answer;
 use build_config::Config;
-use build_integrity::Integrity;
-use build_integrity::Verified;
+use build_integrity_rules::Integrity;
+use build_integrity_rules::Verified;
 use build_parts::PartRead;
 use build_parts::Progress;
 use build_parts::TrailerRead;
@@ -21,13 +21,13 @@ ghost use lib.ListN.{length, take, replicate};
 ghost use Rattle.build_records.specs.Records.{recordWords, recordRoom, stride, valueAt};
 ghost use Rattle.dictionary_rules.specs.Index.{tagAt};
 ghost use Rattle.field_rules.specs.Fields.{field, fieldsFrom, Inside};
-ghost use Rattle.build_groups.specs.Reading.{tableRules};
-ghost use Rattle.build_required.specs.Checking.{tableDemands};
+ghost use Rattle.build_group_rules.specs.Reading.{tableRules};
+ghost use Rattle.build_required_rules.specs.Checking.{tableDemands};
 ghost use Rattle.dictionary_meaning_rules.specs.Meaning.{dictionaryOf};
 ghost use Rattle.dictionary_layout_rules.specs.Tree.{layoutOf, trailerTags};
 ghost use Rattle.build_parts.specs.Parts.{partOf};
-ghost use Rattle.build_body.specs.Kinds.{bodyOf};
-ghost use Rattle.build_body.specs.Body.{bodyFrom};
+ghost use Rattle.build_body_rules.specs.Kinds.{bodyOf};
+ghost use Rattle.build_body_rules.specs.Body.{bodyFrom};
 ghost use Rattle.build_rules.specs.Beginning.{verifiedRecords, startOf, msgTypeRecord};
 ghost use Rattle.build_rules.specs.Message.{afterBody, afterType, messageRead};
 ghost use Rattle.builder.specs.Reading.{finishTold, finishCounts};

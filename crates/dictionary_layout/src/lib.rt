@@ -5,7 +5,7 @@ use dictionary_layout_rules::Level;
 use dictionary_layout_rules::Marked;
 use dictionary_layout_rules::Nested;
 use dictionary_layout_rules::Position;
-use field_tagvalue::wide;
+use field_numbers::wide;
 ghost use mathlib.Core.Path.{_≡_};
 ghost use Prim.Native.Nat.{_<_, _/_};
 ghost use lib.ListN.{length};

@@ -12,9 +12,9 @@ use Rattle.field_rules.specs.Decimal.{decimal}
 use Rattle.field_rules.specs.Field.{startAt, fieldBytes, valueOf}
 use Rattle.field_rules.specs.Fields.{Fields, field, fieldsFrom}
 use Rattle.field_rules.specs.declared.Field.{Field}
-use Rattle.build_integrity.specs.Integrity.{integrityOf}
-use Rattle.build_integrity.specs.declared.Integrity.the-variants.{Sound}
-use Rattle.build_integrity.specs.declared.Verified.{Verified}
+use Rattle.build_integrity_rules.specs.Integrity.{integrityOf}
+use Rattle.build_integrity_rules.specs.declared.Integrity.the-variants.{Sound}
+use Rattle.build_integrity_rules.specs.declared.Verified.{Verified}
 use Rattle.build_records.specs.declared.Record.{Record}
 use Rattle.build_parts.specs.Parts.{partRecord}
 use Rattle.encode_rules.specs.Encoding.{summed}

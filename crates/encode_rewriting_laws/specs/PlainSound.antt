@@ -18,10 +18,10 @@ use Rattle.field_rules.specs.declared.Field.{Field}
 use Rattle.field_rules.specs.declared.FieldRead.the-variants.{Read}
 use Rattle.field_rules.specs.declared.Number.{Number}
 use Rattle.field_rules.specs.declared.Number.the-variants.{Worth, NoNumber}
-use Rattle.build_integrity.specs.Integrity.{integrityOf, lengthIs, lengthAgrees}
-use Rattle.build_integrity.specs.VerifiedLaws.{verified-read}
-use Rattle.build_integrity.specs.declared.Integrity.the-variants.{Sound}
-use Rattle.build_integrity.specs.declared.Verified.{Verified}
+use Rattle.build_integrity_rules.specs.Integrity.{integrityOf, lengthIs, lengthAgrees}
+use Rattle.build_integrity_rules.specs.VerifiedLaws.{verified-read}
+use Rattle.build_integrity_rules.specs.declared.Integrity.the-variants.{Sound}
+use Rattle.build_integrity_rules.specs.declared.Verified.{Verified}
 use Rattle.encode_rewriting_laws.specs.Plain.{isPlain, plainLength}
 use Rattle.encode_rewriting_laws.specs.PlainLaws.{number-digits, plain-digits, plain-leads}
 use Rattle.field_rules.specs.SpelledLaws.{value-stands, value-size}

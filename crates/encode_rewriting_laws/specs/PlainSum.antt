@@ -21,8 +21,8 @@ use Rattle.field_rules.specs.FieldsLaws.{step-lies}
 use Rattle.field_rules.specs.declared.Field.{Field}
 use Rattle.field_rules.specs.declared.FieldRead.the-variants.{Read}
 use Rattle.field_rules.specs.declared.Number.the-variants.{Worth}
-use Rattle.build_integrity.specs.Integrity.{sumAgrees}
-use Rattle.build_integrity.specs.IntegrityLaws.{sum-is}
+use Rattle.build_integrity_rules.specs.Integrity.{sumAgrees}
+use Rattle.build_integrity_rules.specs.IntegrityLaws.{sum-is}
 use Rattle.encode_rules.specs.Encoding.{sumDigits}
 use Rattle.encode_rewriting_laws.specs.Plain.{threeDigits}
 use Rattle.encode_rewriting_laws.specs.PlainLaws.{Digits, tag-text}

@@ -11,10 +11,10 @@ use Rattle.field_rules.specs.Fields.{Fields, field, fieldsFrom}
 use Rattle.field_rules.specs.FieldsLaws.{step-lies, step-falls}
 use Rattle.field_rules.specs.declared.Cursor.{Cursor}
 use Rattle.field_rules.specs.declared.Field.{Field}
-use Rattle.build_integrity.specs.Integrity.{integrityOf}
-use Rattle.build_integrity.specs.VerifiedLaws.{verified-read}
-use Rattle.build_integrity.specs.declared.Integrity.the-variants.{Sound}
-use Rattle.build_integrity.specs.declared.Verified.{Verified}
+use Rattle.build_integrity_rules.specs.Integrity.{integrityOf}
+use Rattle.build_integrity_rules.specs.VerifiedLaws.{verified-read}
+use Rattle.build_integrity_rules.specs.declared.Integrity.the-variants.{Sound}
+use Rattle.build_integrity_rules.specs.declared.Verified.{Verified}
 use Rattle.build_records.specs.declared.Record.{Record}
 use Rattle.build_order_laws.specs.Follows.{Follows, no-field, one-field}
 

@@ -18,9 +18,9 @@ use Rattle.field_rules.specs.Field.{startAt, valueOf}
 use Rattle.field_rules.specs.Fields.{Fields, field, fieldsFrom}
 use Rattle.field_rules.specs.declared.Field.{Field}
 use Rattle.field_rules.specs.declared.Number.the-variants.{Worth}
-use Rattle.build_integrity.specs.Integrity.{integrityOf}
-use Rattle.build_integrity.specs.declared.Integrity.the-variants.{Sound}
-use Rattle.build_integrity.specs.declared.Verified.{Verified}
+use Rattle.build_integrity_rules.specs.Integrity.{integrityOf}
+use Rattle.build_integrity_rules.specs.declared.Integrity.the-variants.{Sound}
+use Rattle.build_integrity_rules.specs.declared.Verified.{Verified}
 use Rattle.build_records.specs.declared.Record.{Record}
 use Rattle.build_nesting_laws.specs.Entries.{All}
 use Rattle.encode_rules.specs.Encoding.{summed, sumDigits}

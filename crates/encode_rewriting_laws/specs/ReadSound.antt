@@ -21,10 +21,10 @@ use Rattle.field_rules.specs.declared.Cursor.{Cursor}
 use Rattle.field_rules.specs.declared.Field.{Field}
 use Rattle.field_rules.specs.declared.FieldRead.the-variants.{Read}
 use Rattle.field_rules.specs.declared.Number.the-variants.{Worth}
-use Rattle.build_integrity.specs.Integrity.{integrityOf, lengthAgrees, sumAgrees}
-use Rattle.build_integrity.specs.IntegrityLaws.{begun-on, counted-on, summed-on, typed-on, length-is, sum-is}
-use Rattle.build_integrity.specs.declared.Integrity.the-variants.{Sound}
-use Rattle.build_integrity.specs.declared.Verified.{Verified}
+use Rattle.build_integrity_rules.specs.Integrity.{integrityOf, lengthAgrees, sumAgrees}
+use Rattle.build_integrity_rules.specs.IntegrityLaws.{begun-on, counted-on, summed-on, typed-on, length-is, sum-is}
+use Rattle.build_integrity_rules.specs.declared.Integrity.the-variants.{Sound}
+use Rattle.build_integrity_rules.specs.declared.Verified.{Verified}
 use Rattle.field_rules.specs.SpelledLaws.{text-read, text-value, text-fields}
 
 -- a field as bytes under its tag's own digits, kept shut so that no proof computes the digits

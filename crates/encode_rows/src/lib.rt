@@ -1,7 +1,7 @@
 // encode_rows: a message as bytes. It writes what a lent message holds in one pass over its rows, with the CheckSum behind it (27, 23); `encoder`
 // judges a message first and sets its BodyLength. It keeps nothing and demands nothing of what is lent.
+use field_numbers::wide;
 use field_rules::Written;
-use field_tagvalue::wide;
 use message_rules::Located;
 use message_rules::Part;
 use message_rules::Span;
@@ -32,7 +32,7 @@ fn write_field(output: &mut [u8], at: usize, tag: u32, value: &[u8], separator: 
     ensures { λ r. ⌜ r ≡ at + (length (decimal tag) + length (now (value .entry)) + 2) ⌝ }
     ensures { λ _. ⌜ now (output .exit) ≡ writtenAt at (fieldBytes separator (decimal tag) (now (value .entry))) (now (output .entry)) ⌝ }
 {
-    let Written::Next(digits) = field_tagvalue::write_number(output, at, tag) else {
+    let Written::Next(digits) = field_numbers::write_number(output, at, tag) else {
         return at;
     };
     let equals = [61u8];
@@ -67,7 +67,7 @@ pub fn row_bytes(words: &[u32], row: usize) -> usize
     ensures { λ r. ⌜ r < 8589934592 ⌝ }
 {
     if message_maps::kind_of(words, row) == 1 {
-        return field_tagvalue::digit_count(message_maps::tag_of(words, row))
+        return field_numbers::digit_count(message_maps::tag_of(words, row))
             + wide(message_maps::extra_of(words, row))
             + 2;
     }
@@ -236,7 +236,7 @@ fn sum_before(output: &[u8], at: usize) -> u8
     requires { ⌜ at ≤ length (now output) ⌝ }
     ensures { λ r. ⌜ r ≡ sumOf (take at (now (output .entry))) % 256 ⌝ }
 {
-    field_tagvalue::sum_of(&output[..at])
+    field_numbers::sum_of(&output[..at])
 }
 
 // The prefix `10=`, three digits of the sum of all before, and the separator.
@@ -245,7 +245,7 @@ fn write_tail(output: &mut [u8], at: usize, separator: u8)
     ensures { λ _. ⌜ now (output .exit) ≡ writtenAt at (tailOf separator (take at (now (output .entry)))) (now (output .entry)) ⌝ }
 {
     let sum = sum_before(output, at);
-    let digits = field_tagvalue::checksum_digits(sum);
+    let digits = field_numbers::checksum_digits(sum);
     let prefix = [49u8, 48, 61];
     let ending = [separator];
     let first = write_bytes(output, at, &prefix[..]);

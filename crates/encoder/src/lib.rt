@@ -124,7 +124,7 @@ fn judge(words: &[u32], values: &[u8], separator: u8, room: usize) -> Verdict
         return Verdict::Refused(Encoding::TooLong);
     }
     let begin = field_bytes(words, head, 8);
-    let length = begin + field_tagvalue::digit_count(body as u32) + body + 10;
+    let length = begin + field_numbers::digit_count(body as u32) + body + 10;
     if 8192 < length {
         return Verdict::Refused(Encoding::TooLong);
     }
@@ -142,7 +142,7 @@ fn set_body_length(words: &mut [u32], values: &mut [u8], body: u32) -> Change
 {
     let mut digits = [0u8; 10];
     let scratch = &mut digits[..];
-    let Written::Next(end) = field_tagvalue::write_number(scratch, 0, body) else {
+    let Written::Next(end) = field_numbers::write_number(scratch, 0, body) else {
         return Change::NotStorable;
     };
     message::store(words, values, Part::Header, 9, &digits[..end])

@@ -144,7 +144,7 @@ fn verdict_of_body(bytes: &[u8], body: usize, n: usize) -> Verdict
     let Stage::On(sum) = tagged else {
         return verdict_from(tagged);
     };
-    let digits = field_tagvalue::checksum_digits(field_tagvalue::sum_of(&bytes[..tag]));
+    let digits = field_numbers::checksum_digits(field_numbers::sum_of(&bytes[..tag]));
     let summed = literal_at(bytes, sum, &digits);
     let Stage::On(end) = summed else {
         return verdict_from(summed);

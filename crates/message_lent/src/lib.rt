@@ -1,5 +1,5 @@
 // message_lent: whether what a caller lends is a message, and how many fields it stores. It changes nothing and demands nothing of what is lent.
-use field_tagvalue::wide;
+use field_numbers::wide;
 ghost use mathlib.Core.Path.{_≡_};
 ghost use mathlib.Core.List.{[]};
 ghost use Prim.Native.Nat.{_+_, _-_, _≤_, _<_};

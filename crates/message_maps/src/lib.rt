@@ -1,6 +1,6 @@
 // message_maps: field maps in lent words and bytes. It finds rows and cuts, moves and inserts them; it knows no tag's meaning and refuses nothing
 // by number. Only `message_lent`, `message`, `encode_rows` and `message_take_over` call it: its functions may ask that the words are whole.
-use field_tagvalue::wide;
+use field_numbers::wide;
 ghost use mathlib.Core.Path.{_≡_};
 ghost use mathlib.Core.List.{_++_, []};
 ghost use mathlib.Core.Bool.{true, false};

@@ -13,18 +13,18 @@ use Rattle.dictionary_layout_rules.specs.Tree.{holdsTag}
 use Rattle.dictionary_layout_rules.specs.declared.Position.the-variants.{At}
 use Rattle.build_records.specs.Records.{stored, valueAt}
 use Rattle.build_records.specs.declared.Record.{Record}
-use Rattle.build_groups.specs.Groups.{Rules, opens, run, RunOutcome, walk}
-use Rattle.build_groups.specs.Groups.{ended as ran, refused as stops}
-use Rattle.build_groups.specs.Reading.{listStore}
-use Rattle.build_required.specs.Required.{Demands, runLack}
-use Rattle.build_required.specs.declared.Lack.{Lack}
-use Rattle.build_required.specs.declared.Lack.the-variants.{Missing, Complete}
+use Rattle.build_group_rules.specs.Groups.{Rules, opens, run, RunOutcome, walk}
+use Rattle.build_group_rules.specs.Groups.{ended as ran, refused as stops}
+use Rattle.build_group_rules.specs.Reading.{listStore}
+use Rattle.build_required_rules.specs.Required.{Demands, runLack}
+use Rattle.build_required_rules.specs.declared.Lack.{Lack}
+use Rattle.build_required_rules.specs.declared.Lack.the-variants.{Missing, Complete}
 use Rattle.build_nesting_laws.specs.Entries.{All, all-none, all-more, all-append}
 use Rattle.build_nesting_laws.specs.Nesting.{run-formed}
 use Rattle.build_answers.specs.declared.Answer.the-variants.{InvalidField}
 use Rattle.build_parts.specs.Parts.{ended, refused, partRecord}
-use Rattle.build_body.specs.Body.{Kind, plain, counts, other, Body, behindRun, storedRun, andThen, nextFrom, withRun, takes, bodyWithin}
-use Rattle.build_body.specs.Kinds.{checked, ranAs, runFrom, bodyOf}
+use Rattle.build_body_rules.specs.Body.{Kind, plain, counts, other, Body, behindRun, storedRun, andThen, nextFrom, withRun, takes, bodyWithin}
+use Rattle.build_body_rules.specs.Kinds.{checked, ranAs, runFrom, bodyOf}
 use Rattle.message_read_laws.specs.Shapes.{Shapes, putRun}
 use Rattle.message_read_laws.specs.ShapeLaws.{all-first, all-rest, shapes-put-run, not-stands}
 use Rattle.message_read_laws.specs.PutLaws.{put-run-formed}

@@ -18,7 +18,7 @@ use Rattle.field_rules.specs.declared.FieldRead.the-variants.{Read}
 use borrow.Author.Tests.{eqb-false}
 use Rattle.build_records.specs.Records.{stored}
 use Rattle.build_records.specs.declared.Record.{Record}
-use Rattle.build_groups.specs.Reading.{joinedList}
+use Rattle.build_group_rules.specs.Reading.{joinedList}
 use Rattle.build_nesting_laws.specs.Entries.{all-none, all-more, all-append, all-stored}
 use Rattle.message_read_laws.specs.ShapeLaws.{all-left, all-right}
 use Rattle.message_read_laws.specs.Counting.{total, budget, Fine, Of, Counts, Grows}

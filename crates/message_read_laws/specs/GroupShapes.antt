@@ -17,7 +17,7 @@ use Rattle.message_maps.specs.Map.{Map, end, field, entry, joined}
 use Rattle.message_lent.specs.Formed.{stands, isFormed, isRun}
 use Rattle.message_lent.specs.MeantLaws.{joined-end}
 use Rattle.message_rules.specs.LayoutLaws.{joined-assoc}
-use Rattle.build_groups.specs.Groups.{Rules, isDelimiter, opens}
+use Rattle.build_group_rules.specs.Groups.{Rules, isDelimiter, opens}
 use Rattle.build_nesting_laws.specs.Formed.{Part, entriesOf, fieldsOf, Own, Formed, no-entry, next-entry, starts, rises, hangs, user}
 use Rattle.build_nesting_laws.specs.Entries.{All, all-none, all-more, entry-starts, Other, entry-other}
 use Rattle.message_read_laws.specs.Shapes.{Shapes, no-more, one-own, one-entry, Tagged, put}

@@ -13,9 +13,9 @@ use Rattle.field_rules.specs.declared.Field.{Field}
 use Rattle.dictionary_layout_rules.specs.Tree.{holdsTag}
 use Rattle.build_records.specs.Records.{stored}
 use Rattle.build_records.specs.declared.Record.{Record}
-use Rattle.build_groups.specs.Groups.{Rules, Frame, Move, adds, joinsAt, disorders, leaves, decide, moved, RunOutcome, walk}
-use Rattle.build_groups.specs.Groups.{ended as ran, entryRecord}
-use Rattle.build_groups.specs.Reading.{listStore, joinedList}
+use Rattle.build_group_rules.specs.Groups.{Rules, Frame, Move, adds, joinsAt, disorders, leaves, decide, moved, RunOutcome, walk}
+use Rattle.build_group_rules.specs.Groups.{ended as ran, entryRecord}
+use Rattle.build_group_rules.specs.Reading.{listStore, joinedList}
 use Rattle.build_nesting_laws.specs.Entries.{All}
 use Rattle.build_nesting_laws.specs.Formed.{Own}
 use Rattle.build_parts.specs.Parts.{ended, partRecord}

@@ -10,21 +10,21 @@ use Rattle.field_rules.specs.Field.{startAt}
 use Rattle.field_rules.specs.Fields.{Fields, field, fieldsFrom}
 use Rattle.field_rules.specs.FieldsLaws.{step-lies}
 use Rattle.field_rules.specs.declared.Field.{Field}
-use Rattle.build_integrity.specs.declared.Verified.{Verified}
+use Rattle.build_integrity_rules.specs.declared.Verified.{Verified}
 use Rattle.dictionary_layout_rules.specs.declared.Position.the-variants.{At}
 use Rattle.build_records.specs.Records.{stored, valueAt}
 use Rattle.build_records.specs.declared.Record.{Record}
 use Rattle.message_maps.specs.Map.{Map, end, holdsAny, fieldCount}
 use Rattle.message_lent.specs.Meaning.{Message}
 use Rattle.message_lent.specs.Formed.{isFormed, Formed, Within}
-use Rattle.build_groups.specs.Groups.{Rules, opens}
-use Rattle.build_required.specs.Required.{Demands}
+use Rattle.build_group_rules.specs.Groups.{Rules, opens}
+use Rattle.build_required_rules.specs.Required.{Demands}
 use Rattle.build_nesting_laws.specs.Entries.{all-none, all-more}
 use Rattle.build_parts.specs.Parts.{ended, partRecord}
 use Rattle.build_parts.specs.Header.{headerFrom}
 use Rattle.build_parts.specs.Trailer.{Trailer, trailerFrom}
-use Rattle.build_body.specs.Body.{bodyFrom}
-use Rattle.build_body.specs.Kinds.{bodyOf}
+use Rattle.build_body_rules.specs.Body.{bodyFrom}
+use Rattle.build_body_rules.specs.Kinds.{bodyOf}
 use Rattle.message_take_over.specs.Taking.{valuesAt}
 use Rattle.message_take_over.specs.Derived.{StandFor}
 use Rattle.message_take_over.specs.TakenLaws.{stand-values}
@@ -35,7 +35,7 @@ use Rattle.message_read_laws.specs.Counting.{total, budget, Fine, Counts
 use Rattle.message_read_laws.specs.CountLaws.{total-append, grows-stored, read-fine, all-fine, all-budget}
 use Rattle.message_read_laws.specs.PartReading.{Reads, of-field, own-field, header-reads, Ended, trailer-reads}
 use Rattle.message_read_laws.specs.BodyReading.{body-reads}
-use Rattle.build_integrity.specs.VerifiedLaws.{VerifiedRead}
+use Rattle.build_integrity_rules.specs.VerifiedLaws.{VerifiedRead}
 
 -- records of a build that take-over accepts: they stand for a message within the limits
 pub record Takes (message : List ℕ) (rs : List Record) : Type 0 where

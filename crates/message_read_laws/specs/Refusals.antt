@@ -10,19 +10,19 @@ use Rattle.field_rules.specs.declared.Field.{Field}
 use Rattle.dictionary_layout_rules.specs.Tree.{holdsTag}
 use Rattle.build_records.specs.Records.{stored}
 use Rattle.build_records.specs.declared.Record.{Record}
-use Rattle.build_groups.specs.Groups.{Rules, run, RunOutcome, walk}
-use Rattle.build_groups.specs.Groups.{ended as ran, refused as stops}
-use Rattle.build_groups.specs.Reading.{listStore, answerOf}
-use Rattle.build_groups.specs.declared.Refusal.{Refusal}
-use Rattle.build_groups.specs.declared.Refusal.the-variants.{Malformed, TooManyFields, InvalidOrderInGroup}
-use Rattle.build_required.specs.Required.{Demands, runLack}
-use Rattle.build_required.specs.declared.Lack.{Lack}
-use Rattle.build_required.specs.declared.Lack.the-variants.{Missing, Complete}
+use Rattle.build_group_rules.specs.Groups.{Rules, run, RunOutcome, walk}
+use Rattle.build_group_rules.specs.Groups.{ended as ran, refused as stops}
+use Rattle.build_group_rules.specs.Reading.{listStore, answerOf}
+use Rattle.build_group_rules.specs.declared.Refusal.{Refusal}
+use Rattle.build_group_rules.specs.declared.Refusal.the-variants.{Malformed, TooManyFields, InvalidOrderInGroup}
+use Rattle.build_required_rules.specs.Required.{Demands, runLack}
+use Rattle.build_required_rules.specs.declared.Lack.{Lack}
+use Rattle.build_required_rules.specs.declared.Lack.the-variants.{Missing, Complete}
 use Rattle.build_answers.specs.declared.Answer.the-variants.{Valid, InvalidField}
 use Rattle.build_parts.specs.Parts.{Reading, ended, refused, partRecord}
 use Rattle.build_parts.specs.Header.{headerFrom}
-use Rattle.build_body.specs.Body.{Kind, plain, counts, other, Body, andThen, nextFrom, withRun, takes, bodyWithin}
-use Rattle.build_body.specs.Kinds.{checked, ranAs, runFrom, bodyOf}
+use Rattle.build_body_rules.specs.Body.{Kind, plain, counts, other, Body, andThen, nextFrom, withRun, takes, bodyWithin}
+use Rattle.build_body_rules.specs.Kinds.{checked, ranAs, runFrom, bodyOf}
 
 pub header-never : (tags : List ℕ) (fields : Fields) (room : ℕ) (rs : List Record) → headerFrom tags fields room rs ≡ refused Valid → ⊥
 unfolding headerFrom

@@ -14,7 +14,7 @@ use Rattle.message_lent.specs.Formed.{stands}
 use Rattle.message_lent.specs.StandLaws.{nor}
 use Rattle.build_nesting_laws.specs.Formed.{Own}
 use Rattle.build_nesting_laws.specs.Entries.{All, all-none, all-more, all-append, all-map, Deep, Other}
-use Rattle.build_body.specs.Body.{behindRun, storedRun}
+use Rattle.build_body_rules.specs.Body.{behindRun, storedRun}
 use Rattle.message_take_over.specs.Derived.{Stands, no-more as stands-none, own as stands-own, in-entry as stands-entry}
 use Rattle.message_read_laws.specs.Shapes.{Shapes, no-more, one-own, one-entry, Loose, Placed, put, putRun}
 

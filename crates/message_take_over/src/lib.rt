@@ -1,7 +1,7 @@
 // message_take_over: what a build answered, taken over into a lent message, so that reading, changing and writing are one path. It lays the records out
 // as rows and lets `message_lent` judge them; it demands nothing of what it is given: what is no message is refused with 27.
 use build_records::Record;
-use field_tagvalue::wide;
+use field_numbers::wide;
 ghost use mathlib.Core.Path.{_≡_};
 ghost use mathlib.Core.Bool.{true, false};
 ghost use mathlib.Core.List.{[], _∷_};

@@ -16,19 +16,19 @@ use Rattle.dictionary_layout_rules.specs.declared.Position.{Position}
 use Rattle.dictionary_layout_rules.specs.declared.Position.the-variants.{At, Nowhere}
 use Rattle.build_records.specs.Records.{stored}
 use Rattle.build_records.specs.declared.Record.{Record}
-use Rattle.build_groups.specs.Groups.{Rules, Opened, none, opened, Frame, run, entry, Kind, plain, count, joins, wrong, ends, counting, declared, kindOf, opens, Move, adds, joinsAt, disorders, leaves, inEntry, decide, RunOutcome, moved, walk}
-use Rattle.build_groups.specs.Groups.{entryRecord, ended as ran, refused as stops}
-use Rattle.build_groups.specs.Reading.{joinedList, listStore}
-use Rattle.build_required.specs.Required.{Demands, runLack}
-use Rattle.build_required.specs.declared.Lack.{Lack}
-use Rattle.build_required.specs.declared.Lack.the-variants.{Missing, Complete}
+use Rattle.build_group_rules.specs.Groups.{Rules, Opened, none, opened, Frame, run, entry, Kind, plain, count, joins, wrong, ends, counting, declared, kindOf, opens, Move, adds, joinsAt, disorders, leaves, inEntry, decide, RunOutcome, moved, walk}
+use Rattle.build_group_rules.specs.Groups.{entryRecord, ended as ran, refused as stops}
+use Rattle.build_group_rules.specs.Reading.{joinedList, listStore}
+use Rattle.build_required_rules.specs.Required.{Demands, runLack}
+use Rattle.build_required_rules.specs.declared.Lack.{Lack}
+use Rattle.build_required_rules.specs.declared.Lack.the-variants.{Missing, Complete}
 use Rattle.build_nesting_laws.specs.Entries.{All, all-none, all-more, all-append, all-stored}
 use Rattle.build_answers.specs.declared.Answer.the-variants.{InvalidField}
 use Rattle.build_parts.specs.Parts.{ended, refused, partRecord}
 use Rattle.build_parts.specs.Header.{headerFrom}
 use Rattle.build_parts.specs.Trailer.{Trailer, stopped, unstopped, crowded, trailerFrom}
-use Rattle.build_body.specs.Body.{Kind as Taken, plain as takes-plain, counts, other, Body, storedRun, andThen, nextFrom, withRun, takes, bodyWithin}
-use Rattle.build_body.specs.Kinds.{checked, ranAs, runFrom, bodyOf}
+use Rattle.build_body_rules.specs.Body.{Kind as Taken, plain as takes-plain, counts, other, Body, storedRun, andThen, nextFrom, withRun, takes, bodyWithin}
+use Rattle.build_body_rules.specs.Kinds.{checked, ranAs, runFrom, bodyOf}
 use Rattle.message_read_laws.specs.Counting.{Fine}
 use Rattle.message_read_laws.specs.CountLaws.{first-fine, rest-fine}
 use Rattle.message_read_laws.specs.ShapeLaws.{all-left, all-right}

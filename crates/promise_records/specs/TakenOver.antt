@@ -15,11 +15,11 @@ use Rattle.field_rules.specs.Choice.{pick}
 use Rattle.field_rules.specs.Separator.{isRefusedSeparator}
 use Rattle.field_rules.specs.Fields.{Fields, field, fieldsFrom}
 use Rattle.field_rules.specs.declared.Field.{Field}
-use Rattle.build_integrity.specs.Integrity.{integrityOf}
+use Rattle.build_integrity_rules.specs.Integrity.{integrityOf}
 use Rattle.build_config.specs.declared.Config.{Config}
-use Rattle.build_integrity.specs.declared.Integrity.{Integrity}
-use Rattle.build_integrity.specs.declared.Integrity.the-variants.{Sound, Garbled}
-use Rattle.build_integrity.specs.declared.Verified.{Verified}
+use Rattle.build_integrity_rules.specs.declared.Integrity.{Integrity}
+use Rattle.build_integrity_rules.specs.declared.Integrity.the-variants.{Sound, Garbled}
+use Rattle.build_integrity_rules.specs.declared.Verified.{Verified}
 use Rattle.dictionary_rules.specs.Check.{checkOf, numberOfCheck}
 use Rattle.dictionary_meaning_rules.specs.Meaning.{dictionaryOf}
 use Rattle.dictionary_layout_rules.specs.Tree.{Dictionary, knows, headerTags, trailerTags, Choice, noMessage, laidOut, layoutOf}
@@ -28,14 +28,14 @@ use Rattle.build_records.specs.WordLaws.{records-laid, laid-length}
 use Rattle.build_records.specs.declared.Record.{Record}
 use Rattle.message_lent.specs.Meaning.{wordsOf, valuesOf}
 use Rattle.message_lent.specs.FormedLaws.{Lends, layout-lends}
-use Rattle.build_groups.specs.Reading.{accepted, layoutRules}
-use Rattle.build_required.specs.Checking.{layoutDemands}
+use Rattle.build_group_rules.specs.Reading.{accepted, layoutRules}
+use Rattle.build_required_rules.specs.Checking.{layoutDemands}
 use Rattle.build_nesting_laws.specs.Entries.{layout-first}
 use Rattle.build_answers.specs.declared.Answer.the-variants.{Valid, InvalidSeparator, TooFewRecords, TooLong as MessageTooLong, BadDictionary}
 use Rattle.build_parts.specs.Parts.{Reading, ended, refused, partRecord}
 use Rattle.build_parts.specs.Trailer.{Trailer, stopped, unstopped, crowded, trailerFrom}
-use Rattle.build_body.specs.Body.{bodyFrom}
-use Rattle.build_body.specs.Kinds.{bodyOf}
+use Rattle.build_body_rules.specs.Body.{bodyFrom}
+use Rattle.build_body_rules.specs.Kinds.{bodyOf}
 use Rattle.build_rules.specs.Beginning.{headerOf, verifiedRecords, withChecksum, startedBy, startOf, msgTypeRecord}
 use Rattle.build_rules.specs.Message.{Outcome, refusal, afterTrailer, afterBody, afterType, afterHeader, messageRead}
 use Rattle.builder.specs.Build.{BuildOutcome, wordsWith, untouched, shown, checkedRead, buildOf}
@@ -44,7 +44,7 @@ use Rattle.message_take_over.specs.declared.Taken.the-variants.{Made}
 use Rattle.message_take_over.specs.Derived.{derived, given}
 use Rattle.message_take_over.specs.TakenLaws.{given-derived, stand-taken}
 use Rattle.message_read_laws.specs.PartReading.{Ended, at-checksum, at-end}
-use Rattle.build_integrity.specs.VerifiedLaws.{verified-read}
+use Rattle.build_integrity_rules.specs.VerifiedLaws.{verified-read}
 use Rattle.message_read_laws.specs.Parted.{Takes, parts-take}
 use Rattle.message_read_laws.specs.Refusals.{header-never, body-never}
 

@@ -9,20 +9,20 @@ use Rattle.builder.specs.Build.{BuildOutcome, builtTold}
 use Rattle.builder.specs.declared.Built.{Built}
 use Rattle.field_tagvalue.proofs.find.Reads as of-field-tagvalue-find
 use Rattle.field_tagvalue.proofs.find.Kinds as in-field-tagvalue-find
-use Rattle.field_tagvalue.proofs.number_of.Reads as of-field-tagvalue-number-of
-use Rattle.field_tagvalue.proofs.number_of.Kinds as in-field-tagvalue-number-of
+use Rattle.field_numbers.proofs.number_of.Reads as of-field-numbers-number-of
+use Rattle.field_numbers.proofs.number_of.Kinds as in-field-numbers-number-of
 use Rattle.field_tagvalue.proofs.tag_of.Reads as of-field-tagvalue-tag-of
 use Rattle.field_tagvalue.proofs.tag_of.Kinds as in-field-tagvalue-tag-of
-use Rattle.field_tagvalue.proofs.checksum_of.Reads as of-field-tagvalue-checksum-of
-use Rattle.field_tagvalue.proofs.checksum_of.Kinds as in-field-tagvalue-checksum-of
-use Rattle.field_tagvalue.proofs.sum_of.Reads as of-field-tagvalue-sum-of
-use Rattle.field_tagvalue.proofs.sum_of.Kinds as in-field-tagvalue-sum-of
-use Rattle.field_tagvalue.proofs.checksum_digits.Reads as of-field-tagvalue-checksum-digits
-use Rattle.field_tagvalue.proofs.checksum_digits.Kinds as in-field-tagvalue-checksum-digits
-use Rattle.field_tagvalue.proofs.digit_count.Reads as of-field-tagvalue-digit-count
-use Rattle.field_tagvalue.proofs.digit_count.Kinds as in-field-tagvalue-digit-count
-use Rattle.field_tagvalue.proofs.write_number.Reads as of-field-tagvalue-write-number
-use Rattle.field_tagvalue.proofs.write_number.Kinds as in-field-tagvalue-write-number
+use Rattle.field_numbers.proofs.checksum_of.Reads as of-field-numbers-checksum-of
+use Rattle.field_numbers.proofs.checksum_of.Kinds as in-field-numbers-checksum-of
+use Rattle.field_numbers.proofs.sum_of.Reads as of-field-numbers-sum-of
+use Rattle.field_numbers.proofs.sum_of.Kinds as in-field-numbers-sum-of
+use Rattle.field_numbers.proofs.checksum_digits.Reads as of-field-numbers-checksum-digits
+use Rattle.field_numbers.proofs.checksum_digits.Kinds as in-field-numbers-checksum-digits
+use Rattle.field_numbers.proofs.digit_count.Reads as of-field-numbers-digit-count
+use Rattle.field_numbers.proofs.digit_count.Kinds as in-field-numbers-digit-count
+use Rattle.field_numbers.proofs.write_number.Reads as of-field-numbers-write-number
+use Rattle.field_numbers.proofs.write_number.Kinds as in-field-numbers-write-number
 use Rattle.field_tagvalue.proofs.next_field.Reads as of-field-tagvalue-next-field
 use Rattle.field_tagvalue.proofs.next_field.Kinds as in-field-tagvalue-next-field
 use Rattle.field_tagvalue.proofs.value_of.Reads as of-field-tagvalue-value-of
@@ -123,26 +123,26 @@ builtOf o = record { answer = o .answer; stop = o .stop; records = o .records; w
 pub field-tagvalue-find : NoFreedom 1 in-field-tagvalue-find.ps in-field-tagvalue-find.r of-field-tagvalue-find.Post (λ κs x y left other. x ≡ y)
 field-tagvalue-find κs a x y left other p q = same p q
 
-pub field-tagvalue-number-of : NoFreedom 1 in-field-tagvalue-number-of.ps in-field-tagvalue-number-of.r of-field-tagvalue-number-of.Post (λ κs x y left other. x ≡ y)
-field-tagvalue-number-of κs a x y left other p q = same p q
+pub field-numbers-number-of : NoFreedom 1 in-field-numbers-number-of.ps in-field-numbers-number-of.r of-field-numbers-number-of.Post (λ κs x y left other. x ≡ y)
+field-numbers-number-of κs a x y left other p q = same p q
 
 pub field-tagvalue-tag-of : NoFreedom 1 in-field-tagvalue-tag-of.ps in-field-tagvalue-tag-of.r of-field-tagvalue-tag-of.Post (λ κs x y left other. x ≡ y)
 field-tagvalue-tag-of κs a x y left other p q = same p q
 
-pub field-tagvalue-checksum-of : NoFreedom 1 in-field-tagvalue-checksum-of.ps in-field-tagvalue-checksum-of.r of-field-tagvalue-checksum-of.Post (λ κs x y left other. x ≡ y)
-field-tagvalue-checksum-of κs a x y left other p q = same p q
+pub field-numbers-checksum-of : NoFreedom 1 in-field-numbers-checksum-of.ps in-field-numbers-checksum-of.r of-field-numbers-checksum-of.Post (λ κs x y left other. x ≡ y)
+field-numbers-checksum-of κs a x y left other p q = same p q
 
-pub field-tagvalue-sum-of : NoFreedom 1 in-field-tagvalue-sum-of.ps in-field-tagvalue-sum-of.r of-field-tagvalue-sum-of.Post (λ κs x y left other. x ≡ y)
-field-tagvalue-sum-of κs a x y left other p q = same p q
+pub field-numbers-sum-of : NoFreedom 1 in-field-numbers-sum-of.ps in-field-numbers-sum-of.r of-field-numbers-sum-of.Post (λ κs x y left other. x ≡ y)
+field-numbers-sum-of κs a x y left other p q = same p q
 
-pub field-tagvalue-checksum-digits : NoFreedom 0 in-field-tagvalue-checksum-digits.ps in-field-tagvalue-checksum-digits.r of-field-tagvalue-checksum-digits.Post (λ κs x y left other. x ≡ y)
-field-tagvalue-checksum-digits κs a x y left other p q = same p q
+pub field-numbers-checksum-digits : NoFreedom 0 in-field-numbers-checksum-digits.ps in-field-numbers-checksum-digits.r of-field-numbers-checksum-digits.Post (λ κs x y left other. x ≡ y)
+field-numbers-checksum-digits κs a x y left other p q = same p q
 
-pub field-tagvalue-digit-count : NoFreedom 0 in-field-tagvalue-digit-count.ps in-field-tagvalue-digit-count.r of-field-tagvalue-digit-count.Post (λ κs x y left other. x ≡ y)
-field-tagvalue-digit-count κs a x y left other p q = same p q
+pub field-numbers-digit-count : NoFreedom 0 in-field-numbers-digit-count.ps in-field-numbers-digit-count.r of-field-numbers-digit-count.Post (λ κs x y left other. x ≡ y)
+field-numbers-digit-count κs a x y left other p q = same p q
 
-pub field-tagvalue-write-number : NoFreedom 1 in-field-tagvalue-write-number.ps in-field-tagvalue-write-number.r of-field-tagvalue-write-number.Post (λ κs x y left other. (x ≡ y) × (now (left .0) ≡ now (other .0)))
-field-tagvalue-write-number κs a x y left other p q = (same (p .0) (q .0), same (p .1) (q .1))
+pub field-numbers-write-number : NoFreedom 1 in-field-numbers-write-number.ps in-field-numbers-write-number.r of-field-numbers-write-number.Post (λ κs x y left other. (x ≡ y) × (now (left .0) ≡ now (other .0)))
+field-numbers-write-number κs a x y left other p q = (same (p .0) (q .0), same (p .1) (q .1))
 
 pub field-tagvalue-next-field : NoFreedom 1 in-field-tagvalue-next-field.ps in-field-tagvalue-next-field.r of-field-tagvalue-next-field.Post (λ κs x y left other. x ≡ y)
 field-tagvalue-next-field κs a x y left other p q = same p q

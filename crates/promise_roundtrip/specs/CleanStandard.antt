@@ -9,7 +9,7 @@ use Rattle.field_rules.specs.Field.{startAt}
 use Rattle.field_rules.specs.Fields.{field}
 use Rattle.field_rules.specs.FieldsLaws.{fields-field}
 use Rattle.field_rules.specs.Standard as standard
-use Rattle.build_integrity.specs.VerifiedLaws.{verified-read}
+use Rattle.build_integrity_rules.specs.VerifiedLaws.{verified-read}
 use Rattle.build_config.specs.declared.Config.{Config}
 use Rattle.dictionary_layout_rules.specs.Tree.{Dictionary}
 use Rattle.dictionary_meaning_rules.specs.Meaning.{dictionaryOf}

@@ -13,7 +13,7 @@ use Rattle.build_config.specs.declared.Config.{Config}
 use Rattle.field_rules.specs.Choice.{pick, pick-same}
 use Rattle.field_rules.specs.Fields.{Fields, unreadable, field, fieldsFrom}
 use Rattle.field_rules.specs.declared.Field.{Field}
-use Rattle.build_integrity.specs.declared.Verified.{Verified}
+use Rattle.build_integrity_rules.specs.declared.Verified.{Verified}
 use Rattle.dictionary_layout_rules.specs.Tree.{Dictionary, headerTags, holdsTag}
 use Rattle.build_records.specs.Records.{stored}
 use Rattle.build_records.specs.declared.Record.{Record}

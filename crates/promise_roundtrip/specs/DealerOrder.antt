@@ -19,19 +19,19 @@ use Rattle.field_rules.specs.CheckSum.{sumOf, checksumOf, checksumDigits}
 use Rattle.field_rules.specs.Decimal.{decimalWithin}
 use Rattle.field_rules.specs.Field.{startAt, valueOf, separatedBy}
 use Rattle.field_rules.specs.Fields.{fieldsFrom}
-use Rattle.build_integrity.specs.Integrity.{integrityOf, begun, counted, summed, typed, lengthIs, lengthAgrees, sumIs, sumAgrees}
+use Rattle.build_integrity_rules.specs.Integrity.{integrityOf, begun, counted, summed, typed, lengthIs, lengthAgrees, sumIs, sumAgrees}
 use Rattle.dictionary_layout_rules.specs.Layout.{followedBy as layoutThen, firstOf, positionFrom, positionIn, groupSince, groupOf}
 use Rattle.dictionary_layout_rules.specs.Tree.{holdsTag, knows, plainFields, headerTags, trailerTags, flattened, sameBytes, messageOf, layoutOf}
 use Rattle.build_records.specs.Records.{stored, valueAt}
-use Rattle.build_groups.specs.Reading.{accepted, openedAs, layoutRules}
-use Rattle.build_required.specs.Required.{has}
-use Rattle.build_required.specs.Checking.{layoutDemands}
+use Rattle.build_group_rules.specs.Reading.{accepted, openedAs, layoutRules}
+use Rattle.build_required_rules.specs.Required.{has}
+use Rattle.build_required_rules.specs.Checking.{layoutDemands}
 use Rattle.build_parts.specs.Parts.{partRecord}
 use Rattle.build_parts.specs.Header.{headerFrom}
 use Rattle.build_parts.specs.Trailer.{trailerFrom}
 use Rattle.build_rules.specs.Beginning.{verifiedRecords, headerOf, withChecksum, startedBy, startOf, msgTypeRecord}
-use Rattle.build_body.specs.Body.{andThen, nextFrom, takes, bodyWithin, bodyFrom}
-use Rattle.build_body.specs.Kinds.{groupKind, placedKind, kindOf, bodyOf}
+use Rattle.build_body_rules.specs.Body.{andThen, nextFrom, takes, bodyWithin, bodyFrom}
+use Rattle.build_body_rules.specs.Kinds.{groupKind, placedKind, kindOf, bodyOf}
 use Rattle.build_rules.specs.Message.{afterTrailer, afterBody, afterType, afterHeader, messageRead}
 use Rattle.build_records.specs.declared.Record.{Record}
 use Rattle.build_answers.specs.declared.Answer.the-variants.{Valid}

@@ -18,12 +18,12 @@ use Rattle.build_config.specs.declared.Config.{Config}
 use Rattle.dictionary_layout_rules.specs.Layout.{Layout}
 use Rattle.dictionary_layout_rules.specs.Tabled.{Tabled}
 use Rattle.build_records.specs.declared.Record.{Record}
-use Rattle.build_groups.specs.Groups.{run, ended, walk}
-use Rattle.build_groups.specs.Alike.{OutcomeAlike}
-use Rattle.build_groups.specs.Meaning.{Holds, Lays, run-means}
-use Rattle.build_groups.specs.Reading.{accepted, layoutRules, listStore, memory, runOf}
-use Rattle.build_groups.specs.declared.Group.{Group}
-use Rattle.build_groups.specs.declared.Progress.{Progress}
+use Rattle.build_group_rules.specs.Groups.{run, ended, walk}
+use Rattle.build_group_rules.specs.Alike.{OutcomeAlike}
+use Rattle.build_group_rules.specs.Meaning.{Holds, Lays, run-means}
+use Rattle.build_group_rules.specs.Reading.{accepted, layoutRules, listStore, memory, runOf}
+use Rattle.build_group_rules.specs.declared.Group.{Group}
+use Rattle.build_group_rules.specs.declared.Progress.{Progress}
 use Rattle.promise_standard.specs.Reading.{ReadsAs, Readable, fields-read}
 use Rattle.promise_standard.specs.Groups.{numbered, recordsAs, entriesOf, Leaves, Fits}
 use Rattle.promise_standard.specs.GroupReading.{group-read, layout-group-read}

@@ -14,8 +14,8 @@ use Rattle.field_rules.specs.declared.Field.{Field}
 use Rattle.dictionary_layout_rules.specs.Layout.{Layout}
 use Rattle.dictionary_layout_rules.specs.declared.Position.the-variants.{Nowhere}
 use Rattle.build_records.specs.declared.Record.{Record}
-use Rattle.build_groups.specs.Groups.{Rules, opens, Kind, plain, count, ends, kindOf, Frame, run, entry, leaves, decide, ended, walk}
-use Rattle.build_groups.specs.Reading.{layoutRules, listStore}
+use Rattle.build_group_rules.specs.Groups.{Rules, opens, Kind, plain, count, ends, kindOf, Frame, run, entry, leaves, decide, ended, walk}
+use Rattle.build_group_rules.specs.Reading.{layoutRules, listStore}
 use Rattle.promise_standard.specs.Reading.{ReadsAs, no-field, one-field}
 use Rattle.promise_standard.specs.Groups.{numbered, recordsAs, tagBehind, entriesOf, membersOf, Leaves, Fits}
 use Rattle.promise_standard.specs.GroupSteps.{reads-split, numbered-each, records-tell, tell-each}

@@ -19,8 +19,8 @@ use Rattle.dictionary_layout_rules.specs.Layout.{Layout, end, field, group, fir
 use Rattle.build_records.specs.Records.{stored}
 use Rattle.build_records.specs.declared.Record.{Record}
 use Rattle.build_answers.specs.Answer.{numberOf}
-use Rattle.build_groups.specs.Groups.{isDelimiter, opens, counting, declared, kindOf, run, inEntry, decide, entryRecord, RunOutcome, ended, refused, moved, walk}
-use Rattle.build_groups.specs.Reading.{answerOf, openedAs, layoutRules, joinedList, listStore}
+use Rattle.build_group_rules.specs.Groups.{isDelimiter, opens, counting, declared, kindOf, run, inEntry, decide, entryRecord, RunOutcome, ended, refused, moved, walk}
+use Rattle.build_group_rules.specs.Reading.{answerOf, openedAs, layoutRules, joinedList, listStore}
 use Rattle.promise_standard.specs.Groups.{numbered, tagBehind, entriesOf, Leaves, Rises, Fits}
 
 -- no tag is taken that the layout lacks, or 5001 is

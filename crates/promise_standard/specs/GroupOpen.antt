@@ -12,7 +12,7 @@ use Rattle.field_rules.specs.Choice.{pick}
 use Rattle.field_rules.specs.Fields.{Fields, field}
 use Rattle.field_rules.specs.Standard.{Told, Stretch, entries, Members}
 use Rattle.field_rules.specs.declared.Field.{Field}
-use Rattle.build_groups.specs.Groups.{none, opened, Rules, opens, Kind, plain, count, joins, wrong, ends, kindOf, Frame, run, entry, Move, adds, disorders, inEntry, decide}
+use Rattle.build_group_rules.specs.Groups.{none, opened, Rules, opens, Kind, plain, count, joins, wrong, ends, kindOf, Frame, run, entry, Move, adds, disorders, inEntry, decide}
 use Rattle.promise_standard.specs.Groups.{numbered, Rises, Joins}
 use Rattle.promise_standard.specs.GroupTakes.{Takes, over, takes, Says, says-plain, says-count, says-joins, kind-says, given}
 

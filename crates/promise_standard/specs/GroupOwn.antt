@@ -16,8 +16,8 @@ use Rattle.field_rules.specs.Standard.{All, Told, Distinct, Stretch, Members}
 use Rattle.field_rules.specs.declared.Field.{Field}
 use Rattle.build_records.specs.Records.{stored}
 use Rattle.build_records.specs.declared.Record.{Record}
-use Rattle.build_groups.specs.Groups.{entryRecord}
-use Rattle.build_groups.specs.Reading.{joinedList}
+use Rattle.build_group_rules.specs.Groups.{entryRecord}
+use Rattle.build_group_rules.specs.Reading.{joinedList}
 use Rattle.promise_standard.specs.Groups.{numbered, recordsAs}
 
 -- no record of a depth has the tag

@@ -12,8 +12,8 @@ use Rattle.field_rules.specs.Standard.{Told, told, Int, Distinct, Stretch, memb
 use Rattle.field_rules.specs.declared.Field.{Field}
 use Rattle.build_records.specs.declared.Record.{Record}
 use Rattle.dictionary_layout_rules.specs.Layout.{Layout}
-use Rattle.build_groups.specs.Groups.{none, opened, Rules, opens, plain, count, ends, kindOf, Frame, run, entry, entryRecord, ended, walk, taking}
-use Rattle.build_groups.specs.Reading.{listStore, layoutRules}
+use Rattle.build_group_rules.specs.Groups.{none, opened, Rules, opens, plain, count, ends, kindOf, Frame, run, entry, entryRecord, ended, walk, taking}
+use Rattle.build_group_rules.specs.Reading.{listStore, layoutRules}
 use Rattle.promise_standard.specs.Reading.{ReadsAs, no-field, one-field}
 use Rattle.promise_standard.specs.Groups.{numbered, recordsAs, tagBehind, Part, entriesOf, membersOf, Leaves, Rises, Joins, Fits}
 use Rattle.promise_standard.specs.GroupOwn.{Fresh, fresh-entry, fresh-field, fresh-nested, fresh-joined}

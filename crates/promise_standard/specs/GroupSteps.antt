@@ -13,8 +13,8 @@ use Rattle.field_rules.specs.Fields.{Fields, field}
 use Rattle.field_rules.specs.Standard.{Told, Stretch, Members}
 use Rattle.field_rules.specs.declared.Field.{Field}
 use Rattle.build_records.specs.declared.Record.{Record}
-use Rattle.build_groups.specs.Groups.{Opened, none, opened, Rules, opens, plain, count, joins, ends, counting, declared, kindOf, Frame, run, entry, inEntry, decide, entryRecord, ended, moved, walk, taking}
-use Rattle.build_groups.specs.Reading.{joinedList, listStore}
+use Rattle.build_group_rules.specs.Groups.{Opened, none, opened, Rules, opens, plain, count, joins, ends, counting, declared, kindOf, Frame, run, entry, inEntry, decide, entryRecord, ended, moved, walk, taking}
+use Rattle.build_group_rules.specs.Reading.{joinedList, listStore}
 use Rattle.promise_standard.specs.Reading.{ReadsAs, no-field, one-field}
 use Rattle.promise_standard.specs.Groups.{numbered, recordsAs, Tell, no-record, one-record, tagBehind, Leaves, Rises, Joins}
 

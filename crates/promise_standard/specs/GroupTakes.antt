@@ -16,8 +16,8 @@ use Rattle.field_rules.specs.declared.Field.{Field}
 use Rattle.dictionary_layout_rules.specs.declared.Position.{Position}
 use Rattle.dictionary_layout_rules.specs.declared.Position.the-variants.{At, Nowhere}
 use Rattle.build_records.specs.declared.Record.{Record}
-use Rattle.build_groups.specs.Groups.{Opened, none, opened, Rules, opens, Kind, plain, count, joins, wrong, ends, counting, declared, kindOf, Frame, Move, adds, joinsAt, disorders, leaves, decide, entryRecord, ended, moved, walk}
-use Rattle.build_groups.specs.Reading.{joinedList, listStore}
+use Rattle.build_group_rules.specs.Groups.{Opened, none, opened, Rules, opens, Kind, plain, count, joins, wrong, ends, counting, declared, kindOf, Frame, Move, adds, joinsAt, disorders, leaves, decide, entryRecord, ended, moved, walk}
+use Rattle.build_group_rules.specs.Reading.{joinedList, listStore}
 use Rattle.promise_standard.specs.Reading.{ReadsAs, no-field, one-field}
 use Rattle.promise_standard.specs.Groups.{recordsAs, Rises, Joins}
 use Rattle.promise_standard.specs.GroupOwn.{joined-either}

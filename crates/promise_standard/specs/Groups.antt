@@ -10,7 +10,7 @@ use Rattle.field_rules.specs.Fields.{Fields, unreadable, field}
 use Rattle.field_rules.specs.Standard.{Told, Int, Distinct, Stretch, members, entries, Members}
 use Rattle.dictionary_layout_rules.specs.declared.Position.the-variants.{At, Nowhere}
 use Rattle.build_records.specs.declared.Record.{Record}
-use Rattle.build_groups.specs.Groups.{none, opened, Rules, opens, entryRecord}
+use Rattle.build_group_rules.specs.Groups.{none, opened, Rules, opens, entryRecord}
 
 -- ===== what the entries are =====
 

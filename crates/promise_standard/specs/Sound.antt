@@ -25,9 +25,9 @@ use Rattle.field_rules.specs.declared.Field.{Field}
 use Rattle.field_rules.specs.declared.FieldRead.the-variants.{Read}
 use Rattle.field_rules.specs.declared.Number.the-variants.{Worth}
 use Rattle.field_rules.specs.declared.Cause.the-variants.{NoEquals}
-use Rattle.build_integrity.specs.Integrity.{integrityOf, begun, counted, summed, typed, lengthIs, lengthAgrees, sumIs, sumAgrees}
-use Rattle.build_integrity.specs.declared.Integrity.the-variants.{Sound}
-use Rattle.build_integrity.specs.declared.Verified.{Verified}
+use Rattle.build_integrity_rules.specs.Integrity.{integrityOf, begun, counted, summed, typed, lengthIs, lengthAgrees, sumIs, sumAgrees}
+use Rattle.build_integrity_rules.specs.declared.Integrity.the-variants.{Sound}
+use Rattle.build_integrity_rules.specs.declared.Verified.{Verified}
 use Rattle.frame_parser_rules.specs.MessageLaws.{seven-bytes}
 use Rattle.promise_standard.specs.Texts.{sum-same}
 use Rattle.promise_standard.specs.Reading.{ReadsAs, no-field, Readable, reads-one, reads-then, reads-append, fields-read, first-read}

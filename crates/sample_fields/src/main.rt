@@ -58,23 +58,23 @@ fn sum(text: &[u8]) {
     let size = messages::spell(&mut bytes, 0, text, 1);
     saying::marked(
         b"  ",
-        field_tagvalue::sum_of(texts::first(&bytes, size)) as u64,
+        field_numbers::sum_of(texts::first(&bytes, size)) as u64,
     );
 }
 
 fn digits(n: u32) {
-    let digits = field_tagvalue::checksum_digits((n % 256) as u8);
+    let digits = field_numbers::checksum_digits((n % 256) as u8);
     saying::say(b"  ");
     saying::say(&digits);
 }
 
 fn written(n: u32, place: usize) {
     let mut output = [b'.'; 12];
-    match field_tagvalue::write_number(&mut output, place, n) {
+    match field_numbers::write_number(&mut output, place, n) {
         Written::Next(next) => saying::marked(b"  next at ", next as u64),
         Written::NoRoom => saying::say(b"  no room"),
     }
-    saying::marked(b", digits ", field_tagvalue::digit_count(n) as u64);
+    saying::marked(b", digits ", field_numbers::digit_count(n) as u64);
     saying::say(b"  ");
     saying::say(&output);
 }
@@ -83,8 +83,8 @@ fn step(piece: &[u8]) {
     let text = texts::from(piece, 1);
     match texts::first_byte(piece) {
         b'f' => field(read(text)),
-        b'n' => worth(field_tagvalue::number_of(text)),
-        b's' => worth(field_tagvalue::checksum_of(text)),
+        b'n' => worth(field_numbers::number_of(text)),
+        b's' => worth(field_numbers::checksum_of(text)),
         b'+' => sum(text),
         b'd' => digits(texts::number(text)),
         b'w' => written(

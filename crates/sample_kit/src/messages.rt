@@ -43,7 +43,7 @@ pub fn spell(out: &mut [u8], at: usize, text: &[u8], separator: u8) -> usize {
 
 // A right CheckSum behind the bytes that are there.
 fn close(out: &mut [u8], at: usize, separator: u8) -> usize {
-    let digits = field_tagvalue::checksum_digits(field_tagvalue::sum_of(texts::first(out, at)));
+    let digits = field_numbers::checksum_digits(field_numbers::sum_of(texts::first(out, at)));
     let a = texts::copy(out, at, b"10=");
     let b = texts::copy(out, a, &digits);
     texts::put(out, b, separator)

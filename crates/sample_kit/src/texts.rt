@@ -65,7 +65,7 @@ pub fn word_at(words: &[u32], place: usize) -> u32 {
 
 // What the digits of a text are worth, 0 where there are none.
 pub fn number(text: &[u8]) -> u32 {
-    match field_tagvalue::number_of(text) {
+    match field_numbers::number_of(text) {
         Number::Worth(n) => n,
         Number::NoNumber => 0,
     }
@@ -142,7 +142,7 @@ pub fn copy(out: &mut [u8], place: usize, text: &[u8]) -> usize {
 }
 
 pub fn put_number(out: &mut [u8], place: usize, n: u32) -> usize {
-    match field_tagvalue::write_number(out, place, n) {
+    match field_numbers::write_number(out, place, n) {
         Written::Next(next) => next,
         Written::NoRoom => place,
     }

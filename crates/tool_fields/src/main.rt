@@ -128,10 +128,10 @@ fn verify(message: &[u8], f: Field, body: usize, says: Number) {
         return;
     }
     agreement(b"BodyLength", says, first - body);
-    let sum = field_tagvalue::sum_of(&message[..first]);
+    let sum = field_numbers::sum_of(&message[..first]);
     agreement(
         b"CheckSum",
-        field_tagvalue::checksum_of(field_tagvalue::value_of(message, f)),
+        field_numbers::checksum_of(field_tagvalue::value_of(message, f)),
         sum as usize,
     );
 }
@@ -159,7 +159,7 @@ fn fields(message: &[u8]) {
         if f.tag == 9 {
             let next = f.next;
             body = next.at;
-            says = field_tagvalue::number_of(field_tagvalue::value_of(message, f));
+            says = field_numbers::number_of(field_tagvalue::value_of(message, f));
         }
         if f.tag == 10 {
             verify(message, f, body, says);

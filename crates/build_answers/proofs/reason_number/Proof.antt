@@ -1,5 +1,5 @@
 -- `reason_number` meets its contract, case by case.
-use Rattle.build_integrity.specs.Integrity.{numberOfReason}
+use Rattle.build_integrity_rules.specs.Integrity.{numberOfReason}
 use borrow.Author.Needs.{needs}
 use Rattle.build_answers.proofs.reason_number.Statement.{statement}
 use Rattle.build_answers.proofs.reason_number.Tie as tie

@@ -1,7 +1,7 @@
 -- `answer_of` meets its contract: each refusal has its answer.
 use mathlib.Core.Path.{_≡_, refl, sym, ap, _∙_}
 use borrow.Author.Needs.{needs}
-use Rattle.build_groups.specs.Reading.{answerOf}
+use Rattle.build_group_rules.specs.Reading.{answerOf}
 use Rattle.build_body.proofs.answer_of.Statement.{statement}
 use Rattle.build_body.proofs.answer_of.Tie as tie
 

@@ -3,7 +3,7 @@ use mathlib.Core.Path.{_≡_, refl, sym, ap, _∙_}
 use Prim.Native.Nat.{ℕ, _+_, _-_, _/_, _≤_, _<_}
 use native.Mathlib.Omega.{arith}
 use borrow.Author.Needs.{needs}
-use Rattle.build_body.specs.RunLaws.{dropped}
+use Rattle.build_body_rules.specs.RunLaws.{dropped}
 use Rattle.build_body.proofs.drop_run.Statement.{statement}
 use Rattle.build_body.proofs.drop_run.Tie as tie
 

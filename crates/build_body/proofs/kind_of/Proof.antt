@@ -1,7 +1,7 @@
 -- `kind_of` meets its contract: each return cites the law of its way, with what the look-ups before it answered.
 use mathlib.Core.Path.{_≡_, refl, sym, ap, _∙_}
-use Rattle.build_body.specs.Kinds.{meantBy}
-use Rattle.build_body.specs.KindLaws.{kind-user, kind-other, kind-plain, kind-counts}
+use Rattle.build_body_rules.specs.Kinds.{meantBy}
+use Rattle.build_body_rules.specs.KindLaws.{kind-user, kind-other, kind-plain, kind-counts}
 use borrow.Author.Needs.{needs}
 use Rattle.build_body.proofs.kind_of.Statement.{statement}
 use Rattle.build_body.proofs.kind_of.Tie as tie

@@ -6,7 +6,7 @@ use native.Mathlib.Omega.{arith}
 use lib.ListN.{length}
 use borrow.Author.Needs.{needs}
 use mathlib.Core.List.{[]}
-use Rattle.build_body.specs.RunLaws.{open-held, open-new, held-within}
+use Rattle.build_body_rules.specs.RunLaws.{open-held, open-new, held-within}
 use Rattle.build_body.proofs.open_run.Statement.{statement}
 use Rattle.build_body.proofs.open_run.Tie as tie
 

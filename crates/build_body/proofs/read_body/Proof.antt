@@ -7,13 +7,13 @@ use lib.ListN.{length}
 use borrow.Author.Needs.{needs}
 use Rattle.build_records.specs.Records.{stride}
 use Rattle.dictionary_rules.specs.Index.{tagAt}
-use Rattle.build_groups.specs.Reading.{tableRules}
-use Rattle.build_required.specs.Checking.{tableDemands}
+use Rattle.build_group_rules.specs.Reading.{tableRules}
+use Rattle.build_required_rules.specs.Checking.{tableDemands}
 use Rattle.build_parts.specs.Parts.{partTold, Ends, Stays}
 use Rattle.build_parts.specs.PartLaws.{stays-refused, stays-at}
-use Rattle.build_body.specs.Body.{andThen}
-use Rattle.build_body.specs.Kinds.{meantBy}
-use Rattle.build_body.specs.BodyReading.{partRoom, left, left-refused, left-plain, left-run, left-ends, left-invalid, stays-on, room-falls}
+use Rattle.build_body_rules.specs.Body.{andThen}
+use Rattle.build_body_rules.specs.Kinds.{meantBy}
+use Rattle.build_body_rules.specs.BodyReading.{partRoom, left, left-refused, left-plain, left-run, left-ends, left-invalid, stays-on, room-falls}
 use Rattle.build_body.proofs.read_body.Statement.{statement}
 use Rattle.build_body.proofs.read_body.Tie as tie
 

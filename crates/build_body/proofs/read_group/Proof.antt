@@ -6,8 +6,8 @@ use Prim.Native.Nat.{ℕ, _+_, _-_, _/_, _≤_, _<_, _^_}
 use native.Mathlib.Omega.{arith}
 use lib.ListN.{length}
 use Rattle.build_records.specs.Records.{stride}
-use Rattle.build_groups.specs.Reading.{Fits}
-use Rattle.build_body.specs.GroupReading.{run-fits, answers-stopped, answers-lack, answers-complete}
+use Rattle.build_group_rules.specs.Reading.{Fits}
+use Rattle.build_body_rules.specs.GroupReading.{run-fits, answers-stopped, answers-lack, answers-complete}
 use borrow.Author.Needs.{needs}
 use Rattle.build_body.proofs.read_group.Statement.{statement}
 use Rattle.build_body.proofs.read_group.Tie as tie

@@ -5,7 +5,7 @@ use native.Mathlib.Omega.{arith}
 use lib.ListN.{length}
 use Rattle.build_parts.specs.Parts.{partTold}
 use Rattle.build_parts.specs.PartLaws.{Taken, taken, stays-refused, stays-at}
-use Rattle.build_body.specs.BodyLaws.{next-missing, next-found}
+use Rattle.build_body_rules.specs.BodyLaws.{next-missing, next-found}
 use borrow.Author.Needs.{needs}
 use Rattle.build_body.proofs.read_plain.Statement.{statement}
 use Rattle.build_body.proofs.read_plain.Tie as tie

@@ -8,8 +8,8 @@ use borrow.Author.Needs.{needs}
 use Rattle.build_records.specs.WordLaws.{records-length}
 use Rattle.build_records.specs.declared.Record.{Record}
 use Rattle.build_parts.specs.Parts.{partOf}
-use Rattle.build_body.specs.Body.{behindRun}
-use Rattle.build_body.specs.RunLaws.{behind-on, behind-here, behind-end}
+use Rattle.build_body_rules.specs.Body.{behindRun}
+use Rattle.build_body_rules.specs.RunLaws.{behind-on, behind-here, behind-end}
 use Rattle.build_body.proofs.run_end.Statement.{statement}
 use Rattle.build_body.proofs.run_end.Tie as tie
 

@@ -8,10 +8,10 @@ use borrow.Author.Needs.{needs}
 use borrow.Author.Tests.{not-true, not-false}
 use Rattle.field_rules.specs.declared.Field.{Field}
 use Rattle.dictionary_rules.specs.Index.{tagAt}
-use Rattle.build_groups.specs.Reading.{FitsAt, runOf, entryOf}
-use Rattle.build_groups.specs.ReadingLaws.{Follows, roomOf, makes-one, next-follows}
-use Rattle.build_groups.specs.declared.Progress.{Progress}
-use Rattle.build_groups.specs.declared.Reading.the-variants.{At}
+use Rattle.build_group_rules.specs.Reading.{FitsAt, runOf, entryOf}
+use Rattle.build_group_rules.specs.ReadingLaws.{Follows, roomOf, makes-one, next-follows}
+use Rattle.build_group_rules.specs.declared.Progress.{Progress}
+use Rattle.build_group_rules.specs.declared.Reading.the-variants.{At}
 use Rattle.build_groups.proofs.Turns.{entryLeft, runLeft, run-starts, entry-starts, left-refused, left-ends, left-wrong, turn-joins, turn-plain, turn-count, turn-entry, left-first, left-over, count-below, entry-follows, room-falls, stored-fits, stored-follows, count-follows}
 use borrow.Fn.Kinds.{In}
 use borrow.Fn.PlainCycle.{Measures, is, falls, and}

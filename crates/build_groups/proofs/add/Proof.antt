@@ -1,7 +1,7 @@
 -- `add` meets its contract: the record is put in, and both counts rise by one.
 use mathlib.Core.Path.{refl}
 use borrow.Author.Needs.{needs}
-use Rattle.build_groups.specs.Reading.{further}
+use Rattle.build_group_rules.specs.Reading.{further}
 use Rattle.build_groups.proofs.add.Statement.{statement}
 use Rattle.build_groups.proofs.add.Tie as tie
 

@@ -1,8 +1,8 @@
 -- `join` meets its contract: a tag that was held makes no record, any other makes one.
 use mathlib.Core.Path.{sym, _∙_}
 use borrow.Author.Needs.{needs}
-use Rattle.build_groups.specs.Reading.{further, standingIn}
-use Rattle.build_groups.specs.ReadingLaws.{further-held, further-new}
+use Rattle.build_group_rules.specs.Reading.{further, standingIn}
+use Rattle.build_group_rules.specs.ReadingLaws.{further-held, further-new}
 use Rattle.build_groups.proofs.join.Statement.{statement}
 use Rattle.build_groups.proofs.join.Tie as tie
 

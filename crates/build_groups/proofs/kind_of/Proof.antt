@@ -4,7 +4,7 @@ use borrow.Author.Needs.{needs}
 use mathlib.Core.Bool.{false}
 use Rattle.dictionary_layout_rules.specs.Table.{positionOf}
 use Rattle.dictionary_layout_rules.specs.declared.Position.the-variants.{At}
-use Rattle.build_groups.specs.Reading.{opensAt, meant}
+use Rattle.build_group_rules.specs.Reading.{opensAt, meant}
 use Rattle.build_groups.proofs.LookUps.{kind-delimiter, kind-user, kind-other, kind-wrong, kind-plain, kind-count, kind-deep}
 use Rattle.build_groups.proofs.kind_of.Statement.{statement}
 use Rattle.build_groups.proofs.kind_of.Tie as tie

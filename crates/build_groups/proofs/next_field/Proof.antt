@@ -1,7 +1,7 @@
 -- `next_field` meets its contract: a field that can't be read is refused first, then one for which there is no room.
 use mathlib.Core.Path.{sym, _∙_}
 use borrow.Author.Needs.{needs}
-use Rattle.build_groups.specs.ReadingLaws.{next-unreadable, next-full, next-field as next-field-law}
+use Rattle.build_group_rules.specs.ReadingLaws.{next-unreadable, next-full, next-field as next-field-law}
 use Rattle.build_groups.proofs.next_field.Statement.{statement}
 use Rattle.build_groups.proofs.next_field.Tie as tie
 

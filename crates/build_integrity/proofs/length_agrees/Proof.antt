@@ -8,7 +8,7 @@ use lib.Dec.{eqb}
 use Rattle.field_rules.specs.Number.{numberIn}
 use Rattle.field_rules.specs.Field.{valueOf}
 use Rattle.field_rules.specs.declared.Number.the-variants.{Worth}
-use Rattle.build_integrity.specs.IntegrityLaws.{length-none, length-other, length-is}
+use Rattle.build_integrity_rules.specs.IntegrityLaws.{length-none, length-other, length-is}
 use Rattle.build_integrity.proofs.Tests.{eqb-same}
 use borrow.Author.Needs.{needs}
 use Rattle.build_integrity.proofs.length_agrees.Statement.{statement}

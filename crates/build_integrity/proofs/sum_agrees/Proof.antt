@@ -9,7 +9,7 @@ use lib.Dec.{eqb}
 use Rattle.field_rules.specs.CheckSum.{sumOf, checksumOf}
 use Rattle.field_rules.specs.Field.{valueOf}
 use Rattle.field_rules.specs.declared.Number.the-variants.{Worth}
-use Rattle.build_integrity.specs.IntegrityLaws.{sum-other, sum-is}
+use Rattle.build_integrity_rules.specs.IntegrityLaws.{sum-other, sum-is}
 use borrow.Author.Needs.{needs}
 use Rattle.build_integrity.proofs.sum_agrees.Statement.{statement}
 use Rattle.build_integrity.proofs.sum_agrees.Tie as tie

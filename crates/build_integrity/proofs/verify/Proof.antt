@@ -10,8 +10,8 @@ use Rattle.field_rules.specs.Field.{startAt, fieldAt}
 use Rattle.field_rules.specs.declared.Mode.{Mode}
 use Rattle.field_rules.specs.declared.Field.{Field}
 use Rattle.field_rules.specs.declared.FieldRead.the-variants.{Read}
-use Rattle.build_integrity.specs.Integrity.{integrityOf, counted, summed, typed}
-use Rattle.build_integrity.specs.IntegrityLaws.{begun-none, begun-tag, begun-on, counted-none, counted-tag, counted-wrong, counted-on, summed-none, summed-tag, summed-wrong, summed-on, typed-none, typed-tag, typed-on, length-room}
+use Rattle.build_integrity_rules.specs.Integrity.{integrityOf, counted, summed, typed}
+use Rattle.build_integrity_rules.specs.IntegrityLaws.{begun-none, begun-tag, begun-on, counted-none, counted-tag, counted-wrong, counted-on, summed-none, summed-tag, summed-wrong, summed-on, typed-none, typed-tag, typed-on, length-room}
 use borrow.Author.Needs.{needs}
 use Rattle.build_integrity.proofs.verify.Statement.{statement}
 use Rattle.build_integrity.proofs.verify.Tie as tie

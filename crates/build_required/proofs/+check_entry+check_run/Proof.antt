@@ -7,9 +7,9 @@ use lib.ListN.{length}
 use borrow.Author.Needs.{needs}
 use Rattle.build_records.specs.Records.{recordsOf, between}
 use Rattle.build_records.specs.WordLaws.{records-length}
-use Rattle.build_required.specs.Required.{orElse}
-use Rattle.build_required.specs.Checking.{lackOfEntry, lackOfRun}
-use Rattle.build_required.specs.RequiredLaws.{else-missing, else-complete}
+use Rattle.build_required_rules.specs.Required.{orElse}
+use Rattle.build_required_rules.specs.Checking.{lackOfEntry, lackOfRun}
+use Rattle.build_required_rules.specs.RequiredLaws.{else-missing, else-complete}
 use Rattle.build_required.proofs.Turns.{nestedLeft, entriesLeft, run-deep, run-entries, entry-missing, entry-nested, nested-over-all, entries-over-all, turn-plain, turn-run, turn-skip, turn-entry, end-fits}
 use borrow.Fn.Kinds.{In}
 use borrow.Fn.PlainCycle.{Measures, is, falls, and}

@@ -8,9 +8,9 @@ use lib.ListN.{length}
 use Rattle.dictionary_layout_rules.specs.Table.{siblings, requiredAmong}
 use Rattle.dictionary_layout_rules.specs.RequiredLaws.{NextOf, required-over, required-next}
 use Rattle.build_records.specs.Records.{recordsOf, between}
-use Rattle.build_required.specs.Required.{fieldsLack}
-use Rattle.build_required.specs.Checking.{tableDemands, lackOfFields}
-use Rattle.build_required.specs.RequiredLaws.{has-held, has-not, fields-over, fields-missing, fields-next}
+use Rattle.build_required_rules.specs.Required.{fieldsLack}
+use Rattle.build_required_rules.specs.Checking.{tableDemands, lackOfFields}
+use Rattle.build_required_rules.specs.RequiredLaws.{has-held, has-not, fields-over, fields-missing, fields-next}
 use Rattle.build_required.proofs.check_fields.Statement.{statement}
 use Rattle.build_required.proofs.check_fields.Tie as tie
 

@@ -6,8 +6,8 @@ use native.Mathlib.Omega.{arith}
 use borrow.Author.Needs.{needs}
 use Rattle.build_records.specs.Records.{recordsOf, between}
 use Rattle.build_records.specs.WordLaws.{records-length}
-use Rattle.build_required.specs.Checking.{startsAt, endFrom}
-use Rattle.build_required.specs.RequiredLaws.{end-here, end-later, end-over}
+use Rattle.build_required_rules.specs.Checking.{startsAt, endFrom}
+use Rattle.build_required_rules.specs.RequiredLaws.{end-here, end-later, end-over}
 use Rattle.build_required.proofs.entry_end.Statement.{statement}
 use Rattle.build_required.proofs.entry_end.Tie as tie
 

@@ -6,9 +6,9 @@ use native.Mathlib.Omega.{arith}
 use borrow.Author.Needs.{needs}
 use Rattle.build_records.specs.Records.{recordsOf, between}
 use Rattle.build_records.specs.WordLaws.{records-length}
-use Rattle.build_required.specs.Required.{shallow}
-use Rattle.build_required.specs.Checking.{endFrom}
-use Rattle.build_required.specs.RequiredLaws.{end-here, end-later, end-over, shallow-here, shallow-not}
+use Rattle.build_required_rules.specs.Required.{shallow}
+use Rattle.build_required_rules.specs.Checking.{endFrom}
+use Rattle.build_required_rules.specs.RequiredLaws.{end-here, end-later, end-over, shallow-here, shallow-not}
 use Rattle.build_required.proofs.run_end.Statement.{statement}
 use Rattle.build_required.proofs.run_end.Tie as tie
 

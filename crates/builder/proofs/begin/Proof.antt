@@ -2,11 +2,11 @@
 -- of its way; every field that was read lies in the message, MsgType and CheckSum too.
 use mathlib.Core.Path.{_≡_, sym, _∙_}
 use native.Mathlib.Omega.{arith}
-use Rattle.build_integrity.specs.Integrity.{integrityOf}
-use Rattle.build_integrity.specs.declared.Integrity.the-variants.{Sound}
+use Rattle.build_integrity_rules.specs.Integrity.{integrityOf}
+use Rattle.build_integrity_rules.specs.declared.Integrity.the-variants.{Sound}
 use Rattle.field_rules.specs.FieldsLaws.{step-inside}
 use Rattle.builder.specs.MsgTypeLaws.{msg-type-inside}
-use Rattle.build_integrity.specs.VerifiedLaws.{verified-read}
+use Rattle.build_integrity_rules.specs.VerifiedLaws.{verified-read}
 use Rattle.builder.specs.BeginningLaws.{verified-inside, start-garbled, start-refused, start-headed, header-ended, begins-refused, begins-headed}
 use borrow.Author.Needs.{needs}
 use Rattle.builder.proofs.begin.Statement.{statement}

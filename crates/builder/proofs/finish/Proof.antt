@@ -6,7 +6,7 @@ use native.Mathlib.Omega.{arith}
 use lib.ListN.{length}
 use Rattle.build_records.specs.Records.{stride}
 use Rattle.build_parts.specs.Parts.{Ends}
-use Rattle.build_body.specs.Body.{bodyFrom}
+use Rattle.build_body_rules.specs.Body.{bodyFrom}
 use Rattle.builder.specs.Reading.{finishCounts}
 use Rattle.builder.specs.Finishing.{part-empty, stopped-counts, unstopped-counts, finish-refused, finish-stopped, finish-unstopped, finish-crowded}
 use borrow.Author.Needs.{needs}
