@@ -9,7 +9,7 @@ use Rattle.frame_hunter_rules.specs.declared.State.{State as Hunter}
 use Rattle.frame_hunter_rules.specs.declared.Reply.{Reply}
 use Rattle.frame_hunter_rules.specs.declared.Taken.{Taken}
 use Rattle.frame_hunter_rules.specs.Bytes.{pushed as hunterPushed, finished as hunterFinished, tookFrom, Pushes, Finishes, Takes}
-use Rattle.face_messages.specs.Told.{told}
+use Rattle.face_told.specs.Told.{told}
 use Rattle.face_framers.specs.declared.PortedReply.{PortedReply}
 use Rattle.face_framers.specs.declared.HunterReply.{HunterReply}
 use Rattle.face_framers.specs.States.{portedTold, hunterTold}

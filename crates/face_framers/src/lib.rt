@@ -2,7 +2,7 @@
 // content of a state is one. Each call hands the state to its framer and tells the answer; it decides nothing.
 ghost use mathlib.Core.Path.{_≡_};
 ghost use Rattle.field_rules.specs.Choice.{pick};
-ghost use Rattle.face_messages.specs.Told.{told};
+ghost use Rattle.face_told.specs.Told.{told};
 ghost use Rattle.frame_parser_rules.specs.Framer.{valueOf, pushed, pushedStore, finished, taken, takenStore, takenOutput};
 ghost use Rattle.frame_hunter_rules.specs.Bytes.{pushed as hunterPushed, finished as hunterFinished, tookFrom};
 ghost use Rattle.face_framers.specs.States.{isSet, portedIn, portedTold, portedFresh, hunterIn, hunterTold, hunterFresh};
@@ -110,7 +110,7 @@ pub fn ported_push(
         × (now (store .exit) ≡ pushedStore (portedIn state) (now (store .entry)) (now (chunk .entry)))
         × (now (out .exit) ≡ told 0 (0, 0)) ⌝ }
 {
-    face_messages::tell(out, 0, 0, 0);
+    face_told::tell(out, 0, 0, 0);
     let outcome = frame_parser::push(ported_in(state), store, chunk);
     let after = outcome.state;
     let answer = outcome.answer;
@@ -121,7 +121,7 @@ pub fn ported_push(
 pub fn ported_end(state: PortedState, store: &[u8], out: &mut [u32; 4]) -> PortedReply
     ensures { λ r. ⌜ (r ≡ portedTold (finished (portedIn state) (now (store .entry)) .state) (finished (portedIn state) (now (store .entry)) .answer)) × (now (out .exit) ≡ told 0 (0, 0)) ⌝ }
 {
-    face_messages::tell(out, 0, 0, 0);
+    face_told::tell(out, 0, 0, 0);
     let outcome = frame_parser::end(ported_in(state), store);
     let after = outcome.state;
     let answer = outcome.answer;
@@ -143,7 +143,7 @@ pub fn ported_take(
     let outcome = frame_parser::take(ported_in(state), store, output);
     let after = outcome.state;
     let answer = outcome.answer;
-    face_messages::tell(out, 0, frame_parser::length_of(answer), 0);
+    face_told::tell(out, 0, frame_parser::length_of(answer), 0);
     ported_told(after, answer)
 }
 
@@ -151,7 +151,7 @@ pub fn ported_take(
 pub fn ported_reset(out: &mut [u32; 4]) -> PortedReply
     ensures { λ r. ⌜ (r ≡ portedFresh) × (now (out .exit) ≡ told 0 (0, 0)) ⌝ }
 {
-    face_messages::tell(out, 0, 0, 0);
+    face_told::tell(out, 0, 0, 0);
     ported_told(frame_parser::reset(), frame_parser_rules::Answer::Accepted)
 }
 
@@ -166,7 +166,7 @@ pub fn hunter_push(
         × (now (store .exit) ≡ hunterPushed (hunterIn state) (now (store .entry)) (now (chunk .entry)) .store)
         × (now (out .exit) ≡ told 0 (0, 0)) ⌝ }
 {
-    face_messages::tell(out, 0, 0, 0);
+    face_told::tell(out, 0, 0, 0);
     let reply = frame_hunter::push(hunter_in(state), store, chunk);
     let after = reply.state;
     let answer = reply.answer;
@@ -177,7 +177,7 @@ pub fn hunter_push(
 pub fn hunter_end(state: HunterState, store: &[u8], out: &mut [u32; 4]) -> HunterReply
     ensures { λ r. ⌜ (r ≡ hunterTold (hunterFinished (hunterIn state) (now (store .entry)) .reply .state) (hunterFinished (hunterIn state) (now (store .entry)) .reply .answer)) × (now (out .exit) ≡ told 0 (0, 0)) ⌝ }
 {
-    face_messages::tell(out, 0, 0, 0);
+    face_told::tell(out, 0, 0, 0);
     let reply = frame_hunter::end(hunter_in(state), store);
     let after = reply.state;
     let answer = reply.answer;
@@ -197,7 +197,7 @@ pub fn hunter_take(
         × (now (out .exit) ≡ told 0 (tookFrom (hunterIn state) (now (store .entry)) (now (output .entry)) .taken .length, 0)) ⌝ }
 {
     let taken = frame_hunter::take(hunter_in(state), store, output);
-    face_messages::tell(out, 0, taken.length, 0);
+    face_told::tell(out, 0, taken.length, 0);
     let after = taken.state;
     let answer = taken.answer;
     hunter_told(after, answer)
@@ -207,6 +207,6 @@ pub fn hunter_take(
 pub fn hunter_reset(out: &mut [u32; 4]) -> HunterReply
     ensures { λ r. ⌜ (r ≡ hunterFresh) × (now (out .exit) ≡ told 0 (0, 0)) ⌝ }
 {
-    face_messages::tell(out, 0, 0, 0);
+    face_told::tell(out, 0, 0, 0);
     hunter_told(frame_hunter::reset(), frame_hunter_rules::Answer::Fine)
 }

@@ -13,7 +13,7 @@ use Rattle.build_answers.specs.Answer.{numberOf, valuesOf}
 use Rattle.builder.specs.Build.{BuildOutcome, buildOf}
 use Rattle.face_messages.specs.declared.FieldRecord.{FieldRecord}
 use Rattle.face_messages.specs.declared.Shown.{Shown}
-use Rattle.face_messages.specs.Told.{told}
+use Rattle.face_told.specs.Told.{told}
 use Rattle.build_config.specs.Settings.{configOf}
 
 -- bytes to a lent record: part and depth one each, entry, place and length two each, tag four

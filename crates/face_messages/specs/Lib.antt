@@ -1,7 +1,4 @@
-pub mod Told
 pub mod Lent
-pub mod ToldLaws
+pub mod BuiltLaws
 pub mod LentLaws
-pub mod PartLaws
-pub mod FoundLaws
 pub mod TakeLaws

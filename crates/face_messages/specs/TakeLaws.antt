@@ -5,7 +5,7 @@ use mathlib.Core.List.{List}
 use borrow.Author.Tests.{lt-ltb, le-ltb}
 use Rattle.message_take_over.specs.declared.Taken.{Taken}
 use Rattle.message_take_over.specs.Taking.{AfterTaking, after, numberOfTaken}
-use Rattle.face_messages.specs.Told.{takingNumber, takenWords, takenValues}
+use Rattle.face_told.specs.Told.{takingNumber, takenWords, takenValues}
 use Rattle.face_messages.specs.Lent.{readCount}
 
 pub read-past : (lent count : ℕ) → lent < count → 0 ≡ readCount lent count

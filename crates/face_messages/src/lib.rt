@@ -1,22 +1,14 @@
-// face_messages: what a caller in another language is told of a core's answer: the rules' number, four lent words, and records of twelve bytes.
-// It takes answers and values apart and decides nothing; `gateway` lends what the caller lent.
+// face_messages: a build and a taking over as a caller in another language asks for them, over records of twelve bytes that the caller lends.
+// It takes records apart and decides nothing; `gateway` lends what the caller lent.
 use build_records::Record;
-use encode_rules::Encoding;
-use message_rules::Change;
-use message_rules::FoundMap;
-use message_rules::FoundValue;
-use message_rules::Part;
 ghost use mathlib.Core.Path.{_≡_};
 ghost use Prim.Native.Nat.{_*_, _%_, _^_, _≤_};
 ghost use lib.ListN.{take, replicate};
-ghost use Rattle.message_rules.specs.Changes.{numberOfChange};
-ghost use Rattle.encode_rules.specs.Encode.{numberOfEncoding, lengthOfEncoding};
 ghost use Rattle.message_take_over.specs.Taking.{takingOver};
 ghost use Rattle.build_records.specs.Records.{onRecords, replaced, recordWords, stride};
-ghost use Rattle.message_rules.specs.LookUps.{numberOfValue, numberOfMap};
 ghost use Rattle.builder.specs.Build.{buildOf};
 ghost use Rattle.build_config.specs.Settings.{configOf};
-ghost use Rattle.face_messages.specs.Told.{told, partNumbered, toldMap, toldValue, takingNumber, takenWords, takenValues};
+ghost use Rattle.face_told.specs.Told.{told, takingNumber, takenWords, takenValues};
 ghost use Rattle.face_messages.specs.Lent.{fieldRecordAt, shownOf, toldOf, recordOfLent, readCount};
 
 // A record as it is lent: twelve bytes. Depth and entry are 0 outside groups, else they start from 1.
@@ -37,12 +29,6 @@ pub struct Shown {
     pub written: usize,
 }
 
-fn low_word(n: usize) -> u32
-    ensures { λ r. ⌜ r ≡ n % 2 ^ 32 ⌝ }
-{
-    (n & 0xffffffff) as u32
-}
-
 fn low_half(n: u32) -> u16
     ensures { λ r. ⌜ r ≡ n % 2 ^ 16 ⌝ }
 {
@@ -53,18 +39,6 @@ fn low_byte(n: u32) -> u8
     ensures { λ r. ⌜ r ≡ n % 2 ^ 8 ⌝ }
 {
     (n & 0xff) as u8
-}
-
-// Fills the four words: records, first value, second value, 0.
-pub fn tell(out: &mut [u32; 4], records: usize, first: usize, second: usize)
-    ensures { λ _. ⌜ now (out .exit) ≡ told records (first, second) ⌝ }
-{
-    // Only where the array is made a slice does the proof learn its length.
-    let words = &mut out[..];
-    words[0] = low_word(records);
-    words[1] = low_word(first);
-    words[2] = low_word(second);
-    words[3] = 0;
 }
 
 // Record i of the words, of which so many are shown; past them there are only blank ones.
@@ -117,7 +91,7 @@ pub fn build(
     let built = builder::build(message, config, dictionary, lent, words);
     let answer = built.answer;
     let values = build_answers::values_of(answer);
-    tell(out, built.records, values.first, values.second);
+    face_told::tell(out, built.records, values.first, values.second);
     Shown {
         number: build_answers::number_of(answer),
         records: built.records,
@@ -169,78 +143,9 @@ pub fn take_over(
         × (now (values .exit) ≡ takenValues (takingOver (take (stride * read) (now (laid .entry))) count (now (message .entry)) (now (words .entry)) (now (values .entry))))
         × (now (out .exit) ≡ told 0 (0, 0)) ⌝ }
 {
-    tell(out, 0, 0, 0);
+    face_told::tell(out, 0, 0, 0);
     let end = build_records::STRIDE * read;
     let records = &laid[..];
     let taken = message_take_over::take_over(&records[..end], count, message, words, values);
     message_answers::taken_number(taken)
-}
-
-// A part by its number; every number other than 1 and 2 is the trailer.
-pub fn part_numbered(number: u8) -> Part
-    ensures { λ r. ⌜ r ≡ partNumbered number ⌝ }
-{
-    if number == 1 {
-        return Part::Header;
-    }
-    if number == 2 {
-        return Part::Body;
-    }
-    Part::Trailer
-}
-
-// A change of a message: its number.
-pub fn tell_change(out: &mut [u32; 4], change: Change) -> u32
-    ensures { λ r. ⌜ (r ≡ numberOfChange change) × (now (out .exit) ≡ told 0 (0, 0)) ⌝ }
-{
-    tell(out, 0, 0, 0);
-    message_answers::change_number(change)
-}
-
-// An encoding: its number, and its length as the first value.
-pub fn tell_encoding(out: &mut [u32; 4], encoding: Encoding) -> u32
-    ensures { λ r. ⌜ (r ≡ numberOfEncoding encoding) × (now (out .exit) ≡ told 0 (lengthOfEncoding encoding, 0)) ⌝ }
-{
-    tell(out, 0, message_answers::encoding_length(encoding), 0);
-    message_answers::encoding_number(encoding)
-}
-
-// A map that was looked up: its number, how many were found, and its row as the first value.
-pub fn tell_map(out: &mut [u32; 4], found: FoundMap) -> u32
-    ensures { λ r. ⌜ (r ≡ numberOfMap found) × (now (out .exit) ≡ toldMap found) ⌝ }
-{
-    match found {
-        FoundMap::NoMessage => {
-            tell(out, 0, 0, 0);
-            27
-        }
-        FoundMap::Absent => {
-            tell(out, 0, 0, 0);
-            0
-        }
-        FoundMap::At(row) => {
-            tell(out, 1, row, 0);
-            0
-        }
-    }
-}
-
-// A value that was looked up: its number, how many were found, and its place and length as values.
-pub fn tell_value(out: &mut [u32; 4], found: FoundValue) -> u32
-    ensures { λ r. ⌜ (r ≡ numberOfValue found) × (now (out .exit) ≡ toldValue found) ⌝ }
-{
-    match found {
-        FoundValue::NoMessage => {
-            tell(out, 0, 0, 0);
-            27
-        }
-        FoundValue::Absent => {
-            tell(out, 0, 0, 0);
-            0
-        }
-        FoundValue::At(value) => {
-            tell(out, 1, value.place, value.size);
-            0
-        }
-    }
 }

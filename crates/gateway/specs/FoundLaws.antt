@@ -6,7 +6,7 @@ use Rattle.message_rules.specs.declared.Part.{Part}
 use Rattle.message_rules.specs.declared.FoundValue.{FoundValue}
 use Rattle.message_rules.specs.declared.FoundMap.{FoundMap}
 use Rattle.message_rules.specs.LookUps.{numberOfValue, numberOfMap, partFound}
-use Rattle.face_messages.specs.Told.{toldMap, toldValue}
+use Rattle.face_told.specs.Told.{toldMap, toldValue}
 
 pub part-in : (p q : Part) (words values : List ℕ) (found : FoundMap) → p ≡ q → found ≡ partFound p words values → found ≡ partFound q words values
 part-in p q words values found e h = h ∙ ap (λ (x : Part). partFound x words values) e

@@ -8,7 +8,7 @@ use Rattle.message_rules.specs.Changes.{After, after, numberOfChange, storing, 
 use Rattle.message_rules.specs.Runs.{hanging}
 use Rattle.encode_rules.specs.declared.Encoding.{Encoding}
 use Rattle.encode_rules.specs.Encode.{Left, left, numberOfEncoding, lengthOfEncoding}
-use Rattle.face_messages.specs.Told.{told, changeNumber, changedWords, changedValues, encodingNumber, encodingLength, leftWords, leftValues, leftOutput}
+use Rattle.face_told.specs.Told.{told, changeNumber, changedWords, changedValues, encodingNumber, encodingLength, leftWords, leftValues, leftOutput}
 
 -- the part by its number
 pub storing-in : (p q : Part) (tag : ℕ) (value words values : List ℕ) (a : After) → p ≡ q → a ≡ storing p tag value words values → a ≡ storing q tag value words values

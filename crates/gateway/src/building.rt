@@ -5,7 +5,7 @@ ghost use Prim.Native.Nat.{_≤_};
 ghost use lib.ListN.{length, getD};
 ghost use Rattle.dictionary_rules.specs.Check.{checkOf, numberOfCheck, valuesOfCheck};
 ghost use Rattle.build_answers.specs.Answer.{numberOf, valuesOf};
-ghost use Rattle.face_messages.specs.Told.{told};
+ghost use Rattle.face_told.specs.Told.{told};
 ghost use Rattle.face_messages.specs.Lent.{filled, builtFrom, recordsLent};
 
 // Checks a flat dictionary.
@@ -15,7 +15,7 @@ pub extern "C" fn gateway_check(dictionary: &[u8], out: &mut [u32; 4]) -> u32
     ensures { λ _. ⌜ now (out .exit) ≡ told 0 (getD (valuesOfCheck (checkOf (now (dictionary .entry)))) 0 0, 0) ⌝ }
 {
     let checked = dictionary_check::check(dictionary);
-    face_messages::tell(out, 0, dictionary_check::value_of(checked) as usize, 0);
+    face_told::tell(out, 0, dictionary_check::value_of(checked) as usize, 0);
     dictionary_check::number_of(checked)
 }
 

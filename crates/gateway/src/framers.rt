@@ -4,7 +4,7 @@ use face_framers::PortedState;
 ghost use mathlib.Core.Path.{_≡_};
 ghost use Rattle.frame_parser_rules.specs.Framer.{numberOfParser, valueOf, fresh, pushed, pushedStore, finished, taken, takenStore, takenOutput};
 ghost use Rattle.frame_hunter_rules.specs.Bytes.{numberOfHunter, freshState, pushed as hunterPushed, finished as hunterFinished, tookFrom};
-ghost use Rattle.face_messages.specs.Told.{told};
+ghost use Rattle.face_told.specs.Told.{told};
 ghost use Rattle.face_framers.specs.States.{portedIn, portedOut, hunterIn, hunterOut};
 
 // A chunk of the stream for the ported framer.

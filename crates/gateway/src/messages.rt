@@ -4,7 +4,7 @@ ghost use mathlib.Core.Path.{_≡_};
 ghost use Rattle.message_rules.specs.Changes.{emptying, making, storing, removing};
 ghost use Rattle.message_rules.specs.Runs.{starting, entering, storingLast, hangingLast, hanging};
 ghost use Rattle.encode_rules.specs.Encode.{encodingOf};
-ghost use Rattle.face_messages.specs.Told.{told, partNumbered, changeNumber, changedWords, changedValues, encodingNumber, encodingLength, leftWords, leftValues, leftOutput};
+ghost use Rattle.face_told.specs.Told.{told, partNumbered, changeNumber, changedWords, changedValues, encodingNumber, encodingLength, leftWords, leftValues, leftOutput};
 
 // Makes what is lent an empty message.
 #[no_mangle]
@@ -15,7 +15,7 @@ pub extern "C" fn gateway_empty(words: &mut [u32], values: &mut [u8], out: &mut 
     ensures { λ _. ⌜ now (out .exit) ≡ told 0 (0, 0) ⌝ }
 {
     let change = message::empty(words, values);
-    face_messages::tell_change(out, change)
+    face_told::tell_change(out, change)
 }
 
 // Makes what is lent a new message, with a BeginString and a MsgType.
@@ -33,7 +33,7 @@ pub extern "C" fn gateway_new(
     ensures { λ _. ⌜ now (out .exit) ≡ told 0 (0, 0) ⌝ }
 {
     let change = message::new(words, values, begin_string, message_type);
-    face_messages::tell_change(out, change)
+    face_told::tell_change(out, change)
 }
 
 // Stores a field in a part of a message.
@@ -51,14 +51,8 @@ pub extern "C" fn gateway_store(
     ensures { λ _. ⌜ now (values .exit) ≡ changedValues (storing (partNumbered part) tag (now (value .entry)) (now (words .entry)) (now (values .entry))) ⌝ }
     ensures { λ _. ⌜ now (out .exit) ≡ told 0 (0, 0) ⌝ }
 {
-    let change = message::store(
-        words,
-        values,
-        face_messages::part_numbered(part),
-        tag,
-        value,
-    );
-    face_messages::tell_change(out, change)
+    let change = message::store(words, values, face_told::part_numbered(part), tag, value);
+    face_told::tell_change(out, change)
 }
 
 // Removes a field from a part of a message.
@@ -75,8 +69,8 @@ pub extern "C" fn gateway_remove(
     ensures { λ _. ⌜ now (values .exit) ≡ changedValues (removing (partNumbered part) tag (now (words .entry)) (now (values .entry))) ⌝ }
     ensures { λ _. ⌜ now (out .exit) ≡ told 0 (0, 0) ⌝ }
 {
-    let change = message::remove(words, values, face_messages::part_numbered(part), tag);
-    face_messages::tell_change(out, change)
+    let change = message::remove(words, values, face_told::part_numbered(part), tag);
+    face_told::tell_change(out, change)
 }
 
 // Makes what is lent a draft of a run, without any entry.
@@ -88,7 +82,7 @@ pub extern "C" fn gateway_draft(words: &mut [u32], values: &mut [u8], out: &mut 
     ensures { λ _. ⌜ now (out .exit) ≡ told 0 (0, 0) ⌝ }
 {
     let change = message_runs::empty(words, values);
-    face_messages::tell_change(out, change)
+    face_told::tell_change(out, change)
 }
 
 // Adds an entry to a draft.
@@ -106,7 +100,7 @@ pub extern "C" fn gateway_add_entry(
     ensures { λ _. ⌜ now (out .exit) ≡ told 0 (0, 0) ⌝ }
 {
     let change = message_runs::add_entry(words, values, start, delimiter);
-    face_messages::tell_change(out, change)
+    face_told::tell_change(out, change)
 }
 
 // Stores a field in a draft's last entry.
@@ -124,7 +118,7 @@ pub extern "C" fn gateway_store_last(
     ensures { λ _. ⌜ now (out .exit) ≡ told 0 (0, 0) ⌝ }
 {
     let change = message_runs::store_last(words, values, tag, value);
-    face_messages::tell_change(out, change)
+    face_told::tell_change(out, change)
 }
 
 // Hangs a run, lent as a draft, in another draft's last entry.
@@ -142,7 +136,7 @@ pub extern "C" fn gateway_hang_last(
     ensures { λ _. ⌜ now (out .exit) ≡ told 0 (0, 0) ⌝ }
 {
     let change = message_runs::hang_last(words, values, run_words, run_values);
-    face_messages::tell_change(out, change)
+    face_told::tell_change(out, change)
 }
 
 // Hangs a run, lent as a draft, on a part of a message.
@@ -163,11 +157,11 @@ pub extern "C" fn gateway_hang(
     let change = message_runs::hang(
         words,
         values,
-        face_messages::part_numbered(part),
+        face_told::part_numbered(part),
         run_words,
         run_values,
     );
-    face_messages::tell_change(out, change)
+    face_told::tell_change(out, change)
 }
 
 // Encodes a message at the start of the output; the first value is its length.
@@ -186,5 +180,5 @@ pub extern "C" fn gateway_encode(
     ensures { λ _. ⌜ now (out .exit) ≡ told 0 (encodingLength (encodingOf separator (now (words .entry)) (now (values .entry)) (now (output .entry))), 0) ⌝ }
 {
     let encoded = encoder::encode(words, values, output, separator);
-    face_messages::tell_encoding(out, encoded)
+    face_told::tell_encoding(out, encoded)
 }

@@ -4,7 +4,7 @@ ghost use mathlib.Core.Path.{_≡_};
 ghost use Prim.Native.Nat.{_≤_};
 ghost use lib.ListN.{length};
 ghost use Rattle.message_take_over.specs.Taking.{takingOver};
-ghost use Rattle.face_messages.specs.Told.{told, takingNumber, takenWords, takenValues};
+ghost use Rattle.face_told.specs.Told.{told, takingNumber, takenWords, takenValues};
 ghost use Rattle.face_messages.specs.Lent.{wordsLent, putFields};
 
 // Puts so many of the lent records into the words.

@@ -1,5 +1,5 @@
 -- `build` meets its contract: it tells what the build's outcome holds.
-use Rattle.face_messages.specs.ToldLaws.{built-shown, built-out, built-words}
+use Rattle.face_messages.specs.BuiltLaws.{built-shown, built-out, built-words}
 use borrow.Author.Needs.{needs}
 use Rattle.face_messages.proofs.build.Statement.{statement}
 use Rattle.face_messages.proofs.build.Tie as tie

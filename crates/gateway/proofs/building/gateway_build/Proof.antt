@@ -46,7 +46,7 @@ use Rattle.build_records.specs.Records.{recordWords}
 use Rattle.builder.specs.Build.{BuildOutcome, buildOf}
 use Rattle.build_answers.specs.Answer.{numberOf, valuesOf}
 use Rattle.build_config.specs.Settings.{configOf}
-use Rattle.face_messages.specs.Told.{told}
+use Rattle.face_told.specs.Told.{told}
 use Rattle.face_messages.specs.Lent.{shownOf, toldOf, filled, recordsLent, builtFrom}
 use Rattle.face_messages.specs.LentLaws.{written-lent, shown-from, told-from, records-from}
 use Rattle.face_messages.specs.declared.FieldRecord.{FieldRecord}

@@ -1,6 +1,6 @@
 -- `gateway_hunter_end` meets its contract: the walk of the stream's end, at the hunting framer and at what its core says.
 use Rattle.frame_hunter_rules.specs.Bytes.{finished}
-use Rattle.face_messages.specs.Told.{told}
+use Rattle.face_told.specs.Told.{told}
 use Rattle.face_framers.specs.States.{hunterIn, hunterTold}
 use Rattle.face_framers.proofs.hunter_end.Symbol as core
 use Rattle.face_framers.proofs.hunter_end.Met as core-thm

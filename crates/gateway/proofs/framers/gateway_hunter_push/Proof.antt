@@ -1,6 +1,6 @@
 -- `gateway_hunter_push` meets its contract: the walk of a push, at the hunting framer and at what its core says.
 use Rattle.frame_hunter_rules.specs.Bytes.{pushed}
-use Rattle.face_messages.specs.Told.{told}
+use Rattle.face_told.specs.Told.{told}
 use Rattle.face_framers.specs.States.{hunterIn, hunterTold}
 use Rattle.face_framers.proofs.hunter_push.Symbol as core
 use Rattle.face_framers.proofs.hunter_push.Met as core-thm

@@ -1,5 +1,5 @@
 -- `gateway_hunter_reset` meets its contract: the walk of a reset, at the hunting framer and at what its core says.
-use Rattle.face_messages.specs.Told.{told}
+use Rattle.face_told.specs.Told.{told}
 use Rattle.face_framers.specs.States.{hunterFresh}
 use Rattle.face_framers.proofs.hunter_reset.Symbol as core
 use Rattle.face_framers.proofs.hunter_reset.Met as core-thm

@@ -1,6 +1,6 @@
 -- `gateway_hunter_take` meets its contract: the walk of a take, at the hunting framer and at what its core says.
 use Rattle.frame_hunter_rules.specs.Bytes.{tookFrom}
-use Rattle.face_messages.specs.Told.{told}
+use Rattle.face_told.specs.Told.{told}
 use Rattle.face_framers.specs.States.{hunterIn, hunterTold}
 use Rattle.face_framers.proofs.hunter_take.Symbol as core
 use Rattle.face_framers.proofs.hunter_take.Met as core-thm

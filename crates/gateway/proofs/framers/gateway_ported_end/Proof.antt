@@ -1,6 +1,6 @@
 -- `gateway_ported_end` meets its contract: the walk of the stream's end, at the ported framer and at what its core says.
 use Rattle.frame_parser_rules.specs.Framer.{finished}
-use Rattle.face_messages.specs.Told.{told}
+use Rattle.face_told.specs.Told.{told}
 use Rattle.face_framers.specs.States.{portedIn, portedTold}
 use Rattle.face_framers.proofs.ported_end.Symbol as core
 use Rattle.face_framers.proofs.ported_end.Met as core-thm

@@ -1,6 +1,6 @@
 -- `gateway_ported_push` meets its contract: the walk of a push, at the ported framer and at what its core says.
 use Rattle.frame_parser_rules.specs.Framer.{pushed, pushedStore}
-use Rattle.face_messages.specs.Told.{told}
+use Rattle.face_told.specs.Told.{told}
 use Rattle.face_framers.specs.States.{portedIn, portedTold}
 use Rattle.face_framers.proofs.ported_push.Symbol as core
 use Rattle.face_framers.proofs.ported_push.Met as core-thm

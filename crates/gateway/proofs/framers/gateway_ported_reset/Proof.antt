@@ -1,5 +1,5 @@
 -- `gateway_ported_reset` meets its contract: the walk of a reset, at the ported framer and at what its core says.
-use Rattle.face_messages.specs.Told.{told}
+use Rattle.face_told.specs.Told.{told}
 use Rattle.face_framers.specs.States.{portedFresh}
 use Rattle.face_framers.proofs.ported_reset.Symbol as core
 use Rattle.face_framers.proofs.ported_reset.Met as core-thm

@@ -1,6 +1,6 @@
 -- `gateway_ported_take` meets its contract: the walk of a take, at the ported framer and at what its core says.
 use Rattle.frame_parser_rules.specs.Framer.{valueOf, taken, takenStore, takenOutput}
-use Rattle.face_messages.specs.Told.{told}
+use Rattle.face_told.specs.Told.{told}
 use Rattle.face_framers.specs.States.{portedIn, portedTold}
 use Rattle.face_framers.proofs.ported_take.Symbol as core
 use Rattle.face_framers.proofs.ported_take.Met as core-thm

@@ -8,7 +8,7 @@ use Rattle.gateway.proofs.Calling.{asked, answered, Knows, meets-on}
 use Rattle.gateway.proofs.Framer.{Four}
 use Rattle.gateway.proofs.Words.{Words, packed, given-up}
 use Rattle.message_take_over.specs.Taking.{AfterTaking, takingOver}
-use Rattle.face_messages.specs.Told.{told, takingNumber, takenWords, takenValues}
+use Rattle.face_told.specs.Told.{told, takingNumber, takenWords, takenValues}
 use Rattle.face_messages.specs.Lent.{wordsLent, readCount, putFields}
 use Rattle.face_messages.specs.declared.FieldRecord.{FieldRecord}
 use Rattle.face_messages.proofs.FieldRecord as T

@@ -1,8 +1,8 @@
 -- `part_numbered` meets its contract: one law for each way.
 use mathlib.Core.Path.{sym}
-use Rattle.face_messages.specs.PartLaws.{numbered-header, numbered-body, numbered-trailer}
-use Rattle.face_messages.proofs.part_numbered.Statement.{statement}
-use Rattle.face_messages.proofs.part_numbered.Tie as tie
+use Rattle.face_told.specs.PartLaws.{numbered-header, numbered-body, numbered-trailer}
+use Rattle.face_told.proofs.part_numbered.Statement.{statement}
+use Rattle.face_told.proofs.part_numbered.Tie as tie
 
 returns : tie.Need-returns
 returns c = sym (numbered-header _ (c .if1 .taken))

@@ -1,7 +1,7 @@
 -- `low_word` meets its contract: the mask is 2 ^ 32 - 1.
 use lib.Bits.{and-mask, mask-lt}
-use Rattle.face_messages.proofs.low_word.Statement.{statement}
-use Rattle.face_messages.proofs.low_word.Tie as tie
+use Rattle.face_told.proofs.low_word.Statement.{statement}
+use Rattle.face_told.proofs.low_word.Tie as tie
 
 cast-result : tie.Need-cast-result
 cast-result c = record { fits = mask-lt (c .args .n) 32 }

@@ -3,7 +3,7 @@ use Prim.Native.Nat.{ℕ}
 use mathlib.Core.Path.{_≡_, refl}
 use borrow.Author.Tests.{eq-eqb, ne-eqb}
 use Rattle.message_rules.specs.declared.Part.the-variants.{Header, Body, Trailer}
-use Rattle.face_messages.specs.Told.{partNumbered}
+use Rattle.face_told.specs.Told.{partNumbered}
 
 pub numbered-header : (n : ℕ) → n ≡ 1 → partNumbered n ≡ Header
 unfolding partNumbered

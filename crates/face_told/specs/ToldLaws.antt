@@ -6,12 +6,7 @@ use native.Mathlib.Omega.{arith}
 use lib.ListN.{length, set, getD}
 use Rattle.dictionary_rules.specs.declared.Checked.{Checked}
 use Rattle.dictionary_rules.specs.Check.{numberOfCheck, valuesOfCheck}
-use Rattle.build_answers.specs.Answer.{numberOf, valuesOf}
-use Rattle.builder.specs.declared.Built.{Built}
-use Rattle.builder.specs.Build.{BuildOutcome, builtTold}
-use Rattle.face_messages.specs.declared.Shown.{Shown}
-use Rattle.face_messages.specs.Told.{told}
-use Rattle.face_messages.specs.Lent.{shownOf, toldOf}
+use Rattle.face_told.specs.Told.{told}
 
 -- four words that are set one after the other
 pub four-set : (s : List ℕ) (a b c d : ℕ) → length s ≡ 4 → set (set (set (set s 0 a) 1 b) 2 c) 3 d ≡ a ∷ b ∷ c ∷ d ∷ []
@@ -25,19 +20,6 @@ four-set (w ∷ x ∷ y ∷ z ∷ v ∷ rest) a b c d e = absurd (omega (arith, 
 pub told-set : (s : List ℕ) (a b c records first second : ℕ) → length s ≡ 4 → a ≡ records % 2 ^ 32 → b ≡ first % 2 ^ 32 → c ≡ second % 2 ^ 32 → set (set (set (set s 0 a) 1 b) 2 c) 3 0 ≡ told records (first, second)
 unfolding told
 told-set s a b c records first second whole ea eb ec = rw (ea, eb, ec) (four-set s _ _ _ 0 whole)
-
--- a build's answer, records and words are those of its outcome
-pub built-shown : (b : Built) (words : List ℕ) (o : BuildOutcome) (n : ℕ) → builtTold b words ≡ o → n ≡ numberOf (b .answer) → _≡_ {A = Shown} (record { number = n; records = b .records; written = b .written }) (shownOf o)
-unfolding builtTold shownOf
-built-shown b words o n e h = ap (λ (x : ℕ). record { number = x; records = b .records; written = b .written }) h ∙ ap shownOf e
-
-pub built-out : (b : Built) (words : List ℕ) (o : BuildOutcome) (out : List ℕ) (v : ℕ × ℕ) → builtTold b words ≡ o → v ≡ valuesOf (b .answer) → out ≡ told (b .records) v → out ≡ toldOf o
-unfolding builtTold toldOf
-built-out b words o out v e h t = t ∙ ap (told (b .records)) h ∙ ap toldOf e
-
-pub built-words : (b : Built) (words : List ℕ) (o : BuildOutcome) → builtTold b words ≡ o → words ≡ o .words
-unfolding builtTold
-built-words b words o e = ap (λ (x : BuildOutcome). x .words) e
 
 -- a check's number and value are those of its verdict
 pub checked-number : (k o : Checked) (n : ℕ) → k ≡ o → n ≡ numberOfCheck k → n ≡ numberOfCheck o

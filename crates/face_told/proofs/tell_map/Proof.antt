@@ -1,8 +1,8 @@
 -- `tell_map` meets its contract: each arm knows what was found.
-use Rattle.face_messages.specs.FoundLaws.{map-refused, map-absent, map-at}
+use Rattle.face_told.specs.FoundLaws.{map-refused, map-absent, map-at}
 use borrow.Author.Needs.{needs}
-use Rattle.face_messages.proofs.tell_map.Statement.{statement}
-use Rattle.face_messages.proofs.tell_map.Tie as tie
+use Rattle.face_told.proofs.tell_map.Statement.{statement}
+use Rattle.face_told.proofs.tell_map.Tie as tie
 
 returns : tie.Need-returns
 returns c = map-refused _ _ (c .before .before .enum-told .given .1) (c .tell .ensures)

@@ -8,7 +8,7 @@ use Rattle.message_rules.specs.declared.FoundValue.the-variants as value
 use Rattle.message_rules.specs.declared.FoundMap.{FoundMap}
 use Rattle.message_rules.specs.declared.FoundMap.the-variants as map
 use Rattle.message_rules.specs.LookUps.{numberOfValue, numberOfMap}
-use Rattle.face_messages.specs.Told.{told, toldMap, toldValue}
+use Rattle.face_told.specs.Told.{told, toldMap, toldValue}
 
 pub map-refused : (found : FoundMap) (out : List ℕ) → found ≡ map.NoMessage → out ≡ told 0 (0, 0) → (27 ≡ numberOfMap found) × (out ≡ toldMap found)
 unfolding numberOfMap toldMap

@@ -1,8 +1,8 @@
 -- `tell_value` meets its contract: each arm knows what was found.
-use Rattle.face_messages.specs.FoundLaws.{value-refused, value-absent, value-at}
+use Rattle.face_told.specs.FoundLaws.{value-refused, value-absent, value-at}
 use borrow.Author.Needs.{needs}
-use Rattle.face_messages.proofs.tell_value.Statement.{statement}
-use Rattle.face_messages.proofs.tell_value.Tie as tie
+use Rattle.face_told.proofs.tell_value.Statement.{statement}
+use Rattle.face_told.proofs.tell_value.Tie as tie
 
 returns : tie.Need-returns
 returns c = value-refused _ _ (c .before .before .enum-told .given .1) (c .tell .ensures)
