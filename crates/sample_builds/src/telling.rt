@@ -25,7 +25,7 @@ fn show_records(message: &[u8], words: &[u32; build_records::WORDS], count: usiz
 fn all_hold(words: &[u32; build_records::WORDS], record: usize, n: u32) -> bool {
     let mut i: usize = 0;
     while i < build_records::WORDS {
-        if record <= i / 6 {
+        if record <= i / build_records::STRIDE {
             if words[i] != n {
                 return false;
             }

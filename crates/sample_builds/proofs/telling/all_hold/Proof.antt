@@ -1,14 +1,15 @@
 -- `all_hold` is safe and ends.
 use Prim.Native.Nat.{_-_, _≤_}
 use borrow.Author.Needs.{needs}
+use Rattle.build_records.specs.Records.{recordWords}
 use Rattle.sample_builds.proofs.telling.all_hold.Statement.{statement}
 use Rattle.sample_builds.proofs.telling.all_hold.Tie as tie
 
 abbrev Inv-loop : tie.InvT-loop
-Inv-loop words «record» n i₀ i = i ≤ 6150
+Inv-loop words «record» n i₀ i = i ≤ recordWords
 
 abbrev μ-loop : tie.MeasureT-loop
-μ-loop words «record» n i₀ i = 6150 - i
+μ-loop words «record» n i₀ i = recordWords - i
 
 pub all-hold-spec : {M : Type 1} → statement M
 all-hold-spec =
