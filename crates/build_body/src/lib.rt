@@ -26,12 +26,18 @@ ghost use Rattle.build_records.specs.Records.{stored, stride};
 ghost use Rattle.build_group_rules.specs.Reading.{tableRules, answerOf};
 ghost use Rattle.build_required_rules.specs.Checking.{tableDemands};
 ghost use Rattle.build_parts.specs.Parts.{partRecord, partOf, partTold, Stays};
-ghost use Rattle.build_body_rules.specs.Kinds.{meantBy, kindOf, runFrom, bodyOf};
+ghost use Rattle.build_body_rules.specs.Kinds.{meantBy, bodyKind, runFrom, bodyOf};
 ghost use Rattle.build_body_rules.specs.Body.{nextFrom, withRun, bodyFrom, RunEnd, Dropped, Opened};
 
 // With validation off, unknown user-defined tags are the body's too.
-fn kind_of(config: Config, table: &[u32], index: &[u16; 96150], level: Level, tag: u32) -> BodyKind
-    ensures { λ r. ⌜ meantBy r ≡ kindOf (tableRules config (now (table .entry)) (tagAt (now (index .entry)))) level tag ⌝ }
+fn kind_of(
+    config: Config,
+    table: &[u32],
+    index: &[u16; dictionary_chains::WORDS],
+    level: Level,
+    tag: u32,
+) -> BodyKind
+    ensures { λ r. ⌜ meantBy r ≡ bodyKind (tableRules config (now (table .entry)) (tagAt (now (index .entry)))) level tag ⌝ }
 {
     let Position::At(_) = dictionary_layout::position_of(table, level, tag) else {
         if build_groups::accepted(config, index, tag) {
@@ -138,7 +144,7 @@ fn read_group(
     message: &[u8],
     config: Config,
     table: &[u32],
-    index: &[u16; 96150],
+    index: &[u16; dictionary_chains::WORDS],
     inner: Level,
     count: Field,
     words: &mut [u32],
@@ -199,7 +205,7 @@ pub fn read_body(
     message: &[u8],
     config: Config,
     table: &[u32],
-    index: &[u16; 96150],
+    index: &[u16; dictionary_chains::WORDS],
     trailer_tags: &[u32],
     level: Level,
     first: Field,

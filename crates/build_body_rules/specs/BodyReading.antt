@@ -26,7 +26,7 @@ use Rattle.build_parts.specs.declared.PartRead.the-variants.{At, Refused}
 use Rattle.build_parts.specs.Parts.{Reading, ended, refused, partRecord, partOf, partTold, Stays}
 use Rattle.build_body_rules.specs.Body.{plain, counts, other, andThen, nextFrom, withRun, bodyFrom}
 use Rattle.build_body_rules.specs.BodyLaws.{Falls, body-plain, body-run, body-ends, body-invalid}
-use Rattle.build_body_rules.specs.Kinds.{kindOf, checked, ranAs, runFrom, bodyOf}
+use Rattle.build_body_rules.specs.Kinds.{bodyKind, checked, ranAs, runFrom, bodyOf}
 
 -- how many fields may still be read, the one that is read already counted in
 unfoldable pub partRoom : PartRead → ℕ
@@ -70,25 +70,25 @@ module _ {L : Type 0} (rules : Rules L) (demands : Demands L) where
       unfolding partTold andThen
       left-here = rw e
 
-      pub left-plain : kindOf rules level (f .tag) ≡ plain → (next : PartRead) (later : List ℕ) → partTold mode message from next later ≡ nextFrom (fieldsFrom mode message (f .next)) (p .room) (stored (partRecord 2 f) (partOf from (p .records) words)) →
+      pub left-plain : bodyKind rules level (f .tag) ≡ plain → (next : PartRead) (later : List ℕ) → partTold mode message from next later ≡ nextFrom (fieldsFrom mode message (f .next)) (p .room) (stored (partRecord 2 f) (partOf from (p .records) words)) →
           left ≡ andThen (partTold mode message from next later) (bodyFrom (bodyOf rules demands trailerTags level))
       unfolding bodyOf
       left-plain k next later told =
           left-here ∙ body-plain (bodyOf rules demands trailerTags level) run-falls f (fieldsFrom mode message (f .next)) (p .room) (partOf from (p .records) words) k
           ∙ ap (λ (r : Reading). andThen r (bodyFrom (bodyOf rules demands trailerTags level))) (sym told)
 
-      pub left-run : (inner : L) → kindOf rules level (f .tag) ≡ counts inner → (next : PartRead) (later : List ℕ) → partTold mode message from next later ≡ withRun (partRecord 2 f) (partOf from (p .records) words) (runFrom rules demands inner (f .tag) (fieldsFrom mode message (f .next)) (p .room)) →
+      pub left-run : (inner : L) → bodyKind rules level (f .tag) ≡ counts inner → (next : PartRead) (later : List ℕ) → partTold mode message from next later ≡ withRun (partRecord 2 f) (partOf from (p .records) words) (runFrom rules demands inner (f .tag) (fieldsFrom mode message (f .next)) (p .room)) →
           left ≡ andThen (partTold mode message from next later) (bodyFrom (bodyOf rules demands trailerTags level))
       unfolding bodyOf
       left-run inner k next later told =
           left-here ∙ body-run (bodyOf rules demands trailerTags level) run-falls f (fieldsFrom mode message (f .next)) (p .room) (partOf from (p .records) words) inner k
           ∙ ap (λ (r : Reading). andThen r (bodyFrom (bodyOf rules demands trailerTags level))) (sym told)
 
-      pub left-ends : kindOf rules level (f .tag) ≡ other → holdsTag (f .tag) trailerTags ≡ true → left ≡ partTold mode message from (At f p) words
+      pub left-ends : bodyKind rules level (f .tag) ≡ other → holdsTag (f .tag) trailerTags ≡ true → left ≡ partTold mode message from (At f p) words
       unfolding bodyOf partTold
       left-ends k h = left-here ∙ body-ends (bodyOf rules demands trailerTags level) run-falls f (fieldsFrom mode message (f .next)) (p .room) (partOf from (p .records) words) k h
 
-      pub left-invalid : kindOf rules level (f .tag) ≡ other → holdsTag (f .tag) trailerTags ≡ false → left ≡ refused (InvalidField (f .tag))
+      pub left-invalid : bodyKind rules level (f .tag) ≡ other → holdsTag (f .tag) trailerTags ≡ false → left ≡ refused (InvalidField (f .tag))
       unfolding bodyOf
       left-invalid k h = left-here ∙ body-invalid (bodyOf rules demands trailerTags level) run-falls f (fieldsFrom mode message (f .next)) (p .room) (partOf from (p .records) words) k h
 

@@ -10,23 +10,23 @@ use Rattle.dictionary_layout_rules.specs.declared.Position.the-variants.{At, No
 use Rattle.dictionary_layout_rules.specs.declared.Nested.the-variants.{Within, NoGroup}
 use Rattle.build_group_rules.specs.Reading.{accepted, openedBy, tableRules}
 use Rattle.build_body_rules.specs.Body.{plain, counts, other}
-use Rattle.build_body_rules.specs.Kinds.{groupKind, placedKind, kindOf}
+use Rattle.build_body_rules.specs.Kinds.{groupKind, placedKind, bodyKind}
 
 module _ (config : Config) (table : List ℕ) (known : ℕ → Bool) (level : Level) (tag : ℕ) where
   module _ (e : positionOf table level tag ≡ Nowhere) where
-    pub kind-user : accepted config known tag ≡ true → kindOf (tableRules config table known) level tag ≡ plain
-    unfolding kindOf placedKind tableRules
+    pub kind-user : accepted config known tag ≡ true → bodyKind (tableRules config table known) level tag ≡ plain
+    unfolding bodyKind placedKind tableRules
     kind-user h = rw (e, h)
 
-    pub kind-other : accepted config known tag ≡ false → kindOf (tableRules config table known) level tag ≡ other
-    unfolding kindOf placedKind tableRules
+    pub kind-other : accepted config known tag ≡ false → bodyKind (tableRules config table known) level tag ≡ other
+    unfolding bodyKind placedKind tableRules
     kind-other h = rw (e, h)
 
   module _ (position : ℕ) (e : positionOf table level tag ≡ At position) where
-    pub kind-plain : groupWithin table level tag ≡ NoGroup → kindOf (tableRules config table known) level tag ≡ plain
-    unfolding kindOf placedKind tableRules openedBy groupKind
+    pub kind-plain : groupWithin table level tag ≡ NoGroup → bodyKind (tableRules config table known) level tag ≡ plain
+    unfolding bodyKind placedKind tableRules openedBy groupKind
     kind-plain h = rw (e, h)
 
-    pub kind-counts : (inner : Level) → groupWithin table level tag ≡ Within inner → kindOf (tableRules config table known) level tag ≡ counts inner
-    unfolding kindOf placedKind tableRules openedBy groupKind
+    pub kind-counts : (inner : Level) → groupWithin table level tag ≡ Within inner → bodyKind (tableRules config table known) level tag ≡ counts inner
+    unfolding bodyKind placedKind tableRules openedBy groupKind
     kind-counts inner h = rw (e, h)

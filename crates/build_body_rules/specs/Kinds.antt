@@ -37,8 +37,8 @@ module _ {L : Type 0} (rules : Rules L) (level : L) where
   placedKind tag (At position) = groupKind (rules .group level tag)
   placedKind tag Nowhere = pick (rules .accepts tag) plain other
 
-  unfoldable pub kindOf : ℕ → Kind L
-  kindOf tag = placedKind tag (rules .position level tag)
+  unfoldable pub bodyKind : ℕ → Kind L
+  bodyKind tag = placedKind tag (rules .position level tag)
 
 -- "the first lack gives 4"
 unfoldable pub checked : Field → Fields → ℕ → List Record → Lack → Reading
@@ -57,4 +57,4 @@ module _ {L : Type 0} (rules : Rules L) (demands : Demands L) where
 
   -- the body of a message with a layout
   unfoldable pub bodyOf : List ℕ → L → Body L
-  bodyOf trailerTags level = record { kind = kindOf rules level; run = runFrom; trailer = trailerTags }
+  bodyOf trailerTags level = record { kind = bodyKind rules level; run = runFrom; trailer = trailerTags }

@@ -24,7 +24,7 @@ use Rattle.build_required_rules.specs.Checking.{tableDemands, layoutDemands}
 use Rattle.build_required_rules.specs.Meaning.{table-checks}
 use Rattle.build_parts.specs.Parts.{Reading, ended, refused, partRecord}
 use Rattle.build_body_rules.specs.Body.{Kind, plain, counts, other, Body, andThen, nextFrom, withRun, takes, bodyWithin, bodyFrom}
-use Rattle.build_body_rules.specs.Kinds.{groupKind, placedKind, kindOf, checked, ranAs, runFrom, bodyOf}
+use Rattle.build_body_rules.specs.Kinds.{groupKind, placedKind, bodyKind, checked, ranAs, runFrom, bodyOf}
 
 -- how reading goes on matters only by what it comes to
 then-same : (r : Reading) (on off : Fields → ℕ → List Record → Reading) → ((fields : Fields) (room : ℕ) (records : List Record) → on fields room records ≡ off fields room records) → andThen r on ≡ andThen r off
@@ -61,8 +61,8 @@ module _ {L M : Type 0} (Same : L → M → Type 0) where
         go true = plain-alike
         go false = other-alike
 
-    kind-alike : KindAlike (kindOf rules l tag) (kindOf others m tag)
-    unfolding kindOf
+    kind-alike : KindAlike (bodyKind rules l tag) (bodyKind others m tag)
+    unfolding bodyKind
     kind-alike = rw (alike .positions l m s tag) (placed-alike (others .position m tag))
 
   module _ (body : Body L) (another : Body M) (alike : BodyAlike body another) where

@@ -18,7 +18,7 @@ use Rattle.build_records.specs.RecordLaws.{inserted-parts, between-parts, betwe
 use Rattle.build_records.specs.declared.Record.{Record}
 use Rattle.build_records.specs.declared.Standing.{Standing}
 use Rattle.build_records.specs.declared.Standing.the-variants.{At, Nowhere}
-use Rattle.build_group_rules.specs.Groups.{Rules, opens, Kind, plain, count, joins, wrong, ends, kindOf, Frame, run, entry, Move, adds, joinsAt, disorders, leaves, inEntry, decide, entryRecord, RunOutcome, ended, refused, moved, walk}
+use Rattle.build_group_rules.specs.Groups.{Rules, opens, Kind, plain, count, joins, wrong, ends, entryKind, Frame, run, entry, Move, adds, joinsAt, disorders, leaves, inEntry, decide, entryRecord, RunOutcome, ended, refused, moved, walk}
 use Rattle.build_group_rules.specs.Reading.{Memory, listStore, joinedList, wordStore, addedWords, joinedWords, makes, standingIn}
 use Rattle.build_group_rules.specs.declared.Refusal.{Refusal}
 
@@ -57,8 +57,8 @@ module _ {L : Type 0} (n : ℕ) where
       go false true later = refl
       go false false later = later
   decide-shift rules here (entry level group depth number last start ∷ below) tag =
-      ap (λ (m : Move L). inEntry level group depth number last (n + start) (shifted below) tag m (kindOf rules level depth last tag)) (decide-shift rules here below tag)
-      ∙ entry-shift level group depth number last start below tag (decide rules here below tag) (kindOf rules level depth last tag)
+      ap (λ (m : Move L). inEntry level group depth number last (n + start) (shifted below) tag m (entryKind rules level depth last tag)) (decide-shift rules here below tag)
+      ∙ entry-shift level group depth number last start below tag (decide rules here below tag) (entryKind rules level depth last tag)
 
 module _ (before after : List Record) where
   -- the entries stand between the records before the place and those from it on, and there are words for as many records as there is room

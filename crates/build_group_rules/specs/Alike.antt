@@ -11,7 +11,7 @@ use Rattle.dictionary_layout_rules.specs.declared.Position.{Position}
 use Rattle.dictionary_layout_rules.specs.declared.Position.the-variants.{At, Nowhere}
 use Rattle.dictionary_layout_rules.specs.declared.FirstTag.{FirstTag}
 use Rattle.build_records.specs.declared.Record.{Record}
-use Rattle.build_group_rules.specs.Groups.{Opened, none, opened, Rules, isDelimiter, opens, Kind, plain, count, joins, wrong, ends, counting, declared, kindOf, Frame, run, entry, Move, adds, joinsAt, disorders, leaves, inEntry, decide, Store, RunOutcome, ended, refused, moved, walk}
+use Rattle.build_group_rules.specs.Groups.{Opened, none, opened, Rules, isDelimiter, opens, Kind, plain, count, joins, wrong, ends, counting, declared, entryKind, Frame, run, entry, Move, adds, joinsAt, disorders, leaves, inEntry, decide, Store, RunOutcome, ended, refused, moved, walk}
 use Rattle.build_group_rules.specs.declared.Refusal.{Refusal}
 
 module _ {L M : Type 0} (Same : L → M → Type 0) where
@@ -71,8 +71,8 @@ module _ {L M : Type 0} (Same : L → M → Type 0) where
         go true k = wrong-alike
         go false k = k
 
-    kind-alike : (l : L) (m : M) → Same l m → (depth last tag : ℕ) → KindAlike (kindOf rules l depth last tag) (kindOf others m depth last tag)
-    unfolding kindOf
+    kind-alike : (l : L) (m : M) → Same l m → (depth last tag : ℕ) → KindAlike (entryKind rules l depth last tag) (entryKind others m depth last tag)
+    unfolding entryKind
     kind-alike l m s depth last tag = rw (opens-same l m s tag, alike .positions l m s tag) (go (opens others m tag) (declared-alike l m s depth last tag (others .position m tag)))
       where
         go : (b : Bool) → KindAlike (declared rules l depth last tag (others .position m tag)) (declared others m depth last tag (others .position m tag)) → KindAlike (pick b ends (declared rules l depth last tag (others .position m tag))) (pick b ends (declared others m depth last tag (others .position m tag)))

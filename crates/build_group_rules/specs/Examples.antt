@@ -15,28 +15,28 @@ use lib.Dec.{eqb}
 use Rattle.build_records.specs.Records.{stored}
 use Rattle.build_records.specs.declared.Record.{Record}
 use Rattle.build_answers.specs.Answer.{numberOf, valuesOf, listed}
-use Rattle.build_group_rules.specs.Groups.{isDelimiter, opens, counting, declared, kindOf, run, inEntry, decide, entryRecord, RunOutcome, ended, refused, moved, walk}
+use Rattle.build_group_rules.specs.Groups.{isDelimiter, opens, counting, declared, entryKind, run, inEntry, decide, entryRecord, RunOutcome, ended, refused, moved, walk}
 use Rattle.build_group_rules.specs.Reading.{answerOf, accepted, openedAs, layoutRules, joinedList, listStore}
 
--- what is told of a run: 0, the tag that ended it and the room left, and for each record its depth, entry number, tag and place; or the
+-- what is runTold of a run: 0, the tag that ended it and the room left, and for each record its depth, entry number, tag and place; or the
 -- refusal's number and values
-abbrev Told : Type 0
-Told = ℕ × (List ℕ) × (List (ℕ × ℕ × ℕ × ℕ))
+abbrev RunTold : Type 0
+RunTold = ℕ × (List ℕ) × (List (ℕ × ℕ × ℕ × ℕ))
 
-unfoldable told : RunOutcome (List Record) (List Record) → Told
-told (ended f rest room rs) = (0, f .tag ∷ room ∷ [], map (λ (r : Record). (r .depth, r .number, r .tag, r .place)) rs)
-told (refused refusal rs) = (numberOf (answerOf refusal), listed (answerOf refusal), [])
+unfoldable runTold : RunOutcome (List Record) (List Record) → RunTold
+runTold (ended f rest room rs) = (0, f .tag ∷ room ∷ [], map (λ (r : Record). (r .depth, r .number, r .tag, r .place)) rs)
+runTold (refused refusal rs) = (numberOf (answerOf refusal), listed (answerOf refusal), [])
 
 -- "group 78 (79 and 80 required; group 539 with 524 required, 525)"
 abbrev allocations : Layout
 allocations = field 79 true (field 80 true (group 539 false (field 524 true (field 525 false end)) end))
 
 -- the fields behind `78=..|`, of which so many may be read; 5002 is known, and stands in no layout
-unfoldable reading : Bool → Layout → ℕ → String → Told
+unfoldable reading : Bool → Layout → ℕ → String → RunTold
 reading validate layout room text =
-    told (walk (layoutRules (accepted (validating validate) (λ (tag : ℕ). eqb tag 5002))) listStore room (run layout 78 1 0 ∷ []) [] (fieldsFrom (separatedBy 1) (bytes text) (startAt 0)))
+    runTold (walk (layoutRules (accepted (validating validate) (λ (tag : ℕ). eqb tag 5002))) listStore room (run layout 78 1 0 ∷ []) [] (fieldsFrom (separatedBy 1) (bytes text) (startAt 0)))
 
-abbrev strict : List (String × Told)
+abbrev strict : List (String × RunTold)
 strict =
     ("79=A|80=5|10=000|", (0, 10 ∷ 97 ∷ [], (1, 1, 79, 3) ∷ (1, 1, 80, 8) ∷ []))
     ∷ ("58=x|10=000|", (2, 58 ∷ 78 ∷ [], []))
@@ -54,12 +54,12 @@ strict =
     ∷ []
 
 groups-read : map (λ row. reading true allocations 100 (row .0)) strict ≡ map (λ row. row .1) strict
-unfolding reading told answerOf numberOf valuesOf listed layoutRules openedAs accepted joinedList listStore walk moved decide inEntry kindOf declared counting opens isDelimiter entryRecord positionIn positionFrom firstOf groupOf groupSince delimiterOf stored reading-fields
+unfolding reading runTold answerOf numberOf valuesOf listed layoutRules openedAs accepted joinedList listStore walk moved decide inEntry entryKind declared counting opens isDelimiter entryRecord positionIn positionFrom firstOf groupOf groupSince delimiterOf stored reading-fields
 groups-read = refl
 
 -- validation off: a user tag joins the innermost open entry, twice it replaces the value and keeps the position; right after a count it
 -- is out of order; a known one ends the run
-abbrev lenient : List (String × Told)
+abbrev lenient : List (String × RunTold)
 lenient =
     ("79=A|5001=x|80=5|5001=yy|10=000|", (0, 10 ∷ 95 ∷ [], (1, 1, 79, 3) ∷ (1, 1, 5001, 22) ∷ (1, 1, 80, 15) ∷ []))
     ∷ ("79=A|539=1|524=p|5001=x|10=000|", (0, 10 ∷ 95 ∷ [], (1, 1, 79, 3) ∷ (1, 1, 539, 9) ∷ (2, 1, 524, 15) ∷ (2, 1, 5001, 22) ∷ []))
@@ -70,11 +70,11 @@ lenient =
     ∷ []
 
 user-tags : map (λ row. reading false allocations 100 (row .0)) lenient ≡ map (λ row. row .1) lenient
-unfolding reading told answerOf numberOf valuesOf listed layoutRules openedAs accepted joinedList listStore walk moved decide inEntry kindOf declared counting opens isDelimiter entryRecord positionIn positionFrom firstOf groupOf groupSince delimiterOf stored reading-fields
+unfolding reading runTold answerOf numberOf valuesOf listed layoutRules openedAs accepted joinedList listStore walk moved decide inEntry entryKind declared counting opens isDelimiter entryRecord positionIn positionFrom firstOf groupOf groupSince delimiterOf stored reading-fields
 user-tags = refl
 
 -- 21 comes before any other verdict on a field, 10 before 21: a field that can't be read is none
-abbrev narrow : List ((ℕ × String) × Told)
+abbrev narrow : List ((ℕ × String) × RunTold)
 narrow =
     ((3, "79=A|80=5|10=000|"), (0, 10 ∷ 0 ∷ [], (1, 1, 79, 3) ∷ (1, 1, 80, 8) ∷ []))
     ∷ ((2, "79=A|80=5|10=000|"), (21, [], []))
@@ -85,7 +85,7 @@ narrow =
     ∷ []
 
 rooms : map (λ row. reading false allocations (row .0 .0) (row .0 .1)) narrow ≡ map (λ row. row .1) narrow
-unfolding reading told answerOf numberOf valuesOf listed layoutRules openedAs accepted joinedList listStore walk moved decide inEntry kindOf declared counting opens isDelimiter entryRecord positionIn positionFrom firstOf groupOf groupSince delimiterOf stored reading-fields
+unfolding reading runTold answerOf numberOf valuesOf listed layoutRules openedAs accepted joinedList listStore walk moved decide inEntry entryKind declared counting opens isDelimiter entryRecord positionIn positionFrom firstOf groupOf groupSince delimiterOf stored reading-fields
 rooms = refl
 
 -- a delimiter that is itself a group tag is stored plain
@@ -100,7 +100,7 @@ twice = field 79 false (field 80 false (field 81 false (field 80 false (field 79
 abbrev deep : Layout
 deep = field 1 false (group 2 false (field 3 false (group 4 false (field 5 false (group 6 false (field 7 false (group 8 false (field 9 false end) end)) end)) end)) end)
 
-abbrev odd : List ((Layout × String) × Told)
+abbrev odd : List ((Layout × String) × RunTold)
 odd =
     ((delimiterIsCount, "79=1|81=x|79=2|10=000|"), (0, 10 ∷ 96 ∷ [], (1, 1, 79, 3) ∷ (1, 1, 81, 8) ∷ (1, 2, 79, 13) ∷ []))
     ∷ ((delimiterIsCount, "79=1|80=x|10=000|"), (0, 80 ∷ 98 ∷ [], (1, 1, 79, 3) ∷ []))
@@ -112,5 +112,5 @@ odd =
     ∷ []
 
 odd-layouts : map (λ row. reading true (row .0 .0) 100 (row .0 .1)) odd ≡ map (λ row. row .1) odd
-unfolding reading told answerOf numberOf valuesOf listed layoutRules openedAs accepted joinedList listStore walk moved decide inEntry kindOf declared counting opens isDelimiter entryRecord positionIn positionFrom firstOf groupOf groupSince delimiterOf stored reading-fields
+unfolding reading runTold answerOf numberOf valuesOf listed layoutRules openedAs accepted joinedList listStore walk moved decide inEntry entryKind declared counting opens isDelimiter entryRecord positionIn positionFrom firstOf groupOf groupSince delimiterOf stored reading-fields
 odd-layouts = refl

@@ -12,7 +12,7 @@ use Rattle.field_rules.specs.Fields.{Fields, unreadable, field, Each, each-fiel
 use Rattle.field_rules.specs.declared.Cause.{Cause}
 use Rattle.field_rules.specs.declared.Field.{Field}
 use Rattle.build_records.specs.declared.Record.{Record}
-use Rattle.build_group_rules.specs.Groups.{Rules, opens, Kind, plain, count, joins, wrong, ends, kindOf, Frame, run, entry, Move, adds, joinsAt, disorders, leaves, inEntry, decide, entryRecord, Store, ended, refused, moved, walk, taking, andThen}
+use Rattle.build_group_rules.specs.Groups.{Rules, opens, Kind, plain, count, joins, wrong, ends, entryKind, Frame, run, entry, Move, adds, joinsAt, disorders, leaves, inEntry, decide, entryRecord, Store, ended, refused, moved, walk, taking, andThen}
 use Rattle.build_group_rules.specs.declared.Refusal.the-variants.{Malformed, TooManyFields, InvalidOrderInGroup}
 
 -- what a tag does to a stack with more below it
@@ -45,7 +45,7 @@ module _ {L : Type 0} (rules : Rules L) (here : ℕ) where
   decide-append (run level group depth entries ∷ stack) below tag =
       rw (decide-append stack below tag) (extended-run (opens rules level tag) (eqb entries 0) (entry level group depth (entries + 1) 0 here) (run level group depth (entries + 1)) stack below depth (entries + 1) group (decide rules here stack tag) (decide rules here below tag))
   decide-append (entry level group depth number last start ∷ stack) below tag =
-      rw (decide-append stack below tag) (extended-entry level group depth number last start stack below tag (decide rules here stack tag) (decide rules here below tag) (kindOf rules level depth last tag))
+      rw (decide-append stack below tag) (extended-entry level group depth number last start stack below tag (decide rules here stack tag) (decide rules here below tag) (entryKind rules level depth last tag))
 
 module _ {L S W : Type 0} (rules : Rules L) (store : Store S W) where
   compose-move : (room : ℕ) (s : S) (f : Field) (rest : Fields) (below : List (Frame L)) →
@@ -98,31 +98,31 @@ module _ {L S W : Type 0} (rules : Rules L) (store : Store S W) where
 
   -- a field in an entry
   module _ (room : ℕ) (s : S) (f : Field) (rest : Fields) (level : L) (group depth number last start : ℕ) where
-    pub entry-plain : (position : ℕ) → kindOf rules level depth last (f .tag) ≡ plain position →
+    pub entry-plain : (position : ℕ) → entryKind rules level depth last (f .tag) ≡ plain position →
         taking rules store room (entry level group depth number last start ∷ []) s f rest
         ≡ walk rules store room (entry level group depth number position start ∷ []) (store .add (entryRecord depth number f) s) rest
     unfolding taking decide inEntry moved
     entry-plain position k = rw k
 
-    pub entry-count : (inner : L) (position : ℕ) → kindOf rules level depth last (f .tag) ≡ count inner position →
+    pub entry-count : (inner : L) (position : ℕ) → entryKind rules level depth last (f .tag) ≡ count inner position →
         taking rules store room (entry level group depth number last start ∷ []) s f rest
         ≡ andThen (walk rules store room (run inner (f .tag) (depth + 1) 0 ∷ []) (store .add (entryRecord depth number f) s) rest) (λ room s f rest. taking rules store room (entry level group depth number position start ∷ []) s f rest)
     unfolding taking decide inEntry moved
     entry-count inner position k =
         rw k (compose room (run inner (f .tag) (depth + 1) 0 ∷ []) (entry level group depth number position start ∷ []) (store .add (entryRecord depth number f) s) rest)
 
-    pub entry-joins : kindOf rules level depth last (f .tag) ≡ joins →
+    pub entry-joins : entryKind rules level depth last (f .tag) ≡ joins →
         taking rules store room (entry level group depth number last start ∷ []) s f rest
         ≡ walk rules store room (entry level group depth number last start ∷ []) (store .join start (entryRecord depth number f) s) rest
     unfolding taking decide inEntry moved
     entry-joins k = rw k
 
-    pub entry-wrong : kindOf rules level depth last (f .tag) ≡ wrong →
+    pub entry-wrong : entryKind rules level depth last (f .tag) ≡ wrong →
         taking rules store room (entry level group depth number last start ∷ []) s f rest ≡ refused (InvalidOrderInGroup (f .tag) group) (store .left s)
     unfolding taking decide inEntry moved
     entry-wrong k = rw k
 
-    pub entry-ends : kindOf rules level depth last (f .tag) ≡ ends →
+    pub entry-ends : entryKind rules level depth last (f .tag) ≡ ends →
         taking rules store room (entry level group depth number last start ∷ []) s f rest ≡ ended f rest room s
     unfolding taking decide inEntry moved
     entry-ends k = rw k

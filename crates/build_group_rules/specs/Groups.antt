@@ -55,8 +55,8 @@ module _ {L : Type 0} (rules : Rules L) where
   declared level depth last tag (At position) = pick (leb position last) wrong (counting depth position (rules .group level tag))
 
   -- "Each delimiter opens an entry", and so ends the one before; "a delimiter that is itself a group tag is stored plain"
-  unfoldable pub kindOf : L → ℕ → ℕ → ℕ → Kind L
-  kindOf level depth last tag = pick (opens level tag) ends (declared level depth last tag (rules .position level tag))
+  unfoldable pub entryKind : L → ℕ → ℕ → ℕ → Kind L
+  entryKind level depth last tag = pick (opens level tag) ends (declared level depth last tag (rules .position level tag))
 
 -- what is open: a run with its level, its count's tag, its depth and how many entries it has; or an entry with the same, its number, the
 -- position of its last declared tag, and where its records start
@@ -91,7 +91,7 @@ module _ {L : Type 0} (rules : Rules L) (here : ℕ) where
       (adds (entry level group depth (entries + 1) 0 here ∷ run level group depth (entries + 1) ∷ below) depth (entries + 1))
       (pick (eqb entries 0) (disorders group) (decide below tag))
   decide (entry level group depth number last start ∷ below) tag =
-      inEntry level group depth number last start below tag (decide below tag) (kindOf rules level depth last tag)
+      inEntry level group depth number last start below tag (decide below tag) (entryKind rules level depth last tag)
 
 -- the record of a field of the body that stands in an entry
 unfoldable pub entryRecord : ℕ → ℕ → Field → Record

@@ -24,7 +24,7 @@ use Rattle.build_records.specs.Records.{recordsOf, onRecords, inserted, between
 use Rattle.build_records.specs.declared.Record.{Record}
 use Rattle.build_records.specs.declared.Standing.{Standing}
 use Rattle.build_records.specs.declared.Standing.the-variants.{At as held-at, Nowhere as not-held}
-use Rattle.build_group_rules.specs.Groups.{Opened, none, opened, Rules, isDelimiter, Kind, plain, count, joins, wrong, ends, kindOf, run, entry, entryRecord, Store, RunOutcome, ended, refused, walk}
+use Rattle.build_group_rules.specs.Groups.{Opened, none, opened, Rules, isDelimiter, Kind, plain, count, joins, wrong, ends, entryKind, run, entry, entryRecord, Store, RunOutcome, ended, refused, walk}
 use Rattle.build_group_rules.specs.declared.Group.{Group}
 use Rattle.build_group_rules.specs.declared.Progress.{Progress}
 use Rattle.build_group_rules.specs.declared.Refusal.{Refusal}
@@ -72,7 +72,7 @@ meant Wrong = wrong
 meant Ends = ends
 
 unfoldable pub kindAt : Config → List ℕ → (ℕ → Bool) → Group → ℕ → ℕ → Kind Level
-kindAt config table known group last tag = kindOf (tableRules config table known) (group .level) (group .depth) last tag
+kindAt config table known group last tag = entryKind (tableRules config table known) (group .level) (group .depth) last tag
 
 -- records as a list: a new one comes last, and what joins an entry is stored in the entry's own map
 unfoldable pub joinedList : ℕ → Record → List Record → List Record
@@ -130,9 +130,9 @@ unfoldable pub roomFor : Field → Progress → ℕ → Reading
 roomFor f progress zero = Refused TooManyFields
 roomFor f progress (suc room) = At f (record { room = room; records = progress .records; place = progress .place })
 
-unfoldable pub nextOf : FieldRead → Progress → Reading
-nextOf (Unreadable cause place) progress = Refused (Malformed cause place)
-nextOf (Read f) progress = roomFor f progress (progress .room)
+unfoldable pub nextReading : FieldRead → Progress → Reading
+nextReading (Unreadable cause place) progress = Refused (Malformed cause place)
+nextReading (Read f) progress = roomFor f progress (progress .room)
 
 module _ (mode : Mode) (message : List ℕ) where
   -- what the code's answer says, with the words that it leaves

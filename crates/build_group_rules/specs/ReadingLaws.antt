@@ -21,7 +21,7 @@ use Rattle.build_records.specs.declared.Standing.{Standing}
 use Rattle.build_records.specs.declared.Standing.the-variants.{At as held-at, Nowhere as not-held}
 use Rattle.build_group_rules.specs.Groups.{Rules, Frame, RunOutcome, refused, walk, taking, andThen}
 use Rattle.build_group_rules.specs.GroupLaws.{walk-unreadable, walk-full, walk-field, keeps}
-use Rattle.build_group_rules.specs.Reading.{Memory, memory, addedWords, makes, standingIn, joinedWords, wordStore, further, Fits, FitsAt, roomFor, nextOf, toldBy}
+use Rattle.build_group_rules.specs.Reading.{Memory, memory, addedWords, makes, standingIn, joinedWords, wordStore, further, Fits, FitsAt, roomFor, nextReading, toldBy}
 use Rattle.build_group_rules.specs.declared.Progress.{Progress}
 use Rattle.build_group_rules.specs.declared.Refusal.{Refusal}
 use Rattle.build_group_rules.specs.declared.Refusal.the-variants.{Malformed, TooManyFields}
@@ -30,17 +30,17 @@ use Rattle.build_group_rules.specs.declared.Reading.the-variants.{At, Re
 
 -- each way that the next field goes
 module _ (read : FieldRead) (progress : Progress) where
-  pub next-unreadable : (cause : Cause) (place : ℕ) → read ≡ Unreadable cause place → nextOf read progress ≡ Refused (Malformed cause place)
-  unfolding nextOf
+  pub next-unreadable : (cause : Cause) (place : ℕ) → read ≡ Unreadable cause place → nextReading read progress ≡ Refused (Malformed cause place)
+  unfolding nextReading
   next-unreadable cause place e = rw e
 
   module _ (f : Field) (e : read ≡ Read f) where
-    pub next-full : progress .room ≡ 0 → nextOf read progress ≡ Refused TooManyFields
-    unfolding nextOf roomFor
+    pub next-full : progress .room ≡ 0 → nextReading read progress ≡ Refused TooManyFields
+    unfolding nextReading roomFor
     next-full z = rw (e, z)
 
-    pub next-field : (progress .room ≡ 0 → ⊥) → nextOf read progress ≡ At f (record { room = progress .room - 1; records = progress .records; place = progress .place })
-    unfolding nextOf roomFor
+    pub next-field : (progress .room ≡ 0 → ⊥) → nextReading read progress ≡ At f (record { room = progress .room - 1; records = progress .records; place = progress .place })
+    unfolding nextReading roomFor
     next-field n =
         let r : progress .room ≡ suc (progress .room - 1) = omega arith in
         rw e (ap (roomFor f progress) r)
@@ -76,7 +76,7 @@ module _ (rules : Rules Level) (mode : Mode) (message : List ℕ) where
 
 module _ (rules : Rules Level) (mode : Mode) (message : List ℕ) (stack : List (Frame Level)) (progress : Progress) (words : List ℕ) (c : Cursor) where
   by-field : (r : FieldRead) → fieldAt mode message c ≡ r → (room : ℕ) → progress .room ≡ room →
-      walk rules wordStore (progress .room) stack (memory progress words) (fieldsFrom mode message c) ≡ going rules mode message stack (nextOf (fieldAt mode message c) progress) words
+      walk rules wordStore (progress .room) stack (memory progress words) (fieldsFrom mode message c) ≡ going rules mode message stack (nextReading (fieldAt mode message c) progress) words
   unfolding going wordStore memory
   by-field (Unreadable cause place) e room q =
       rw (fields-end mode message c cause place e, next-unreadable _ progress cause place e) (walk-unreadable rules wordStore (progress .room) stack (memory progress words) cause place)
@@ -92,7 +92,7 @@ module _ (rules : Rules Level) (mode : Mode) (message : List ℕ) (stack : List 
 module _ (rules : Rules Level) (mode : Mode) (message : List ℕ) where
   -- reading the next field is a step of the walk
   pub walk-next : (stack : List (Frame Level)) (progress : Progress) (words : List ℕ) (c : Cursor) →
-      walk rules wordStore (progress .room) stack (memory progress words) (fieldsFrom mode message c) ≡ going rules mode message stack (nextOf (fieldAt mode message c) progress) words
+      walk rules wordStore (progress .room) stack (memory progress words) (fieldsFrom mode message c) ≡ going rules mode message stack (nextReading (fieldAt mode message c) progress) words
   walk-next stack progress words c = by-field rules mode message stack progress words c (fieldAt mode message c) refl (progress .room) refl
 
   -- going on from where a reading ended
@@ -117,10 +117,10 @@ at-follows message room f progress h fits = record { falls = h; fits = same }
         rw (← a, ← b) fits
 
 -- the next field lies within the message, and the room falls
-pub next-follows : (mode : Mode) (message : List ℕ) (c : Cursor) (progress : Progress) → Fits message progress → Follows message (progress .room) (nextOf (fieldAt mode message c) progress)
+pub next-follows : (mode : Mode) (message : List ℕ) (c : Cursor) (progress : Progress) → Fits message progress → Follows message (progress .room) (nextReading (fieldAt mode message c) progress)
 next-follows mode message c progress fits = go (fieldAt mode message c) refl (progress .room) refl
   where
-    go : (r : FieldRead) → fieldAt mode message c ≡ r → (room : ℕ) → progress .room ≡ room → Follows message (progress .room) (nextOf (fieldAt mode message c) progress)
+    go : (r : FieldRead) → fieldAt mode message c ≡ r → (room : ℕ) → progress .room ≡ room → Follows message (progress .room) (nextReading (fieldAt mode message c) progress)
     go (Unreadable cause place) e room q = rw (next-unreadable _ progress cause place e) (refused-follows message (progress .room) (Malformed cause place))
     go (Read f) e zero q = rw (next-full _ progress f e q) (refused-follows message (progress .room) TooManyFields)
     go (Read f) e (suc room) q =

@@ -12,7 +12,7 @@ use Rattle.dictionary_layout_rules.specs.declared.Level.{Level}
 use Rattle.dictionary_layout_rules.specs.declared.Position.the-variants.{At, Nowhere}
 use Rattle.dictionary_layout_rules.specs.declared.Nested.the-variants.{Within, NoGroup}
 use Rattle.dictionary_layout_rules.specs.declared.FirstTag.the-variants.{First, NoTag}
-use Rattle.build_group_rules.specs.Groups.{isDelimiter, opens, plain, count, joins, wrong, ends, counting, declared, kindOf}
+use Rattle.build_group_rules.specs.Groups.{isDelimiter, opens, plain, count, joins, wrong, ends, counting, declared, entryKind}
 use Rattle.build_group_rules.specs.Reading.{accepted, openedBy, tableRules, opensAt, kindAt}
 use Rattle.build_group_rules.specs.declared.Group.{Group}
 
@@ -49,31 +49,31 @@ opens-table config table known level tag = refl
 
 module _ (config : Config) (table : List ℕ) (known : ℕ → Bool) (group : Group) (last tag : ℕ) where
   pub kind-delimiter : opensAt table (group .level) tag ≡ true → kindAt config table known group last tag ≡ ends
-  unfolding kindAt kindOf opens tableRules opensAt
+  unfolding kindAt entryKind opens tableRules opensAt
   kind-delimiter o = rw o
 
   module _ (o : opensAt table (group .level) tag ≡ false) where
     pub kind-user : positionOf table (group .level) tag ≡ Nowhere → accepted config known tag ≡ true → kindAt config table known group last tag ≡ joins
-    unfolding kindAt kindOf opens tableRules opensAt declared
+    unfolding kindAt entryKind opens tableRules opensAt declared
     kind-user p a = rw (o, p, a)
 
     pub kind-other : positionOf table (group .level) tag ≡ Nowhere → accepted config known tag ≡ false → kindAt config table known group last tag ≡ ends
-    unfolding kindAt kindOf opens tableRules opensAt declared
+    unfolding kindAt entryKind opens tableRules opensAt declared
     kind-other p a = rw (o, p, a)
 
     module _ (position : ℕ) (p : positionOf table (group .level) tag ≡ At position) where
       pub kind-wrong : position ≤ last → kindAt config table known group last tag ≡ wrong
-      unfolding kindAt kindOf opens tableRules opensAt declared
+      unfolding kindAt entryKind opens tableRules opensAt declared
       kind-wrong h = rw (o, p, le-leb _ _ h)
 
       pub kind-plain : last < position → groupWithin table (group .level) tag ≡ NoGroup → kindAt config table known group last tag ≡ plain position
-      unfolding kindAt kindOf opens tableRules opensAt declared counting openedBy
+      unfolding kindAt entryKind opens tableRules opensAt declared counting openedBy
       kind-plain h g = rw (o, p, lt-leb _ _ h, g)
 
       pub kind-count : last < position → (inner : Level) → groupWithin table (group .level) tag ≡ Within inner → group .depth < 4 → kindAt config table known group last tag ≡ count inner position
-      unfolding kindAt kindOf opens tableRules opensAt declared counting openedBy
+      unfolding kindAt entryKind opens tableRules opensAt declared counting openedBy
       kind-count h inner g d = rw (o, p, lt-leb _ _ h, g, lt-ltb _ _ d)
 
       pub kind-deep : last < position → (inner : Level) → groupWithin table (group .level) tag ≡ Within inner → 4 ≤ group .depth → kindAt config table known group last tag ≡ plain position
-      unfolding kindAt kindOf opens tableRules opensAt declared counting openedBy
+      unfolding kindAt entryKind opens tableRules opensAt declared counting openedBy
       kind-deep h inner g d = rw (o, p, lt-leb _ _ h, g, le-ltb _ _ d)

@@ -19,9 +19,9 @@ use Rattle.dictionary_layout_rules.specs.declared.Position.{Position}
 use Rattle.dictionary_layout_rules.specs.declared.Position.the-variants.{At as position-at, Nowhere}
 use Rattle.build_records.specs.Records.{onRecords, inserted, storedBetween}
 use Rattle.build_records.specs.declared.Record.{Record}
-use Rattle.build_group_rules.specs.Groups.{Opened, none, opened, Rules, opens, plain, count, joins, wrong, ends, counting, declared, kindOf, Frame, run, entry, entryRecord, RunOutcome, walk, taking}
+use Rattle.build_group_rules.specs.Groups.{Opened, none, opened, Rules, opens, plain, count, joins, wrong, ends, counting, declared, entryKind, Frame, run, entry, entryRecord, RunOutcome, walk, taking}
 use Rattle.build_group_rules.specs.GroupLaws.{run-entry, run-first, run-over, entry-plain, entry-count, entry-joins, entry-wrong, entry-ends}
-use Rattle.build_group_rules.specs.Reading.{tableRules, opensAt, meant, kindAt, Memory, memory, addedWords, makes, standingIn, joinedWords, wordStore, further, nextOf, toldBy, runOf, entryOf, Fits, FitsAt}
+use Rattle.build_group_rules.specs.Reading.{tableRules, opensAt, meant, kindAt, Memory, memory, addedWords, makes, standingIn, joinedWords, wordStore, further, nextReading, toldBy, runOf, entryOf, Fits, FitsAt}
 use Rattle.build_group_rules.specs.ReadingLaws.{going, walk-next, going-on, Follows, roomOf, next-follows, told-follows}
 use Rattle.build_group_rules.specs.declared.Group.{Group}
 use Rattle.build_group_rules.specs.declared.Progress.{Progress}
@@ -57,8 +57,8 @@ module _ {L : Type 0} (rules : Rules L) (level : L) (depth last tag : ℕ) (inne
       go true e = let z : _≡_ {A = ℕ} 0 1 = cc in absurd (omega arith)
       go false e = counting-below depth position (rules .group level tag) inner at e
 
-  kind-below : kindOf rules level depth last tag ≡ count inner at → depth < 4
-  unfolding kindOf
+  kind-below : entryKind rules level depth last tag ≡ count inner at → depth < 4
+  unfolding entryKind
   kind-below e = go (opens rules level tag) e
     where
       go : (t : Bool) → pick t ends (declared rules level depth last tag (rules .position level tag)) ≡ count inner at → depth < 4
@@ -79,13 +79,13 @@ module _ (message : List ℕ) (config : Config) (table : List ℕ) (known : ℕ 
   abbrev pub runLeft : ℕ → Reading → List ℕ → RunOutcome Memory (List ℕ)
   runLeft number reading words = going (tableRules config table known) (config .mode) message (run (group .level) (group .tag) (group .depth) number ∷ []) reading words
 
-  pub run-starts : (cursor : Cursor) (progress : Progress) (words : List ℕ) (reading : Reading) → reading ≡ nextOf (fieldAt (config .mode) message cursor) progress →
+  pub run-starts : (cursor : Cursor) (progress : Progress) (words : List ℕ) (reading : Reading) → reading ≡ nextReading (fieldAt (config .mode) message cursor) progress →
       runOf message config table known group cursor progress words ≡ runLeft 0 reading words
   unfolding runOf
   run-starts cursor progress words reading e = rw e (walk-next _ _ _ _ progress words cursor)
 
   pub entry-starts : (number : ℕ) (delimiter : Field) (progress begun : Progress) (words words₁ : List ℕ) (r : Record) (reading : Reading) →
-      r ≡ entryRecord (group .depth) number delimiter → begun ≡ further 1 progress → words₁ ≡ onRecords (inserted (progress .records) (progress .place) r) words → reading ≡ nextOf (fieldAt (config .mode) message (delimiter .next)) begun →
+      r ≡ entryRecord (group .depth) number delimiter → begun ≡ further 1 progress → words₁ ≡ onRecords (inserted (progress .records) (progress .place) r) words → reading ≡ nextReading (fieldAt (config .mode) message (delimiter .next)) begun →
       entryOf message config table known group number delimiter progress words ≡ entryLeft number 0 (progress .place) reading words₁
   unfolding entryOf addedWords memory further
   entry-starts number delimiter progress begun words words₁ r reading a b c d =
@@ -122,7 +122,7 @@ module _ (message : List ℕ) (config : Config) (table : List ℕ) (known : ℕ 
 
       module _ (r : Record) (is : r ≡ entryRecord (group .depth) number f) (stored : Progress) (words₁ : List ℕ) (reading₁ : Reading) where
         pub turn-joins : kind ≡ Joins → stored ≡ further (makes (standingIn start (progress .place) r words)) progress → words₁ ≡ onRecords (storedBetween (progress .records) start (progress .place) r) words →
-            reading₁ ≡ nextOf (fieldAt (config .mode) message (f .next)) stored →
+            reading₁ ≡ nextReading (fieldAt (config .mode) message (f .next)) stored →
             entryLeft number last start reading words ≡ entryLeft number last start reading₁ words₁
         unfolding meant kindAt
         turn-joins q a b c =
@@ -131,7 +131,7 @@ module _ (message : List ℕ) (config : Config) (table : List ℕ) (known : ℕ 
             ∙ rw (c, b, a, is) (joined-field _ start ∙ walk-next _ _ _ _ (further (makes (standingIn start (progress .place) (entryRecord (group .depth) number f) words)) progress) (onRecords (storedBetween (progress .records) start (progress .place) (entryRecord (group .depth) number f)) words) (f .next))
 
         module _ (a : stored ≡ further 1 progress) (b : words₁ ≡ onRecords (inserted (progress .records) (progress .place) r) words) where
-          pub turn-plain : (position : ℕ) → kind ≡ Plain position → reading₁ ≡ nextOf (fieldAt (config .mode) message (f .next)) stored →
+          pub turn-plain : (position : ℕ) → kind ≡ Plain position → reading₁ ≡ nextReading (fieldAt (config .mode) message (f .next)) stored →
               entryLeft number last start reading words ≡ entryLeft number position start reading₁ words₁
           unfolding meant kindAt
           turn-plain position q c =
@@ -200,7 +200,7 @@ unfolding further
 stored-room progress stored k e = rw e
 
 -- the field after one that was stored
-pub stored-follows : (mode : Mode) (message : List ℕ) (c : Cursor) (f : Field) (progress stored : Progress) (k : ℕ) (reading : Reading) → k ≤ 1 → FitsAt message f progress → stored ≡ further k progress → reading ≡ nextOf (fieldAt mode message c) stored → Follows message (progress .room) reading
+pub stored-follows : (mode : Mode) (message : List ℕ) (c : Cursor) (f : Field) (progress stored : Progress) (k : ℕ) (reading : Reading) → k ≤ 1 → FitsAt message f progress → stored ≡ further k progress → reading ≡ nextReading (fieldAt mode message c) stored → Follows message (progress .room) reading
 stored-follows mode message c f progress stored k reading h fits e q =
     rw (q, ← stored-room progress stored k e) (next-follows mode message c stored (stored-fits message f progress stored k h fits e))
 

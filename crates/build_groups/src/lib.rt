@@ -21,13 +21,13 @@ ghost use Prim.Native.Nat.{_<_, _^_};
 ghost use Rattle.field_rules.specs.Field.{fieldAt};
 ghost use Rattle.build_group_rules.specs.Groups.{entryRecord};
 ghost use Rattle.build_records.specs.Records.{onRecords, inserted, storedBetween};
-ghost use Rattle.build_group_rules.specs.Reading.{accepted, opensAt, kindAt, meant, nextOf, further, makes, standingIn, toldBy, runOf, entryOf, Fits, FitsAt};
+ghost use Rattle.build_group_rules.specs.Reading.{accepted, opensAt, kindAt, meant, nextReading, further, makes, standingIn, toldBy, runOf, entryOf, Fits, FitsAt};
 
 // The first of the tags that users define.
 const USER_DEFINED: u32 = 5000;
 
 // With validation off, a user-defined tag that the dictionary lacks.
-pub fn accepted(config: Config, index: &[u16; 96150], tag: u32) -> bool
+pub fn accepted(config: Config, index: &[u16; dictionary_chains::WORDS], tag: u32) -> bool
     ensures { λ r. ⌜ r ≡ accepted config (tagAt (now (index .entry))) tag ⌝ }
 {
     if config.validate {
@@ -54,7 +54,7 @@ pub fn opens(table: &[u32], level: Level, tag: u32) -> bool
 fn kind_of(
     config: Config,
     table: &[u32],
-    index: &[u16; 96150],
+    index: &[u16; dictionary_chains::WORDS],
     group: Group,
     last: usize,
     tag: u32,
@@ -85,7 +85,7 @@ fn kind_of(
 
 // The next field, where one can be read and there is room for it.
 pub fn next_field(message: &[u8], config: Config, cursor: Cursor, progress: Progress) -> Reading
-    ensures { λ r. ⌜ r ≡ nextOf (fieldAt (config .mode) (now (message .entry)) cursor) progress ⌝ }
+    ensures { λ r. ⌜ r ≡ nextReading (fieldAt (config .mode) (now (message .entry)) cursor) progress ⌝ }
 {
     match field_tagvalue::next_field(cursor, message, config.mode) {
         FieldRead::Unreadable(cause, place) => Reading::Refused(Refusal::Malformed(cause, place)),
@@ -155,7 +155,7 @@ pub fn read_run(
     message: &[u8],
     config: Config,
     table: &[u32],
-    index: &[u16; 96150],
+    index: &[u16; dictionary_chains::WORDS],
     group: Group,
     cursor: Cursor,
     words: &mut [u32],
@@ -196,7 +196,7 @@ pub fn read_entry(
     message: &[u8],
     config: Config,
     table: &[u32],
-    index: &[u16; 96150],
+    index: &[u16; dictionary_chains::WORDS],
     group: Group,
     number: u32,
     delimiter: Field,

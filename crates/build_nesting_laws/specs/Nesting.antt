@@ -16,7 +16,7 @@ use Rattle.dictionary_layout_rules.specs.declared.Position.{Position}
 use Rattle.dictionary_layout_rules.specs.declared.Position.the-variants.{At, Nowhere}
 use Rattle.build_records.specs.Records.{stored}
 use Rattle.build_records.specs.declared.Record.{Record}
-use Rattle.build_group_rules.specs.Groups.{Opened, none, opened, Rules, opens, Kind, plain, count, joins, wrong, ends, counting, declared, kindOf, Frame, run, entry, Move, adds, joinsAt, disorders, leaves, inEntry, decide, entryRecord, ended, moved, walk}
+use Rattle.build_group_rules.specs.Groups.{Opened, none, opened, Rules, opens, Kind, plain, count, joins, wrong, ends, counting, declared, entryKind, Frame, run, entry, Move, adds, joinsAt, disorders, leaves, inEntry, decide, entryRecord, ended, moved, walk}
 use Rattle.build_group_rules.specs.Reading.{joinedList, listStore}
 use Rattle.build_nesting_laws.specs.Formed.{entriesOf, fieldsOf, Own, Formed, no-entry, next-entry, starts, rises, hangs, user}
 
@@ -64,8 +64,8 @@ module _ {L : Type 0} (rules : Rules L) where
       go true q = says-wrong
       go false q = counting-says level depth last tag position e (leb-false _ _ q) (rules .group level tag) refl
 
-  kind-says : (level : L) (depth last tag : ℕ) → Says level last tag (kindOf rules level depth last tag)
-  unfolding kindOf
+  kind-says : (level : L) (depth last tag : ℕ) → Says level last tag (entryKind rules level depth last tag)
+  unfolding entryKind
   kind-says level depth last tag = go (opens rules level tag)
     where
       go : (b : Bool) → Says level last tag (pick b ends (declared rules level depth last tag (rules .position level tag)))

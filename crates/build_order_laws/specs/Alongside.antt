@@ -33,6 +33,6 @@ pub at-first : {O : Type 0} (ended : Field → Fields → ℕ → List Record �
 at-first ended {n} f g {rest} {behind} room {rs} {qs} t a s = record { found = g; behind = behind; kept = qs; is = refl; tag = t; similar = s; left = n; counted = omega arith; agree = a }
 
 -- another outcome that is the same
-pub told : {O : Type 0} (ended : Field → Fields → ℕ → List Record → O) {outcome : O} (other : O) {n room : ℕ} {f : Field} {rest : Fields} {room₁ : ℕ} {rs₁ : List Record}
+pub alongside-same : {O : Type 0} (ended : Field → Fields → ℕ → List Record → O) {outcome : O} (other : O) {n room : ℕ} {f : Field} {rest : Fields} {room₁ : ℕ} {rs₁ : List Record}
     → (w : Alongside ended outcome n room f rest room₁ rs₁) → other ≡ ended (w .found) (w .behind) room₁ (w .kept) → Alongside ended other n room f rest room₁ rs₁
-told ended other w e = record { found = w .found; behind = w .behind; kept = w .kept; is = e; tag = w .tag; similar = w .similar; left = w .left; counted = w .counted; agree = w .agree }
+alongside-same ended other w e = record { found = w .found; behind = w .behind; kept = w .kept; is = e; tag = w .tag; similar = w .similar; left = w .left; counted = w .counted; agree = w .agree }

@@ -22,7 +22,7 @@ use Rattle.build_parts.specs.Parts.{Reading, ended, refused, partRecord}
 use Rattle.build_body_rules.specs.Body.{Kind, plain, counts, other, Body, storedRun, andThen, nextFrom, withRun, takes, bodyWithin, bodyFrom}
 use Rattle.build_body_rules.specs.Kinds.{checked, ranAs, runFrom, bodyOf}
 use Rattle.build_order_laws.specs.Agree.{Agree, enough, same, Similar, none}
-use Rattle.build_order_laws.specs.Alongside.{Alongside, one-more, at-first, told}
+use Rattle.build_order_laws.specs.Alongside.{Alongside, one-more, at-first, alongside-same}
 use Rattle.build_order_laws.specs.SimilarLaws.{similar-stored, similar-run, alike-field}
 use Rattle.build_order_laws.specs.LackLaws.{run-lack-same}
 use Rattle.build_order_laws.specs.GroupReading.{walk-falls, walk-same}
@@ -149,7 +149,7 @@ module _ {L : Type 0} (rules : Rules L) (demands : Demands L) where
         unfolding takes bodyOf
         by-kind plain e =
             let w = later last others room n (stored (partRecord 2 g) rs) (stored (partRecord 2 h) qs) (next-on turns last room (stored (partRecord 2 g) rs) f rest room₁ rs₁ e) (similar-stored (alike-field 2 g h t) s) a (omega arith) in
-            one-more ended (told ended _ w (on-next turns others room (stored (partRecord 2 h) qs) (w .found) (w .behind) room₁ (w .kept) (w .is)))
+            one-more ended (alongside-same ended _ w (on-next turns others room (stored (partRecord 2 h) qs) (w .found) (w .behind) room₁ (w .kept) (w .is)))
         by-kind (counts inner) e = run-same inner (run-taken inner (g .tag) room (partRecord 2 g) rs last (bodyWithin body turns) f rest room₁ rs₁ e)
         by-kind other e = rw (ap (λ (tag : ℕ). holdsTag tag tags) (sym t)) (by-tag (holdsTag (g .tag) tags) e)
 

@@ -14,7 +14,7 @@ use Rattle.dictionary_layout_rules.specs.Tree.{holdsTag}
 use Rattle.build_records.specs.Records.{stored}
 use Rattle.build_records.specs.declared.Record.{Record}
 use Rattle.build_answers.specs.Answer.{numberOf, valuesOf, listed}
-use Rattle.build_group_rules.specs.Groups.{isDelimiter, opens, counting, declared, kindOf, run, inEntry, decide, entryRecord, RunOutcome, ended, refused, moved, walk}
+use Rattle.build_group_rules.specs.Groups.{isDelimiter, opens, counting, declared, entryKind, run, inEntry, decide, entryRecord, RunOutcome, ended, refused, moved, walk}
 use Rattle.build_group_rules.specs.Reading.{answerOf, accepted, openedAs, layoutRules, joinedList, listStore}
 use Rattle.build_required_rules.specs.Required.{orElse, has, fieldsLack, before, shallow, runLacks, nestedLack, entriesLack, opensEntry, entryLack, runLack}
 use Rattle.build_required_rules.specs.Checking.{answerOfLack, layoutDemands}
@@ -62,5 +62,5 @@ table =
     ∷ []
 
 all-hold : map (λ row. verdict (row .0 .0) (row .0 .1)) table ≡ map (λ row. row .1) table
-unfolding verdict checked answer answerOfLack numberOf valuesOf listed answerOf layoutDemands runLack entryLack opensEntry entriesLack nestedLack runLacks shallow before fieldsLack has orElse requiredTags layoutRules openedAs accepted joinedList listStore walk moved decide inEntry kindOf declared counting opens isDelimiter entryRecord positionIn positionFrom firstOf groupOf groupSince delimiterOf holdsTag stored reading-fields
+unfolding verdict checked answer answerOfLack numberOf valuesOf listed answerOf layoutDemands runLack entryLack opensEntry entriesLack nestedLack runLacks shallow before fieldsLack has orElse requiredTags layoutRules openedAs accepted joinedList listStore walk moved decide inEntry entryKind declared counting opens isDelimiter entryRecord positionIn positionFrom firstOf groupOf groupSince delimiterOf holdsTag stored reading-fields
 all-hold = refl

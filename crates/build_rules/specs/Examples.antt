@@ -16,7 +16,7 @@ use Rattle.dictionary_layout_rules.specs.Layout.{followedBy as layoutThen, firs
 use Rattle.dictionary_layout_rules.specs.Tree.{Nodes, nothing, fieldItem, groupItem, Dictionary, holdsTag, knows, plainFields, headerTags, trailerTags, flattened, sameBytes, messageOf, layoutOf}
 use Rattle.build_records.specs.Records.{stored, valueAt}
 use Rattle.build_records.specs.declared.Record.{Record}
-use Rattle.build_group_rules.specs.Groups.{isDelimiter, counting, opens, declared, kindOf as entryKind, inEntry, decide, entryRecord, moved, walk}
+use Rattle.build_group_rules.specs.Groups.{isDelimiter, counting, opens, declared, entryKind, inEntry, decide, entryRecord, moved, walk}
 use Rattle.build_group_rules.specs.Reading.{accepted, openedAs, layoutRules, joinedList, listStore, answerOf}
 use Rattle.build_required_rules.specs.Required.{orElse, has, fieldsLack, before, shallow, runLacks, nestedLack, entriesLack, opensEntry, entryLack, runLack}
 use Rattle.build_required_rules.specs.Checking.{layoutDemands}
@@ -26,7 +26,7 @@ use Rattle.build_parts.specs.Header.{headerFrom}
 use Rattle.build_parts.specs.Trailer.{trailerFrom}
 use Rattle.build_rules.specs.Beginning.{verifiedRecords, headerOf, withChecksum, startedBy, startOf, msgTypeRecord}
 use Rattle.build_body_rules.specs.Body.{behindRun, storedRun, andThen, nextFrom, withRun, takes, bodyWithin, bodyFrom}
-use Rattle.build_body_rules.specs.Kinds.{groupKind, placedKind, kindOf, checked, ranAs, runFrom, bodyOf}
+use Rattle.build_body_rules.specs.Kinds.{groupKind, placedKind, bodyKind, checked, ranAs, runFrom, bodyOf}
 use Rattle.build_rules.specs.Message.{Outcome, shownWith, refusal, afterTrailer, afterBody, afterType, afterHeader, messageRead}
 
 abbrev pub fields : List ℕ → Nodes
@@ -84,11 +84,11 @@ table =
     ∷ (false, order "5001=x|", 0, (0, 0), header ++ (shows 2 0 0 5001 25 1 ∷ shows 3 0 0 10 30 3 ∷ []))
     ∷ []
 
-abbrev pub Told : Type 0
-Told = ℕ × (ℕ × ℕ) × List Record
+abbrev pub Answered : Type 0
+Answered = ℕ × (ℕ × ℕ) × List Record
 
-abbrev pub told : Outcome → Told
-told read = (numberOf (read .answer), valuesOf (read .answer), read .records)
+abbrev pub answered : Outcome → Answered
+answered read = (numberOf (read .answer), valuesOf (read .answer), read .records)
 
 -- "Body-level required marks are not checked.": message `D` requires 38 here
 abbrev pub marked : Dictionary
@@ -100,6 +100,6 @@ marked = record {
 }
 
 -- THE TABLE, and an order without 38 by that other dictionary
-pub all-read : (map (λ (row : Row). told (messageRead dictionary (validating (row .0)) (row .1))) table ≡ map {B = Told} (λ (row : Row). (row .2, row .3, row .4)) table) × (numberOf (messageRead marked (validating true) (order "58=x|") .answer) ≡ 0)
-unfolding messageRead numberOf startOf startedBy headerOf verifiedRecords withChecksum headerFrom afterHeader afterType afterBody afterTrailer refusal shownWith msgTypeRecord valueAt trailerFrom partRecord valuesOf bodyFrom bodyWithin takes withRun nextFrom andThen storedRun behindRun bodyOf runFrom ranAs checked kindOf placedKind groupKind answerOf numberOfReason integrityOf begun counted summed typed lengthIs lengthAgrees sumIs sumAgrees sumOf checksumOf checksumDigits decimalWithin layoutThen positionFrom firstOf positionIn groupSince groupOf delimiterOf requiredTags holdsTag knows plainFields headerTags trailerTags flattened sameBytes messageOf layoutOf stored isDelimiter counting opens declared entryKind inEntry decide entryRecord moved walk accepted openedAs layoutRules joinedList listStore orElse has fieldsLack before shallow runLacks nestedLack entriesLack opensEntry entryLack runLack layoutDemands reading-fields
+pub all-read : (map (λ (row : Row). answered (messageRead dictionary (validating (row .0)) (row .1))) table ≡ map {B = Answered} (λ (row : Row). (row .2, row .3, row .4)) table) × (numberOf (messageRead marked (validating true) (order "58=x|") .answer) ≡ 0)
+unfolding messageRead numberOf startOf startedBy headerOf verifiedRecords withChecksum headerFrom afterHeader afterType afterBody afterTrailer refusal shownWith msgTypeRecord valueAt trailerFrom partRecord valuesOf bodyFrom bodyWithin takes withRun nextFrom andThen storedRun behindRun bodyOf runFrom ranAs checked bodyKind placedKind groupKind answerOf numberOfReason integrityOf begun counted summed typed lengthIs lengthAgrees sumIs sumAgrees sumOf checksumOf checksumDigits decimalWithin layoutThen positionFrom firstOf positionIn groupSince groupOf delimiterOf requiredTags holdsTag knows plainFields headerTags trailerTags flattened sameBytes messageOf layoutOf stored isDelimiter counting opens declared entryKind inEntry decide entryRecord moved walk accepted openedAs layoutRules joinedList listStore orElse has fieldsLack before shallow runLacks nestedLack entriesLack opensEntry entryLack runLack layoutDemands reading-fields
 all-read = (refl, refl)

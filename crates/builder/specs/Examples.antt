@@ -16,7 +16,7 @@ use Rattle.dictionary_layout_rules.specs.Tree.{Dictionary}
 use Rattle.build_answers.specs.Answer.{numberOf, valuesOf}
 use Rattle.dictionary_rules.specs.Check.{checkOf}
 use Rattle.dictionary_rules.specs.Examples.{examples, examples-pass}
-use Rattle.dictionary_rules.specs.Record.{lowFirst, zeroFilled, bodyLength, withTag as tagBytes, withMark, knownTag, opensComponent, opensMessage, bodyOf as bodyBytes, withBody, withKind, recordFrom, recordAt}
+use Rattle.dictionary_rules.specs.Record.{lowFirst, zeroFilled, recordBodyLength, withTag as tagBytes, withMark, knownTag, opensComponent, opensMessage, recordBody as bodyBytes, withBody, withKind, recordFrom, recordAt}
 use Rattle.dictionary_rules.specs.Record.{fieldItem as fieldBody, componentItem as componentBody, opensGroup as groupBody}
 use Rattle.dictionary_rules.specs.Records.{recordsFrom, recordsWithin, followedBy as recordsThen}
 use Rattle.dictionary_meaning_rules.specs.Meaning.{onTop, groupOnTop, below, innermost, levelsOf, declarationsOf, nodesOf, expanded, definedBy, definedAfter, bytesWithin, msgTypeBytes, messageIn, messagesFrom, tagIn, tagsFrom, meaningOf, dictionaryOf}
@@ -24,7 +24,7 @@ use Rattle.builder.specs.Build.{BuildOutcome, wordsWith, shown, checkedR
 use Rattle.builder.specs.BuildLaws.{check-reads}
 use Rattle.builder.specs.ReadingLaws.{build-reads}
 use Rattle.build_rules.specs.Message.{messageRead}
-use Rattle.build_rules.specs.Examples.{dictionary, Row, table, Told, told, all-read}
+use Rattle.build_rules.specs.Examples.{dictionary, Row, table, Answered, answered, all-read}
 
 abbrev firstTest : List Bool → Bool
 firstTest [] = true
@@ -36,7 +36,7 @@ laterTests (b ∷ bs) = bs
 
 -- the same dictionary in bytes
 means : dictionaryOf examples ≡ dictionary
-unfolding dictionaryOf meaningOf tagsFrom tagIn messagesFrom messageIn msgTypeBytes bytesWithin definedAfter definedBy expanded nodesOf declarationsOf levelsOf innermost below groupOnTop onTop recordsFrom recordsWithin recordsThen recordAt recordFrom withKind withBody bodyBytes bodyLength knownTag opensComponent opensMessage fieldBody componentBody groupBody tagBytes withMark zeroFilled lowFirst
+unfolding dictionaryOf meaningOf tagsFrom tagIn messagesFrom messageIn msgTypeBytes bytesWithin definedAfter definedBy expanded nodesOf declarationsOf levelsOf innermost below groupOnTop onTop recordsFrom recordsWithin recordsThen recordAt recordFrom withKind withBody bodyBytes recordBodyLength knownTag opensComponent opensMessage fieldBody componentBody groupBody tagBytes withMark zeroFilled lowFirst
 means = refl
 
 all-short : map (λ (row : Row). leb (length (row .1)) 8192) table ≡ map (λ (row : Row). true) table
@@ -48,11 +48,11 @@ module _ (words : List ℕ) where
   abbrev pub answers : BuildOutcome → ℕ × (ℕ × ℕ) × ℕ × ℕ × List ℕ
   answers b = (numberOf (b .answer), valuesOf (b .answer), b .records, b .written, b .words)
 
-  abbrev pub expected : Told → ℕ × (ℕ × ℕ) × ℕ × ℕ × List ℕ
+  abbrev pub expected : Answered → ℕ × (ℕ × ℕ) × ℕ × ℕ × List ℕ
   expected t = (t .0, t .1, length (t .2), 1024, wordsWith (t .2))
 
   -- a build by the dictionary's bytes reads by the tree that they mean
-  built-row : (row : Row) → leb (length (row .1)) 8192 ≡ true → answers (buildOf (row .1) (validating (row .0)) examples 1024 words) ≡ expected (told (messageRead dictionary (validating (row .0)) (row .1)))
+  built-row : (row : Row) → leb (length (row .1)) 8192 ≡ true → answers (buildOf (row .1) (validating (row .0)) examples 1024 words) ≡ expected (answered (messageRead dictionary (validating (row .0)) (row .1)))
   unfolding shown
   built-row row short =
       let reads : checkedRead (row .1) (validating (row .0)) examples (checkOf examples) ≡ messageRead dictionary (validating (row .0)) (row .1) = check-reads (row .1) (validating (row .0)) examples (checkOf examples) examples-pass ∙ ap (λ (d : Dictionary). messageRead d (validating (row .0)) (row .1)) means in
@@ -61,7 +61,7 @@ module _ (words : List ℕ) where
       sound : isRefusedSeparator 1 ≡ false
       sound = unfold isRefusedSeparator isDigit in refl
 
-  built-rows : (rows : List Row) → map (λ (row : Row). leb (length (row .1)) 8192) rows ≡ map (λ (row : Row). true) rows → map (λ (row : Row). answers (buildOf (row .1) (validating (row .0)) examples 1024 words)) rows ≡ map expected (map (λ (row : Row). told (messageRead dictionary (validating (row .0)) (row .1))) rows)
+  built-rows : (rows : List Row) → map (λ (row : Row). leb (length (row .1)) 8192) rows ≡ map (λ (row : Row). true) rows → map (λ (row : Row). answers (buildOf (row .1) (validating (row .0)) examples 1024 words)) rows ≡ map expected (map (λ (row : Row). answered (messageRead dictionary (validating (row .0)) (row .1))) rows)
   built-rows [] short = refl
   built-rows (row ∷ rows) short = rw (built-row row (ap firstTest short), built-rows rows (ap laterTests short))
 

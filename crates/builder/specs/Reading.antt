@@ -5,6 +5,7 @@ use mathlib.Core.List.{List}
 use mathlib.Core.Bool.{Bool, true, false}
 use lib.ListN.{length}
 use lib.Dec.{eqb, leb}
+use Rattle.dictionary_chains.specs.Chain.{indexWords}
 use Rattle.build_records.specs.Records.{stride}
 use Rattle.field_rules.specs.Choice.{pick}
 use Rattle.field_rules.specs.Fields.{fieldsFrom, Inside}
@@ -61,7 +62,7 @@ pub record Begins (message words : List ℕ) (r : Begun) : Type 0 where
 pub record Prepared (dictionary index : List ℕ) : Type 0 where
   pub passes : checkOf dictionary ≡ Passes
   pub before : List ℕ
-  pub size : length before ≡ 96150
+  pub size : length before ≡ indexWords
   pub made : index ≡ storeOf (preparedOf dictionary before)
 
 -- the header's tags are those of component 0, the trailer's those of component 1

@@ -8,6 +8,7 @@ use native.Mathlib.Omega.{arith}
 use lib.ListN.{length, take, replicate}
 use lib.Dec.{eqb, leb, ltb}
 use borrow.Author.Tests.{le-ltb, lt-ltb}
+use Rattle.dictionary_chains.specs.Chain.{indexWords}
 use Rattle.build_records.specs.Records.{recordWords, recordRoom, stride, valueAt}
 use Rattle.field_rules.specs.Choice.{pick}
 use Rattle.field_rules.specs.Separator.{isRefusedSeparator}
@@ -111,7 +112,7 @@ module _ (message : List ℕ) (config : Config) (d : List ℕ) (checked : Checke
   passing-dictionary z = sym (rw (← is) (check-reads message config d checked z))
 
 -- the index that a check left which passed
-pub prepared-by : (d : List ℕ) (checked : Checked) → checked ≡ checkOf d → numberOfCheck checked ≡ 0 → (before index : List ℕ) → length before ≡ 96150 → outcome checked index ≡ preparedOf d before → Prepared d index
+pub prepared-by : (d : List ℕ) (checked : Checked) → checked ≡ checkOf d → numberOfCheck checked ≡ 0 → (before index : List ℕ) → length before ≡ indexWords → outcome checked index ≡ preparedOf d before → Prepared d index
 unfolding storeOf
 prepared-by d checked is z before index size left = record { passes = sym is ∙ zero-passes checked z; before = before; size = size; made = ap storeOf left }
 

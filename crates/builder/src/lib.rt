@@ -81,7 +81,7 @@ fn finish(
     message: &[u8],
     config: Config,
     table: &[u32],
-    index: &[u16; 96150],
+    index: &[u16; dictionary_chains::WORDS],
     trailer_tags: &[u32],
     level: Level,
     headed: Headed,
@@ -191,7 +191,7 @@ fn read_headed(
     message: &[u8],
     config: Config,
     dictionary: &[u8],
-    index: &[u16; 96150],
+    index: &[u16; dictionary_chains::WORDS],
     trailer_tags: &[u32],
     headed: Headed,
     words: &mut [u32],
@@ -243,7 +243,12 @@ fn shown_with(answer: Answer, header: usize) -> usize
 }
 
 // The header's tags (0) or the trailer's (1), from a dictionary that passed its check, which left the index; answers how many there are.
-fn tags_of(dictionary: &[u8], index: &[u16; 96150], number: u16, list: &mut [u32; 1024]) -> usize
+fn tags_of(
+    dictionary: &[u8],
+    index: &[u16; dictionary_chains::WORDS],
+    number: u16,
+    list: &mut [u32; 1024],
+) -> usize
     requires { ⌜ Prepared (now dictionary) (now index) × (number ≤ 1) × (length (now list) ≡ 1024) ⌝ }
     ensures { λ r. ⌜ (take r (now (list .exit)) ≡ standardTags number (dictionaryOf (now (dictionary .entry)))) × (r ≤ length (now (list .exit))) ⌝ }
 {
@@ -258,7 +263,7 @@ fn read_message(
     message: &[u8],
     config: Config,
     dictionary: &[u8],
-    index: &[u16; 96150],
+    index: &[u16; dictionary_chains::WORDS],
     words: &mut [u32],
 ) -> Read
     requires { ⌜ (length (now message) < 2 ^ 32) × (length (now words) ≡ recordWords) × Prepared (now dictionary) (now index) ⌝ }
@@ -307,7 +312,7 @@ fn read_checked(message: &[u8], config: Config, dictionary: &[u8], words: &mut [
     ensures { λ r. ⌜ readTold r (now (words .exit)) ≡ checkedRead (now (message .entry)) config (now (dictionary .entry)) (checkOf (now (dictionary .entry))) ⌝ }
     ensures { λ r. ⌜ r .records ≤ recordRoom ⌝ }
 {
-    let mut index = [0u16; 96150];
+    let mut index = [0u16; dictionary_chains::WORDS];
     let checked = dictionary_check::prepare(dictionary, &mut index);
     if dictionary_check::number_of(checked) != 0 {
         return Read {

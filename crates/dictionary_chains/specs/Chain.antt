@@ -9,6 +9,22 @@ use Rattle.dictionary_chains.specs.declared.Table.{Table}
 use Rattle.dictionary_chains.specs.declared.Table.the-variants.{Tags, Components, MsgTypes}
 use Rattle.dictionary_chains.specs.declared.Entry.{Entry}
 
+-- words of heads, of all three tables
+abbrev pub headWords : ℕ
+headWords = 6144
+
+-- an entry of a number starts here
+abbrev pub entryStart : ℕ → ℕ
+entryStart number = headWords + 6 * number
+
+-- entries, entry 0 among them; a dictionary's 60,000 bytes enter fewer
+abbrev pub entryRoom : ℕ
+entryRoom = 15001
+
+-- words of an index
+abbrev pub indexWords : ℕ
+indexWords = 96150
+
 -- a tag is two words, a component's number one, a MsgType four, low word first
 unfoldable pub keyOf : Table → Entry → ℕ
 keyOf Tags e = e .first + 65536 * e .second
@@ -25,10 +41,10 @@ unfoldable pub headOf : Table → ℕ → ℕ
 headOf table key = 2048 * rankOf table + key % 2048
 
 unfoldable pub wordAt : List ℕ → ℕ → ℕ → ℕ
-wordAt index number k = getD index (6144 + 6 * number + k) 0
+wordAt index number k = getD index (entryStart number + k) 0
 
-unfoldable pub nextOf : List ℕ → ℕ → ℕ
-nextOf index number = getD index (6144 + 6 * number) 0
+unfoldable pub olderOf : List ℕ → ℕ → ℕ
+olderOf index number = getD index (entryStart number) 0
 
 unfoldable pub entryAt : List ℕ → ℕ → Entry
 entryAt index number = record { place = wordAt index number 1; first = wordAt index number 2; second = wordAt index number 3; third = wordAt index number 4; fourth = wordAt index number 5 }
@@ -39,7 +55,7 @@ chased zero table index key limit link = 0
 chased (suc fuel) table index key limit link =
     pick (ltb link limit)
     (pick (eqb link 0) 0
-    (pick (eqb (keyOf table (entryAt index link)) key) link (chased fuel table index key link (nextOf index link))))
+    (pick (eqb (keyOf table (entryAt index link)) key) link (chased fuel table index key link (olderOf index link))))
     0
 
 -- a chain has no more entries than its limit says
@@ -48,7 +64,7 @@ followed table index key limit link = chased limit table index key limit link
 
 -- the number of the newest entry with a key, and 0 where there is none
 unfoldable pub found : Table → List ℕ → ℕ → ℕ
-found table index key = followed table index key 15001 (getD index (headOf table key) 0)
+found table index key = followed table index key entryRoom (getD index (headOf table key) 0)
 
 -- the six words of an entry
 unfoldable pub placed : List ℕ → ℕ → ℕ → Entry → List ℕ
@@ -61,7 +77,7 @@ numberAt place = place / 4 + 1
 
 -- a new entry leads its chain
 unfoldable pub enteredAt : List ℕ → ℕ → ℕ → Entry → List ℕ
-enteredAt index number head e = set (placed index (6144 + 6 * number) (getD index head 0) e) head number
+enteredAt index number head e = set (placed index (entryStart number) (getD index head 0) e) head number
 
 unfoldable pub entered : Table → List ℕ → Entry → List ℕ
 entered table index e = pick (leb 60000 (e .place)) index (enteredAt index (numberAt (e .place)) (headOf table (keyOf table e)) e)

@@ -11,7 +11,7 @@ use lib.Seq.{sets-eq, length-take-le, getD-append-add, getD-take, getD-set-same,
 use lib.Dec.{eqb, ltb}
 use borrow.Author.Tests.{eq-eqb, ne-eqb, eqb-true, eqb-false, le-ltb, lt-ltb, ltb-true, le-leb, lt-leb}
 use Rattle.field_rules.specs.Choice.{pick, pick-same}
-use Rattle.dictionary_chains.specs.Chain.{keyOf, rankOf, headOf, wordAt, nextOf, entryAt, chased, followed, found, placed, numberAt, enteredAt, entered}
+use Rattle.dictionary_chains.specs.Chain.{headWords, entryStart, entryRoom, indexWords, keyOf, rankOf, headOf, wordAt, olderOf, entryAt, chased, followed, found, placed, numberAt, enteredAt, entered}
 use Rattle.dictionary_chains.specs.declared.Table.{Table}
 use Rattle.dictionary_chains.specs.declared.Table.the-variants.{Tags, Components, MsgTypes}
 use Rattle.dictionary_chains.specs.declared.Entry.{Entry}
@@ -23,9 +23,9 @@ module _ (table : Table) (index : List ℕ) (key : ℕ) where
   enough zero zero limit link h g = refl
   enough zero (suc l) limit link h g = rw (le-ltb link limit (omega arith))
   enough (suc k) zero limit link h g = rw (le-ltb link limit (omega arith))
-  enough (suc k) (suc l) limit link h g = go (ltb link limit) refl (enough k l link (nextOf index link))
+  enough (suc k) (suc l) limit link h g = go (ltb link limit) refl (enough k l link (olderOf index link))
     where
-      go : (t : Bool) → ltb link limit ≡ t → (link ≤ k → link ≤ l → chased k table index key link (nextOf index link) ≡ chased l table index key link (nextOf index link)) → pick t (pick (eqb link 0) 0 (pick (eqb (keyOf table (entryAt index link)) key) link (chased k table index key link (nextOf index link)))) 0 ≡ pick t (pick (eqb link 0) 0 (pick (eqb (keyOf table (entryAt index link)) key) link (chased l table index key link (nextOf index link)))) 0
+      go : (t : Bool) → ltb link limit ≡ t → (link ≤ k → link ≤ l → chased k table index key link (olderOf index link) ≡ chased l table index key link (olderOf index link)) → pick t (pick (eqb link 0) 0 (pick (eqb (keyOf table (entryAt index link)) key) link (chased k table index key link (olderOf index link)))) 0 ≡ pick t (pick (eqb link 0) 0 (pick (eqb (keyOf table (entryAt index link)) key) link (chased l table index key link (olderOf index link)))) 0
       go false e later = refl
       go true e later =
           let below : link < limit = ltb-true link limit e in
@@ -46,11 +46,11 @@ module _ (table : Table) (index : List ℕ) (key : ℕ) where
   follow-hit zero link h z e = absurd (omega arith)
   follow-hit (suc limit) link h z e = rw (lt-ltb link (suc limit) h, ne-eqb link 0 z, eq-eqb _ _ e)
 
-  pub follow-on : (limit link : ℕ) → link < limit → (link ≡ 0 → ⊥) → (keyOf table (entryAt index link) ≡ key → ⊥) → followed table index key limit link ≡ followed table index key link (nextOf index link)
+  pub follow-on : (limit link : ℕ) → link < limit → (link ≡ 0 → ⊥) → (keyOf table (entryAt index link) ≡ key → ⊥) → followed table index key limit link ≡ followed table index key link (olderOf index link)
   unfolding followed chased
   follow-on zero link h z e = absurd (omega arith)
   follow-on (suc limit) link h z e =
-      rw (lt-ltb link (suc limit) h, ne-eqb link 0 z, ne-eqb _ _ e) (enough limit link link (nextOf index link) (omega arith) (omega arith))
+      rw (lt-ltb link (suc limit) h, ne-eqb link 0 z, ne-eqb _ _ e) (enough limit link link (olderOf index link) (omega arith) (omega arith))
 
   -- a limit above the link is as good as another
   any-limit : (l m link : ℕ) → link < l → link < m → followed table index key l link ≡ followed table index key m link
@@ -59,14 +59,14 @@ module _ (table : Table) (index : List ℕ) (key : ℕ) where
   any-limit (suc l) zero link h g = absurd (omega arith)
   any-limit (suc l) (suc m) link h g =
       rw (lt-ltb link (suc l) h, lt-ltb link (suc m) g)
-      (ap (λ (x : ℕ). pick (eqb link 0) 0 (pick (eqb (keyOf table (entryAt index link)) key) link x)) (enough l m link (nextOf index link) (omega arith) (omega arith)))
+      (ap (λ (x : ℕ). pick (eqb link 0) 0 (pick (eqb (keyOf table (entryAt index link)) key) link x)) (enough l m link (olderOf index link) (omega arith) (omega arith)))
 
   below : (fuel limit link : ℕ) → chased fuel table index key limit link ≤ limit
   unfolding chased
   below zero limit link = omega arith
-  below (suc fuel) limit link = go (ltb link limit) refl (eqb link 0) (eqb (keyOf table (entryAt index link)) key) (below fuel link (nextOf index link))
+  below (suc fuel) limit link = go (ltb link limit) refl (eqb link 0) (eqb (keyOf table (entryAt index link)) key) (below fuel link (olderOf index link))
     where
-      go : (t : Bool) → ltb link limit ≡ t → (z e : Bool) → chased fuel table index key link (nextOf index link) ≤ link → pick t (pick z 0 (pick e link (chased fuel table index key link (nextOf index link)))) 0 ≤ limit
+      go : (t : Bool) → ltb link limit ≡ t → (z e : Bool) → chased fuel table index key link (olderOf index link) ≤ link → pick t (pick z 0 (pick e link (chased fuel table index key link (olderOf index link)))) 0 ≤ limit
       go false q z e later = omega arith
       go true q true e later = omega arith
       go true q false true later = omega (arith, ltb-true link limit q)
@@ -76,9 +76,9 @@ module _ (table : Table) (index : List ℕ) (key : ℕ) where
   within : (limit link : ℕ) → followed table index key limit link ≤ link
   unfolding followed chased
   within zero link = omega arith
-  within (suc limit) link = go (ltb link (suc limit)) (eqb link 0) (eqb (keyOf table (entryAt index link)) key) (below limit link (nextOf index link))
+  within (suc limit) link = go (ltb link (suc limit)) (eqb link 0) (eqb (keyOf table (entryAt index link)) key) (below limit link (olderOf index link))
     where
-      go : (t z e : Bool) → chased limit table index key link (nextOf index link) ≤ link → pick t (pick z 0 (pick e link (chased limit table index key link (nextOf index link)))) 0 ≤ link
+      go : (t z e : Bool) → chased limit table index key link (olderOf index link) ≤ link → pick t (pick z 0 (pick e link (chased limit table index key link (olderOf index link)))) 0 ≤ link
       go false z e later = omega arith
       go true true e later = omega arith
       go true false true later = omega arith
@@ -89,20 +89,20 @@ unfolding followed chased
 small table index key zero link h = absurd (omega arith)
 small table index key (suc limit) link h = go (ltb link (suc limit)) refl (eqb link 0) (eqb (keyOf table (entryAt index link)) key)
   where
-    go : (t : Bool) → ltb link (suc limit) ≡ t → (z e : Bool) → pick t (pick z 0 (pick e link (chased limit table index key link (nextOf index link)))) 0 < suc limit
+    go : (t : Bool) → ltb link (suc limit) ≡ t → (z e : Bool) → pick t (pick z 0 (pick e link (chased limit table index key link (olderOf index link)))) 0 < suc limit
     go false q z e = omega arith
     go true q true e = omega arith
     go true q false true = ltb-true link (suc limit) q
-    go true q false false = omega (arith, ltb-true link (suc limit) q, below table index key limit link (nextOf index link))
+    go true q false false = omega (arith, ltb-true link (suc limit) q, below table index key limit link (olderOf index link))
 
 -- two arrays that agree on the entries below the limit have the same chains there
-same-chain : (table : Table) (i j : List ℕ) (key fuel limit link : ℕ) → ((n : ℕ) → n < limit → entryAt i n ≡ entryAt j n) → ((n : ℕ) → n < limit → nextOf i n ≡ nextOf j n) → chased fuel table i key limit link ≡ chased fuel table j key limit link
+same-chain : (table : Table) (i j : List ℕ) (key fuel limit link : ℕ) → ((n : ℕ) → n < limit → entryAt i n ≡ entryAt j n) → ((n : ℕ) → n < limit → olderOf i n ≡ olderOf j n) → chased fuel table i key limit link ≡ chased fuel table j key limit link
 unfolding chased
 same-chain table i j key zero limit link entries nexts = refl
 same-chain table i j key (suc fuel) limit link entries nexts =
-    go (ltb link limit) refl (λ below. same-chain table i j key fuel link (nextOf i link) (λ n h. entries n (omega arith)) (λ n h. nexts n (omega arith)))
+    go (ltb link limit) refl (λ below. same-chain table i j key fuel link (olderOf i link) (λ n h. entries n (omega arith)) (λ n h. nexts n (omega arith)))
   where
-    go : (t : Bool) → ltb link limit ≡ t → (link < limit → chased fuel table i key link (nextOf i link) ≡ chased fuel table j key link (nextOf i link)) → pick t (pick (eqb link 0) 0 (pick (eqb (keyOf table (entryAt i link)) key) link (chased fuel table i key link (nextOf i link)))) 0 ≡ pick t (pick (eqb link 0) 0 (pick (eqb (keyOf table (entryAt j link)) key) link (chased fuel table j key link (nextOf j link)))) 0
+    go : (t : Bool) → ltb link limit ≡ t → (link < limit → chased fuel table i key link (olderOf i link) ≡ chased fuel table j key link (olderOf i link)) → pick t (pick (eqb link 0) 0 (pick (eqb (keyOf table (entryAt i link)) key) link (chased fuel table i key link (olderOf i link)))) 0 ≡ pick t (pick (eqb link 0) 0 (pick (eqb (keyOf table (entryAt j link)) key) link (chased fuel table j key link (olderOf j link)))) 0
     go false e later = refl
     go true e later =
         let below : link < limit = ltb-true link limit e in
@@ -152,7 +152,7 @@ rank-apart MsgTypes Tags h = absurd (omega arith)
 rank-apart MsgTypes Components h = absurd (omega arith)
 rank-apart MsgTypes MsgTypes h = refl
 
-pub head-small : (table : Table) (key : ℕ) → headOf table key < 6144
+pub head-small : (table : Table) (key : ℕ) → headOf table key < headWords
 unfolding headOf
 head-small table key = omega (arith, rank-small table)
 
@@ -161,18 +161,18 @@ unfolding headOf
 head-table t u k l h = rank-apart t u (omega arith)
 
 -- whatever the array holds, a number that is found is that of an entry
-pub found-small : (table : Table) (index : List ℕ) (key : ℕ) → found table index key < 15001
+pub found-small : (table : Table) (index : List ℕ) (key : ℕ) → found table index key < entryRoom
 unfolding found
-found-small table index key = small table index key 15001 (getD index (headOf table key) 0) (omega arith)
+found-small table index key = small table index key entryRoom (getD index (headOf table key) 0) (omega arith)
 
 -- no head is newer than b
 unfoldable pub Bounded : List ℕ → ℕ → Type 0
-Bounded index b = (h : ℕ) → h < 6144 → getD index h 0 ≤ b
+Bounded index b = (h : ℕ) → h < headWords → getD index h 0 ≤ b
 
 pub found-bounded : (table : Table) (index : List ℕ) (key b : ℕ) → Bounded index b → found table index key ≤ b
 unfolding found Bounded
 found-bounded table index key b bound =
-    omega (arith, within table index key 15001 (getD index (headOf table key) 0), bound (headOf table key) (head-small table key))
+    omega (arith, within table index key entryRoom (getD index (headOf table key) 0), bound (headOf table key) (head-small table key))
 
 module _ (table : Table) (index : List ℕ) (e : Entry) where
   pub entered-late : 60000 ≤ e .place → entered table index e ≡ index
@@ -184,37 +184,37 @@ module _ (table : Table) (index : List ℕ) (e : Entry) where
   entered-new h = rw (lt-leb 60000 (e .place) h)
 
 -- an entry newer than all that the array holds
-module _ (table : Table) (index : List ℕ) (e : Entry) (b : ℕ) (size : length index ≡ 96150) (bound : Bounded index b) (early : e .place < 60000) (newer : b < numberAt (e .place)) where
+module _ (table : Table) (index : List ℕ) (e : Entry) (b : ℕ) (size : length index ≡ indexWords) (bound : Bounded index b) (early : e .place < 60000) (newer : b < numberAt (e .place)) where
   opened : entered table index e ≡ enteredAt index (numberAt (e .place)) (headOf table (keyOf table e)) e
   opened = entered-new table index e early
 
-  fits : 6144 + 6 * numberAt (e .place) + 6 ≤ length index
+  fits : entryStart (numberAt (e .place)) + 6 ≤ length index
   unfolding numberAt
   fits = omega arith
 
-  pub enter-length : length (entered table index e) ≡ 96150
+  pub enter-length : length (entered table index e) ≡ indexWords
   unfolding enteredAt
   enter-length = rw opened (rw length-set (placed-length _ _ _ _ ∙ size))
 
   -- every word but the head and the new entry's
-  kept : (i : ℕ) → i < 6144 + 6 * numberAt (e .place) → (i ≡ headOf table (keyOf table e) → ⊥) → getD (entered table index e) i 0 ≡ getD index i 0
+  kept : (i : ℕ) → i < entryStart (numberAt (e .place)) → (i ≡ headOf table (keyOf table e) → ⊥) → getD (entered table index e) i 0 ≡ getD index i 0
   unfolding enteredAt
   kept i h n =
-      let at = 6144 + 6 * numberAt (e .place) in
+      let at = entryStart (numberAt (e .place)) in
       let next = getD index (headOf table (keyOf table e)) 0 in
       rw opened (getD-set-other (placed index at next e) (headOf table (keyOf table e)) i (numberAt (e .place)) 0 n ∙ placed-before index at next e i fits h)
 
   head-now : getD (entered table index e) (headOf table (keyOf table e)) 0 ≡ numberAt (e .place)
   unfolding enteredAt
   head-now =
-      let row = placed index (6144 + 6 * numberAt (e .place)) (getD index (headOf table (keyOf table e)) 0) e in
-      let in-row : headOf table (keyOf table e) < length row = omega (arith, placed-length index (6144 + 6 * numberAt (e .place)) (getD index (headOf table (keyOf table e)) 0) e, head-small table (keyOf table e)) in
+      let row = placed index (entryStart (numberAt (e .place))) (getD index (headOf table (keyOf table e)) 0) e in
+      let in-row : headOf table (keyOf table e) < length row = omega (arith, placed-length index (entryStart (numberAt (e .place))) (getD index (headOf table (keyOf table e)) 0) e, head-small table (keyOf table e)) in
       rw opened (getD-set-same row (headOf table (keyOf table e)) (numberAt (e .place)) 0 in-row)
 
-  word-now : (k : ℕ) → getD (entered table index e) (6144 + 6 * numberAt (e .place) + k) 0 ≡ getD ((getD index (headOf table (keyOf table e)) 0 ∷ e .place ∷ e .first ∷ e .second ∷ e .third ∷ e .fourth ∷ []) ++ drop (6144 + 6 * numberAt (e .place) + 6) index) k 0
+  word-now : (k : ℕ) → getD (entered table index e) (entryStart (numberAt (e .place)) + k) 0 ≡ getD ((getD index (headOf table (keyOf table e)) 0 ∷ e .place ∷ e .first ∷ e .second ∷ e .third ∷ e .fourth ∷ []) ++ drop (entryStart (numberAt (e .place)) + 6) index) k 0
   unfolding enteredAt
   word-now k =
-      let at = 6144 + 6 * numberAt (e .place) in
+      let at = entryStart (numberAt (e .place)) in
       let next = getD index (headOf table (keyOf table e)) 0 in
       rw opened (getD-set-other (placed index at next e) (headOf table (keyOf table e)) (at + k) (numberAt (e .place)) 0 (λ q. omega (arith, head-small table (keyOf table e))) ∙ placed-word index at next e k fits)
 
@@ -222,10 +222,10 @@ module _ (table : Table) (index : List ℕ) (e : Entry) (b : ℕ) (size : length
   unfolding entryAt wordAt
   enter-entry = rw (word-now 1, word-now 2, word-now 3, word-now 4, word-now 5)
 
-  next-now : nextOf (entered table index e) (numberAt (e .place)) ≡ getD index (headOf table (keyOf table e)) 0
-  unfolding nextOf
+  next-now : olderOf (entered table index e) (numberAt (e .place)) ≡ getD index (headOf table (keyOf table e)) 0
+  unfolding olderOf
   next-now =
-      let z : 6144 + 6 * numberAt (e .place) ≡ 6144 + 6 * numberAt (e .place) + 0 = omega arith in
+      let z : entryStart (numberAt (e .place)) ≡ entryStart (numberAt (e .place)) + 0 = omega arith in
       rw z (word-now 0)
 
   -- an older entry stays as it was
@@ -233,11 +233,11 @@ module _ (table : Table) (index : List ℕ) (e : Entry) (b : ℕ) (size : length
   unfolding entryAt wordAt
   enter-older n h =
       let low = head-small table (keyOf table e) in
-      rw (kept (6144 + 6 * n + 1) (omega arith) (λ q. omega arith), kept (6144 + 6 * n + 2) (omega arith) (λ q. omega arith), kept (6144 + 6 * n + 3) (omega arith) (λ q. omega arith), kept (6144 + 6 * n + 4) (omega arith) (λ q. omega arith), kept (6144 + 6 * n + 5) (omega arith) (λ q. omega arith))
+      rw (kept (entryStart n + 1) (omega arith) (λ q. omega arith), kept (entryStart n + 2) (omega arith) (λ q. omega arith), kept (entryStart n + 3) (omega arith) (λ q. omega arith), kept (entryStart n + 4) (omega arith) (λ q. omega arith), kept (entryStart n + 5) (omega arith) (λ q. omega arith))
 
-  next-older : (n : ℕ) → n < numberAt (e .place) → nextOf (entered table index e) n ≡ nextOf index n
-  unfolding nextOf
-  next-older n h = let low = head-small table (keyOf table e) in kept (6144 + 6 * n) (omega arith) (λ q. omega arith)
+  next-older : (n : ℕ) → n < numberAt (e .place) → olderOf (entered table index e) n ≡ olderOf index n
+  unfolding olderOf
+  next-older n h = let low = head-small table (keyOf table e) in kept (entryStart n) (omega arith) (λ q. omega arith)
 
   pub enter-bounded : Bounded (entered table index e) (numberAt (e .place))
   unfolding Bounded
@@ -248,14 +248,14 @@ module _ (table : Table) (index : List ℕ) (e : Entry) (b : ℕ) (size : length
       go false q = omega (arith, kept h (omega arith) (eqb-false _ _ q), bound h low)
 
   -- the chain of an old link is as it was, whatever limit above it
-  old-chain : (t : Table) (key limit link : ℕ) → link < limit → link ≤ b → link < 15001 → followed t (entered table index e) key limit link ≡ followed t index key 15001 link
+  old-chain : (t : Table) (key limit link : ℕ) → link < limit → link ≤ b → link < entryRoom → followed t (entered table index e) key limit link ≡ followed t index key entryRoom link
   unfolding followed
   old-chain t key limit link l m k =
       any-limit t (entered table index e) key limit (suc link) link l (omega arith)
       ∙ same-chain t (entered table index e) index key (suc link) (suc link) link (λ n h. enter-older n (omega arith)) (λ n h. next-older n (omega arith))
-      ∙ any-limit t index key (suc link) 15001 link (omega arith) k
+      ∙ any-limit t index key (suc link) entryRoom link (omega arith) k
 
-  number-small : numberAt (e .place) < 15001
+  number-small : numberAt (e .place) < entryRoom
   unfolding numberAt
   number-small = omega arith
 
@@ -266,7 +266,7 @@ module _ (table : Table) (index : List ℕ) (e : Entry) (b : ℕ) (size : length
   pub enter-found : found table (entered table index e) (keyOf table e) ≡ numberAt (e .place)
   unfolding found
   enter-found =
-      rw head-now (follow-hit table (entered table index e) (keyOf table e) 15001 (numberAt (e .place)) number-small number-some (ap (keyOf table) enter-entry))
+      rw head-now (follow-hit table (entered table index e) (keyOf table e) entryRoom (numberAt (e .place)) number-small number-some (ap (keyOf table) enter-entry))
 
   -- and under any other key, and in another table, what was found before
   pub enter-elsewhere : (t : Table) (key : ℕ) → (t ≡ table → key ≡ keyOf table e → ⊥) → found t (entered table index e) key ≡ found t index key
@@ -276,16 +276,16 @@ module _ (table : Table) (index : List ℕ) (e : Entry) (b : ℕ) (size : length
       old : getD index (headOf t key) 0 ≤ b
       old = bound (headOf t key) (head-small t key)
 
-      go : (s : Bool) → eqb (headOf t key) (headOf table (keyOf table e)) ≡ s → followed t (entered table index e) key 15001 (getD (entered table index e) (headOf t key) 0) ≡ followed t index key 15001 (getD index (headOf t key) 0)
+      go : (s : Bool) → eqb (headOf t key) (headOf table (keyOf table e)) ≡ s → followed t (entered table index e) key entryRoom (getD (entered table index e) (headOf t key) 0) ≡ followed t index key entryRoom (getD index (headOf t key) 0)
       go false q =
           let few = number-small in
           rw (kept (headOf t key) (omega (arith, head-small t key)) (eqb-false _ _ q))
-          (old-chain t key 15001 (getD index (headOf t key) 0) (omega (arith, old, few)) old (omega (arith, old, few)))
+          (old-chain t key entryRoom (getD index (headOf t key) 0) (omega (arith, old, few)) old (omega (arith, old, few)))
       go true q =
           let same : headOf t key ≡ headOf table (keyOf table e) = eqb-true _ _ q in
           let few = number-small in
           rw (same, head-now)
-          (follow-on t (entered table index e) key 15001 (numberAt (e .place)) number-small number-some (λ k. apart (head-table t table key (keyOf table e) same) (other k))
+          (follow-on t (entered table index e) key entryRoom (numberAt (e .place)) number-small number-some (λ k. apart (head-table t table key (keyOf table e) same) (other k))
           ∙ rw next-now (old-chain t key (numberAt (e .place)) (getD index (headOf table (keyOf table e)) 0) (omega (arith, rw same at old)) (rw same at old) (omega (arith, few, rw same at old))))
         where
           other : keyOf t (entryAt (entered table index e) (numberAt (e .place))) ≡ key → key ≡ keyOf table e
@@ -293,12 +293,12 @@ module _ (table : Table) (index : List ℕ) (e : Entry) (b : ℕ) (size : length
 
 -- an array without heads holds nothing
 module _ (rest : List ℕ) where
-  pub clear-bounded : Bounded (replicate 6144 0 ++ rest) 0
+  pub clear-bounded : Bounded (replicate headWords 0 ++ rest) 0
   unfolding Bounded
-  clear-bounded h low = omega (arith, List·getD-append (replicate 6144 0) rest 0 h (rw length-replicate low), getD-replicate {A = ℕ} 6144 h 0 0 low)
+  clear-bounded h low = omega (arith, List·getD-append (replicate headWords 0) rest 0 h (rw length-replicate low), getD-replicate {A = ℕ} headWords h 0 0 low)
 
-  pub clear-found : (table : Table) (key : ℕ) → found table (replicate 6144 0 ++ rest) key ≡ 0
-  clear-found table key = omega (arith, found-bounded table (replicate 6144 0 ++ rest) key 0 clear-bounded)
+  pub clear-found : (table : Table) (key : ℕ) → found table (replicate headWords 0 ++ rest) key ≡ 0
+  clear-found table key = omega (arith, found-bounded table (replicate headWords 0 ++ rest) key 0 clear-bounded)
 
 -- clearing one word more
 pub clear-step : (index : List ℕ) (i : ℕ) → i < length index → set (replicate i 0 ++ drop i index) i 0 ≡ replicate (i + 1) 0 ++ drop (i + 1) index

@@ -4,7 +4,19 @@ ghost use mathlib.Core.Path.{_≡_};
 ghost use mathlib.Core.List.{_++_};
 ghost use Prim.Native.Nat.{_<_};
 ghost use lib.ListN.{length, drop, replicate};
-ghost use Rattle.dictionary_chains.specs.Chain.{keyOf, headOf, entryAt, nextOf, found, entered};
+ghost use Rattle.dictionary_chains.specs.Chain.{entryRoom, headWords, indexWords, keyOf, headOf, entryAt, olderOf, found, entered};
+
+// Words of heads, 2,048 to each table.
+const HEAD_WORDS: usize = 6144;
+
+// Words to an entry.
+const STRIDE: usize = 6;
+
+// Entries, entry 0 among them.
+const ENTRY_ROOM: usize = 15001;
+
+// Words of an index.
+pub const WORDS: usize = HEAD_WORDS + STRIDE * ENTRY_ROOM;
 
 pub enum Table {
     Tags,
@@ -54,10 +66,10 @@ fn head_of(table: Table, key: u64) -> usize
 }
 
 pub fn entry_at(index: &[u16], number: usize) -> Entry
-    requires { ⌜ (length (now index) ≡ 96150) × (number < 15001) ⌝ }
+    requires { ⌜ (length (now index) ≡ indexWords) × (number < entryRoom) ⌝ }
     ensures { λ r. ⌜ r ≡ entryAt (now (index .entry)) number ⌝ }
 {
-    let at = 6144 + 6 * number;
+    let at = HEAD_WORDS + STRIDE * number;
     Entry {
         place: index[at + 1],
         first: index[at + 2],
@@ -69,11 +81,11 @@ pub fn entry_at(index: &[u16], number: usize) -> Entry
 
 // The number of the newest entry with this key, and 0 where there is none.
 pub fn find(index: &[u16], table: Table, key: u64) -> usize
-    requires { ⌜ length (now index) ≡ 96150 ⌝ }
+    requires { ⌜ length (now index) ≡ indexWords ⌝ }
     ensures { λ r. ⌜ r ≡ found table (now (index .entry)) key ⌝ }
 {
     let head = head_of(table, key);
-    let mut limit: usize = 15001;
+    let mut limit: usize = ENTRY_ROOM;
     let mut link = wide(index[head]) as usize;
     while link < limit {
         if link == 0 {
@@ -83,14 +95,14 @@ pub fn find(index: &[u16], table: Table, key: u64) -> usize
             return link;
         }
         limit = link;
-        link = wide(index[6144 + 6 * link]) as usize;
+        link = wide(index[HEAD_WORDS + STRIDE * link]) as usize;
     }
     0
 }
 
 // Enters what a top-level record makes known. Its number comes from its place, so that newer entries have higher numbers.
 pub fn enter(index: &mut [u16], table: Table, entry: Entry)
-    requires { ⌜ length (now index) ≡ 96150 ⌝ }
+    requires { ⌜ length (now index) ≡ indexWords ⌝ }
     ensures { λ _. ⌜ now (index .exit) ≡ entered table (now (index .entry)) entry ⌝ }
 {
     let place = wide(entry.place) as usize;
@@ -99,7 +111,7 @@ pub fn enter(index: &mut [u16], table: Table, entry: Entry)
     }
     let number = place / 4 + 1;
     let head = head_of(table, key_of(table, entry));
-    let at = 6144 + 6 * number;
+    let at = HEAD_WORDS + STRIDE * number;
     index[at] = index[head];
     index[at + 1] = entry.place;
     index[at + 2] = entry.first;
@@ -111,11 +123,11 @@ pub fn enter(index: &mut [u16], table: Table, entry: Entry)
 
 // Forgets every entry.
 pub fn clear(index: &mut [u16])
-    requires { ⌜ length (now index) ≡ 96150 ⌝ }
-    ensures { λ _. ⌜ now (index .exit) ≡ replicate 6144 0 ++ drop 6144 (now (index .entry)) ⌝ }
+    requires { ⌜ length (now index) ≡ indexWords ⌝ }
+    ensures { λ _. ⌜ now (index .exit) ≡ replicate headWords 0 ++ drop headWords (now (index .entry)) ⌝ }
 {
     let mut i: usize = 0;
-    while i < 6144 {
+    while i < HEAD_WORDS {
         index[i] = 0;
         i += 1;
     }

@@ -10,6 +10,7 @@ ghost use lib.ListN.{length, getD};
 ghost use Rattle.dictionary_rules.specs.Records.{recordsFrom};
 ghost use Rattle.dictionary_rules.specs.Index.{looksAt, noted};
 ghost use Rattle.dictionary_rules.specs.Check.{outcome, walked, checkOf, preparedOf, numberOfCheck, valuesOfCheck};
+ghost use Rattle.dictionary_chains.specs.Chain.{indexWords};
 
 // The number that an answer returns.
 pub fn number_of(checked: Checked) -> u32
@@ -47,7 +48,7 @@ pub fn value_of(checked: Checked) -> u32
 
 // Record by record.
 fn walk(dictionary: &[u8], index: &mut [u16]) -> Checked
-    requires { ⌜ (length (now dictionary) ≤ 60000) × (length (now index) ≡ 96150) ⌝ }
+    requires { ⌜ (length (now dictionary) ≤ 60000) × (length (now index) ≡ indexWords) ⌝ }
     ensures { λ r. ⌜ outcome r (now (index .exit)) ≡ walked looksAt noted (recordsFrom (now (dictionary .entry)) 0) State.TopLevel (now (index .entry)) ⌝ }
 {
     let mut state = State::TopLevel;
@@ -80,7 +81,7 @@ fn walk(dictionary: &[u8], index: &mut [u16]) -> Checked
 }
 
 // Checks a dictionary and leaves in the index what it names, whatever the index held.
-pub fn prepare(dictionary: &[u8], index: &mut [u16; 96150]) -> Checked
+pub fn prepare(dictionary: &[u8], index: &mut [u16; dictionary_chains::WORDS]) -> Checked
     ensures { λ r. ⌜ outcome r (now (index .exit)) ≡ preparedOf (now (dictionary .entry)) (now (index .entry)) ⌝ }
     ensures { λ r. ⌜ r ≡ checkOf (now (dictionary .entry)) ⌝ }
 {
@@ -97,6 +98,6 @@ pub fn prepare(dictionary: &[u8], index: &mut [u16; 96150]) -> Checked
 pub fn check(dictionary: &[u8]) -> Checked
     ensures { λ r. ⌜ r ≡ checkOf (now (dictionary .entry)) ⌝ }
 {
-    let mut index = [0u16; 96150];
+    let mut index = [0u16; dictionary_chains::WORDS];
     prepare(dictionary, &mut index)
 }

@@ -17,10 +17,11 @@ ghost use Rattle.dictionary_rules.specs.Index.{componentAt};
 ghost use Rattle.dictionary_meaning_rules.specs.Laying.{laying, putRow, layItems, standsAt};
 ghost use Rattle.dictionary_meaning_rules.specs.MsgType.{nameOf};
 ghost use Rattle.dictionary_meaning_rules.specs.MessageTable.{tabling, messageTable};
+ghost use Rattle.dictionary_chains.specs.Chain.{indexWords};
 
 // An empty component is skipped, and one that only stands for another is passed through, so that each step down adds an item.
 fn stands_at(index: &[u16], number: u16) -> Expansion
-    requires { ⌜ length (now index) ≡ 96150 ⌝ }
+    requires { ⌜ length (now index) ≡ indexWords ⌝ }
     ensures { λ r. ⌜ r ≡ standsAt (componentAt (now (index .entry))) number ⌝ }
 {
     let Looked::Closed(component) = dictionary_names::component_of(index, number) else {
@@ -57,7 +58,7 @@ fn lay_items(
     first: usize,
     depth: usize,
 ) -> Laid
-    requires { ⌜ (length (now index) ≡ 96150) × (4096 ≤ length (now table)) × (first ≤ 1024) ⌝ }
+    requires { ⌜ (length (now index) ≡ indexWords) × (4096 ≤ length (now table)) × (first ≤ 1024) ⌝ }
     ensures { λ r. ⌜ laying r (now (table .exit)) ≡ layItems depth (now (bytes .entry)) (componentAt (now (index .entry))) from first (now (table .entry)) ⌝ }
 {
     if depth == 0 {
@@ -156,7 +157,7 @@ pub fn name_of(msgtype: &[u8]) -> MsgTypeName
 // The layout of a message as a table, from a dictionary that passed its check and the index that the check left.
 pub fn message_table(
     dictionary: &[u8],
-    index: &[u16; 96150],
+    index: &[u16; dictionary_chains::WORDS],
     msgtype: &[u8],
     table: &mut [u32; 4096],
 ) -> MessageTable

@@ -55,7 +55,7 @@ fn list_tags(dictionary: &[u8], from: usize, tags: &mut [u32]) -> TagList
 // The tags of a component, from a dictionary that passed its check and the index that the check left: 0 is the header, 1 the trailer.
 pub fn plain_tags(
     dictionary: &[u8],
-    index: &[u16; 96150],
+    index: &[u16; dictionary_chains::WORDS],
     number: u16,
     tags: &mut [u32; 1024],
 ) -> TagList

@@ -8,7 +8,7 @@ use Prim.Native.String.{String}
 use Rattle.field_rules.specs.Text.{bytes}
 use Rattle.dictionary_layout_rules.specs.Layout.{Layout, end, field, group, followedBy, firstOf, positionFrom, positionIn, Group, none, entries, groupSince, groupOf, delimiterOf, requiredTags, items, larger, depth}
 use Rattle.dictionary_layout_rules.specs.Tree.{Nodes, nothing, fieldItem, componentItem, groupItem, Message, Dictionary, holdsTag, knows, plainFields, headerTags, trailerTags, flattened, sameBytes, Choice, noMessage, laidOut, messageOf, layoutOf}
-use Rattle.dictionary_layout_rules.specs.Table.{stride, mark, rowsFrom, nextSibling, rowAt, siblingsWithin, siblingsFrom, stopOf, siblings, positionAmong, positionOf, laterGroup, groupAmong, groupWithin, firstAmong, delimiterAt, firstRequired, nextRequired}
+use Rattle.dictionary_layout_rules.specs.Table.{rowStride, mark, rowsFrom, nextSibling, rowAt, siblingsWithin, siblingsFrom, stopOf, siblings, positionAmong, positionOf, laterGroup, groupAmong, groupWithin, firstAmong, delimiterAt, firstRequired, nextRequired}
 use Rattle.dictionary_layout_rules.specs.declared.Level.{Level}
 use Rattle.dictionary_layout_rules.specs.declared.Position.{Position}
 use Rattle.dictionary_layout_rules.specs.declared.Position.the-variants.{At, Nowhere}

@@ -20,8 +20,8 @@ use Rattle.dictionary_layout_rules.specs.declared.Marked.{Marked}
 use Rattle.dictionary_layout_rules.specs.declared.Marked.the-variants.{Required, NoMore}
 
 -- words to a row
-abbrev pub stride : ℕ
-stride = 4
+abbrev pub rowStride : ℕ
+rowStride = 4
 
 unfoldable pub mark : Bool → ℕ
 mark true = 1
@@ -44,16 +44,16 @@ pub record Row : Type 0 where
   pub next : ℕ
 
 abbrev pub tagAt : List ℕ → ℕ → ℕ
-tagAt table at = getD table (stride * at) 0
+tagAt table at = getD table (rowStride * at) 0
 
 abbrev pub requiredAt : List ℕ → ℕ → ℕ
-requiredAt table at = getD table (stride * at + 1) 0
+requiredAt table at = getD table (rowStride * at + 1) 0
 
 abbrev pub groupAt : List ℕ → ℕ → ℕ
-groupAt table at = getD table (stride * at + 2) 0
+groupAt table at = getD table (rowStride * at + 2) 0
 
 abbrev pub linkAt : List ℕ → ℕ → ℕ
-linkAt table at = getD table (stride * at + 3) 0
+linkAt table at = getD table (rowStride * at + 3) 0
 
 -- a link that doesn't rise ends the level
 unfoldable pub nextSibling : List ℕ → ℕ → ℕ → ℕ
@@ -73,7 +73,7 @@ siblingsFrom table at stop = siblingsWithin (stop - at) table at stop
 
 -- a level ends where it says, or where the table ends
 unfoldable pub stopOf : List ℕ → Level → ℕ
-stopOf table level = pick (ltb (length table / stride) (level .end)) (length table / stride) (level .end)
+stopOf table level = pick (ltb (length table / rowStride) (level .end)) (length table / rowStride) (level .end)
 
 -- the rows of a level
 unfoldable pub siblings : List ℕ → Level → List Row

@@ -10,7 +10,7 @@ use Rattle.field_rules.specs.Choice.{pick}
 use Rattle.field_rules.specs.Text.{bytes}
 use Rattle.dictionary_layout_rules.specs.Tree.{Nodes, nothing, fieldItem, componentItem, groupItem, Message, Dictionary}
 use Rattle.dictionary_layout_rules.specs.Table.{mark}
-use Rattle.dictionary_rules.specs.Record.{lowFirst, zeroFilled, bodyLength, withTag, withMark, knownTag, opensComponent, opensMessage, bodyOf, withBody, withKind, recordFrom, recordAt}
+use Rattle.dictionary_rules.specs.Record.{lowFirst, zeroFilled, recordBodyLength, withTag, withMark, knownTag, opensComponent, opensMessage, recordBody, withBody, withKind, recordFrom, recordAt}
 use Rattle.dictionary_rules.specs.Record.{fieldItem as fieldBody, componentItem as componentBody, opensGroup as groupBody}
 use Rattle.dictionary_rules.specs.Records.{Records, recordsFrom, recordsWithin, followedBy}
 use Rattle.dictionary_rules.specs.Names.{componentIn}
@@ -59,7 +59,7 @@ tree : dictionaryOf dictionary ≡ record {
   trailer = fieldItem 10 true nothing;
   messages = record { msgType = bytes "D"; nodes = fieldItem 38 false (groupItem 78 true (componentItem true fourth nothing) (componentItem true fourth (fieldItem 58 false nothing))) } ∷ [];
 }
-unfolding dictionaryOf meaningOf tagsFrom tagIn messagesFrom messageIn msgTypeBytes bytesWithin definedAfter definedBy expanded nodesOf declarationsOf levelsOf innermost below groupOnTop onTop recordsFrom recordsWithin followedBy recordAt recordFrom withKind withBody bodyOf bodyLength knownTag opensComponent opensMessage fieldBody componentBody groupBody withTag withMark zeroFilled lowFirst
+unfolding dictionaryOf meaningOf tagsFrom tagIn messagesFrom messageIn msgTypeBytes bytesWithin definedAfter definedBy expanded nodesOf declarationsOf levelsOf innermost below groupOnTop onTop recordsFrom recordsWithin followedBy recordAt recordFrom withKind withBody recordBody recordBodyLength knownTag opensComponent opensMessage fieldBody componentBody groupBody withTag withMark zeroFilled lowFirst
 tree = refl
 
 abbrev components : List Component
@@ -81,7 +81,7 @@ rows : map (λ (depth : ℕ). layItems depth dictionary (componentIn components)
     58 ∷ 0 ∷ 0 ∷ 7 ∷ 9 ∷ 9 ∷ 9 ∷ 9 ∷ [])
     ∷ laying Broken (38 ∷ 0 ∷ 0 ∷ 1 ∷ replicate 28 9)
     ∷ []
-unfolding layItems itemsFrom itemsWithin onRead onRecord onComponent afterComponent afterGroup putRow standsAt expanding behindOpening componentIn mark recordAt recordFrom withKind withBody bodyOf bodyLength knownTag opensComponent opensMessage fieldBody componentBody groupBody withTag withMark zeroFilled lowFirst
+unfolding layItems itemsFrom itemsWithin onRead onRecord onComponent afterComponent afterGroup putRow standsAt expanding behindOpening componentIn mark recordAt recordFrom withKind withBody recordBody recordBodyLength knownTag opensComponent opensMessage fieldBody componentBody groupBody withTag withMark zeroFilled lowFirst
 rows = refl
 
 -- a MsgType is compared with its length

@@ -7,6 +7,7 @@ use native.Mathlib.Omega.{arith}
 use lib.Dec.{eqb}
 use lib.ListN.{length}
 use borrow.Author.Tests.{eq-eqb, ne-eqb, eqb-true, eqb-false}
+use Rattle.dictionary_chains.specs.Chain.{indexWords}
 use Rattle.field_rules.specs.Choice.{pick}
 use Rattle.dictionary_layout_rules.specs.Tree.{holdsTag, knows}
 use Rattle.dictionary_rules.specs.Records.{Records, ends, bad, whole, recordsFrom}
@@ -99,7 +100,7 @@ known-within : (bytes : List ℕ) (final : Names) (tag fuel : ℕ) (rs : Records
 known-within bytes final tag zero rs at names h e p = absurd (omega arith)
 known-within bytes final tag (suc fuel) rs at names h e p = known-step bytes final tag rs at names (λ fewer there later l q w. known-within bytes final tag fuel fewer there later (omega arith) q w) e p
 
-pub tags-known : (d : List ℕ) → checkOf d ≡ Passes → (index : List ℕ) → length index ≡ 96150 → (tag : ℕ) → tagAt (storeOf (preparedOf d index)) tag ≡ knows (dictionaryOf d) tag
+pub tags-known : (d : List ℕ) → checkOf d ≡ Passes → (index : List ℕ) → length index ≡ indexWords → (tag : ℕ) → tagAt (storeOf (preparedOf d index)) tag ≡ knows (dictionaryOf d) tag
 unfolding knows dictionaryOf meaningOf
 tags-known d passes index size tag =
     agreeing d passes index size .1 .tags tag

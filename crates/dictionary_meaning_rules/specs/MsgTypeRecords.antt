@@ -10,7 +10,7 @@ use lib.Dec.{eqb, ltb}
 use borrow.Author.Tests.{eqb-true, eqb-false, ltb-true, ltb-false}
 use Rattle.field_rules.specs.Choice.{pick}
 use Rattle.dictionary_layout_rules.specs.Tree.{Choice, noMessage, laidOut, sameBytes, messageOf, flattened}
-use Rattle.dictionary_rules.specs.Record.{lowFirst, zeroFilled, bodyLength, withTag, withMark, knownTag, opensComponent, opensMessage, fieldItem, componentItem, opensGroup, bodyOf, recordAt}
+use Rattle.dictionary_rules.specs.Record.{lowFirst, zeroFilled, recordBodyLength, withTag, withMark, knownTag, opensComponent, opensMessage, fieldItem, componentItem, opensGroup, recordBody, recordAt}
 use Rattle.dictionary_rules.specs.Records.{Records, ends, bad, whole, recordsFrom}
 use Rattle.dictionary_rules.specs.RecordLaws.{at-end, at-cut, at-wrong, at-whole, length-message}
 use Rattle.dictionary_rules.specs.declared.Record.{Record}
@@ -59,8 +59,8 @@ record MessageBody (kind : ℕ) (body : List ℕ) (m : ℕ) : Type 0 where
   pub filled : zeroFilled false body ≡ true
   pub number : m ≡ lowFirst (take 8 body)
 
-message-body : (kind : ℕ) (body : List ℕ) (m : ℕ) → bodyOf kind body ≡ Good (OpensMessage m) → MessageBody kind body m
-unfolding bodyOf knownTag opensComponent opensMessage fieldItem componentItem opensGroup
+message-body : (kind : ℕ) (body : List ℕ) (m : ℕ) → recordBody kind body ≡ Good (OpensMessage m) → MessageBody kind body m
+unfolding recordBody knownTag opensComponent opensMessage fieldItem componentItem opensGroup
 message-body kind body m h = go (eqb kind 1) (eqb kind 2) (eqb kind 3) refl (eqb kind 4) (eqb kind 5) (eqb kind 6) (eqb kind 7) (eqb (getD body 0 0) 0) refl (zeroFilled false body) refl h
   where
     go : (a b c : Bool) → eqb kind 3 ≡ c → (d e f g x : Bool) → eqb (getD body 0 0) 0 ≡ x → (y : Bool) → zeroFilled false body ≡ y → pick a (knownTag body) (pick b (opensComponent body) (pick c (pick x Wrong (pick y (Good (OpensMessage (lowFirst (take 8 body)))) Wrong)) (pick d (fieldItem body) (pick e (componentItem body) (pick f (opensGroup body) (pick g (Good Closes) Wrong)))))) ≡ Good (OpensMessage m) → MessageBody kind body m
@@ -82,23 +82,23 @@ pub message-number : (d : List ℕ) (at m next : ℕ) → Bytes d → recordAt d
 message-number d at m next bytes h = in-bytes (ltb at (length d)) refl
   where
     body : List ℕ
-    body = take (bodyLength (getD d at 0)) (drop (at + 1) d)
+    body = take (recordBodyLength (getD d at 0)) (drop (at + 1) d)
 
-    by-body : (b : Body) → bodyOf (getD d at 0) body ≡ b → at < length d → bodyLength (getD d at 0) ≤ length d - (at + 1) → NameNumber m
+    by-body : (b : Body) → recordBody (getD d at 0) body ≡ b → at < length d → recordBodyLength (getD d at 0) ≤ length d - (at + 1) → NameNumber m
     by-body Wrong e l c = let z : _≡_ {A = ℕ} 0 1 = cc (at-wrong d at l c e) in absurd (omega arith)
     by-body (Good x) e l c =
         let w = at-whole d at x l c e in
         let same : x ≡ OpensMessage m = cc in
         let opening = message-body (getD d at 0) body m (e ∙ ap Good same) in
-        let size : length body ≤ 8 = omega (arith, length-take (bodyLength (getD d at 0)) (drop (at + 1) d), length-message (getD d at 0) (opening .third)) in
-        rw (opening .number ∙ ap lowFirst (take-all 8 body size)) (filled-number (bytes-take (bodyLength (getD d at 0)) (bytes-drop (at + 1) bytes)) size (opening .filled) (opening .some))
+        let size : length body ≤ 8 = omega (arith, length-take (recordBodyLength (getD d at 0)) (drop (at + 1) d), length-message (getD d at 0) (opening .third)) in
+        rw (opening .number ∙ ap lowFirst (take-all 8 body size)) (filled-number (bytes-take (recordBodyLength (getD d at 0)) (bytes-drop (at + 1) bytes)) size (opening .filled) (opening .some))
 
-    by-length : (t : Bool) → ltb (length d - (at + 1)) (bodyLength (getD d at 0)) ≡ t → at < length d → NameNumber m
+    by-length : (t : Bool) → ltb (length d - (at + 1)) (recordBodyLength (getD d at 0)) ≡ t → at < length d → NameNumber m
     by-length true e l = let z : _≡_ {A = ℕ} 0 1 = cc (at-cut d at l (ltb-true _ _ e)) in absurd (omega arith)
-    by-length false e l = by-body (bodyOf (getD d at 0) body) refl l (ltb-false _ _ e)
+    by-length false e l = by-body (recordBody (getD d at 0) body) refl l (ltb-false _ _ e)
 
     in-bytes : (t : Bool) → ltb at (length d) ≡ t → NameNumber m
-    in-bytes true e = by-length (ltb (length d - (at + 1)) (bodyLength (getD d at 0))) refl (ltb-true _ _ e)
+    in-bytes true e = by-length (ltb (length d - (at + 1)) (recordBodyLength (getD d at 0))) refl (ltb-true _ _ e)
     in-bytes false e = let z : _≡_ {A = ℕ} 0 1 = cc (at-end d at (ltb-false _ _ e)) in absurd (omega arith)
 
 -- declarations whose messages have such numbers

@@ -6,6 +6,7 @@ use mathlib.Core.List.{List, []}
 use Prim.Native.Nat.{ℕ, _+_, _≤_, _<_}
 use native.Mathlib.Omega.{arith}
 use lib.ListN.{length}
+use Rattle.dictionary_chains.specs.Chain.{indexWords}
 use Rattle.field_rules.specs.Choice.{pick}
 use Rattle.dictionary_layout_rules.specs.Layout.{Layout}
 use Rattle.dictionary_layout_rules.specs.Tree.{Choice, noMessage, laidOut}
@@ -47,7 +48,7 @@ module _ (d : List ℕ) (passes : checkOf d ≡ Passes) where
       whole : readOf d ≡ walked looksIn named (recordsFrom d 0) TopLevel noNames
       whole = unfold readOf in rw short
 
-  module _ (index : List ℕ) (size : length index ≡ 96150) where
+  module _ (index : List ℕ) (size : length index ≡ indexWords) where
     -- the index that the check leaves
     abbrev pub made : List ℕ
     made = storeOf (preparedOf d index)

@@ -6,6 +6,7 @@ use Prim.Native.Nat.{ℕ, zero, suc, _+_, _-_, _*_, _≤_, _<_}
 use native.Mathlib.Omega.{arith}
 use lib.ListN.{length, set, take, drop, length-append, take-append-drop}
 use lib.Seq.{set-at, length-take-le}
+use Rattle.dictionary_chains.specs.Chain.{indexWords}
 use Rattle.dictionary_layout_rules.specs.Layout.{Layout, items, followedBy}
 use Rattle.dictionary_layout_rules.specs.Tree.{Nodes, nothing, fieldItem, componentItem, groupItem, plainFields, headerTags, trailerTags, flattened}
 use Rattle.dictionary_rules.specs.Records.{recordsFrom}
@@ -88,7 +89,7 @@ own-listed d index number c nodes tags e own h =
     let n : 0 + length (plainFields (expanded (own .before) (own .level))) ≡ length (plainFields (expanded (own .before) (own .level))) = omega arith in
     rw (own .same) (plain-closed d index number tags c e ∙ fields-listed d (own .reads) (own .before) 0 tags few ∙ rw n)
 
-module _ (d : List ℕ) (passes : checkOf d ≡ Passes) (index : List ℕ) (size : length index ≡ 96150) (list : List ℕ) (room : 1024 ≤ length list) where
+module _ (d : List ℕ) (passes : checkOf d ≡ Passes) (index : List ℕ) (size : length index ≡ indexWords) (list : List ℕ) (room : 1024 ≤ length list) where
   abbrev made : List ℕ
   made = storeOf (preparedOf d index)
 

@@ -5,6 +5,7 @@ use mathlib.Core.List.{List, []}
 use Prim.Native.Nat.{ℕ, _+_, _*_, _≤_}
 use native.Mathlib.Omega.{arith}
 use lib.ListN.{length}
+use Rattle.dictionary_chains.specs.Chain.{indexWords}
 use Rattle.dictionary_layout_rules.specs.Layout.{Layout, items}
 use Rattle.dictionary_layout_rules.specs.Tree.{Choice, noMessage, laidOut, messageOf}
 use Rattle.dictionary_layout_rules.specs.Tree.{layoutOf as layoutInTree}
@@ -34,7 +35,7 @@ pub data TableOf (table : List ℕ) : Choice → Tabling → Type 0 where
   no-table : TableOf table noMessage (tabling NoMessage table)
   a-table : {layout : Layout} {rows : List ℕ} → items layout ≤ 1024 → length rows ≡ length table → Tabled rows (record { first = 0; end = items layout }) layout → TableOf table (laidOut layout) (tabling (Rows (items layout)) rows)
 
-module _ (d : List ℕ) (bytes : Bytes d) (passes : checkOf d ≡ Passes) (index : List ℕ) (size : length index ≡ 96150) where
+module _ (d : List ℕ) (bytes : Bytes d) (passes : checkOf d ≡ Passes) (index : List ℕ) (size : length index ≡ indexWords) where
   abbrev made : List ℕ
   made = storeOf (preparedOf d index)
 

@@ -9,10 +9,11 @@ use dictionary_rules::Placed;
 ghost use mathlib.Core.Path.{_≡_};
 ghost use lib.ListN.{length};
 ghost use Rattle.dictionary_rules.specs.Index.{tagAt, componentAt, messageAt, tagEntry, componentEntry, messageEntry, noted};
+ghost use Rattle.dictionary_chains.specs.Chain.{indexWords};
 
 // Whether a tag is known. It needs no byte of the dictionary.
 pub fn tag_known(index: &[u16], tag: u32) -> bool
-    requires { ⌜ length (now index) ≡ 96150 ⌝ }
+    requires { ⌜ length (now index) ≡ indexWords ⌝ }
     ensures { λ r. ⌜ r ≡ tagAt (now (index .entry)) tag ⌝ }
 {
     if dictionary_chains::find(index, Table::Tags, tag as u64) == 0 {
@@ -23,7 +24,7 @@ pub fn tag_known(index: &[u16], tag: u32) -> bool
 
 // The closed component of a number.
 pub fn component_of(index: &[u16], number: u16) -> Looked
-    requires { ⌜ length (now index) ≡ 96150 ⌝ }
+    requires { ⌜ length (now index) ≡ indexWords ⌝ }
     ensures { λ r. ⌜ r ≡ componentAt (now (index .entry)) number ⌝ }
 {
     let at = dictionary_chains::find(index, Table::Components, dictionary_chains::wide(number));
@@ -42,7 +43,7 @@ pub fn component_of(index: &[u16], number: u16) -> Looked
 
 // The place of the record that opens the message of a MsgType.
 pub fn message_of(index: &[u16], msgtype: u64) -> Placed
-    requires { ⌜ length (now index) ≡ 96150 ⌝ }
+    requires { ⌜ length (now index) ≡ indexWords ⌝ }
     ensures { λ r. ⌜ r ≡ messageAt (now (index .entry)) msgtype ⌝ }
 {
     let at = dictionary_chains::find(index, Table::MsgTypes, msgtype);
@@ -90,7 +91,7 @@ fn message_entry(place: u16, msgtype: u64) -> Entry
 }
 
 pub fn take_note(index: &mut [u16], note: Note)
-    requires { ⌜ length (now index) ≡ 96150 ⌝ }
+    requires { ⌜ length (now index) ≡ indexWords ⌝ }
     ensures { λ _. ⌜ now (index .exit) ≡ noted (now (index .entry)) note ⌝ }
 {
     match note {

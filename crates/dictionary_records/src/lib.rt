@@ -7,7 +7,7 @@ ghost use mathlib.Core.Path.{_≡_};
 ghost use mathlib.Core.Bool.{true, false};
 ghost use Prim.Native.Nat.{_+_, _≤_};
 ghost use lib.ListN.{length, take, drop};
-ghost use Rattle.dictionary_rules.specs.Record.{lowFirst, bodyLength, zeroFilled, withTag, withMark, opensMessage, bodyOf, recordAt};
+ghost use Rattle.dictionary_rules.specs.Record.{lowFirst, recordBodyLength, zeroFilled, withTag, withMark, opensMessage, recordBody, recordAt};
 
 fn wide(byte: u8) -> u16
     ensures { λ r. ⌜ r ≡ byte ⌝ }
@@ -72,7 +72,7 @@ fn zero_filled(text: &[u8]) -> bool
 }
 
 fn body_length(kind: u8) -> usize
-    ensures { λ r. ⌜ r ≡ bodyLength kind ⌝ }
+    ensures { λ r. ⌜ r ≡ recordBodyLength kind ⌝ }
 {
     match kind {
         1 => 4,
@@ -117,8 +117,8 @@ fn message_of(body: &[u8]) -> Body
 }
 
 fn body_of(kind: u8, body: &[u8]) -> Body
-    requires { ⌜ length (now body) ≡ bodyLength kind ⌝ }
-    ensures { λ r. ⌜ r ≡ bodyOf kind (now (body .entry)) ⌝ }
+    requires { ⌜ length (now body) ≡ recordBodyLength kind ⌝ }
+    ensures { λ r. ⌜ r ≡ recordBody kind (now (body .entry)) ⌝ }
 {
     match kind {
         1 => {

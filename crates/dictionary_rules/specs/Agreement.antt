@@ -9,7 +9,7 @@ use lib.ListN.{length, drop, replicate, length-append, length-drop, length-repli
 use lib.Dec.{eqb}
 use borrow.Author.Tests.{eqb-true, eqb-false}
 use Rattle.field_rules.specs.Choice.{pick}
-use Rattle.dictionary_chains.specs.Chain.{keyOf, found, entered, numberAt}
+use Rattle.dictionary_chains.specs.Chain.{headWords, indexWords, keyOf, found, entered, numberAt}
 use Rattle.dictionary_chains.specs.ChainLaws.{Bounded, found-bounded, enter-length, enter-entry, enter-older, enter-bounded, enter-found, enter-elsewhere, clear-bounded, clear-found}
 use Rattle.dictionary_chains.specs.declared.Table.{Table}
 use Rattle.dictionary_chains.specs.declared.Table.the-variants.{Tags, Components, MsgTypes}
@@ -24,7 +24,7 @@ use Rattle.dictionary_rules.specs.Names.{Names, isKnown, componentIn, me
 
 -- the index answers as the names do, and no entry is newer than b
 pub record Agrees (index : List ℕ) (names : Names) (b : ℕ) : Type 0 where
-  pub size : length index ≡ 96150
+  pub size : length index ≡ indexWords
   pub bound : Bounded index b
   pub tags : (tag : ℕ) → tagAt index tag ≡ isKnown (names .tags) tag
   pub components : (number : ℕ) → componentAt index number ≡ componentIn (names .components) number
@@ -47,7 +47,7 @@ unfolding componentOf componentEntry
 whole-component c = refl
 
 -- a new entry changes no other answer
-module _ (table : Table) (index : List ℕ) (e : Entry) (b : ℕ) (size : length index ≡ 96150) (bound : Bounded index b) (early : e .place < 60000) (newer : b < numberAt (e .place)) where
+module _ (table : Table) (index : List ℕ) (e : Entry) (b : ℕ) (size : length index ≡ indexWords) (bound : Bounded index b) (early : e .place < 60000) (newer : b < numberAt (e .place)) where
   number-some : numberAt (e .place) ≡ 0 → ⊥
   number-some z = omega arith
 
@@ -138,13 +138,13 @@ module _ (index : List ℕ) (names : Names) (b : ℕ) (a : Agrees index names b)
           other-message MsgTypes index (messageEntry place msgType) b (a .size) (a .bound) early newer m (λ r k. eqb-false m msgType q (k ∙ message-key place msgType)) ∙ a .messages m
 
 -- a cleared index agrees with no names
-pub clear-agrees : (index : List ℕ) → length index ≡ 96150 → Agrees (replicate 6144 0 ++ drop 6144 index) noNames 0
+pub clear-agrees : (index : List ℕ) → length index ≡ indexWords → Agrees (replicate headWords 0 ++ drop headWords index) noNames 0
 unfolding noNames isKnown componentIn messageIn
 clear-agrees index h =
     record {
       size = rw (length-append, length-replicate, length-drop) (omega arith);
-      bound = clear-bounded (drop 6144 index);
-      tags = λ t. tag-unknown _ t (clear-found (drop 6144 index) Tags t);
-      components = λ n. component-missing _ n (clear-found (drop 6144 index) Components n);
-      messages = λ m. message-nowhere _ m (clear-found (drop 6144 index) MsgTypes m);
+      bound = clear-bounded (drop headWords index);
+      tags = λ t. tag-unknown _ t (clear-found (drop headWords index) Tags t);
+      components = λ n. component-missing _ n (clear-found (drop headWords index) Components n);
+      messages = λ m. message-nowhere _ m (clear-found (drop headWords index) MsgTypes m);
     }

@@ -4,6 +4,7 @@ use mathlib.Core.Bool.{Bool}
 use mathlib.Core.List.{List, [], _∷_, _++_}
 use lib.ListN.{length, drop, replicate}
 use lib.Dec.{ltb}
+use Rattle.dictionary_chains.specs.Chain.{headWords}
 use Rattle.field_rules.specs.Choice.{pick}
 use Rattle.dictionary_rules.specs.Records.{Records, ends, bad, whole, recordsFrom}
 use Rattle.dictionary_rules.specs.Step.{stepOf, atEnd}
@@ -53,7 +54,7 @@ checkOf dictionary = answerOf (readOf dictionary)
 -- the answer to a dictionary, and what the lent index holds then; it holds nothing before the first record
 unfoldable pub preparedOf : List ℕ → List ℕ → CheckOutcome (List ℕ)
 preparedOf dictionary index =
-    pick (tooLong dictionary) (outcome TooLong index) (walked looksAt noted (recordsFrom dictionary 0) TopLevel (replicate 6144 0 ++ drop 6144 index))
+    pick (tooLong dictionary) (outcome TooLong index) (walked looksAt noted (recordsFrom dictionary 0) TopLevel (replicate headWords 0 ++ drop headWords index))
 
 -- "Numbers returned"
 unfoldable pub numberOfCheck : Checked → ℕ

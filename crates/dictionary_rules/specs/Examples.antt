@@ -7,7 +7,7 @@ use Prim.Native.String.{String}
 use native.Mathlib.Omega.{arith}
 use lib.ListN.{take, replicate, length-replicate}
 use Rattle.field_rules.specs.Text.{bytes}
-use Rattle.dictionary_rules.specs.Record.{lowFirst, bodyLength, withTag, withMark, zeroFilled, knownTag, opensComponent, opensMessage, fieldItem, componentItem, opensGroup, bodyOf, withBody, withKind, recordFrom, recordAt}
+use Rattle.dictionary_rules.specs.Record.{lowFirst, recordBodyLength, withTag, withMark, zeroFilled, knownTag, opensComponent, opensMessage, fieldItem, componentItem, opensGroup, recordBody, withBody, withKind, recordFrom, recordAt}
 use Rattle.dictionary_rules.specs.Records.{followedBy, recordsWithin, recordsFrom}
 use Rattle.dictionary_rules.specs.Step.{depthOf, opened, opens, deeper, grown, heldAlso, heldWith, standsFor, atTop, inside, closedBefore, knownBefore, notEmpty, notTooDeep, onceComponent, onceMessage, notTooMany, onTag, onComponent, onMessage, onField, onItem, onGroup, closesOwner, closesGroup, closesInnermost, onClose, stepOf, present, atEnd}
 use Rattle.dictionary_rules.specs.Check.{onStep, walked, tooLong, readOf, answerOf, checkOf, numberOfCheck, valuesOfCheck}
@@ -146,11 +146,11 @@ table =
     ∷ []
 
 answers : map (λ (row : Row). numberOfCheck (checkOf (row .0)) ∷ valuesOfCheck (checkOf (row .0))) table ≡ map (λ (row : Row). row .1 ∷ row .2) table
-unfolding checkOf numberOfCheck valuesOfCheck readOf answerOf tooLong walked onStep isKnown componentIn messageIn looksIn named noNames stepOf onTag onComponent onMessage onField onItem onGroup onClose closesInnermost closesGroup closesOwner atTop inside closedBefore knownBefore notEmpty notTooDeep notTooMany onceComponent onceMessage standsFor heldWith heldAlso grown opens opened deeper depthOf present atEnd recordsFrom recordsWithin followedBy recordAt recordFrom withKind withBody bodyOf knownTag opensComponent opensMessage fieldItem componentItem opensGroup withTag withMark zeroFilled bodyLength lowFirst
+unfolding checkOf numberOfCheck valuesOfCheck readOf answerOf tooLong walked onStep isKnown componentIn messageIn looksIn named noNames stepOf onTag onComponent onMessage onField onItem onGroup onClose closesInnermost closesGroup closesOwner atTop inside closedBefore knownBefore notEmpty notTooDeep notTooMany onceComponent onceMessage standsFor heldWith heldAlso grown opens opened deeper depthOf present atEnd recordsFrom recordsWithin followedBy recordAt recordFrom withKind withBody recordBody knownTag opensComponent opensMessage fieldItem componentItem opensGroup withTag withMark zeroFilled recordBodyLength lowFirst
 answers = refl
 
 pub examples-pass : numberOfCheck (checkOf examples) ≡ 0
-unfolding checkOf numberOfCheck readOf answerOf tooLong walked onStep isKnown componentIn messageIn looksIn named noNames stepOf onTag onComponent onMessage onField onItem onGroup onClose closesInnermost closesGroup closesOwner atTop inside closedBefore knownBefore notEmpty notTooDeep notTooMany onceComponent onceMessage standsFor heldWith heldAlso grown opens opened deeper depthOf present atEnd recordsFrom recordsWithin followedBy recordAt recordFrom withKind withBody bodyOf knownTag opensComponent opensMessage fieldItem componentItem opensGroup withTag withMark zeroFilled bodyLength lowFirst
+unfolding checkOf numberOfCheck readOf answerOf tooLong walked onStep isKnown componentIn messageIn looksIn named noNames stepOf onTag onComponent onMessage onField onItem onGroup onClose closesInnermost closesGroup closesOwner atTop inside closedBefore knownBefore notEmpty notTooDeep notTooMany onceComponent onceMessage standsFor heldWith heldAlso grown opens opened deeper depthOf present atEnd recordsFrom recordsWithin followedBy recordAt recordFrom withKind withBody recordBody knownTag opensComponent opensMessage fieldItem componentItem opensGroup withTag withMark zeroFilled recordBodyLength lowFirst
 examples-pass = refl
 
 -- 30: one byte over 60,000, whatever it holds

@@ -8,7 +8,7 @@ use lib.ListN.{length, drop, replicate}
 use lib.Dec.{eqb, ltb}
 use borrow.Author.Tests.{lt-ltb, le-ltb, ltb-false}
 use Rattle.field_rules.specs.Choice.{pick}
-use Rattle.dictionary_chains.specs.Chain.{numberAt}
+use Rattle.dictionary_chains.specs.Chain.{headWords, indexWords, numberAt}
 use Rattle.dictionary_rules.specs.Records.{Records, recordsFrom}
 use Rattle.dictionary_rules.specs.RecordsLaws.{sizeOf, Spaced, at-last, at-bad, at-next, spaced}
 use Rattle.dictionary_rules.specs.declared.Record.{Record}
@@ -192,7 +192,7 @@ module _ (d index : List ℕ) where
   unfolding preparedOf tooLong
   prepared-long h = rw (lt-ltb 60000 (length d) h)
 
-  pub prepared-short : length d ≤ 60000 → preparedOf d index ≡ walked looksAt noted (recordsFrom d 0) TopLevel (replicate 6144 0 ++ drop 6144 index)
+  pub prepared-short : length d ≤ 60000 → preparedOf d index ≡ walked looksAt noted (recordsFrom d 0) TopLevel (replicate headWords 0 ++ drop headWords index)
   unfolding preparedOf tooLong
   prepared-short h = rw (le-ltb 60000 (length d) h)
 
@@ -208,24 +208,24 @@ pub check-long : (d : List ℕ) → 60000 < length d → checkOf d ≡ TooLong
 unfolding checkOf readOf tooLong answerOf
 check-long d h = rw (lt-ltb 60000 (length d) h)
 
-module _ (d index : List ℕ) (size : length index ≡ 96150) where
-  same-walk : tooLong d ≡ false → Same (walked looksAt noted (recordsFrom d 0) TopLevel (replicate 6144 0 ++ drop 6144 index)) (walked looksIn named (recordsFrom d 0) TopLevel noNames)
+module _ (d index : List ℕ) (size : length index ≡ indexWords) where
+  same-walk : tooLong d ≡ false → Same (walked looksAt noted (recordsFrom d 0) TopLevel (replicate headWords 0 ++ drop headWords index)) (walked looksIn named (recordsFrom d 0) TopLevel noNames)
   unfolding tooLong
-  same-walk short = simulate (length d) (ltb-false 60000 (length d) short) (spaced d 0) TopLevel (replicate 6144 0 ++ drop 6144 index) noNames 0 (omega arith) (clear-agrees index size)
+  same-walk short = simulate (length d) (ltb-false 60000 (length d) short) (spaced d 0) TopLevel (replicate headWords 0 ++ drop headWords index) noNames 0 (omega arith) (clear-agrees index size)
 
   -- the check over the index is the check
   pub prepared-answer : answerOf (preparedOf d index) ≡ checkOf d
   unfolding preparedOf checkOf readOf
   prepared-answer = go (tooLong d) refl
     where
-      go : (t : Bool) → tooLong d ≡ t → answerOf (pick t (outcome TooLong index) (walked looksAt noted (recordsFrom d 0) TopLevel (replicate 6144 0 ++ drop 6144 index))) ≡ answerOf (pick t (outcome TooLong noNames) (walked looksIn named (recordsFrom d 0) TopLevel noNames))
+      go : (t : Bool) → tooLong d ≡ t → answerOf (pick t (outcome TooLong index) (walked looksAt noted (recordsFrom d 0) TopLevel (replicate headWords 0 ++ drop headWords index))) ≡ answerOf (pick t (outcome TooLong noNames) (walked looksIn named (recordsFrom d 0) TopLevel noNames))
       go true e = unfold answerOf in refl
-      go false e = same-answer (walked looksAt noted (recordsFrom d 0) TopLevel (replicate 6144 0 ++ drop 6144 index)) (walked looksIn named (recordsFrom d 0) TopLevel noNames) (same-walk e)
+      go false e = same-answer (walked looksAt noted (recordsFrom d 0) TopLevel (replicate headWords 0 ++ drop headWords index)) (walked looksIn named (recordsFrom d 0) TopLevel noNames) (same-walk e)
 
   -- and what it leaves in the index answers every look-up as what the dictionary names does
   pub prepared-names : tooLong d ≡ false → (b : ℕ) × Agrees (storeOf (preparedOf d index)) (storeOf (readOf d)) b
   unfolding preparedOf readOf
-  prepared-names short = rw short (same-store (walked looksAt noted (recordsFrom d 0) TopLevel (replicate 6144 0 ++ drop 6144 index)) (walked looksIn named (recordsFrom d 0) TopLevel noNames) (same-walk short))
+  prepared-names short = rw short (same-store (walked looksAt noted (recordsFrom d 0) TopLevel (replicate headWords 0 ++ drop headWords index)) (walked looksIn named (recordsFrom d 0) TopLevel noNames) (same-walk short))
 
   -- after a check that passes, the lent index answers every look-up as the dictionary's names do
   pub passes-agrees : (out : List ℕ) → outcome Passes out ≡ preparedOf d index → (b : ℕ) × Agrees out (storeOf (readOf d)) b

@@ -18,8 +18,8 @@ lowFirst [] = 0
 lowFirst (b ∷ s) = b + 256 * lowFirst s
 
 -- "Kinds (body length): 1 (4) .. 2 (2) .. 3 (8) .. 4 (5) .. 5 (3) .. 6 (5) .. 7 (0)"
-unfoldable pub bodyLength : ℕ → ℕ
-bodyLength kind =
+unfoldable pub recordBodyLength : ℕ → ℕ
+recordBodyLength kind =
     pick (eqb kind 1) 4
     (pick (eqb kind 2) 2
     (pick (eqb kind 3) 8
@@ -67,8 +67,8 @@ unfoldable pub opensGroup : List ℕ → Body
 opensGroup body = withMark (getD body 4 0) (withTag (lowFirst (take 4 body)) (OpensGroup (lowFirst (take 4 body)) (eqb (getD body 4 0) 1)))
 
 -- "7 (0) closes the innermost open thing"; any other kind is bad
-unfoldable pub bodyOf : ℕ → List ℕ → Body
-bodyOf kind body =
+unfoldable pub recordBody : ℕ → List ℕ → Body
+recordBody kind body =
     pick (eqb kind 1) (knownTag body)
     (pick (eqb kind 2) (opensComponent body)
     (pick (eqb kind 3) (opensMessage body)
@@ -85,7 +85,7 @@ withBody next (Good r) = Whole r next
 -- a body that the dictionary's end cuts is bad
 unfoldable pub withKind : ℕ → ℕ → List ℕ → RecordRead
 withKind place kind rest =
-    pick (ltb (length rest) (bodyLength kind)) Bad (withBody (place + 1 + bodyLength kind) (bodyOf kind (take (bodyLength kind) rest)))
+    pick (ltb (length rest) (recordBodyLength kind)) Bad (withBody (place + 1 + recordBodyLength kind) (recordBody kind (take (recordBodyLength kind) rest)))
 
 -- the record at the start of what is left of the dictionary from a place on
 unfoldable pub recordFrom : ℕ → List ℕ → RecordRead

@@ -8,7 +8,7 @@ use native.Mathlib.Omega.{arith}
 use lib.ListN.{length, getD, take, drop, length-drop, drop-of-length-le}
 use lib.Seq.{drop-cons}
 use borrow.Author.Tests.{eq-eqb, ne-eqb, le-ltb, lt-ltb}
-use Rattle.dictionary_rules.specs.Record.{lowFirst, bodyLength, zeroFilled, bodyOf, withBody, withKind, recordFrom, recordAt}
+use Rattle.dictionary_rules.specs.Record.{lowFirst, recordBodyLength, zeroFilled, recordBody, withBody, withKind, recordFrom, recordAt}
 use Rattle.dictionary_rules.specs.declared.Record.{Record}
 use Rattle.dictionary_rules.specs.declared.Body.the-variants.{Good, Wrong}
 use Rattle.dictionary_rules.specs.declared.RecordRead.the-variants.{Whole, Bad, End}
@@ -60,37 +60,37 @@ module _ (s : List ℕ) (i : ℕ) where
   fill-end ended h = rw (drop-of-length-le s h)
 
 -- the body length of each kind
-pub length-tag : (kind : ℕ) → kind ≡ 1 → bodyLength kind ≡ 4
-unfolding bodyLength
+pub length-tag : (kind : ℕ) → kind ≡ 1 → recordBodyLength kind ≡ 4
+unfolding recordBodyLength
 length-tag kind e = rw e
 
-pub length-component : (kind : ℕ) → kind ≡ 2 → bodyLength kind ≡ 2
-unfolding bodyLength
+pub length-component : (kind : ℕ) → kind ≡ 2 → recordBodyLength kind ≡ 2
+unfolding recordBodyLength
 length-component kind e = rw e
 
-pub length-message : (kind : ℕ) → kind ≡ 3 → bodyLength kind ≡ 8
-unfolding bodyLength
+pub length-message : (kind : ℕ) → kind ≡ 3 → recordBodyLength kind ≡ 8
+unfolding recordBodyLength
 length-message kind e = rw e
 
-pub length-field : (kind : ℕ) → kind ≡ 4 → bodyLength kind ≡ 5
-unfolding bodyLength
+pub length-field : (kind : ℕ) → kind ≡ 4 → recordBodyLength kind ≡ 5
+unfolding recordBodyLength
 length-field kind e = rw e
 
-pub length-item : (kind : ℕ) → kind ≡ 5 → bodyLength kind ≡ 3
-unfolding bodyLength
+pub length-item : (kind : ℕ) → kind ≡ 5 → recordBodyLength kind ≡ 3
+unfolding recordBodyLength
 length-item kind e = rw e
 
-pub length-group : (kind : ℕ) → kind ≡ 6 → bodyLength kind ≡ 5
-unfolding bodyLength
+pub length-group : (kind : ℕ) → kind ≡ 6 → recordBodyLength kind ≡ 5
+unfolding recordBodyLength
 length-group kind e = rw e
 
 -- no kind from 1 to 6
-pub length-other : (kind : ℕ) → (kind ≡ 1 → ⊥) → (kind ≡ 2 → ⊥) → (kind ≡ 3 → ⊥) → (kind ≡ 4 → ⊥) → (kind ≡ 5 → ⊥) → (kind ≡ 6 → ⊥) → bodyLength kind ≡ 0
-unfolding bodyLength
+pub length-other : (kind : ℕ) → (kind ≡ 1 → ⊥) → (kind ≡ 2 → ⊥) → (kind ≡ 3 → ⊥) → (kind ≡ 4 → ⊥) → (kind ≡ 5 → ⊥) → (kind ≡ 6 → ⊥) → recordBodyLength kind ≡ 0
+unfolding recordBodyLength
 length-other kind a b c d e f = rw (ne-eqb kind 1 a, ne-eqb kind 2 b, ne-eqb kind 3 c, ne-eqb kind 4 d, ne-eqb kind 5 e, ne-eqb kind 6 f)
 
-pub body-other : (kind : ℕ) (body : List ℕ) → (kind ≡ 1 → ⊥) → (kind ≡ 2 → ⊥) → (kind ≡ 3 → ⊥) → (kind ≡ 4 → ⊥) → (kind ≡ 5 → ⊥) → (kind ≡ 6 → ⊥) → (kind ≡ 7 → ⊥) → bodyOf kind body ≡ Wrong
-unfolding bodyOf
+pub body-other : (kind : ℕ) (body : List ℕ) → (kind ≡ 1 → ⊥) → (kind ≡ 2 → ⊥) → (kind ≡ 3 → ⊥) → (kind ≡ 4 → ⊥) → (kind ≡ 5 → ⊥) → (kind ≡ 6 → ⊥) → (kind ≡ 7 → ⊥) → recordBody kind body ≡ Wrong
+unfolding recordBody
 body-other kind body a b c d e f g = rw (ne-eqb kind 1 a, ne-eqb kind 2 b, ne-eqb kind 3 c, ne-eqb kind 4 d, ne-eqb kind 5 e, ne-eqb kind 6 f, ne-eqb kind 7 g)
 
 module _ (d : List ℕ) (place : ℕ) where
@@ -102,18 +102,18 @@ module _ (d : List ℕ) (place : ℕ) where
   unfolding recordAt recordFrom
   at-kind h = rw (add-one, drop-cons d place 0 h)
 
-  pub at-cut : place < length d → length d - (place + 1) < bodyLength (getD d place 0) → recordAt d place ≡ Bad
+  pub at-cut : place < length d → length d - (place + 1) < recordBodyLength (getD d place 0) → recordAt d place ≡ Bad
   unfolding withKind
-  at-cut h l = at-kind h ∙ rw (lt-ltb (length (drop (place + 1) d)) (bodyLength (getD d place 0)) (rw length-drop l))
+  at-cut h l = at-kind h ∙ rw (lt-ltb (length (drop (place + 1) d)) (recordBodyLength (getD d place 0)) (rw length-drop l))
 
-  at-body : place < length d → bodyLength (getD d place 0) ≤ length d - (place + 1) → recordAt d place ≡ withBody (place + 1 + bodyLength (getD d place 0)) (bodyOf (getD d place 0) (take (bodyLength (getD d place 0)) (drop (place + 1) d)))
+  at-body : place < length d → recordBodyLength (getD d place 0) ≤ length d - (place + 1) → recordAt d place ≡ withBody (place + 1 + recordBodyLength (getD d place 0)) (recordBody (getD d place 0) (take (recordBodyLength (getD d place 0)) (drop (place + 1) d)))
   unfolding withKind
-  at-body h l = at-kind h ∙ rw (le-ltb (length (drop (place + 1) d)) (bodyLength (getD d place 0)) (rw length-drop l))
+  at-body h l = at-kind h ∙ rw (le-ltb (length (drop (place + 1) d)) (recordBodyLength (getD d place 0)) (rw length-drop l))
 
-  pub at-wrong : place < length d → bodyLength (getD d place 0) ≤ length d - (place + 1) → bodyOf (getD d place 0) (take (bodyLength (getD d place 0)) (drop (place + 1) d)) ≡ Wrong → recordAt d place ≡ Bad
+  pub at-wrong : place < length d → recordBodyLength (getD d place 0) ≤ length d - (place + 1) → recordBody (getD d place 0) (take (recordBodyLength (getD d place 0)) (drop (place + 1) d)) ≡ Wrong → recordAt d place ≡ Bad
   unfolding withBody
   at-wrong h l e = at-body h l ∙ rw e
 
-  pub at-whole : (r : Record) → place < length d → bodyLength (getD d place 0) ≤ length d - (place + 1) → bodyOf (getD d place 0) (take (bodyLength (getD d place 0)) (drop (place + 1) d)) ≡ Good r → recordAt d place ≡ Whole r (place + 1 + bodyLength (getD d place 0))
+  pub at-whole : (r : Record) → place < length d → recordBodyLength (getD d place 0) ≤ length d - (place + 1) → recordBody (getD d place 0) (take (recordBodyLength (getD d place 0)) (drop (place + 1) d)) ≡ Good r → recordAt d place ≡ Whole r (place + 1 + recordBodyLength (getD d place 0))
   unfolding withBody
   at-whole r h l e = at-body h l ∙ rw e

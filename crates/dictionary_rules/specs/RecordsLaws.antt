@@ -9,7 +9,7 @@ use lib.ListN.{length, getD, take, drop}
 use lib.Dec.{eqb, ltb}
 use borrow.Author.Tests.{ltb-true, ltb-false}
 use Rattle.field_rules.specs.Choice.{pick}
-use Rattle.dictionary_rules.specs.Record.{lowFirst, zeroFilled, bodyLength, withTag, withMark, knownTag, opensComponent, opensMessage, fieldItem, componentItem, opensGroup, bodyOf, recordAt}
+use Rattle.dictionary_rules.specs.Record.{lowFirst, zeroFilled, recordBodyLength, withTag, withMark, knownTag, opensComponent, opensMessage, fieldItem, componentItem, opensGroup, recordBody, recordAt}
 use Rattle.dictionary_rules.specs.RecordLaws.{at-end, at-cut, at-wrong, at-whole}
 use Rattle.dictionary_rules.specs.Records.{Records, ends, bad, whole, followedBy, recordsWithin, recordsFrom}
 use Rattle.dictionary_rules.specs.declared.Record.{Record}
@@ -52,8 +52,8 @@ size-message false true m r h = let same : OpensMessage m ≡ r = cc in rw (← 
 size-message false false m r h = let z : _≡_ {A = ℕ} 0 1 = cc in absurd (omega arith)
 
 -- the record of a good body takes one byte more than its body
-size-body : (kind : ℕ) (body : List ℕ) (r : Record) → bodyOf kind body ≡ Good r → sizeOf r ≡ 1 + bodyLength kind
-unfolding bodyOf bodyLength knownTag opensComponent opensMessage fieldItem componentItem opensGroup sizeOf
+size-body : (kind : ℕ) (body : List ℕ) (r : Record) → recordBody kind body ≡ Good r → sizeOf r ≡ 1 + recordBodyLength kind
+unfolding recordBody recordBodyLength knownTag opensComponent opensMessage fieldItem componentItem opensGroup sizeOf
 size-body kind body r h = go (eqb kind 1) (eqb kind 2) (eqb kind 3) (eqb kind 4) (eqb kind 5) (eqb kind 6) (eqb kind 7) h
   where
     go : (a b c d e f g : Bool) → pick a (knownTag body) (pick b (opensComponent body) (pick c (opensMessage body) (pick d (fieldItem body) (pick e (componentItem body) (pick f (opensGroup body) (pick g (Good Closes) Wrong)))))) ≡ Good r → sizeOf r ≡ 1 + pick a 4 (pick b 2 (pick c 8 (pick d 5 (pick e 3 (pick f 5 0)))))
@@ -75,23 +75,23 @@ pub record-lies : (d : List ℕ) (place : ℕ) (r : Record) (next : ℕ) → rec
 record-lies d place r next h = in-bytes (ltb place (length d)) refl
   where
     body : Body
-    body = bodyOf (getD d place 0) (take (bodyLength (getD d place 0)) (drop (place + 1) d))
+    body = recordBody (getD d place 0) (take (recordBodyLength (getD d place 0)) (drop (place + 1) d))
 
-    by-body : (b : Body) → body ≡ b → place < length d → bodyLength (getD d place 0) ≤ length d - (place + 1) → Lies d place r next
+    by-body : (b : Body) → body ≡ b → place < length d → recordBodyLength (getD d place 0) ≤ length d - (place + 1) → Lies d place r next
     by-body Wrong e l c =
         let z : _≡_ {A = ℕ} 0 1 = cc (at-wrong d place l c e) in absurd (omega arith)
     by-body (Good x) e l c =
         let w = at-whole d place x l c e in
         let same : x ≡ r = cc in
-        let after : place + 1 + bodyLength (getD d place 0) ≡ next = cc in
+        let after : place + 1 + recordBodyLength (getD d place 0) ≡ next = cc in
         record { behind = omega (arith, rw same at (size-body (getD d place 0) _ x e)); within = omega arith }
 
-    by-length : (t : Bool) → ltb (length d - (place + 1)) (bodyLength (getD d place 0)) ≡ t → place < length d → Lies d place r next
+    by-length : (t : Bool) → ltb (length d - (place + 1)) (recordBodyLength (getD d place 0)) ≡ t → place < length d → Lies d place r next
     by-length true e l = let z : _≡_ {A = ℕ} 0 1 = cc (at-cut d place l (ltb-true _ _ e)) in absurd (omega arith)
     by-length false e l = by-body body refl l (ltb-false _ _ e)
 
     in-bytes : (t : Bool) → ltb place (length d) ≡ t → Lies d place r next
-    in-bytes true e = by-length (ltb (length d - (place + 1)) (bodyLength (getD d place 0))) refl (ltb-true _ _ e)
+    in-bytes true e = by-length (ltb (length d - (place + 1)) (recordBodyLength (getD d place 0))) refl (ltb-true _ _ e)
     in-bytes false e = let z : _≡_ {A = ℕ} 0 1 = cc (at-end d place (ltb-false _ _ e)) in absurd (omega arith)
 
 size-some : (r : Record) → 1 ≤ sizeOf r

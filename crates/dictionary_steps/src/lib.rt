@@ -17,6 +17,7 @@ ghost use mathlib.Core.Path.{_≡_};
 ghost use lib.ListN.{length};
 ghost use Rattle.dictionary_rules.specs.Index.{looksAt};
 ghost use Rattle.dictionary_rules.specs.Step.{stepOf, atEnd, depthOf, opened, opens, deeper, grown, heldWith, standsFor, onTag, onComponent, onMessage, onField, onItem, onGroup, onClose, closesOwner, closesGroup};
+ghost use Rattle.dictionary_chains.specs.Chain.{indexWords};
 
 fn depth_of(groups: Groups) -> u64
     ensures { λ r. ⌜ r ≡ depthOf groups ⌝ }
@@ -89,7 +90,7 @@ fn stands_for(number: u16, held: Held) -> u16
 }
 
 fn on_tag(index: &[u16], state: State, place: u16, tag: u32) -> Step
-    requires { ⌜ length (now index) ≡ 96150 ⌝ }
+    requires { ⌜ length (now index) ≡ indexWords ⌝ }
     ensures { λ r. ⌜ r ≡ onTag (looksAt (now (index .entry))) state place tag ⌝ }
 {
     let State::TopLevel = state else {
@@ -115,7 +116,7 @@ fn fresh(owner: Owner, place: u16) -> Open
 }
 
 fn on_component(index: &[u16], state: State, place: u16, number: u16) -> Step
-    requires { ⌜ length (now index) ≡ 96150 ⌝ }
+    requires { ⌜ length (now index) ≡ indexWords ⌝ }
     ensures { λ r. ⌜ r ≡ onComponent (looksAt (now (index .entry))) state place number ⌝ }
 {
     let State::TopLevel = state else {
@@ -131,7 +132,7 @@ fn on_component(index: &[u16], state: State, place: u16, number: u16) -> Step
 }
 
 fn on_message(index: &[u16], state: State, place: u16, msgtype: u64) -> Step
-    requires { ⌜ length (now index) ≡ 96150 ⌝ }
+    requires { ⌜ length (now index) ≡ indexWords ⌝ }
     ensures { λ r. ⌜ r ≡ onMessage (looksAt (now (index .entry))) state place msgtype ⌝ }
 {
     let State::TopLevel = state else {
@@ -147,7 +148,7 @@ fn on_message(index: &[u16], state: State, place: u16, msgtype: u64) -> Step
 }
 
 fn on_field(index: &[u16], state: State, place: u16, tag: u32) -> Step
-    requires { ⌜ length (now index) ≡ 96150 ⌝ }
+    requires { ⌜ length (now index) ≡ indexWords ⌝ }
     ensures { λ r. ⌜ r ≡ onField (looksAt (now (index .entry))) state place tag ⌝ }
 {
     let State::Inside(thing) = state else {
@@ -167,7 +168,7 @@ fn on_field(index: &[u16], state: State, place: u16, tag: u32) -> Step
 }
 
 fn on_item(index: &[u16], state: State, place: u16, number: u16) -> Step
-    requires { ⌜ length (now index) ≡ 96150 ⌝ }
+    requires { ⌜ length (now index) ≡ indexWords ⌝ }
     ensures { λ r. ⌜ r ≡ onItem (looksAt (now (index .entry))) state place number ⌝ }
 {
     let State::Inside(thing) = state else {
@@ -195,7 +196,7 @@ fn on_item(index: &[u16], state: State, place: u16, number: u16) -> Step
 }
 
 fn on_group(index: &[u16], state: State, place: u16, tag: u32) -> Step
-    requires { ⌜ length (now index) ≡ 96150 ⌝ }
+    requires { ⌜ length (now index) ≡ indexWords ⌝ }
     ensures { λ r. ⌜ r ≡ onGroup (looksAt (now (index .entry))) state place tag ⌝ }
 {
     let State::Inside(thing) = state else {
@@ -270,7 +271,7 @@ fn on_close(state: State, place: u16) -> Step
 
 // What a record does in the state that the records before it left.
 pub fn step_of(index: &[u16], state: State, place: u16, read: Record) -> Step
-    requires { ⌜ length (now index) ≡ 96150 ⌝ }
+    requires { ⌜ length (now index) ≡ indexWords ⌝ }
     ensures { λ r. ⌜ r ≡ stepOf (looksAt (now (index .entry))) state place read ⌝ }
 {
     match read {
@@ -285,7 +286,7 @@ pub fn step_of(index: &[u16], state: State, place: u16, read: Record) -> Step
 }
 
 pub fn at_end(index: &[u16], state: State, size: u16) -> Checked
-    requires { ⌜ length (now index) ≡ 96150 ⌝ }
+    requires { ⌜ length (now index) ≡ indexWords ⌝ }
     ensures { λ r. ⌜ r ≡ atEnd (looksAt (now (index .entry))) state size ⌝ }
 {
     let State::TopLevel = state else {

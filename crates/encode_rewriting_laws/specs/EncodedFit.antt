@@ -8,7 +8,7 @@ use native.Mathlib.Omega.{arith}
 use lib.ListN.{length, drop, length-append}
 use Rattle.build_records.specs.declared.Record.{Record}
 use Rattle.message_maps.specs.Map.{Map, holds}
-use Rattle.message_lent.specs.Meaning.{Message, wordsOf, valuesOf}
+use Rattle.message_lent.specs.Meaning.{Message, wordsOf, valueBytesOf}
 use Rattle.message_lent.specs.FormedLaws.{layout-lends}
 use Rattle.message_rules.specs.Changes.{fieldTotal}
 use Rattle.build_nesting_laws.specs.Formed.{Own}
@@ -90,15 +90,15 @@ module _ {bytes : List ℕ} {m : Message} {begin size type : Record} {others ofB
     rewriting = rewritten separator bytes begin (type ∷ (others ++ (ofBody ++ ofTrailer)))
 
     pub encoding-written : length rewriting ≤ 8192 → length rewriting ≤ length output
-        → encodingOf separator (wordsOf m) (valuesOf m) output ≡ left (Written (length rewriting)) (wordsOf (encodedMessage separator m)) (valuesOf (encodedMessage separator m)) (rewriting ++ drop (length rewriting) output)
+        → encodingOf separator (wordsOf m) (valueBytesOf m) output ≡ left (Written (length rewriting)) (wordsOf (encodedMessage separator m)) (valueBytesOf (encodedMessage separator m)) (rewriting ++ drop (length rewriting) output)
     encoding-written short fits =
         let l = layout-lends m (built .within) in
         let same = encoding-rewritten separator built in
-        let verdict = found-fit (wordsOf m) (valuesOf m) (l .is-message) separator (length output) separates (rw (l .meant) built-complete) (rw (l .meant, same) short) (rw (l .meant) (encoded-few separator)) (rw (l .meant, same) fits) in
-        encodes separator (wordsOf m) (valuesOf m) output _ verdict ∙ ap (λ (n : Message). encoded separator n output) (l .meant) ∙ (unfold encoded in rw same)
+        let verdict = found-fit (wordsOf m) (valueBytesOf m) (l .is-message) separator (length output) separates (rw (l .meant) built-complete) (rw (l .meant, same) short) (rw (l .meant) (encoded-few separator)) (rw (l .meant, same) fits) in
+        encodes separator (wordsOf m) (valueBytesOf m) output _ verdict ∙ ap (λ (n : Message). encoded separator n output) (l .meant) ∙ (unfold encoded in rw same)
 
-    pub encoding-too-long : 8192 < length rewriting → encodingOf separator (wordsOf m) (valuesOf m) output ≡ left TooLong (wordsOf m) (valuesOf m) output
+    pub encoding-too-long : 8192 < length rewriting → encodingOf separator (wordsOf m) (valueBytesOf m) output ≡ left TooLong (wordsOf m) (valueBytesOf m) output
     encoding-too-long long =
         let l = layout-lends m (built .within) in
         let same = encoding-rewritten separator built in
-        refuses separator (wordsOf m) (valuesOf m) output TooLong (refused-long (wordsOf m) (valuesOf m) (l .is-message) separator (length output) separates (rw (l .meant) built-complete) (rw (l .meant, same) long))
+        refuses separator (wordsOf m) (valueBytesOf m) output TooLong (refused-long (wordsOf m) (valueBytesOf m) (l .is-message) separator (length output) separates (rw (l .meant) built-complete) (rw (l .meant, same) long))

@@ -8,7 +8,7 @@ use Rattle.field_rules.specs.Choice.{pick}
 use Rattle.field_rules.specs.Separator.{isRefusedSeparator}
 use Rattle.message_maps.specs.Map.{Map, end, field, entry, holds}
 use Rattle.message_lent.specs.Lent.{isMessage}
-use Rattle.message_lent.specs.Meaning.{Message, wordsOf, valuesOf, messageIn}
+use Rattle.message_lent.specs.Meaning.{Message, wordsOf, valueBytesOf, messageIn}
 use Rattle.message_rules.specs.Changes.{fieldTotal}
 use Rattle.encode_rules.specs.Encoding.{dropped, bodyLength, encoding, encodedMessage}
 use Rattle.encode_rules.specs.declared.Encoding.{Encoding}
@@ -62,8 +62,8 @@ judging separator m room =
     (Measured (bodyLength (dropped m)))))))
 
 -- "27 first"
-unfoldable pub verdictOf : ℕ → List ℕ → List ℕ → ℕ → Verdict
-verdictOf separator words values room =
+unfoldable pub encodeVerdict : ℕ → List ℕ → List ℕ → ℕ → Verdict
+encodeVerdict separator words values room =
     pick (isMessage words values) (judging separator (messageIn words values) room) (Refused NoMessage)
 
 -- what a call answers, and what it leaves of words, values and output
@@ -74,7 +74,7 @@ pub data Left : Type 0 where
 unfoldable pub encoded : ℕ → Message → List ℕ → Left
 encoded separator m output =
     left (Written (length (encoding separator m)))
-    (wordsOf (encodedMessage separator m)) (valuesOf (encodedMessage separator m))
+    (wordsOf (encodedMessage separator m)) (valueBytesOf (encodedMessage separator m))
     (encoding separator m ++ drop (length (encoding separator m)) output)
 
 unfoldable pub afterVerdict : ℕ → List ℕ → List ℕ → List ℕ → Verdict → Left
@@ -83,4 +83,4 @@ afterVerdict separator words values output (Measured body) = encoded separator (
 
 unfoldable pub encodingOf : ℕ → List ℕ → List ℕ → List ℕ → Left
 encodingOf separator words values output =
-    afterVerdict separator words values output (verdictOf separator words values (length output))
+    afterVerdict separator words values output (encodeVerdict separator words values (length output))

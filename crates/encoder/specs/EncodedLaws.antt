@@ -9,13 +9,13 @@ use lib.Dec.{ltb}
 use Rattle.field_rules.specs.Choice.{pick}
 use Rattle.field_rules.specs.Separator.{isRefusedSeparator}
 use Rattle.message_lent.specs.Lent.{isMessage}
-use Rattle.message_lent.specs.Meaning.{Message, wordsOf, valuesOf, messageIn}
+use Rattle.message_lent.specs.Meaning.{Message, wordsOf, valueBytesOf, messageIn}
 use Rattle.message_lent.specs.Formed.{Formed}
 use Rattle.message_lent.specs.FormedLaws.{lent-formed, Lends, layout-lends}
 use Rattle.message_lent.specs.StoredLaws.{formed-stored, formed-without}
 use Rattle.message_rules.specs.Changes.{fieldTotal, valueTotal}
 use Rattle.encode_rules.specs.Encoding.{dropped, bodyLength, measured, encoding, encodedMessage}
-use Rattle.encode_rules.specs.Encode.{isIncomplete, judging, verdictOf, left, encoded, encodingOf}
+use Rattle.encode_rules.specs.Encode.{isIncomplete, judging, encodeVerdict, left, encoded, encodingOf}
 use Rattle.encoder.specs.Leaving.{Encodable}
 use Rattle.encoder.specs.SizeLaws.{encoded-values}
 use Rattle.encoder.specs.VerdictLaws.{fit-to-encode, encodes, refuses}
@@ -33,7 +33,7 @@ encoded-formed separator m f =
     }
 
 fit-lends : (separator : ℕ) (words values output : List ℕ) (body : ℕ) → Encodable separator words values output body
-    → Lends (wordsOf (encodedMessage separator (messageIn words values))) (valuesOf (encodedMessage separator (messageIn words values))) (encodedMessage separator (messageIn words values))
+    → Lends (wordsOf (encodedMessage separator (messageIn words values))) (valueBytesOf (encodedMessage separator (messageIn words values))) (encodedMessage separator (messageIn words values))
 fit-lends separator words values output body fit =
     let m = messageIn words values in
     layout-lends (encodedMessage separator m)
@@ -44,8 +44,8 @@ fit-lends separator words values output body fit =
     })
 
 -- no refusal says 0
-pub never-written : (separator : ℕ) (words values : List ℕ) (room n : ℕ) → verdictOf separator words values room ≡ Refused (Written n) → ⊥
-unfolding verdictOf judging
+pub never-written : (separator : ℕ) (words values : List ℕ) (room n : ℕ) → encodeVerdict separator words values room ≡ Refused (Written n) → ⊥
+unfolding encodeVerdict judging
 never-written separator words values room n verdict =
     let m = messageIn words values in
     by-tests (isMessage words values) (isRefusedSeparator separator) (isIncomplete (dropped m)) (ltb 8192 (length (encoding separator m))) (ltb 1024 (fieldTotal (encodedMessage separator m))) (ltb room (length (encoding separator m))) verdict
@@ -62,14 +62,14 @@ never-written separator words values room n verdict =
     by-tests true false false false false false v = let z : _≡_ {A = ℕ} 0 1 = cc in omega arith
 
 left-is : (separator : ℕ) (m : Message) (output : List ℕ) (n : ℕ) (w v o : List ℕ) → encoded separator m output ≡ left (Written n) w v o
-    → (wordsOf (encodedMessage separator m) ≡ w) × (valuesOf (encodedMessage separator m) ≡ v)
+    → (wordsOf (encodedMessage separator m) ≡ w) × (valueBytesOf (encodedMessage separator m) ≡ v)
 unfolding encoded
 left-is separator m output n w v o e = (cc, cc)
 
 pub encode-lends : (separator : ℕ) (words values output : List ℕ) (n : ℕ) (w v o : List ℕ) → encodingOf separator words values output ≡ left (Written n) w v o → (isMessage words values ≡ true) × Lends w v (encodedMessage separator (messageIn words values))
-encode-lends separator words values output n w v o e = by-verdict (verdictOf separator words values (length output)) refl
+encode-lends separator words values output n w v o e = by-verdict (encodeVerdict separator words values (length output)) refl
   where
-    by-verdict : (d : Verdict) → verdictOf separator words values (length output) ≡ d → (isMessage words values ≡ true) × Lends w v (encodedMessage separator (messageIn words values))
+    by-verdict : (d : Verdict) → encodeVerdict separator words values (length output) ≡ d → (isMessage words values ≡ true) × Lends w v (encodedMessage separator (messageIn words values))
     by-verdict (Measured body) d =
         let fit = fit-to-encode separator words values output body d in
         let same = left-is separator (messageIn words values) output n w v o (sym (encodes separator words values output body d) ∙ e) in

@@ -11,7 +11,7 @@ use borrow.Author.Tests.{le-leb}
 use Rattle.field_rules.specs.Decimal.{decimal, writtenAt}
 use Rattle.field_rules.specs.DecimalLaws.{written-fits}
 use Rattle.message_maps.specs.Map.{holds, withoutField, stored}
-use Rattle.message_lent.specs.Meaning.{Message, wordsOf, valuesOf, messageIn}
+use Rattle.message_lent.specs.Meaning.{Message, wordsOf, valueBytesOf, messageIn}
 use Rattle.message_lent.specs.FormedLaws.{lent-formed, Lends}
 use Rattle.message_rules.specs.Changes.{after, partOf, withPart, fieldTotal, valueTotal, judged, storing, removing}
 use Rattle.message_rules.specs.ChangeLaws.{store-on, remove-none, remove-on}
@@ -36,7 +36,7 @@ digits-back digits scratch written stop room e w =
     ap (take stop) (w ∙ written-fits 0 digits scratch (omega arith)) ∙ take-at digits (drop (0 + length digits) scratch) stop (omega arith)
 
 -- a change within the limits is made
-judged-made : (words values : List ℕ) (m : Message) → valueTotal m ≤ 8192 → fieldTotal m ≤ 1024 → judged words values true m ≡ after Made (wordsOf m) (valuesOf m)
+judged-made : (words values : List ℕ) (m : Message) → valueTotal m ≤ 8192 → fieldTotal m ≤ 1024 → judged words values true m ≡ after Made (wordsOf m) (valueBytesOf m)
 unfolding judged
 judged-made words values m small few = rw (le-leb _ _ small, le-leb _ _ few)
 
@@ -46,12 +46,12 @@ made e = (cc, cc, cc)
 module _ (part : Part) (tag : ℕ) (value words values : List ℕ) (m : Message) (lends : Lends words values m) (some : tag ≡ 0 → ⊥)
     (small : valueTotal (withPart part (stored tag value (partOf part m)) m) ≤ 8192) (few : fieldTotal (withPart part (stored tag value (partOf part m)) m) ≤ 1024)
     (r : Change) (w v : List ℕ) (done : after r w v ≡ storing part tag value words values) where
-  stored-is : after r w v ≡ after Made (wordsOf (withPart part (stored tag value (partOf part m)) m)) (valuesOf (withPart part (stored tag value (partOf part m)) m))
+  stored-is : after r w v ≡ after Made (wordsOf (withPart part (stored tag value (partOf part m)) m)) (valueBytesOf (withPart part (stored tag value (partOf part m)) m))
   stored-is =
       done ∙ store-on part tag words values value (lends .is-message) some
       ∙ rw (lends .meant) (judged-made words values (withPart part (stored tag value (partOf part m)) m) small few)
 
-  pub store-leaves : (w ≡ wordsOf (withPart part (stored tag value (partOf part m)) m)) × (v ≡ valuesOf (withPart part (stored tag value (partOf part m)) m))
+  pub store-leaves : (w ≡ wordsOf (withPart part (stored tag value (partOf part m)) m)) × (v ≡ valueBytesOf (withPart part (stored tag value (partOf part m)) m))
   store-leaves = let e = made stored-is in (e .1, e .2)
 
   pub store-meant : Lends w v (withPart part (stored tag value (partOf part m)) m)
@@ -120,14 +120,14 @@ module _ (separator : ℕ) (words values output : List ℕ) (body : ℕ) (fit : 
       (rw same (omega (arith, measured-values separator m, fit .short))) (rw same (omega (arith, measured-fields separator m, fit .few))) r x y done)
 
   pub after-sum : (w v : List ℕ) → Lends w v (measured (dropped (messageIn words values))) → (digits : List ℕ) → digits ≡ sumDigits (messageText separator (measured (dropped (messageIn words values)))) → (r : Change) (x y : List ℕ)
-      → after r x y ≡ storing Trailer 10 digits w v → (x ≡ wordsOf (encodedMessage separator (messageIn words values))) × (y ≡ valuesOf (encodedMessage separator (messageIn words values)))
+      → after r x y ≡ storing Trailer 10 digits w v → (x ≡ wordsOf (encodedMessage separator (messageIn words values))) × (y ≡ valueBytesOf (encodedMessage separator (messageIn words values)))
   after-sum w v lends digits sum r x y done =
       let m = messageIn words values in
       let same : withPart Trailer (stored 10 digits (partOf Trailer (measured (dropped m)))) (measured (dropped m)) ≡ encodedMessage separator m = unfold withPart partOf encodedMessage in rw sum in
       let l = store-leaves Trailer 10 digits w v (measured (dropped m)) lends (λ e. omega arith) (rw same (omega (arith, encoded-values separator m, fit .short))) (rw same (fit .few)) r x y done in
-      (l .0 ∙ ap wordsOf same, l .1 ∙ ap valuesOf same)
+      (l .0 ∙ ap wordsOf same, l .1 ∙ ap valueBytesOf same)
 
-  pub all-left : (n : ℕ) (w v o : List ℕ) → n ≡ length (encoding separator (messageIn words values)) → w ≡ wordsOf (encodedMessage separator (messageIn words values)) → v ≡ valuesOf (encodedMessage separator (messageIn words values))
+  pub all-left : (n : ℕ) (w v o : List ℕ) → n ≡ length (encoding separator (messageIn words values)) → w ≡ wordsOf (encodedMessage separator (messageIn words values)) → v ≡ valueBytesOf (encodedMessage separator (messageIn words values))
       → o ≡ encoding separator (messageIn words values) ++ drop (length (encoding separator (messageIn words values))) output → left (Encoded-Written n) w v o ≡ encoded separator (messageIn words values) output
   unfolding encoded
   all-left n w v o a b c d = rw (a, b, c, d)

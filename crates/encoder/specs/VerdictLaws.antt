@@ -21,7 +21,7 @@ use Rattle.message_rules.specs.declared.Span.{Span}
 use Rattle.encode_rules.specs.Encoding.{bytesOf, dropped, bodyLength, encoding, encodedMessage}
 use Rattle.encode_rows.specs.Writing.{uncounted}
 use Rattle.encode_rows.specs.MessageLaws.{message-length, size-is}
-use Rattle.encode_rules.specs.Encode.{hasUncounted, isIncomplete, judging, verdictOf, left, encoded, afterVerdict, encodingOf}
+use Rattle.encode_rules.specs.Encode.{hasUncounted, isIncomplete, judging, encodeVerdict, left, encoded, afterVerdict, encodingOf}
 use Rattle.encoder.specs.Judging.{SpanWithin, sizeAt, incompleteAt, allBytes, bodyAt, addedAt, fieldsAt}
 use Rattle.encoder.specs.Leaving.{Encodable}
 use Rattle.encoder.specs.SizeLaws.{sizeUnder, body-bytes, encoding-length, encoded-fields}
@@ -84,36 +84,36 @@ module _ (words values : List ℕ) (lent : isMessage words values ≡ true) wher
 
   -- the judgement in its order
   module _ (separator room : ℕ) where
-    pub refused-separator : isRefusedSeparator separator ≡ true → verdictOf separator words values room ≡ Refused InvalidSeparator
-    unfolding verdictOf judging
+    pub refused-separator : isRefusedSeparator separator ≡ true → encodeVerdict separator words values room ≡ Refused InvalidSeparator
+    unfolding encodeVerdict judging
     refused-separator s = rw (lent, s)
 
     module _ (separates : isRefusedSeparator separator ≡ false) where
-      pub refused-incomplete : isIncomplete (dropped (messageIn words values)) ≡ true → verdictOf separator words values room ≡ Refused Incomplete
-      unfolding verdictOf judging
+      pub refused-incomplete : isIncomplete (dropped (messageIn words values)) ≡ true → encodeVerdict separator words values room ≡ Refused Incomplete
+      unfolding encodeVerdict judging
       refused-incomplete i = rw (lent, separates, i)
 
       module _ (complete : isIncomplete (dropped (messageIn words values)) ≡ false) where
-        pub refused-long : 8192 < length (encoding separator (messageIn words values)) → verdictOf separator words values room ≡ Refused TooLong
-        unfolding verdictOf judging
+        pub refused-long : 8192 < length (encoding separator (messageIn words values)) → encodeVerdict separator words values room ≡ Refused TooLong
+        unfolding encodeVerdict judging
         refused-long l = rw (lent, separates, complete, lt-ltb 8192 _ l)
 
         module _ (short : length (encoding separator (messageIn words values)) ≤ 8192) where
-          pub refused-many : 1024 < fieldTotal (encodedMessage separator (messageIn words values)) → verdictOf separator words values room ≡ Refused TooManyFields
-          unfolding verdictOf judging
+          pub refused-many : 1024 < fieldTotal (encodedMessage separator (messageIn words values)) → encodeVerdict separator words values room ≡ Refused TooManyFields
+          unfolding encodeVerdict judging
           refused-many f = rw (lent, separates, complete, le-ltb 8192 _ short, lt-ltb 1024 _ f)
 
           module _ (few : fieldTotal (encodedMessage separator (messageIn words values)) ≤ 1024) where
-            pub refused-room : room < length (encoding separator (messageIn words values)) → verdictOf separator words values room ≡ Refused NoRoom
-            unfolding verdictOf judging
+            pub refused-room : room < length (encoding separator (messageIn words values)) → encodeVerdict separator words values room ≡ Refused NoRoom
+            unfolding encodeVerdict judging
             refused-room r = rw (lent, separates, complete, le-ltb 8192 _ short, le-ltb 1024 _ few, lt-ltb room _ r)
 
-            pub found-fit : length (encoding separator (messageIn words values)) ≤ room → verdictOf separator words values room ≡ Measured (bodyLength (dropped (messageIn words values)))
-            unfolding verdictOf judging
+            pub found-fit : length (encoding separator (messageIn words values)) ≤ room → encodeVerdict separator words values room ≡ Measured (bodyLength (dropped (messageIn words values)))
+            unfolding encodeVerdict judging
             found-fit r = rw (lent, separates, complete, le-ltb 8192 _ short, le-ltb 1024 _ few, le-ltb room _ r)
 
-pub refused-message : (separator : ℕ) (words values : List ℕ) (room : ℕ) → isMessage words values ≡ false → verdictOf separator words values room ≡ Refused NoMessage
-unfolding verdictOf
+pub refused-message : (separator : ℕ) (words values : List ℕ) (room : ℕ) → isMessage words values ≡ false → encodeVerdict separator words values room ≡ Refused NoMessage
+unfolding encodeVerdict
 refused-message separator words values room h = rw h
 
 -- the header and the trailer of the message that is lent
@@ -143,8 +143,8 @@ module _ (words values : List ℕ) (head tail : Span) (p : Parts words values he
 
 -- what a verdict says of a message, and what is left by it
 module _ (separator : ℕ) (words values output : List ℕ) where
-  pub fit-to-encode : (body : ℕ) → verdictOf separator words values (length output) ≡ Measured body → Encodable separator words values output body
-  unfolding verdictOf judging
+  pub fit-to-encode : (body : ℕ) → encodeVerdict separator words values (length output) ≡ Measured body → Encodable separator words values output body
+  unfolding encodeVerdict judging
   fit-to-encode body verdict =
       let m = messageIn words values in
       let n = length (encoding separator m) in
@@ -163,10 +163,10 @@ module _ (separator : ℕ) (words values output : List ℕ) where
       by-tests true true c d e f lent short few room v = let z : _≡_ {A = ℕ} 0 1 = cc in absurd (omega arith)
       by-tests false b c d e f lent short few room v = let z : _≡_ {A = ℕ} 0 1 = cc in absurd (omega arith)
 
-  pub encodes : (body : ℕ) → verdictOf separator words values (length output) ≡ Measured body → encodingOf separator words values output ≡ encoded separator (messageIn words values) output
+  pub encodes : (body : ℕ) → encodeVerdict separator words values (length output) ≡ Measured body → encodingOf separator words values output ≡ encoded separator (messageIn words values) output
   unfolding encodingOf afterVerdict
   encodes body verdict = rw verdict
 
-  pub refuses : (refusal : Encoding) → verdictOf separator words values (length output) ≡ Refused refusal → encodingOf separator words values output ≡ left refusal words values output
+  pub refuses : (refusal : Encoding) → encodeVerdict separator words values (length output) ≡ Refused refusal → encodingOf separator words values output ≡ left refusal words values output
   unfolding encodingOf afterVerdict
   refuses refusal verdict = rw verdict

@@ -14,7 +14,7 @@ ghost use Rattle.field_rules.specs.Decimal.{decimal};
 ghost use Rattle.message_lent.specs.Meaning.{messageIn};
 ghost use Rattle.message_rules.specs.declared.Part.the-variants.{Header};
 ghost use Rattle.message_rules.specs.Changes.{after, storing};
-ghost use Rattle.encode_rules.specs.Encode.{verdictOf, left, encoded, encodingOf};
+ghost use Rattle.encode_rules.specs.Encode.{encodeVerdict, left, encoded, encodingOf};
 ghost use Rattle.encoder.specs.Judging.{SpanWithin, heldAt, hungAt, sizeAt, incompleteAt, allBytes, bodyAt, addedAt, fieldsAt};
 ghost use Rattle.encoder.specs.Leaving.{Encodable};
 
@@ -105,7 +105,7 @@ fn fields_with(words: &[u32], head: Span, tail: Span) -> usize
 }
 
 fn judge(words: &[u32], values: &[u8], separator: u8, room: usize) -> Verdict
-    ensures { λ r. ⌜ r ≡ verdictOf separator (now (words .entry)) (now (values .entry)) room ⌝ }
+    ensures { λ r. ⌜ r ≡ encodeVerdict separator (now (words .entry)) (now (values .entry)) room ⌝ }
 {
     let Located::At(head) = message::locate(words, values, Part::Header) else {
         return Verdict::Refused(Encoding::NoMessage);

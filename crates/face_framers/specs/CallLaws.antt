@@ -4,7 +4,7 @@ use mathlib.Core.Path.{_≡_, ap, _∙_}
 use mathlib.Core.List.{List}
 use Rattle.frame_parser_rules.specs.declared.State.{State}
 use Rattle.frame_parser_rules.specs.declared.Outcome.{Outcome}
-use Rattle.frame_parser_rules.specs.Framer.{valueOf, pushed, pushedStore, finished, taken, takenStore, takenOutput}
+use Rattle.frame_parser_rules.specs.Framer.{lengthReturned, pushed, pushedStore, finished, taken, takenStore, takenOutput}
 use Rattle.frame_hunter_rules.specs.declared.State.{State as Hunter}
 use Rattle.frame_hunter_rules.specs.declared.Reply.{Reply}
 use Rattle.frame_hunter_rules.specs.declared.Taken.{Taken}
@@ -36,8 +36,8 @@ taken-output-from s t store output left e h = h ∙ ap (λ (x : State). takenOut
 pub ported-tells : (o o′ : Outcome) (r : PortedReply) → o ≡ o′ → r ≡ portedTold (o .state) (o .answer) → r ≡ portedTold (o′ .state) (o′ .answer)
 ported-tells o o′ r e h = h ∙ ap (λ (x : Outcome). portedTold (x .state) (x .answer)) e
 
-pub ported-length : (o o′ : Outcome) (n : ℕ) (out : List ℕ) → o ≡ o′ → n ≡ valueOf (o .answer) → out ≡ told 0 (n, 0) → out ≡ told 0 (valueOf (o′ .answer), 0)
-ported-length o o′ n out e h t = t ∙ ap (λ (x : ℕ). told 0 (x, 0)) (h ∙ ap (λ (x : Outcome). valueOf (x .answer)) e)
+pub ported-length : (o o′ : Outcome) (n : ℕ) (out : List ℕ) → o ≡ o′ → n ≡ lengthReturned (o .answer) → out ≡ told 0 (n, 0) → out ≡ told 0 (lengthReturned (o′ .answer), 0)
+ported-length o o′ n out e h t = t ∙ ap (λ (x : ℕ). told 0 (x, 0)) (h ∙ ap (λ (x : Outcome). lengthReturned (x .answer)) e)
 
 -- a call of the hunting framer from the state that was lent
 pub pushes-from : (s t : Hunter) (store chunk : List ℕ) (r : Reply) (left : List ℕ) → s ≡ t → Pushes s store chunk r left → Pushes t store chunk r left

@@ -3,7 +3,7 @@
 ghost use mathlib.Core.Path.{_≡_};
 ghost use Rattle.field_rules.specs.Choice.{pick};
 ghost use Rattle.face_told.specs.Told.{told};
-ghost use Rattle.frame_parser_rules.specs.Framer.{valueOf, pushed, pushedStore, finished, taken, takenStore, takenOutput};
+ghost use Rattle.frame_parser_rules.specs.Framer.{lengthReturned, pushed, pushedStore, finished, taken, takenStore, takenOutput};
 ghost use Rattle.frame_hunter_rules.specs.Bytes.{pushed as hunterPushed, finished as hunterFinished, tookFrom};
 ghost use Rattle.face_framers.specs.States.{isSet, portedIn, portedTold, portedFresh, hunterIn, hunterTold, hunterFresh};
 
@@ -138,7 +138,7 @@ pub fn ported_take(
     ensures { λ r. ⌜ (r ≡ portedTold (taken (portedIn state) (now (store .entry)) (now (output .entry)) .state) (taken (portedIn state) (now (store .entry)) (now (output .entry)) .answer))
         × (now (store .exit) ≡ takenStore (portedIn state) (now (store .entry)) (now (output .entry)))
         × (now (output .exit) ≡ takenOutput (portedIn state) (now (store .entry)) (now (output .entry)))
-        × (now (out .exit) ≡ told 0 (valueOf (taken (portedIn state) (now (store .entry)) (now (output .entry)) .answer), 0)) ⌝ }
+        × (now (out .exit) ≡ told 0 (lengthReturned (taken (portedIn state) (now (store .entry)) (now (output .entry)) .answer), 0)) ⌝ }
 {
     let outcome = frame_parser::take(ported_in(state), store, output);
     let after = outcome.state;

@@ -11,7 +11,7 @@ ghost use mathlib.Core.Path.{_≡_};
 ghost use Prim.Native.Nat.{_*_, _%_, _^_, _≤_};
 ghost use lib.ListN.{length, take, drop};
 ghost use Rattle.frame_parser_rules.specs.Announced.{nominal, findFrom, valueFrom, announcedIn};
-ghost use Rattle.frame_parser_rules.specs.Framer.{unusable, fresh, onlyMark, numberOfParser, valueOf, answersWith, readyOf, movedToFront, pushed, pushedStore, finished, taken, takenStore, takenOutput};
+ghost use Rattle.frame_parser_rules.specs.Framer.{unusable, fresh, onlyMark, numberOfParser, lengthReturned, answersWith, readyOf, movedToFront, pushed, pushedStore, finished, taken, takenStore, takenOutput};
 
 const SEPARATOR: u8 = 1;
 
@@ -40,7 +40,7 @@ pub fn number(answer: Answer) -> u32
 
 // The length that a take returns, and 0 for every other answer.
 pub fn length_of(answer: Answer) -> usize
-    ensures { λ r. ⌜ r ≡ valueOf answer ⌝ }
+    ensures { λ r. ⌜ r ≡ lengthReturned answer ⌝ }
 {
     match answer {
         Answer::Message(length) => length,

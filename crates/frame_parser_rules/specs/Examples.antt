@@ -10,7 +10,7 @@ use Rattle.field_rules.specs.Text.{bytes}
 use Rattle.field_rules.specs.Find.{findIn}
 use Rattle.field_rules.specs.Decimal.{writtenAt}
 use Rattle.frame_parser_rules.specs.Announced.{digitOf, nominal, findFrom, withSeparator, withEquals, valueFrom, messageEnd, limited, withSecond, withFirst, announcedIn}
-use Rattle.frame_parser_rules.specs.Framer.{numberOfParser, valueOf, whereAccepted, fresh, onlyMark, held, unusable, pushAnswer, withChunk, pushed, pushedStore, endAnswer, readyOf, readyAnswer, takeAnswer, takeState, taken, movedToFront, takenStore, takenOutput}
+use Rattle.frame_parser_rules.specs.Framer.{numberOfParser, lengthReturned, whereAccepted, fresh, onlyMark, held, unusable, pushAnswer, withChunk, pushed, pushedStore, endAnswer, readyOf, readyAnswer, takeAnswer, takeState, taken, movedToFront, takenStore, takenOutput}
 use Rattle.frame_parser_rules.specs.declared.Announced.the-variants.{Ends, Over, Unknown}
 use Rattle.frame_parser_rules.specs.declared.State.{State}
 use Rattle.frame_parser_rules.specs.declared.Answer.{Answer}
@@ -39,25 +39,25 @@ abbrev state : ℕ → Bool → Bool → State
 state used ended over = record { used = used; ended = ended; over = over }
 
 -- an answer's number and value
-abbrev told : Answer → ℕ × ℕ
-told answer = (numberOfParser answer, valueOf answer)
+abbrev answered : Answer → ℕ × ℕ
+answered answer = (numberOfParser answer, lengthReturned answer)
 
 abbrev zeros : ℕ → List ℕ
 zeros n = replicate n 0
 
 -- a chunk: one that fills the store and one byte more; the orders 27, 26, 20, 25
-chunks : map (λ (row : State × (List ℕ × ℕ)). told (pushAnswer (row .0) (row .1 .0) (zeros (row .1 .1)))) ((fresh, (store "", 16384)) ∷ (fresh, (store "", 16385)) ∷ (state 16383 false false, (store "", 1)) ∷ (state 16383 false false, (store "", 2)) ∷ (state 16384 false false, (store "", 0)) ∷ (state 9000 true true, (store "", 9000)) ∷ (state 9000 false true, (store "", 9000)) ∷ (state 16385 true true, (store "", 0)) ∷ (fresh, (zeros 16383, 0)) ∷ (fresh, (zeros 16385, 0)) ∷ []) ≡ (0, 0) ∷ (25, 0) ∷ (0, 0) ∷ (25, 0) ∷ (0, 0) ∷ (26, 0) ∷ (20, 0) ∷ (27, 0) ∷ (27, 0) ∷ (27, 0) ∷ []
-unfolding numberOfParser valueOf fresh pushAnswer unusable
+chunks : map (λ (row : State × (List ℕ × ℕ)). answered (pushAnswer (row .0) (row .1 .0) (zeros (row .1 .1)))) ((fresh, (store "", 16384)) ∷ (fresh, (store "", 16385)) ∷ (state 16383 false false, (store "", 1)) ∷ (state 16383 false false, (store "", 2)) ∷ (state 16384 false false, (store "", 0)) ∷ (state 9000 true true, (store "", 9000)) ∷ (state 9000 false true, (store "", 9000)) ∷ (state 16385 true true, (store "", 0)) ∷ (fresh, (zeros 16383, 0)) ∷ (fresh, (zeros 16385, 0)) ∷ []) ≡ (0, 0) ∷ (25, 0) ∷ (0, 0) ∷ (25, 0) ∷ (0, 0) ∷ (26, 0) ∷ (20, 0) ∷ (27, 0) ∷ (27, 0) ∷ (27, 0) ∷ []
+unfolding numberOfParser lengthReturned fresh pushAnswer unusable
 chunks = refl
 
 -- the end: 27, 26, 20
-ends : map (λ (state : State). told (endAnswer state (store ""))) (fresh ∷ state 5 true false ∷ state 5 true true ∷ onlyMark ∷ state 16385 true true ∷ []) ≡ (0, 0) ∷ (26, 0) ∷ (26, 0) ∷ (20, 0) ∷ (27, 0) ∷ []
-unfolding numberOfParser valueOf fresh onlyMark endAnswer unusable
+ends : map (λ (state : State). answered (endAnswer state (store ""))) (fresh ∷ state 5 true false ∷ state 5 true true ∷ onlyMark ∷ state 16385 true true ∷ []) ≡ (0, 0) ∷ (26, 0) ∷ (26, 0) ∷ (20, 0) ∷ (27, 0) ∷ []
+unfolding numberOfParser lengthReturned fresh onlyMark endAnswer unusable
 ends = refl
 
 -- a take: P1 whole and short of a byte, after the end, two bytes behind it; 20 before its bytes are there; the orders 27, 23, 20
-takes : map (λ (row : State × (String × ℕ)). told (takeAnswer (row .0) (store (row .1 .0)) (zeros (row .1 .1)))) ((state 26 false false, ("8=FIX.4.4|9=5|35=0|10=163|", 8192)) ∷ (state 25 false false, ("8=FIX.4.4|9=5|35=0|10=163|", 8192)) ∷ (state 26 true false, ("8=FIX.4.4|9=5|35=0|10=163|", 8192)) ∷ (state 28 false false, ("8=FIX.4.4|9=5|35=0|10=163|8=", 9000)) ∷ (state 10 false false, ("8=|9=8176|", 8192)) ∷ (state 10 false false, ("8=|9=8175|", 8192)) ∷ (fresh, ("", 8192)) ∷ (fresh, ("", 8191)) ∷ (onlyMark, ("", 8191)) ∷ (onlyMark, ("", 8192)) ∷ (state 16385 true true, ("", 0)) ∷ []) ≡ (0, 26) ∷ (0, 0) ∷ (0, 26) ∷ (0, 26) ∷ (20, 0) ∷ (0, 0) ∷ (0, 0) ∷ (23, 0) ∷ (23, 0) ∷ (20, 0) ∷ (27, 0) ∷ []
-unfolding numberOfParser valueOf fresh onlyMark takeAnswer unusable readyAnswer readyOf held announcedIn withFirst withSecond valueFrom withEquals withSeparator findFrom findIn limited messageEnd nominal digitOf
+takes : map (λ (row : State × (String × ℕ)). answered (takeAnswer (row .0) (store (row .1 .0)) (zeros (row .1 .1)))) ((state 26 false false, ("8=FIX.4.4|9=5|35=0|10=163|", 8192)) ∷ (state 25 false false, ("8=FIX.4.4|9=5|35=0|10=163|", 8192)) ∷ (state 26 true false, ("8=FIX.4.4|9=5|35=0|10=163|", 8192)) ∷ (state 28 false false, ("8=FIX.4.4|9=5|35=0|10=163|8=", 9000)) ∷ (state 10 false false, ("8=|9=8176|", 8192)) ∷ (state 10 false false, ("8=|9=8175|", 8192)) ∷ (fresh, ("", 8192)) ∷ (fresh, ("", 8191)) ∷ (onlyMark, ("", 8191)) ∷ (onlyMark, ("", 8192)) ∷ (state 16385 true true, ("", 0)) ∷ []) ≡ (0, 26) ∷ (0, 0) ∷ (0, 26) ∷ (0, 26) ∷ (20, 0) ∷ (0, 0) ∷ (0, 0) ∷ (23, 0) ∷ (23, 0) ∷ (20, 0) ∷ (27, 0) ∷ []
+unfolding numberOfParser lengthReturned fresh onlyMark takeAnswer unusable readyAnswer readyOf held announcedIn withFirst withSecond valueFrom withEquals withSeparator findFrom findIn limited messageEnd nominal digitOf
 takes = refl
 
 -- the start of what a take leaves: state, store and an output of 8,192 dots
@@ -71,7 +71,7 @@ afterTake before text =
 leaves : (afterTake (state 28 true false) "8=FIX.4.4|9=5|35=0|10=163|35" ≡ (state 2 true false, (bytes "35FIX.4.4|9=5|35=0|10=163|35", bytes "8=FIX.4.4|9=5|35=0|10=163|..")))
     × (afterTake (state 14 false false) "8=FIX.4.4|9=5|xxxxxxxxxxxxxx" ≡ (state 14 false false, (bytes "8=FIX.4.4|9=5|xxxxxxxxxxxxxx", bytes "............................")))
     × (afterTake (state 12 true false) "8=|9=123456|xxxxxxxxxxxxxxxx" ≡ (onlyMark, (bytes "8=|9=123456|xxxxxxxxxxxxxxxx", bytes "............................")))
-unfolding numberOfParser valueOf whereAccepted onlyMark taken takenStore takenOutput movedToFront takeState takeAnswer unusable readyAnswer readyOf held announcedIn withFirst withSecond valueFrom withEquals withSeparator findFrom findIn limited messageEnd nominal digitOf
+unfolding numberOfParser lengthReturned whereAccepted onlyMark taken takenStore takenOutput movedToFront takeState takeAnswer unusable readyAnswer readyOf held announcedIn withFirst withSecond valueFrom withEquals withSeparator findFrom findIn limited messageEnd nominal digitOf
 leaves = (refl, refl, refl)
 
 -- the start of what a chunk leaves

@@ -30,14 +30,14 @@ numberOfParser AfterEnd = 26
 numberOfParser BadStore = 27
 
 -- the value returned: a take's "length .., 0 if none is ready"; no other answer has one
-unfoldable pub valueOf : Answer → ℕ
-valueOf Accepted = 0
-valueOf (Message n) = n
-valueOf OverLong = 0
-valueOf ShortOutput = 0
-valueOf StoreFull = 0
-valueOf AfterEnd = 0
-valueOf BadStore = 0
+unfoldable pub lengthReturned : Answer → ℕ
+lengthReturned Accepted = 0
+lengthReturned (Message n) = n
+lengthReturned OverLong = 0
+lengthReturned ShortOutput = 0
+lengthReturned StoreFull = 0
+lengthReturned AfterEnd = 0
+lengthReturned BadStore = 0
 
 -- a refusal leaves things as they were (20 in a take apart, which keeps its mark)
 unfoldable pub whereAccepted {ℓ} : {A : Type ℓ} → Answer → A → A → A
@@ -138,10 +138,10 @@ movedToFront bytes store = bytes ++ drop (length bytes) store
 unfoldable pub takenStore : State → List ℕ → List ℕ → List ℕ
 takenStore state store output =
     let answer = takeAnswer state store output in
-    whereAccepted answer (movedToFront (drop (valueOf answer) (held state store)) store) store
+    whereAccepted answer (movedToFront (drop (lengthReturned answer) (held state store)) store) store
 
 -- "A frame .. is written at the start of the output ..; the rest of the output stays."
 unfoldable pub takenOutput : State → List ℕ → List ℕ → List ℕ
 takenOutput state store output =
     let answer = takeAnswer state store output in
-    whereAccepted answer (movedToFront (take (valueOf answer) (held state store)) output) output
+    whereAccepted answer (movedToFront (take (lengthReturned answer) (held state store)) output) output

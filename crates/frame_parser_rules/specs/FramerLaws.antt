@@ -12,7 +12,7 @@ use borrow.Author.Tests.{eq-eqb, ne-eqb, eqb-true, le-leb, lt-leb, leb-true, lt-
 use Rattle.field_rules.specs.Choice.{pick}
 use Rattle.field_rules.specs.Decimal.{writtenAt}
 use Rattle.frame_parser_rules.specs.Announced.{announcedIn}
-use Rattle.frame_parser_rules.specs.Framer.{numberOfParser, valueOf, whereAccepted, answersWith, onlyMark, held, unusable, pushAnswer, withChunk, pushed, pushedStore, endAnswer, withEnd, finished, readyOf, readyAnswer, takeAnswer, takeState, taken, movedToFront, takenStore, takenOutput}
+use Rattle.frame_parser_rules.specs.Framer.{numberOfParser, lengthReturned, whereAccepted, answersWith, onlyMark, held, unusable, pushAnswer, withChunk, pushed, pushedStore, endAnswer, withEnd, finished, readyOf, readyAnswer, takeAnswer, takeState, taken, movedToFront, takenStore, takenOutput}
 use Rattle.frame_parser_rules.specs.declared.Announced.{Announced}
 use Rattle.frame_parser_rules.specs.declared.Announced.the-variants.{Ends, Over, Unknown}
 use Rattle.frame_parser_rules.specs.declared.State.{State}
@@ -144,7 +144,7 @@ module _ (state : State) (store output : List ℕ) where
 
   -- the answer decides all
   pub take-gives : (answer : Answer) → takeAnswer state store output ≡ answer
-      → TakeGives (answersWith (takeState state answer) answer) (whereAccepted answer (movedToFront (drop (valueOf answer) (held state store)) store) store) (whereAccepted answer (movedToFront (take (valueOf answer) (held state store)) output) output)
+      → TakeGives (answersWith (takeState state answer) answer) (whereAccepted answer (movedToFront (drop (lengthReturned answer) (held state store)) store) store) (whereAccepted answer (movedToFront (take (lengthReturned answer) (held state store)) output) output)
   unfolding taken takenStore takenOutput
   take-gives answer e = (rw e, rw e, rw e)
 
@@ -172,7 +172,7 @@ module _ (state : State) (store output : List ℕ) where
         take-over r = take-gives OverLong (take-judges ∙ ap readyAnswer r)
 
         pub take-message : (n : ℕ) → readyOf (state .used) (announcedIn (held state store)) ≡ Length n → TakeGives (answersWith (takeState state (Message n)) (Message n)) (movedToFront (drop n (held state store)) store) (movedToFront (take n (held state store)) output)
-        unfolding whereAccepted numberOfParser valueOf readyAnswer
+        unfolding whereAccepted numberOfParser lengthReturned readyAnswer
         take-message n r = take-gives (Message n) (take-judges ∙ ap readyAnswer r)
 
         -- no message is ready: state, store and output stay

@@ -66,11 +66,11 @@ abbrev pub judged : List Row → List Verdict
 judged [] = []
 judged (row bytes v ∷ rows) = verdictOf bytes ∷ judged rows
 
-abbrev pub told : List Row → List Verdict
-told [] = []
-told (row bytes v ∷ rows) = v ∷ told rows
+abbrev pub expected : List Row → List Verdict
+expected [] = []
+expected (row bytes v ∷ rows) = v ∷ expected rows
 
 -- THE TABLE
-pub examples : judged table ≡ told table
+pub examples : judged table ≡ expected table
 unfolding verdictOf asVerdict stageOf frameReader bodyReader checksumFor _>>=_ literal withHead any headed textKind text beginString mayBecome digitKind bodyLength isDigit worth sumOf checksumDigits
 examples = refl

@@ -2,7 +2,7 @@
 use face_framers::HunterState;
 use face_framers::PortedState;
 ghost use mathlib.Core.Path.{_≡_};
-ghost use Rattle.frame_parser_rules.specs.Framer.{numberOfParser, valueOf, fresh, pushed, pushedStore, finished, taken, takenStore, takenOutput};
+ghost use Rattle.frame_parser_rules.specs.Framer.{numberOfParser, lengthReturned, fresh, pushed, pushedStore, finished, taken, takenStore, takenOutput};
 ghost use Rattle.frame_hunter_rules.specs.Bytes.{numberOfHunter, freshState, pushed as hunterPushed, finished as hunterFinished, tookFrom};
 ghost use Rattle.face_told.specs.Told.{told};
 ghost use Rattle.face_framers.specs.States.{portedIn, portedOut, hunterIn, hunterOut};
@@ -53,7 +53,7 @@ pub extern "C" fn gateway_ported_take(
         × (now (state .exit) ≡ portedOut (taken (portedIn (now (state .entry))) (now (store .entry)) (now (output .entry)) .state))
         × (now (store .exit) ≡ takenStore (portedIn (now (state .entry))) (now (store .entry)) (now (output .entry)))
         × (now (output .exit) ≡ takenOutput (portedIn (now (state .entry))) (now (store .entry)) (now (output .entry)))
-        × (now (out .exit) ≡ told 0 (valueOf (taken (portedIn (now (state .entry))) (now (store .entry)) (now (output .entry)) .answer), 0)) ⌝ }
+        × (now (out .exit) ≡ told 0 (lengthReturned (taken (portedIn (now (state .entry))) (now (store .entry)) (now (output .entry)) .answer), 0)) ⌝ }
 {
     let reply = face_framers::ported_take(*state, store, output, out);
     *state = reply.state;

@@ -12,7 +12,7 @@ use Rattle.message_maps.specs.Rows.{Row, row, laid, padded, sizes, levelOf, mat
 use Rattle.message_maps.specs.RowsLaws.{padded-length}
 use Rattle.message_lent.specs.Lent.{deepest, headAllowed, rowAllowed, rowsAllowed, delimiterIs, isPart, nextPart, partsFrom, fieldsIn, rowCount, isLaid, isMessage}
 use Rattle.message_lent.specs.LentLaws.{both, message-held}
-use Rattle.message_lent.specs.Meaning.{Message, parts, wordsOf, valuesOf, messageIn}
+use Rattle.message_lent.specs.Meaning.{Message, parts, wordsOf, valueBytesOf, messageIn}
 use Rattle.message_lent.specs.MeaningLaws.{means, parts-below, flat-length}
 use Rattle.message_lent.specs.MeantLaws.{rows-of-layout, layout-meant}
 use Rattle.message_lent.specs.Formed.{isFormed, Formed, Within}
@@ -67,14 +67,14 @@ parts-order m =
 
 -- a formed message within the limits has a layout that is a message
 pub formed-laid : (m : Message) → Formed m → length (valuesIn (parts m)) ≤ 8192 → fieldCount (m .header) + (fieldCount (m .body) + fieldCount (m .trailer)) ≤ 1024
-    → isMessage (wordsOf m) (valuesOf m) ≡ true
+    → isMessage (wordsOf m) (valueBytesOf m) ≡ true
 unfolding isMessage isLaid
 formed-laid m f small few =
     let rows = rows-of-layout m in
     let lw : length (wordsOf m) ≡ messageWords = unfold wordsOf in padded-length messageWords _ (omega (arith, rows-parts m, flat-length (laid 0 (parts m)))) in
-    let lv : length (valuesOf m) ≡ 8192 = unfold valuesOf in padded-length 8192 _ small in
+    let lv : length (valueBytesOf m) ≡ 8192 = unfold valueBytesOf in padded-length 8192 _ small in
     let count : rowCount (wordsOf m) ≡ length (laid 0 (parts m)) = unfold rowCount wordsOf padded in refl in
-    rw (rows, eq-eqb (length (wordsOf m)) messageWords lw, eq-eqb (length (valuesOf m)) 8192 lv, count, le-leb (length (laid 0 (parts m))) messageRows (omega (arith, rows-parts m)), parts-allowed m f, le-leb (sizes (laid 0 (parts m))) 8192 (omega (arith, sizes-laid 0 (parts m))), parts-order m)
+    rw (rows, eq-eqb (length (wordsOf m)) messageWords lw, eq-eqb (length (valueBytesOf m)) 8192 lv, count, le-leb (length (laid 0 (parts m))) messageRows (omega (arith, rows-parts m)), parts-allowed m f, le-leb (sizes (laid 0 (parts m))) 8192 (omega (arith, sizes-laid 0 (parts m))), parts-order m)
     (le-leb (fieldsIn 1 (laid 0 (parts m))) 1024 (omega (arith, fields-parts m)))
 
 -- what is lent as a message is formed, and within the limits
@@ -94,5 +94,5 @@ pub record Lends (words values : List ℕ) (m : Message) : Type 0 where
   pub is-message : isMessage words values ≡ true
   pub meant : messageIn words values ≡ m
 
-pub layout-lends : (m : Message) → Within m → Lends (wordsOf m) (valuesOf m) m
+pub layout-lends : (m : Message) → Within m → Lends (wordsOf m) (valueBytesOf m) m
 layout-lends m w = record { is-message = formed-laid m (w .formed) (w .small) (w .few); meant = layout-meant m }

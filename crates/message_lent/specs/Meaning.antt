@@ -22,8 +22,8 @@ parts m = entry 1 0 (m .header) (entry 2 0 (m .body) (entry 3 0 (m .trailer) end
 unfoldable pub wordsOf : Message → List ℕ
 wordsOf m = padded messageWords (length (laid 0 (parts m)) ∷ flat (laid 0 (parts m)))
 
-unfoldable pub valuesOf : Message → List ℕ
-valuesOf m = padded 8192 (valuesIn (parts m))
+unfoldable pub valueBytesOf : Message → List ℕ
+valueBytesOf m = padded 8192 (valuesIn (parts m))
 
 -- so many empty maps are opened
 unfoldable pub opened : ℕ → List Map → List Map

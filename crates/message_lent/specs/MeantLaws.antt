@@ -10,7 +10,7 @@ use lib.Seq.{take-at, drop-at, getD-drop, drop-drop}
 use Rattle.message_maps.specs.Map.{Map, end, field, entry, joined, valuesIn}
 use Rattle.message_maps.specs.Rows.{Row, row, laid, flat, rowAt, rowsFrom, padded, sizeOf, messageWords}
 use Rattle.message_lent.specs.Lent.{rowCount, rowsOf}
-use Rattle.message_lent.specs.Meaning.{Message, parts, wordsOf, valuesOf, opened, withField, withEntry, withRow, openIn, outermost, thirdOf, secondOf, partsIn, messageIn}
+use Rattle.message_lent.specs.Meaning.{Message, parts, wordsOf, valueBytesOf, opened, withField, withEntry, withRow, openIn, outermost, thirdOf, secondOf, partsIn, messageIn}
 use Rattle.message_lent.specs.MeaningLaws.{opened-length}
 
 -- the rows that words hold are those that they were made from
@@ -130,6 +130,6 @@ open-parts m values =
     ∙ (unfold openIn raised opened inFront outermost in joined-end (parts m))
 
 -- a layout means the message that it was made from
-pub layout-meant : (m : Message) → messageIn (wordsOf m) (valuesOf m) ≡ m
-unfolding messageIn valuesOf padded
+pub layout-meant : (m : Message) → messageIn (wordsOf m) (valueBytesOf m) ≡ m
+unfolding messageIn valueBytesOf padded
 layout-meant m = rw (rows-of-layout m, open-parts m _) (unfold parts partsIn secondOf thirdOf in refl)

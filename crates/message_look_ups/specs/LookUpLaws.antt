@@ -13,7 +13,7 @@ use Rattle.message_lent.specs.Meaning.{Message, parts, messageIn}
 use Rattle.message_rules.specs.Changes.{placeOf, spanOf}
 use Rattle.message_rules.specs.declared.Part.{Part}
 use Rattle.message_rules.specs.declared.Part.the-variants.{Header, Body, Trailer}
-use Rattle.message_rules.specs.LookUps.{rowsIn, standing, mapAt, valueIn, entryIn, partRow, valueOf, entryOf, partFound, fieldFound, entryFound}
+use Rattle.message_rules.specs.LookUps.{rowsIn, standing, mapAt, valueIn, entryIn, partRow, valueUnder, entryOf, partFound, fieldFound, entryFound}
 use Rattle.message_look_ups.specs.Opening.{rowsBelow, openedAt, valueFrom, entryFrom}
 use Rattle.message_look_ups.specs.RowLaws.{rows-in, value-laid, entry-laid}
 use Rattle.message_look_ups.specs.OpeningLaws.{Inside, Opens, shut, opened, opens, opened-no}
@@ -24,37 +24,37 @@ use Rattle.message_look_ups.specs.declared.Opened.{Opened}
 use Rattle.message_look_ups.specs.declared.Opened.the-variants.{NoMessage, Absent, Within}
 
 -- what an opening tells
-pub data Told (head : ℕ) (words values : List ℕ) : Opened → Type 0 where
-  no-message : isMessage words values ≡ false → Told head words values NoMessage
-  no-map : isMessage words values ≡ true → mapAt head 0 (parts (messageIn words values)) ≡ none → Told head words values Absent
-  a-map : {rows : Rows} → isMessage words values ≡ true → Inside head rows words (parts (messageIn words values)) → Told head words values (Within rows)
+pub data OpeningTold (head : ℕ) (words values : List ℕ) : Opened → Type 0 where
+  no-message : isMessage words values ≡ false → OpeningTold head words values NoMessage
+  no-map : isMessage words values ≡ true → mapAt head 0 (parts (messageIn words values)) ≡ none → OpeningTold head words values Absent
+  a-map : {rows : Rows} → isMessage words values ≡ true → Inside head rows words (parts (messageIn words values)) → OpeningTold head words values (Within rows)
 
-pub told : (head : ℕ) (words values : List ℕ) (o : Opened) → openedAt head words values ≡ o → Told head words values o
-told head words values o same = rw same at (by-test (isMessage words values) refl)
+pub opening-told : (head : ℕ) (words values : List ℕ) (o : Opened) → openedAt head words values ≡ o → OpeningTold head words values o
+opening-told head words values o same = rw same at (by-test (isMessage words values) refl)
   where
-    by-opens : (lent : isMessage words values ≡ true) → Opens head words values lent → Told head words values (openedAt head words values)
+    by-opens : (lent : isMessage words values ≡ true) → Opens head words values lent → OpeningTold head words values (openedAt head words values)
     by-opens lent (shut e f) = rw e (no-map lent f)
     by-opens lent (opened e i) = rw e (a-map lent i)
 
-    by-test : (b : Bool) → isMessage words values ≡ b → Told head words values (openedAt head words values)
+    by-test : (b : Bool) → isMessage words values ≡ b → OpeningTold head words values (openedAt head words values)
     by-test false e = rw (opened-no head words values e) (no-message e)
     by-test true e = by-opens e (opens head words values e)
 
 module _ (head : ℕ) (words values : List ℕ) where
   -- no message, no map
-  pub field-none : (tag : ℕ) → Told head words values NoMessage → fieldFound head tag words values ≡ value.NoMessage
+  pub field-none : (tag : ℕ) → OpeningTold head words values NoMessage → fieldFound head tag words values ≡ value.NoMessage
   unfolding fieldFound
   field-none tag (no-message e) = rw e
 
-  pub field-shut : (tag : ℕ) → Told head words values Absent → fieldFound head tag words values ≡ value.Absent
-  unfolding fieldFound valueOf
+  pub field-shut : (tag : ℕ) → OpeningTold head words values Absent → fieldFound head tag words values ≡ value.Absent
+  unfolding fieldFound valueUnder
   field-shut tag (no-map e n) = rw (e, n)
 
-  pub entry-none : (start number : ℕ) → Told head words values NoMessage → entryFound head start number words values ≡ map.NoMessage
+  pub entry-none : (start number : ℕ) → OpeningTold head words values NoMessage → entryFound head start number words values ≡ map.NoMessage
   unfolding entryFound
   entry-none start number (no-message e) = rw e
 
-  pub entry-shut : (start number : ℕ) → Told head words values Absent → entryFound head start number words values ≡ map.Absent
+  pub entry-shut : (start number : ℕ) → OpeningTold head words values Absent → entryFound head start number words values ≡ map.Absent
   unfolding entryFound entryOf
   entry-shut start number (no-map e n) = rw (e, n)
 
@@ -65,15 +65,15 @@ module _ (head : ℕ) (words values : List ℕ) where
     pub small : placeOf words (rows .from) ≤ 8192
     pub lent : isMessage words values ≡ true
 
-  pub ranged : (rows : Rows) → Told head words values (Within rows) → Ranged rows
+  pub ranged : (rows : Rows) → OpeningTold head words values (Within rows) → Ranged rows
   ranged rows (a-map e i) =
       record { forwards = i .forwards; few = i .few; small = omega (arith, i .starts, i .small); lent = e }
 
-  pub field-open : (tag : ℕ) (rows : Rows) → Told head words values (Within rows) → valueFrom (rows .level) tag (placeOf words (rows .from)) (rowsFrom (rows .to - rows .from) (rows .from) words) ≡ fieldFound head tag words values
-  unfolding fieldFound valueOf
+  pub field-open : (tag : ℕ) (rows : Rows) → OpeningTold head words values (Within rows) → valueFrom (rows .level) tag (placeOf words (rows .from)) (rowsFrom (rows .to - rows .from) (rows .from) words) ≡ fieldFound head tag words values
+  unfolding fieldFound valueUnder
   field-open tag rows (a-map e i) = rw (e, i .named, i .own-rows, i .starts) (value-laid (rows .level) tag (i .place) (i .own))
 
-  pub entry-open : (start number : ℕ) (rows : Rows) → Told head words values (Within rows) → entryFrom (rows .level) start number (rows .from) (rowsFrom (rows .to - rows .from) (rows .from) words) ≡ entryFound head start number words values
+  pub entry-open : (start number : ℕ) (rows : Rows) → OpeningTold head words values (Within rows) → entryFrom (rows .level) start number (rows .from) (rowsFrom (rows .to - rows .from) (rows .from) words) ≡ entryFound head start number words values
   unfolding entryFound entryOf
   entry-open start number rows (a-map e i) = rw (e, i .named, i .own-rows, i .from) (entry-laid (rows .level) start number (head + 1) (i .own))
 

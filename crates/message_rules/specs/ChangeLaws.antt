@@ -11,7 +11,7 @@ use Rattle.field_rules.specs.Choice.{pick}
 use Rattle.message_maps.specs.Map.{Map, end, entry, valuesIn, holds, withoutField, stored}
 use Rattle.message_maps.specs.Rows.{laid, flat, part, padded, spliced, rowsFrom, findFrom, runEndFrom, messageWords}
 use Rattle.message_lent.specs.Lent.{isMessage}
-use Rattle.message_lent.specs.Meaning.{Message, parts, wordsOf, valuesOf, messageIn}
+use Rattle.message_lent.specs.Meaning.{Message, parts, wordsOf, valueBytesOf, messageIn}
 use Rattle.message_rules.specs.Changes.{After, after, placeOf, Cuttable, cutSize, cutWords, cutValues, changedAt, ofMessage, partOf, withPart, judged, noFields, ofStore, emptying, storing, removing, spanOf, locatedIn, fieldRow, fieldPlace, runPlace, runStop, oneRow, runLast, putAt, Ready}
 use Rattle.message_rules.specs.PlaceLaws.{place-grows}
 use Rattle.message_rules.specs.declared.Change.the-variants.{Made, NoMessage, NotStorable, NoRun, TooManyFields}
@@ -138,8 +138,8 @@ unfolding wordsOf noFields parts laid flat spliced part padded
 empty-words [] s h e = absurd (omega arith)
 empty-words (w ∷ words) s h e = ap (λ (l : List ℕ). set l 0 3) e
 
-pub empty-values : (values left : List ℕ) → left ≡ padded 8192 (spliced 0 0 0 0 0 [] values) → left ≡ valuesOf noFields
-unfolding valuesOf noFields parts valuesIn spliced part padded
+pub empty-values : (values left : List ℕ) → left ≡ padded 8192 (spliced 0 0 0 0 0 [] values) → left ≡ valueBytesOf noFields
+unfolding valueBytesOf noFields parts valuesIn spliced part padded
 empty-values values left e = e
 
 module _ (words values : List ℕ) where
@@ -151,6 +151,6 @@ module _ (words values : List ℕ) where
   unfolding emptying ofStore
   empty-store h k = rw (eq-eqb _ _ h, ne-eqb _ _ k)
 
-  pub empty-made : length words ≡ messageWords → length values ≡ 8192 → emptying words values ≡ after Made (wordsOf noFields) (valuesOf noFields)
+  pub empty-made : length words ≡ messageWords → length values ≡ 8192 → emptying words values ≡ after Made (wordsOf noFields) (valueBytesOf noFields)
   unfolding emptying ofStore
   empty-made h k = rw (eq-eqb _ _ h, eq-eqb _ _ k)

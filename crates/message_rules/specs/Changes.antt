@@ -9,7 +9,7 @@ use Rattle.field_rules.specs.Choice.{pick}
 use Rattle.message_maps.specs.Map.{Map, end, field, entry, holds, withoutField, stored, hung, fieldCount, valuesIn}
 use Rattle.message_maps.specs.Rows.{laid, flat, rowsFrom, findFrom, runEndFrom, sizes, padded, spliced, messageWords, messageRows}
 use Rattle.message_lent.specs.Lent.{isMessage}
-use Rattle.message_lent.specs.Meaning.{Message, parts, wordsOf, valuesOf, messageIn}
+use Rattle.message_lent.specs.Meaning.{Message, parts, wordsOf, valueBytesOf, messageIn}
 use Rattle.message_rules.specs.declared.Part.{Part}
 use Rattle.message_rules.specs.declared.Part.the-variants.{Header, Body, Trailer}
 use Rattle.message_rules.specs.declared.Change.{Change}
@@ -71,7 +71,7 @@ judgedMap words values whole fields map =
     judgedBy words values (length (valuesIn map)) whole fields (mapWords map) (mapValues map)
 
 unfoldable pub judged : List ℕ → List ℕ → Bool → Message → After
-judged words values whole m = judgedBy words values (valueTotal m) whole (fieldTotal m) (wordsOf m) (valuesOf m)
+judged words values whole m = judgedBy words values (valueTotal m) whole (fieldTotal m) (wordsOf m) (valueBytesOf m)
 
 -- "27 first"
 unfoldable pub ofMessage : List ℕ → List ℕ → (Message → After) → After
@@ -89,7 +89,7 @@ ofStore words values then =
     (after NoMessage words values)
 
 unfoldable pub emptying : List ℕ → List ℕ → After
-emptying words values = ofStore words values (after Made (wordsOf noFields) (valuesOf noFields))
+emptying words values = ofStore words values (after Made (wordsOf noFields) (valueBytesOf noFields))
 
 -- a new message: its header has 8 and then 35
 unfoldable pub newMessage : List ℕ → List ℕ → Message

@@ -9,7 +9,7 @@ use native.Mathlib.Omega.{arith}
 use Rattle.message_maps.specs.Rows.{messageWords}
 use Rattle.field_rules.specs.Text.{bytes}
 use Rattle.message_maps.specs.Map.{Map, end, field, entry, joined, holds, holdsAny, replaced, withoutField, leading, pastLeading, runOn, withoutRun, stored, fieldCount, valuesIn}
-use Rattle.message_lent.specs.Meaning.{Message, parts, wordsOf, valuesOf}
+use Rattle.message_lent.specs.Meaning.{Message, parts, wordsOf, valueBytesOf}
 use Rattle.message_lent.specs.Formed.{stands, goesOn, isFormed, Within}
 use Rattle.message_lent.specs.FormedLaws.{Lends, layout-lends}
 use Rattle.message_rules.specs.Changes.{After, after, numberOfChange, partOf, withPart, fieldTotal, valueTotal, judged, ofMessage, ofStore, noFields, emptying, newMessage, storing, removing}
@@ -80,19 +80,19 @@ dealt body = record { header = field 35 (bytes "D") end; body = body; trailer = 
 abbrev allocated : Message
 allocated = dealt (field 38 (bytes "600") (field 78 (bytes "1") (entry 78 79 (field 79 (bytes "A") end) (field 58 (bytes "x") end))))
 
-allocated-lent : Lends (wordsOf allocated) (valuesOf allocated) allocated
+allocated-lent : Lends (wordsOf allocated) (valueBytesOf allocated) allocated
 unfolding isFormed stands goesOn pastLeading valuesIn parts fieldCount holdsAny
 allocated-lent = layout-lends allocated (record { formed = record { header = refl; body = refl; trailer = refl }; small = omega arith; few = omega arith })
 
 abbrev left : Message → After
-left m = after Made (wordsOf m) (valuesOf m)
+left m = after Made (wordsOf m) (valueBytesOf m)
 
 -- a replaced field keeps its place (P5); tag 0 is refused; a removed count leaves its run; what is not held leaves all as it was
 calls :
-    (storing Body 38 (bytes "800") (wordsOf allocated) (valuesOf allocated) ≡ left (dealt (field 38 (bytes "800") (field 78 (bytes "1") (entry 78 79 (field 79 (bytes "A") end) (field 58 (bytes "x") end))))))
-    × (storing Trailer 0 (bytes "x") (wordsOf allocated) (valuesOf allocated) ≡ after NotStorable (wordsOf allocated) (valuesOf allocated))
-    × (removing Body 78 (wordsOf allocated) (valuesOf allocated) ≡ left (dealt (field 38 (bytes "600") (entry 78 79 (field 79 (bytes "A") end) (field 58 (bytes "x") end)))))
-    × (removing Header 38 (wordsOf allocated) (valuesOf allocated) ≡ left allocated)
+    (storing Body 38 (bytes "800") (wordsOf allocated) (valueBytesOf allocated) ≡ left (dealt (field 38 (bytes "800") (field 78 (bytes "1") (entry 78 79 (field 79 (bytes "A") end) (field 58 (bytes "x") end))))))
+    × (storing Trailer 0 (bytes "x") (wordsOf allocated) (valueBytesOf allocated) ≡ after NotStorable (wordsOf allocated) (valueBytesOf allocated))
+    × (removing Body 78 (wordsOf allocated) (valueBytesOf allocated) ≡ left (dealt (field 38 (bytes "600") (entry 78 79 (field 79 (bytes "A") end) (field 58 (bytes "x") end)))))
+    × (removing Header 38 (wordsOf allocated) (valueBytesOf allocated) ≡ left allocated)
 unfolding storing removing ofMessage judged valueTotal fieldTotal valuesIn parts fieldCount holdsAny partOf withPart holds stored replaced withoutField
 calls =
     let lent = allocated-lent in

@@ -11,7 +11,7 @@ use Rattle.message_maps.specs.Rows.{messageWords}
 use Rattle.field_rules.specs.Choice.{pick}
 use Rattle.message_maps.specs.Map.{Map, holds, withoutField, stored, fieldCount, valuesIn}
 use Rattle.message_lent.specs.Lent.{isMessage}
-use Rattle.message_lent.specs.Meaning.{Message, parts, wordsOf, valuesOf, messageIn}
+use Rattle.message_lent.specs.Meaning.{Message, parts, wordsOf, valueBytesOf, messageIn}
 use Rattle.message_lent.specs.Formed.{isFormed, Formed, Within}
 use Rattle.message_lent.specs.FormedLaws.{lent-formed, Lends, layout-lends}
 use Rattle.message_lent.specs.StoredLaws.{formed-stored, formed-without}
@@ -59,7 +59,7 @@ unfolding judged
 made-lends words values whole m w v f e = by-tests (leb (valueTotal m) 8192) whole (leb (fieldTotal m) 1024) refl refl refl e
   where
     by-tests : (a b c : Bool) → leb (valueTotal m) 8192 ≡ a → whole ≡ b → leb (fieldTotal m) 1024 ≡ c
-        → pick a (pick b (pick c (after Made (wordsOf m) (valuesOf m)) (after TooManyFields words values)) (after NoRun words values)) (after NotStorable words values) ≡ after Made w v
+        → pick a (pick b (pick c (after Made (wordsOf m) (valueBytesOf m)) (after TooManyFields words values)) (after NoRun words values)) (after NotStorable words values) ≡ after Made w v
         → Lends w v m
     by-tests true true true s u n e =
         let q = same-words e in
@@ -74,10 +74,10 @@ unfolding judged
 judged-keeps words values whole m r w v f h e = by-tests (leb (valueTotal m) 8192) whole (leb (fieldTotal m) 1024) refl refl refl e
   where
     by-tests : (a b c : Bool) → leb (valueTotal m) 8192 ≡ a → whole ≡ b → leb (fieldTotal m) 1024 ≡ c
-        → pick a (pick b (pick c (after Made (wordsOf m) (valuesOf m)) (after TooManyFields words values)) (after NoRun words values)) (after NotStorable words values) ≡ after r w v
+        → pick a (pick b (pick c (after Made (wordsOf m) (valueBytesOf m)) (after TooManyFields words values)) (after NoRun words values)) (after NotStorable words values) ≡ after r w v
         → isMessage w v ≡ true
     by-tests true true true s u n e =
-        still-message (wordsOf m) (valuesOf m) w v e (layout-lends m (totals-within m (f u) (leb-true _ _ s) (leb-true _ _ n)) .is-message)
+        still-message (wordsOf m) (valueBytesOf m) w v e (layout-lends m (totals-within m (f u) (leb-true _ _ s) (leb-true _ _ n)) .is-message)
     by-tests true true false s u n e = still-message words values w v e h
     by-tests true false c s u n e = still-message words values w v e h
     by-tests false b c s u n e = still-message words values w v e h
@@ -90,7 +90,7 @@ empty-lends words values w v e = by-tests (eqb (length words) messageWords) (eqb
     none-formed : Formed noFields
     none-formed = unfold noFields isFormed in record { header = refl; body = refl; trailer = refl }
 
-    by-tests : (a b : Bool) → pick a (pick b (after Made (wordsOf noFields) (valuesOf noFields)) (after NoMessage words values)) (after NoMessage words values) ≡ after Made w v → Lends w v noFields
+    by-tests : (a b : Bool) → pick a (pick b (after Made (wordsOf noFields) (valueBytesOf noFields)) (after NoMessage words values)) (after NoMessage words values) ≡ after Made w v → Lends w v noFields
     by-tests true true e =
         let q = same-words e in
         rw (← (q .0), ← (q .1))

@@ -14,7 +14,7 @@ use Rattle.message_maps.specs.Rows.{Row, laid, rowsFrom, sizes, findFrom, messa
 use Rattle.message_lent.specs.Lent.{rowCount, rowsOf, isMessage, fieldsIn}
 use Rattle.message_lent.specs.LaidLaws.{rows-parts}
 use Rattle.message_lent.specs.LentLaws.{message-held}
-use Rattle.message_lent.specs.Meaning.{Message, parts, wordsOf, valuesOf, messageIn}
+use Rattle.message_lent.specs.Meaning.{Message, parts, wordsOf, valueBytesOf, messageIn}
 use Rattle.message_lent.specs.MeaningLaws.{means}
 use Rattle.message_rules.specs.Changes.{after, Cuttable, changedAt, partOf, withPart, fieldTotal, valueTotal, mapWords, mapValues, judgedMap, judged, spanOf, putAt, Ready}
 use Rattle.message_rules.specs.LayoutLaws.{values-joined, count-joined}
@@ -93,7 +93,7 @@ without-takes tag m held =
 
 -- a message is judged as the map of its parts
 pub judged-parts : (words values : List ℕ) (whole : Bool) (m : Message) → judgedMap words values whole (fieldTotal m) (parts m) ≡ judged words values whole m
-unfolding judged judgedMap mapWords mapValues valueTotal wordsOf valuesOf
+unfolding judged judgedMap mapWords mapValues valueTotal wordsOf valueBytesOf
 judged-parts words values whole m = refl
 
 -- a cut that leaves a message

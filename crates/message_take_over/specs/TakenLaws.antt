@@ -10,7 +10,7 @@ use Rattle.build_records.specs.Records.{recordsOf, between, stride, valueAt}
 use Rattle.build_records.specs.declared.Record.{Record}
 use Rattle.message_maps.specs.Map.{Map, field, entry, valuesIn}
 use Rattle.message_maps.specs.Rows.{Row, row, laid, messageWords}
-use Rattle.message_lent.specs.Meaning.{Message, parts, wordsOf, valuesOf}
+use Rattle.message_lent.specs.Meaning.{Message, parts, wordsOf, valueBytesOf}
 use Rattle.message_lent.specs.Formed.{Formed, Within}
 use Rattle.message_lent.specs.FormedLaws.{layout-lends}
 use Rattle.message_take_over.specs.declared.Taken.the-variants.{Made}
@@ -134,8 +134,8 @@ module _ (bytes : List ℕ) (m : Message) (h b t : List Record) (f : Formed m) (
       ∙ (unfold areNext in refl)
 
 -- the layout that is made is the message's
-pub stand-layout : (bytes : List ℕ) (m : Message) (rs : List Record) → StandFor bytes m rs → Within m → layoutFrom bytes rs ≡ laidOut (wordsOf m) (valuesOf m)
-unfolding layoutFrom wordsOf valuesOf
+pub stand-layout : (bytes : List ℕ) (m : Message) (rs : List Record) → StandFor bytes m rs → Within m → layoutFrom bytes rs ≡ laidOut (wordsOf m) (valueBytesOf m)
+unfolding layoutFrom wordsOf valueBytesOf
 stand-layout bytes m rs s w =
     let h = s .ofHeader in
     let b = s .ofBody in
@@ -146,7 +146,7 @@ stand-layout bytes m rs s w =
 
 -- what stands for a message within the limits is never refused, and the message is left
 pub stand-taken : (records : List ℕ) (count : ℕ) (bytes words values : List ℕ) (m : Message) → length words ≡ messageWords → length values ≡ 8192 → count ≤ length records / stride → count ≤ 1024
-    → StandFor bytes m (between 0 count (recordsOf records)) → Within m → takingOver records count bytes words values ≡ after Made (wordsOf m) (valuesOf m)
+    → StandFor bytes m (between 0 count (recordsOf records)) → Within m → takingOver records count bytes words values ≡ after Made (wordsOf m) (valueBytesOf m)
 stand-taken records count bytes words values m whole store held few s w =
     take-judged records count bytes words values whole store held few
     ∙ ap (judged words values) (stand-layout bytes m (between 0 count (recordsOf records)) s w)

@@ -16,7 +16,7 @@ use Rattle.dictionary_layout_rules.specs.declared.Position.{Position}
 use Rattle.dictionary_layout_rules.specs.declared.Position.the-variants.{At, Nowhere}
 use Rattle.build_records.specs.Records.{stored}
 use Rattle.build_records.specs.declared.Record.{Record}
-use Rattle.build_group_rules.specs.Groups.{Rules, Opened, none, opened, Frame, run, entry, Kind, plain, count, joins, wrong, ends, counting, declared, kindOf, opens, Move, adds, joinsAt, disorders, leaves, inEntry, decide, RunOutcome, moved, walk}
+use Rattle.build_group_rules.specs.Groups.{Rules, Opened, none, opened, Frame, run, entry, Kind, plain, count, joins, wrong, ends, counting, declared, entryKind, opens, Move, adds, joinsAt, disorders, leaves, inEntry, decide, RunOutcome, moved, walk}
 use Rattle.build_group_rules.specs.Groups.{entryRecord, ended as ran, refused as stops}
 use Rattle.build_group_rules.specs.Reading.{joinedList, listStore}
 use Rattle.build_required_rules.specs.Required.{Demands, runLack}
@@ -103,8 +103,8 @@ module _ {L : Type 0} (rules : Rules L) where
   declared-fits level depth last tag Nowhere = kind-pick depth (rules .accepts tag) joins ends tt tt
   declared-fits level depth last tag (At position) = kind-pick depth (leb position last) wrong (counting depth position (rules .group level tag)) tt (counting-fits depth position (rules .group level tag))
 
-  kind-fits : (level : L) (depth last tag : ℕ) → KindFits depth (kindOf rules level depth last tag)
-  unfolding kindOf
+  kind-fits : (level : L) (depth last tag : ℕ) → KindFits depth (entryKind rules level depth last tag)
+  unfolding entryKind
   kind-fits level depth last tag = kind-pick depth (opens rules level tag) ends (declared rules level depth last tag (rules .position level tag)) tt (declared-fits level depth last tag (rules .position level tag))
 
   in-entry-fits : (room : ℕ) (level : L) (group depth number last start : ℕ) (below : List (Frame L)) (tag : ℕ) (otherwise : Move L) (k : Kind L) → KindFits depth k → depth ≤ 4 → number + room ≤ 1024 → room ≤ 1024 → StackFits room below → MoveFits room otherwise
@@ -123,7 +123,7 @@ module _ {L : Type 0} (rules : Rules L) where
       move-pick room (opens rules level tag) _ _ (entry-open {number = entries + 1} d (omega (arith, n)) (run-open {entries = entries + 1} d (omega (arith, n)) (one-less s)), d, omega (arith, n))
       (move-pick room (eqb entries 0) _ _ tt (decide-fits room here below tag r s))
   decide-fits room here (entry level group depth number last start ∷ below) tag r (entry-open d n s) =
-      in-entry-fits room level group depth number last start below tag (decide rules here below tag) (kindOf rules level depth last tag) (kind-fits level depth last tag) d (omega (arith, n)) (omega (arith, r)) (one-less s) (decide-fits room here below tag r s)
+      in-entry-fits room level group depth number last start below tag (decide rules here below tag) (entryKind rules level depth last tag) (kind-fits level depth last tag) d (omega (arith, n)) (omega (arith, r)) (one-less s) (decide-fits room here below tag r s)
 
 -- ===== a run, the body, the header, the trailer =====
 

@@ -26,7 +26,7 @@ use Rattle.dictionary_layout_rules.specs.Tree.{Dictionary, knows, headerTags, t
 use Rattle.build_records.specs.Records.{laid, recordsOf, between, recordWords, stride, valueAt}
 use Rattle.build_records.specs.WordLaws.{records-laid, laid-length}
 use Rattle.build_records.specs.declared.Record.{Record}
-use Rattle.message_lent.specs.Meaning.{wordsOf, valuesOf}
+use Rattle.message_lent.specs.Meaning.{wordsOf, valueBytesOf}
 use Rattle.message_lent.specs.FormedLaws.{Lends, layout-lends}
 use Rattle.build_group_rules.specs.Reading.{accepted, layoutRules}
 use Rattle.build_required_rules.specs.Checking.{layoutDemands}
@@ -102,8 +102,8 @@ words-many rs = omega (arith, length-append (laid rs) (replicate (recordWords - 
 -- what is left is a message that has the records of the build
 pub record TakenOver (message : List ℕ) (rs : List Record) (words values : List ℕ) : Type 0 where
   pub takes : Takes message rs
-  pub made : takingOver (wordsWith rs) (length rs) message words values ≡ after Made (wordsOf (takes .meant)) (valuesOf (takes .meant))
-  pub lends : Lends (wordsOf (takes .meant)) (valuesOf (takes .meant)) (takes .meant)
+  pub made : takingOver (wordsWith rs) (length rs) message words values ≡ after Made (wordsOf (takes .meant)) (valueBytesOf (takes .meant))
+  pub lends : Lends (wordsOf (takes .meant)) (valueBytesOf (takes .meant)) (takes .meant)
   pub same : derived (takes .meant) ≡ given message rs
 
 -- "what a build answered with 0 is never refused at take-over, and keeps its records"
@@ -165,7 +165,7 @@ module _ (message : List ℕ) (config : Config) (dictionary : List ℕ) (lent : 
 pub build-of-taken : (message : List ℕ) (config : Config) (dictionary : List ℕ) (lent : ℕ) (before words values : List ℕ) → length words ≡ messageWords → length values ≡ 8192 → (a : buildOf message config dictionary lent before .answer ≡ Valid)
     → let built = buildOf message config dictionary lent before in
     let rs = messageRead (dictionaryOf dictionary) config message .records in
-    (t : TakenOver message rs words values) × (takingOver (built .words) (built .records) message words values ≡ after Made (wordsOf (t .takes .meant)) (valuesOf (t .takes .meant)))
+    (t : TakenOver message rs words values) × (takingOver (built .words) (built .records) message words values ≡ after Made (wordsOf (t .takes .meant)) (valueBytesOf (t .takes .meant)))
 build-of-taken message config dictionary lent before words values whole store a =
     let s = build-shown message config dictionary lent before a in
     let t = build-taken (dictionaryOf dictionary) config message words values (s .short) whole store (s .valid) in

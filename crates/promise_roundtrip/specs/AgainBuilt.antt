@@ -11,7 +11,7 @@ use lib.ListN.{length, drop}
 use Rattle.message_maps.specs.Rows.{messageWords}
 use Rattle.build_config.specs.declared.Config.{Config}
 use Rattle.dictionary_meaning_rules.specs.Meaning.{dictionaryOf}
-use Rattle.message_lent.specs.Meaning.{Message, wordsOf, valuesOf}
+use Rattle.message_lent.specs.Meaning.{Message, wordsOf, valueBytesOf}
 use Rattle.build_answers.specs.declared.Answer.the-variants.{Valid}
 use Rattle.build_rules.specs.Message.{Outcome, messageRead}
 use Rattle.builder.specs.Build.{BuildOutcome, wordsWith, shown, buildOf}
@@ -44,10 +44,10 @@ module _ (message : List ℕ) (config : Config) (dictionary : List ℕ) (lent : 
   -- "encoding what was built succeeds or passes 8,192 bytes"
   pub data Encodes (before : Split (readOf message .records)) (m : Message) (output second : List ℕ) : Type 0 where
     succeeds : length (encoding (config .mode .separator) m) ≤ 8192
-        → encodingOf (config .mode .separator) (wordsOf m) (valuesOf m) output
-        ≡ left (Written (length (encoding (config .mode .separator) m))) (wordsOf (encodedMessage (config .mode .separator) m)) (valuesOf (encodedMessage (config .mode .separator) m)) (encoding (config .mode .separator) m ++ drop (length (encoding (config .mode .separator) m)) output)
+        → encodingOf (config .mode .separator) (wordsOf m) (valueBytesOf m) output
+        ≡ left (Written (length (encoding (config .mode .separator) m))) (wordsOf (encodedMessage (config .mode .separator) m)) (valueBytesOf (encodedMessage (config .mode .separator) m)) (encoding (config .mode .separator) m ++ drop (length (encoding (config .mode .separator) m)) output)
         → BuiltAgain before (encoding (config .mode .separator) m) second → Encodes before m output second
-    passes : 8192 < length (encoding (config .mode .separator) m) → encodingOf (config .mode .separator) (wordsOf m) (valuesOf m) output ≡ left TooLong (wordsOf m) (valuesOf m) output → Encodes before m output second
+    passes : 8192 < length (encoding (config .mode .separator) m) → encodingOf (config .mode .separator) (wordsOf m) (valueBytesOf m) output ≡ left TooLong (wordsOf m) (valueBytesOf m) output → Encodes before m output second
 
   -- what the operations leave, one after the other
   pub record RoundTrip (first words values output second : List ℕ) : Type 0 where
@@ -55,7 +55,7 @@ module _ (message : List ℕ) (config : Config) (dictionary : List ℕ) (lent : 
     pub built : buildOf message config dictionary lent first .words ≡ wordsWith (readOf message .records)
     pub before : Split (readOf message .records)
     pub taken : Message
-    pub made : takingOver (buildOf message config dictionary lent first .words) (buildOf message config dictionary lent first .records) message words values ≡ after Made (wordsOf taken) (valuesOf taken)
+    pub made : takingOver (buildOf message config dictionary lent first .words) (buildOf message config dictionary lent first .records) message words values ≡ after Made (wordsOf taken) (valueBytesOf taken)
     pub kept : derived taken ≡ given message (readOf message .records)
     pub encodes : Encodes before taken output second
 

@@ -8,7 +8,7 @@ use lib.ListN.{length, drop}
 use Rattle.build_config.specs.declared.Config.{Config}
 use Rattle.dictionary_layout_rules.specs.Tree.{Dictionary}
 use Rattle.build_records.specs.declared.Record.{Record}
-use Rattle.message_lent.specs.Meaning.{Message, wordsOf, valuesOf}
+use Rattle.message_lent.specs.Meaning.{Message, wordsOf, valueBytesOf}
 use Rattle.build_nesting_laws.specs.Formed.{Own}
 use Rattle.build_nesting_laws.specs.Entries.{All, all-more}
 use Rattle.build_parts.specs.Parts.{partRecord}
@@ -34,8 +34,8 @@ use Rattle.promise_roundtrip.specs.Again.{follows-as, split-parts, Again
 -- a message that was read, and what its records stand for: encoding it "succeeds or passes 8,192 bytes", and what is written reads the same
 pub record ComesBack (dictionary : Dictionary) (config : Config) (message : List ℕ) (m : Message) : Type 0 where
   pub written : (output : List ℕ) → length (encoding (config .mode .separator) m) ≤ 8192 → length (encoding (config .mode .separator) m) ≤ length output
-      → encodingOf (config .mode .separator) (wordsOf m) (valuesOf m) output ≡ left (Written (length (encoding (config .mode .separator) m))) (wordsOf (encodedMessage (config .mode .separator) m)) (valuesOf (encodedMessage (config .mode .separator) m)) (encoding (config .mode .separator) m ++ drop (length (encoding (config .mode .separator) m)) output)
-  pub too-long : (output : List ℕ) → 8192 < length (encoding (config .mode .separator) m) → encodingOf (config .mode .separator) (wordsOf m) (valuesOf m) output ≡ left TooLong (wordsOf m) (valuesOf m) output
+      → encodingOf (config .mode .separator) (wordsOf m) (valueBytesOf m) output ≡ left (Written (length (encoding (config .mode .separator) m))) (wordsOf (encodedMessage (config .mode .separator) m)) (valueBytesOf (encodedMessage (config .mode .separator) m)) (encoding (config .mode .separator) m ++ drop (length (encoding (config .mode .separator) m)) output)
+  pub too-long : (output : List ℕ) → 8192 < length (encoding (config .mode .separator) m) → encodingOf (config .mode .separator) (wordsOf m) (valueBytesOf m) output ≡ left TooLong (wordsOf m) (valueBytesOf m) output
   pub before : Split (messageRead dictionary config message .records)
   pub again : length (encoding (config .mode .separator) m) ≤ 8192 → Again message before (encoding (config .mode .separator) m) (messageRead dictionary config (encoding (config .mode .separator) m))
   pub repeat-free : length (encoding (config .mode .separator) m) ≤ 8192 → RepeatFree dictionary config (encoding (config .mode .separator) m)

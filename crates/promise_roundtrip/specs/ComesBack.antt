@@ -16,7 +16,7 @@ use Rattle.build_parts.specs.Parts.{partRecord}
 use Rattle.build_rules.specs.Message.{messageRead}
 use Rattle.build_rules.specs.declared.Stop.{Stop}
 use Rattle.build_rules.specs.declared.Stop.the-variants.{At}
-use Rattle.message_lent.specs.Meaning.{Message, wordsOf, valuesOf}
+use Rattle.message_lent.specs.Meaning.{Message, wordsOf, valueBytesOf}
 use Rattle.encode_rules.specs.Encoding.{encodedMessage}
 use Rattle.field_rules.specs.Separator.{isRefusedSeparator}
 use Rattle.encode_rules.specs.Encode.{left, encodingOf}
@@ -95,7 +95,7 @@ pub record Back (separator : ℕ) (message words values output : List ℕ) (rs :
   pub taken : TakenOver message rs words values
   pub left-words : List ℕ
   pub left-values : List ℕ
-  pub encoded : encodingOf separator (wordsOf (taken .takes .meant)) (valuesOf (taken .takes .meant)) output ≡ left (Written (length message)) left-words left-values (message ++ drop (length message) output)
+  pub encoded : encodingOf separator (wordsOf (taken .takes .meant)) (valueBytesOf (taken .takes .meant)) output ≡ left (Written (length message)) left-words left-values (message ++ drop (length message) output)
 
 -- "A clean valid message encodes back to its own bytes"
 pub clean-comes-back : (dictionary : Dictionary) (config : Config) (message words values output : List ℕ) → Clean dictionary config message → isRefusedSeparator (config .mode .separator) ≡ false
@@ -111,8 +111,8 @@ clean-comes-back dictionary config message words values output c separates short
     record {
       taken = t;
       left-words = wordsOf (encodedMessage (config .mode .separator) m);
-      left-values = valuesOf (encodedMessage (config .mode .separator) m);
-      encoded = encoding-written built (config .mode .separator) separates output (omega (arith, size)) (omega (arith, size)) ∙ sym (ap (λ (e : List ℕ). left (Written (length e)) (wordsOf (encodedMessage (config .mode .separator) m)) (valuesOf (encodedMessage (config .mode .separator) m)) (e ++ drop (length e) output)) same);
+      left-values = valueBytesOf (encodedMessage (config .mode .separator) m);
+      encoded = encoding-written built (config .mode .separator) separates output (omega (arith, size)) (omega (arith, size)) ∙ sym (ap (λ (e : List ℕ). left (Written (length e)) (wordsOf (encodedMessage (config .mode .separator) m)) (valueBytesOf (encodedMessage (config .mode .separator) m)) (e ++ drop (length e) output)) same);
     }
 
 -- the bytes that the calls of build, take-over and encode make of a message, one after the other
@@ -134,7 +134,7 @@ clean-message-comes-back message config dictionary lent before words values outp
     let b = clean-comes-back (dictionaryOf dictionary) config message words values output c (s .separates) (s .short) whole store room in
     record {
       taken-words = wordsOf (b .taken .takes .meant);
-      taken-values = valuesOf (b .taken .takes .meant);
+      taken-values = valueBytesOf (b .taken .takes .meant);
       left-words = b .left-words;
       left-values = b .left-values;
       takes-over = rw (s .words, s .count) (b .taken .made);

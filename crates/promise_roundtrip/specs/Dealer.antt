@@ -13,7 +13,7 @@ use Rattle.dictionary_layout_rules.specs.Tree.{Dictionary}
 use Rattle.build_answers.specs.declared.Answer.the-variants.{Valid}
 use Rattle.build_rules.specs.Message.{messageRead}
 use Rattle.builder.specs.Build.{BuildOutcome, buildOf}
-use Rattle.message_lent.specs.Meaning.{wordsOf, valuesOf, messageIn}
+use Rattle.message_lent.specs.Meaning.{wordsOf, valueBytesOf, messageIn}
 use Rattle.message_rules.specs.Changes.{fieldTotal}
 use Rattle.encode_rules.specs.Encoding.{encodedMessage}
 use Rattle.encode_rules.specs.Encode.{left, encodingOf}
@@ -72,9 +72,9 @@ message-loses message config dictionary lent before words values whole store a t
     let t = l .taken in
     record {
       taken-words = wordsOf (t .takes .meant);
-      taken-values = valuesOf (t .takes .meant);
+      taken-values = valueBytesOf (t .takes .meant);
       takes-over = rw (s .words, s .count) (t .made);
       loses = λ output size w v o e.
-          let left-is = encode-lends (config .mode .separator) (wordsOf (t .takes .meant)) (valuesOf (t .takes .meant)) output size w v o e .1 .meant in
+          let left-is = encode-lends (config .mode .separator) (wordsOf (t .takes .meant)) (valueBytesOf (t .takes .meant)) output size w v o e .1 .meant in
           rw (left-is, t .lends .meant) (l .fewer);
     }

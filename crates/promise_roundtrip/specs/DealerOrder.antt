@@ -31,14 +31,14 @@ use Rattle.build_parts.specs.Header.{headerFrom}
 use Rattle.build_parts.specs.Trailer.{trailerFrom}
 use Rattle.build_rules.specs.Beginning.{verifiedRecords, headerOf, withChecksum, startedBy, startOf, msgTypeRecord}
 use Rattle.build_body_rules.specs.Body.{andThen, nextFrom, takes, bodyWithin, bodyFrom}
-use Rattle.build_body_rules.specs.Kinds.{groupKind, placedKind, kindOf, bodyOf}
+use Rattle.build_body_rules.specs.Kinds.{groupKind, placedKind, bodyKind, bodyOf}
 use Rattle.build_rules.specs.Message.{afterTrailer, afterBody, afterType, afterHeader, messageRead}
 use Rattle.build_records.specs.declared.Record.{Record}
 use Rattle.build_answers.specs.declared.Answer.the-variants.{Valid}
 use Rattle.build_rules.specs.Message.{Outcome}
 use Rattle.build_rules.specs.Examples.{dictionary, order, header, shows}
 use Rattle.build_nesting_laws.specs.Entries.{all-none, all-more}
-use Rattle.message_lent.specs.Meaning.{wordsOf, valuesOf}
+use Rattle.message_lent.specs.Meaning.{wordsOf, valueBytesOf}
 use Rattle.message_read_laws.specs.Parted.{Takes}
 use Rattle.encode_rules.specs.Encoding.{sumDigits, summed as withSum, encoding, encodedMessage}
 use Rattle.field_rules.specs.Separator.{isRefusedSeparator}
@@ -99,7 +99,7 @@ pub record OrderRead : Type 0 where
   pub one-recorded : recordedUnder 38 sent (read .records) ≡ bytes "800" ∷ []
 
 order-read : OrderRead
-unfolding storedTwice twiceFromHeader twiceFromBody twiceInBody twiceWithin twiceTaking twiceBehind twiceInTrailer twiceInHeader fieldsCounted countedFields countedTo readUnder recordedUnder messageRead startOf startedBy headerOf verifiedRecords withChecksum headerFrom afterHeader afterType afterBody afterTrailer msgTypeRecord valueAt trailerFrom partRecord bodyFrom bodyWithin takes nextFrom andThen bodyOf kindOf placedKind groupKind integrityOf begun counted summed typed lengthIs lengthAgrees sumIs sumAgrees sumOf checksumOf checksumDigits decimalWithin layoutThen positionFrom firstOf positionIn groupSince groupOf holdsTag knows plainFields headerTags trailerTags flattened sameBytes messageOf layoutOf stored accepted layoutRules has layoutDemands openedAs reading-fields
+unfolding storedTwice twiceFromHeader twiceFromBody twiceInBody twiceWithin twiceTaking twiceBehind twiceInTrailer twiceInHeader fieldsCounted countedFields countedTo readUnder recordedUnder messageRead startOf startedBy headerOf verifiedRecords withChecksum headerFrom afterHeader afterType afterBody afterTrailer msgTypeRecord valueAt trailerFrom partRecord bodyFrom bodyWithin takes nextFrom andThen bodyOf bodyKind placedKind groupKind integrityOf begun counted summed typed lengthIs lengthAgrees sumIs sumAgrees sumOf checksumOf checksumDigits decimalWithin layoutThen positionFrom firstOf positionIn groupSince groupOf holdsTag knows plainFields headerTags trailerTags flattened sameBytes messageOf layoutOf stored accepted layoutRules has layoutDemands openedAs reading-fields
 order-read = record { valid = refl; twice = refl; records = refl; fields-counted = refl; fields-recorded = refl; both-read = refl; one-recorded = refl }
 
 -- the records stand for a message of that shape, whichever take-over made of them
@@ -144,7 +144,7 @@ pub record DealersOrder (words values output : List ℕ) : Type 0 where
   pub fields-left : fieldTotal (encodedMessage 1 (lost .taken .takes .meant)) ≡ 6
   pub left-words : List ℕ
   pub left-values : List ℕ
-  pub writes : encodingOf 1 (wordsOf (lost .taken .takes .meant)) (valuesOf (lost .taken .takes .meant)) output ≡ left (Written 39) left-words left-values (resent ++ drop 39 output)
+  pub writes : encodingOf 1 (wordsOf (lost .taken .takes .meant)) (valueBytesOf (lost .taken .takes .meant)) output ≡ left (Written 39) left-words left-values (resent ++ drop 39 output)
 
 -- "for P5 the field that is lost is 38=600"
 pub dealers-order : (words values output : List ℕ) → length words ≡ messageWords → length values ≡ 8192 → 39 ≤ length output → DealersOrder words values output
@@ -160,8 +160,8 @@ dealers-order words values output whole store room =
       encoded = encoding-rewritten 1 (sent-built t) ∙ sent-rewritten;
       fields-left = a-field-each dictionary (validating true) sent (c .valid) t ∙ c .fields-recorded;
       left-words = wordsOf (encodedMessage 1 m);
-      left-values = valuesOf (encodedMessage 1 m);
-      writes = encoding-written (sent-built t) 1 separates output (omega (arith, w, resent-short)) (omega (arith, w, resent-short)) ∙ written-as (wordsOf (encodedMessage 1 m)) (valuesOf (encodedMessage 1 m));
+      left-values = valueBytesOf (encodedMessage 1 m);
+      writes = encoding-written (sent-built t) 1 separates output (omega (arith, w, resent-short)) (omega (arith, w, resent-short)) ∙ written-as (wordsOf (encodedMessage 1 m)) (valueBytesOf (encodedMessage 1 m));
     }
   where
     written-as : (a b : List ℕ) → left (Written (length (rewritten 1 sent begin (type ∷ ([] ++ (ofBody ++ [])))))) a b (rewritten 1 sent begin (type ∷ ([] ++ (ofBody ++ []))) ++ drop (length (rewritten 1 sent begin (type ∷ ([] ++ (ofBody ++ []))))) output) ≡ left (Written 39) a b (resent ++ drop 39 output)

@@ -16,7 +16,7 @@ use Rattle.build_integrity_rules.specs.Integrity.{integrityOf, begun, counted, 
 use Rattle.dictionary_layout_rules.specs.Layout.{followedBy as layoutThen, firstOf, positionFrom, positionIn, groupSince, groupOf, delimiterOf, requiredTags}
 use Rattle.dictionary_layout_rules.specs.Tree.{holdsTag, knows, plainFields, headerTags, trailerTags, flattened, sameBytes, messageOf, layoutOf}
 use Rattle.build_records.specs.Records.{stored, valueAt}
-use Rattle.build_group_rules.specs.Groups.{isDelimiter, counting, opens, declared, kindOf as entryKind, inEntry, decide, entryRecord, moved, walk}
+use Rattle.build_group_rules.specs.Groups.{isDelimiter, counting, opens, declared, entryKind, inEntry, decide, entryRecord, moved, walk}
 use Rattle.build_group_rules.specs.Reading.{accepted, openedAs, layoutRules, joinedList, listStore}
 use Rattle.build_required_rules.specs.Required.{orElse, has, fieldsLack, before, shallow, runLacks, nestedLack, entriesLack, opensEntry, entryLack, runLack}
 use Rattle.build_required_rules.specs.Checking.{layoutDemands}
@@ -24,7 +24,7 @@ use Rattle.build_parts.specs.Parts.{partRecord}
 use Rattle.build_parts.specs.Header.{headerFrom}
 use Rattle.build_parts.specs.Trailer.{trailerFrom}
 use Rattle.build_body_rules.specs.Body.{behindRun, storedRun, andThen, nextFrom, withRun, takes, bodyWithin, bodyFrom}
-use Rattle.build_body_rules.specs.Kinds.{groupKind, placedKind, kindOf, checked, ranAs, runFrom, bodyOf}
+use Rattle.build_body_rules.specs.Kinds.{groupKind, placedKind, bodyKind, checked, ranAs, runFrom, bodyOf}
 use Rattle.build_rules.specs.Beginning.{verifiedRecords, headerOf, withChecksum, startedBy, startOf, msgTypeRecord}
 use Rattle.build_rules.specs.Message.{afterTrailer, afterBody, afterType, afterHeader, messageRead}
 use Rattle.build_rules.specs.declared.Stop.{Stop}
@@ -67,12 +67,12 @@ table =
     ∷ []
 
 pub tests-hold : map (λ (row : Row). tests (row .0)) table ≡ map (λ (row : Row). row .1) table
-unfolding storedTwice twiceFromHeader twiceFromBody twiceInBody twiceWithin twiceTaking twiceBehind twiceInRun twiceMoved twiceInTrailer twiceInHeader isPlain plainTags plainLength threeDigits messageRead startOf startedBy headerOf verifiedRecords withChecksum headerFrom afterHeader afterType afterBody afterTrailer msgTypeRecord valueAt trailerFrom partRecord bodyFrom bodyWithin takes withRun nextFrom andThen storedRun behindRun bodyOf runFrom ranAs checked kindOf placedKind groupKind integrityOf begun counted summed typed lengthIs lengthAgrees sumIs sumAgrees sumOf checksumOf checksumDigits decimalWithin layoutThen positionFrom firstOf positionIn groupSince groupOf delimiterOf requiredTags holdsTag knows plainFields headerTags trailerTags flattened sameBytes messageOf layoutOf stored isDelimiter counting opens declared entryKind inEntry decide entryRecord moved walk accepted openedAs layoutRules joinedList listStore orElse has fieldsLack before shallow runLacks nestedLack entriesLack opensEntry entryLack runLack layoutDemands reading-fields
+unfolding storedTwice twiceFromHeader twiceFromBody twiceInBody twiceWithin twiceTaking twiceBehind twiceInRun twiceMoved twiceInTrailer twiceInHeader isPlain plainTags plainLength threeDigits messageRead startOf startedBy headerOf verifiedRecords withChecksum headerFrom afterHeader afterType afterBody afterTrailer msgTypeRecord valueAt trailerFrom partRecord bodyFrom bodyWithin takes withRun nextFrom andThen storedRun behindRun bodyOf runFrom ranAs checked bodyKind placedKind groupKind integrityOf begun counted summed typed lengthIs lengthAgrees sumIs sumAgrees sumOf checksumOf checksumDigits decimalWithin layoutThen positionFrom firstOf positionIn groupSince groupOf delimiterOf requiredTags holdsTag knows plainFields headerTags trailerTags flattened sameBytes messageOf layoutOf stored isDelimiter counting opens declared entryKind inEntry decide entryRecord moved walk accepted openedAs layoutRules joinedList listStore orElse has fieldsLack before shallow runLacks nestedLack entriesLack opensEntry entryLack runLack layoutDemands reading-fields
 tests-hold = refl
 
 -- P1 is clean
 pub heartbeat-clean : Clean dictionary (validating true) heartbeat
-unfolding storedTwice twiceFromHeader twiceFromBody twiceInBody twiceWithin twiceTaking twiceBehind twiceInRun twiceMoved twiceInTrailer twiceInHeader isPlain plainTags plainLength threeDigits messageRead startOf startedBy headerOf verifiedRecords withChecksum headerFrom afterHeader afterType afterBody afterTrailer msgTypeRecord valueAt trailerFrom partRecord bodyFrom bodyWithin takes withRun nextFrom andThen storedRun behindRun bodyOf runFrom ranAs checked kindOf placedKind groupKind integrityOf begun counted summed typed lengthIs lengthAgrees sumIs sumAgrees sumOf checksumOf checksumDigits decimalWithin layoutThen positionFrom firstOf positionIn groupSince groupOf delimiterOf requiredTags holdsTag knows plainFields headerTags trailerTags flattened sameBytes messageOf layoutOf stored isDelimiter counting opens declared entryKind inEntry decide entryRecord moved walk accepted openedAs layoutRules joinedList listStore orElse has fieldsLack before shallow runLacks nestedLack entriesLack opensEntry entryLack runLack layoutDemands reading-fields
+unfolding storedTwice twiceFromHeader twiceFromBody twiceInBody twiceWithin twiceTaking twiceBehind twiceInRun twiceMoved twiceInTrailer twiceInHeader isPlain plainTags plainLength threeDigits messageRead startOf startedBy headerOf verifiedRecords withChecksum headerFrom afterHeader afterType afterBody afterTrailer msgTypeRecord valueAt trailerFrom partRecord bodyFrom bodyWithin takes withRun nextFrom andThen storedRun behindRun bodyOf runFrom ranAs checked bodyKind placedKind groupKind integrityOf begun counted summed typed lengthIs lengthAgrees sumIs sumAgrees sumOf checksumOf checksumDigits decimalWithin layoutThen positionFrom firstOf positionIn groupSince groupOf delimiterOf requiredTags holdsTag knows plainFields headerTags trailerTags flattened sameBytes messageOf layoutOf stored isDelimiter counting opens declared entryKind inEntry decide entryRecord moved walk accepted openedAs layoutRules joinedList listStore orElse has fieldsLack before shallow runLacks nestedLack entriesLack opensEntry entryLack runLack layoutDemands reading-fields
 heartbeat-clean =
     record {
       repeat-free = record { valid = refl; holds-begin-string = refl; holds-body-length = refl; holds-msg-type = refl; none-twice = refl };

@@ -16,7 +16,7 @@ use Rattle.message_lent.specs.FormedLaws.{lent-formed}
 use Rattle.message_lent.specs.StandLaws.{never, not-so}
 use Rattle.encode_rules.specs.Encoding.{dropped, encoding}
 use Rattle.field_rules.specs.Separator.{isRefusedSeparator}
-use Rattle.encode_rules.specs.Encode.{hasUncounted, isIncomplete, verdictOf, left, encoded, encodingOf}
+use Rattle.encode_rules.specs.Encode.{hasUncounted, isIncomplete, encodeVerdict, left, encoded, encodingOf}
 use Rattle.encoder.specs.EncodedLaws.{never-written, encode-lends}
 use Rattle.encoder.specs.VerdictLaws.{refused-incomplete, encodes, refuses}
 use Rattle.encode_rules.specs.declared.Encoding.the-variants.{Written, Incomplete}
@@ -42,9 +42,9 @@ output-is m output n w v o e = (cc, cc)
 module _ (words values output : List ℕ) (n : ℕ) (w v o : List ℕ) (answered : encodingOf 1 words values output ≡ left (Written n) w v o) where
   -- what was written is the encoding
   bytes-written : take n o ≡ encoding 1 (messageIn words values)
-  bytes-written = by-verdict (verdictOf 1 words values (length output)) refl
+  bytes-written = by-verdict (encodeVerdict 1 words values (length output)) refl
     where
-      by-verdict : (d : Verdict) → verdictOf 1 words values (length output) ≡ d → take n o ≡ encoding 1 (messageIn words values)
+      by-verdict : (d : Verdict) → encodeVerdict 1 words values (length output) ≡ d → take n o ≡ encoding 1 (messageIn words values)
       by-verdict (Measured body) d =
           let same : encoded 1 (messageIn words values) output ≡ left (Written n) w v o = sym (encodes 1 words values output body d) ∙ answered in
           let left-is = output-is (messageIn words values) output n w v o same in

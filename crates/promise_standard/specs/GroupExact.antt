@@ -14,7 +14,7 @@ use Rattle.field_rules.specs.declared.Field.{Field}
 use Rattle.dictionary_layout_rules.specs.Layout.{Layout}
 use Rattle.dictionary_layout_rules.specs.declared.Position.the-variants.{Nowhere}
 use Rattle.build_records.specs.declared.Record.{Record}
-use Rattle.build_group_rules.specs.Groups.{Rules, opens, Kind, plain, count, ends, kindOf, Frame, run, entry, leaves, decide, ended, walk}
+use Rattle.build_group_rules.specs.Groups.{Rules, opens, Kind, plain, count, ends, entryKind, Frame, run, entry, leaves, decide, ended, walk}
 use Rattle.build_group_rules.specs.Reading.{layoutRules, listStore}
 use Rattle.promise_standard.specs.Reading.{ReadsAs, no-field, one-field}
 use Rattle.promise_standard.specs.Groups.{numbered, recordsAs, tagBehind, entriesOf, membersOf, Leaves, Fits}
@@ -28,8 +28,8 @@ module _ {L : Type 0} (rules : Rules L) (message : List ℕ) (x : Field) (rest :
   Untaken level tag = (rules .position level tag ≡ Nowhere) × (rules .accepts tag ≡ false)
 
   -- a tag that ends an entry and does not open the next one is none of the level's, nor an unknown user tag
-  ends-untaken : (level : L) (depth last tag : ℕ) → kindOf rules level depth last tag ≡ ends → opens rules level tag ≡ false → Untaken level tag
-  ends-untaken level depth last tag e o = by-says (kindOf rules level depth last tag) e (kind-says rules level depth last tag)
+  ends-untaken : (level : L) (depth last tag : ℕ) → entryKind rules level depth last tag ≡ ends → opens rules level tag ≡ false → Untaken level tag
+  ends-untaken level depth last tag e o = by-says (entryKind rules level depth last tag) e (kind-says rules level depth last tag)
     where
       by-says : (k : Kind L) → k ≡ ends → Says rules level depth last tag k → Untaken level tag
       by-says _ e (says-plain r g) = let y : _≡_ {A = ℕ} 0 1 = cc in absurd (omega arith)
@@ -42,7 +42,7 @@ module _ {L : Type 0} (rules : Rules L) (message : List ℕ) (x : Field) (rest :
   record MembersFit (level : L) (depth last : ℕ) {ts : List ℕ} (fs : List Told) (s : Members (members ts) fs) (below : List (Frame L)) (more : List (ℕ × ℕ)) (y : Field) (later : Fields) : Type 0 where
     fits : Fits rules (membersOf level depth last) (y .tag) (members ts) fs s
     at : ℕ
-    ended-there : kindOf rules level depth at (y .tag) ≡ ends
+    ended-there : entryKind rules level depth at (y .tag) ≡ ends
     onward : Takes rules x rest below more (field y later)
 
   -- so do entries, and neither the run nor an entry takes the field behind them
@@ -114,7 +114,7 @@ module _ {L : Type 0} (rules : Rules L) (message : List ℕ) (x : Field) (rest :
           record { fits = Fits.nested (rw same at r) (rw same at o) deep (rw (cut .tag-is) at leaves) (rw (cut .tag-is) at (e .fits)) (m .fits); at = m .at; ended-there = m .ended-there; onward = m .onward }
 
   -- behind the last entry, if it is the last
-  behind-last : (gs : List Told) (next : Field) (y : Field) (level : L) (depth last : ℕ) → next .tag ≡ tagBehind (y .tag) gs → kindOf rules level depth last (next .tag) ≡ ends → opens rules level (y .tag) ≡ false → (1 ≤ length gs → Untaken level (y .tag)) → Untaken level (y .tag)
+  behind-last : (gs : List Told) (next : Field) (y : Field) (level : L) (depth last : ℕ) → next .tag ≡ tagBehind (y .tag) gs → entryKind rules level depth last (next .tag) ≡ ends → opens rules level (y .tag) ≡ false → (1 ≤ length gs → Untaken level (y .tag)) → Untaken level (y .tag)
   unfolding tagBehind
   behind-last [] next y level depth last tag k o h = ends-untaken level depth last (y .tag) (rw tag at k) o
   behind-last (g ∷ gs) next y level depth last tag k o h = h (omega arith)

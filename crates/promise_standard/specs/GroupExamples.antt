@@ -19,7 +19,7 @@ use Rattle.dictionary_layout_rules.specs.Layout.{Layout, end, field, group, fir
 use Rattle.build_records.specs.Records.{stored}
 use Rattle.build_records.specs.declared.Record.{Record}
 use Rattle.build_answers.specs.Answer.{numberOf}
-use Rattle.build_group_rules.specs.Groups.{isDelimiter, opens, counting, declared, kindOf, run, inEntry, decide, entryRecord, RunOutcome, ended, refused, moved, walk}
+use Rattle.build_group_rules.specs.Groups.{isDelimiter, opens, counting, declared, entryKind, run, inEntry, decide, entryRecord, RunOutcome, ended, refused, moved, walk}
 use Rattle.build_group_rules.specs.Reading.{answerOf, openedAs, layoutRules, joinedList, listStore}
 use Rattle.promise_standard.specs.Groups.{numbered, tagBehind, entriesOf, Leaves, Rises, Fits}
 
@@ -144,7 +144,7 @@ unfit =
     ∷ []
 
 unfit-read : map (λ row. reading strict (row .0 .0) (row .0 .1)) unfit ≡ map (λ row. row .1) unfit
-unfolding reading shown answerOf numberOf layoutRules openedAs joinedList listStore walk moved decide inEntry kindOf declared counting opens isDelimiter entryRecord positionIn positionFrom firstOf groupOf groupSince delimiterOf stored reading-fields
+unfolding reading shown answerOf numberOf layoutRules openedAs joinedList listStore walk moved decide inEntry entryKind declared counting opens isDelimiter entryRecord positionIn positionFrom firstOf groupOf groupSince delimiterOf stored reading-fields
 unfit-read = refl
 
 -- validation off: an unknown user tag behind the group joins its entry, and behind a nested group that group's entry
@@ -155,5 +155,5 @@ user =
     ∷ []
 
 user-read : map (λ row. reading lenient (row .0 .0) (row .0 .1)) user ≡ map (λ row. row .1) user
-unfolding reading shown answerOf numberOf layoutRules openedAs joinedList listStore walk moved decide inEntry kindOf declared counting opens isDelimiter entryRecord positionIn positionFrom firstOf groupOf groupSince delimiterOf stored reading-fields
+unfolding reading shown answerOf numberOf layoutRules openedAs joinedList listStore walk moved decide inEntry entryKind declared counting opens isDelimiter entryRecord positionIn positionFrom firstOf groupOf groupSince delimiterOf stored reading-fields
 user-read = refl

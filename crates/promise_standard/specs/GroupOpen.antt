@@ -12,7 +12,7 @@ use Rattle.field_rules.specs.Choice.{pick}
 use Rattle.field_rules.specs.Fields.{Fields, field}
 use Rattle.field_rules.specs.Standard.{Told, Stretch, entries, Members}
 use Rattle.field_rules.specs.declared.Field.{Field}
-use Rattle.build_group_rules.specs.Groups.{none, opened, Rules, opens, Kind, plain, count, joins, wrong, ends, kindOf, Frame, run, entry, Move, adds, disorders, inEntry, decide}
+use Rattle.build_group_rules.specs.Groups.{none, opened, Rules, opens, Kind, plain, count, joins, wrong, ends, entryKind, Frame, run, entry, Move, adds, disorders, inEntry, decide}
 use Rattle.promise_standard.specs.Groups.{numbered, Rises, Joins}
 use Rattle.promise_standard.specs.GroupTakes.{Takes, over, takes, Says, says-plain, says-count, says-joins, kind-says, given}
 
@@ -90,16 +90,16 @@ module _ {L : Type 0} (rules : Rules L) where
             record { up-to = omega (arith, p .above); other = λ a b. omega (arith, p .above) }
 
     module _ (last start : ℕ) where
-      entry-decides : (here tag : ℕ) (k : Kind L) → kindOf rules level depth last tag ≡ k → given (decide rules here (entry level group depth number last start ∷ below) tag) ≡ given (inEntry level group depth number last start below tag (decide rules here below tag) k)
+      entry-decides : (here tag : ℕ) (k : Kind L) → entryKind rules level depth last tag ≡ k → given (decide rules here (entry level group depth number last start ∷ below) tag) ≡ given (inEntry level group depth number last start below tag (decide rules here below tag) k)
       unfolding decide
       entry-decides here tag k e = rw e
 
       -- an entry gives its own depth and number, or leaves the tag to what is below
       pub entry-gives : Gives (Elsewhere depth number) below → Gives (Above (depth + 1)) (entry level group depth number last start ∷ below)
       unfolding inEntry given
-      entry-gives g here tag more d n e = by-kind (kindOf rules level depth last tag) refl
+      entry-gives g here tag more d n e = by-kind (entryKind rules level depth last tag) refl
         where
-          by-kind : (k : Kind L) → kindOf rules level depth last tag ≡ k → Above (depth + 1) d n
+          by-kind : (k : Kind L) → entryKind rules level depth last tag ≡ k → Above (depth + 1) d n
           by-kind (plain p) q = let m = entry-decides here tag (plain p) q in let deep : d ≡ depth = cc in record { above = omega arith }
           by-kind (count inner p) q = let m = entry-decides here tag (count inner p) q in let deep : d ≡ depth = cc in record { above = omega arith }
           by-kind joins q = let m = entry-decides here tag joins q in let deep : d ≡ depth = cc in record { above = omega arith }
@@ -114,9 +114,9 @@ module _ {L : Type 0} (rules : Rules L) where
 
       pub entry-goes : Gives (Elsewhere depth number) below → (here tag : ℕ) (more : List (Frame L)) → given (decide rules here (entry level group depth number last start ∷ below) tag) ≡ adds more depth number → Goes tag more
       unfolding inEntry given
-      entry-goes g here tag more e = by-kind (kindOf rules level depth last tag) refl (kind-says rules level depth last tag)
+      entry-goes g here tag more e = by-kind (entryKind rules level depth last tag) refl (kind-says rules level depth last tag)
         where
-          by-kind : (k : Kind L) → kindOf rules level depth last tag ≡ k → Says rules level depth last tag k → Goes tag more
+          by-kind : (k : Kind L) → entryKind rules level depth last tag ≡ k → Says rules level depth last tag k → Goes tag more
           by-kind (plain p) q (says-plain r o) =
               let m = entry-decides here tag (plain p) q in
               let same : more ≡ entry level group depth number p start ∷ below = cc in
@@ -169,11 +169,11 @@ module _ {L : Type 0} (rules : Rules L) where
 
     module _ (level : L) (group depth number last start : ℕ) (below : List (Frame L)) where
       -- a field behind the members of an entry ends it
-      pub entry-over : (y : Field) (later : Fields) (ns : List (ℕ × ℕ)) → Head (Elsewhere depth number) ns → Takes rules x rest (entry level group depth number last start ∷ below) ns (field y later) → (kindOf rules level depth last (y .tag) ≡ ends) × (Takes rules x rest below ns (field y later))
+      pub entry-over : (y : Field) (later : Fields) (ns : List (ℕ × ℕ)) → Head (Elsewhere depth number) ns → Takes rules x rest (entry level group depth number last start ∷ below) ns (field y later) → (entryKind rules level depth last (y .tag) ≡ ends) × (Takes rules x rest below ns (field y later))
       unfolding inEntry given
-      entry-over y later ns h t = by-kind (kindOf rules level depth last (y .tag)) refl (kind-says rules level depth last (y .tag))
+      entry-over y later ns h t = by-kind (entryKind rules level depth last (y .tag)) refl (kind-says rules level depth last (y .tag))
         where
-          by-kind : (k : Kind L) → kindOf rules level depth last (y .tag) ≡ k → Says rules level depth last (y .tag) k → (kindOf rules level depth last (y .tag) ≡ ends) × (Takes rules x rest below ns (field y later))
+          by-kind : (k : Kind L) → entryKind rules level depth last (y .tag) ≡ k → Says rules level depth last (y .tag) k → (entryKind rules level depth last (y .tag) ≡ ends) × (Takes rules x rest below ns (field y later))
           by-kind (plain p) q s = absurd (takes-not _ depth number (λ here. entry-decides level group depth number below last start here (y .tag) (plain p) q) t h (λ e. e .other refl refl))
           by-kind (count inner p) q s = absurd (takes-not _ depth number (λ here. entry-decides level group depth number below last start here (y .tag) (count inner p) q) t h (λ e. e .other refl refl))
           by-kind joins q s = absurd (takes-not _ depth number (λ here. entry-decides level group depth number below last start here (y .tag) joins q) t h (λ e. e .other refl refl))

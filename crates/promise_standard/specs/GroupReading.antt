@@ -12,7 +12,7 @@ use Rattle.field_rules.specs.Standard.{Told, told, Int, Distinct, Stretch, memb
 use Rattle.field_rules.specs.declared.Field.{Field}
 use Rattle.build_records.specs.declared.Record.{Record}
 use Rattle.dictionary_layout_rules.specs.Layout.{Layout}
-use Rattle.build_group_rules.specs.Groups.{none, opened, Rules, opens, plain, count, ends, kindOf, Frame, run, entry, entryRecord, ended, walk, taking}
+use Rattle.build_group_rules.specs.Groups.{none, opened, Rules, opens, plain, count, ends, entryKind, Frame, run, entry, entryRecord, ended, walk, taking}
 use Rattle.build_group_rules.specs.Reading.{listStore, layoutRules}
 use Rattle.promise_standard.specs.Reading.{ReadsAs, no-field, one-field}
 use Rattle.promise_standard.specs.Groups.{numbered, recordsAs, tagBehind, Part, entriesOf, membersOf, Leaves, Rises, Joins, Fits}
@@ -53,7 +53,7 @@ module _ {L : Type 0} (rules : Rules L) (message : List ℕ) where
 
   -- nothing of an entry takes the tag, whatever came last
   abbrev pub Over : L → ℕ → ℕ → Type 0
-  Over level depth tag = (last : ℕ) → kindOf rules level depth last tag ≡ ends
+  Over level depth tag = (last : ℕ) → entryKind rules level depth last tag ≡ ends
 
   abbrev pub Reads : Part L → ℕ → (stretch : Stretch) → (fs : List Told) → Members stretch fs → Type 0
   Reads (membersOf level depth last) next stretch fs s = (group number start : ℕ) (done : List Record) → Over level depth next → Fresh start depth (tagsOf stretch) done → Walks (entry level group depth number last start) (numbered depth number s) fs next done

@@ -13,7 +13,7 @@ use Rattle.field_rules.specs.Fields.{Fields, field}
 use Rattle.field_rules.specs.Standard.{Told, Stretch, Members}
 use Rattle.field_rules.specs.declared.Field.{Field}
 use Rattle.build_records.specs.declared.Record.{Record}
-use Rattle.build_group_rules.specs.Groups.{Opened, none, opened, Rules, opens, plain, count, joins, ends, counting, declared, kindOf, Frame, run, entry, inEntry, decide, entryRecord, ended, moved, walk, taking}
+use Rattle.build_group_rules.specs.Groups.{Opened, none, opened, Rules, opens, plain, count, joins, ends, counting, declared, entryKind, Frame, run, entry, inEntry, decide, entryRecord, ended, moved, walk, taking}
 use Rattle.build_group_rules.specs.Reading.{joinedList, listStore}
 use Rattle.promise_standard.specs.Reading.{ReadsAs, no-field, one-field}
 use Rattle.promise_standard.specs.Groups.{numbered, recordsAs, Tell, no-record, one-record, tagBehind, Leaves, Rises, Joins}
@@ -22,20 +22,20 @@ use Rattle.promise_standard.specs.Groups.{numbered, recordsAs, Tell, no-
 
 module _ {L : Type 0} (rules : Rules L) (level : L) where
   -- a delimiter ends the entry before
-  pub kind-delimiter : (depth last tag : ℕ) → opens rules level tag ≡ true → kindOf rules level depth last tag ≡ ends
-  unfolding kindOf
+  pub kind-delimiter : (depth last tag : ℕ) → opens rules level tag ≡ true → entryKind rules level depth last tag ≡ ends
+  unfolding entryKind
   kind-delimiter depth last tag o = rw o
 
-  pub kind-leaves : (depth last tag : ℕ) → Leaves rules level tag → kindOf rules level depth last tag ≡ ends
-  unfolding kindOf declared
+  pub kind-leaves : (depth last tag : ℕ) → Leaves rules level tag → entryKind rules level depth last tag ≡ ends
+  unfolding entryKind declared
   kind-leaves depth last tag l = rw (l .no-delimiter, l .no-position, l .not-accepted)
 
-  pub kind-joins : (depth last tag : ℕ) → Joins rules level tag → kindOf rules level depth last tag ≡ joins
-  unfolding kindOf declared
+  pub kind-joins : (depth last tag : ℕ) → Joins rules level tag → entryKind rules level depth last tag ≡ joins
+  unfolding entryKind declared
   kind-joins depth last tag j = rw (j .no-delimiter, j .no-position, j .accepted)
 
-  pub kind-plain : (depth last position tag : ℕ) → Rises rules level last position tag → (rules .group level tag ≡ none) ⊎ (4 ≤ depth) → kindOf rules level depth last tag ≡ plain position
-  unfolding kindOf declared
+  pub kind-plain : (depth last position tag : ℕ) → Rises rules level last position tag → (rules .group level tag ≡ none) ⊎ (4 ≤ depth) → entryKind rules level depth last tag ≡ plain position
+  unfolding entryKind declared
   kind-plain depth last position tag r g = rw (r .no-delimiter, r .placed, lt-leb _ _ (r .rises)) (no-group (rules .group level tag) refl g)
     where
       no-group : (o : Opened L) → rules .group level tag ≡ o → (rules .group level tag ≡ none) ⊎ (4 ≤ depth) → counting depth position o ≡ plain position
@@ -43,8 +43,8 @@ module _ {L : Type 0} (rules : Rules L) (level : L) where
       no-group (opened inner) e (inl n) = let z : _≡_ {A = ℕ} 0 1 = cc in absurd (omega arith)
       no-group (opened inner) e (inr deep) = unfold counting in rw (le-ltb _ _ deep)
 
-  pub kind-count : (inner : L) (depth last position tag : ℕ) → Rises rules level last position tag → rules .group level tag ≡ opened inner → depth < 4 → kindOf rules level depth last tag ≡ count inner position
-  unfolding kindOf declared counting
+  pub kind-count : (inner : L) (depth last position tag : ℕ) → Rises rules level last position tag → rules .group level tag ≡ opened inner → depth < 4 → entryKind rules level depth last tag ≡ count inner position
+  unfolding entryKind declared counting
   kind-count inner depth last position tag r g deep = rw (r .no-delimiter, r .placed, lt-leb _ _ (r .rises), g, lt-ltb _ _ deep)
 
 -- ===== what a field does =====
@@ -73,25 +73,25 @@ module _ {L : Type 0} (rules : Rules L) (done : List Record) (f : Field) (rest :
     run-passes o some = rw (o, ne-eqb number 0 (λ e. omega arith))
 
     module _ (last start : ℕ) where
-      pub entry-takes : (position : ℕ) → kindOf rules level depth last (f .tag) ≡ plain position →
+      pub entry-takes : (position : ℕ) → entryKind rules level depth last (f .tag) ≡ plain position →
           taking rules listStore room (entry level group depth number last start ∷ below) done f rest
           ≡ walk rules listStore room (entry level group depth number position start ∷ below) (done ++ (entryRecord depth number f ∷ [])) rest
       unfolding taking decide inEntry moved listStore
       entry-takes position k = rw k
 
-      pub entry-joined : kindOf rules level depth last (f .tag) ≡ joins →
+      pub entry-joined : entryKind rules level depth last (f .tag) ≡ joins →
           taking rules listStore room (entry level group depth number last start ∷ below) done f rest
           ≡ walk rules listStore room (entry level group depth number last start ∷ below) (joinedList start (entryRecord depth number f) done) rest
       unfolding taking decide inEntry moved listStore
       entry-joined k = rw k
 
-      pub entry-counts : (inner : L) (position : ℕ) → kindOf rules level depth last (f .tag) ≡ count inner position →
+      pub entry-counts : (inner : L) (position : ℕ) → entryKind rules level depth last (f .tag) ≡ count inner position →
           taking rules listStore room (entry level group depth number last start ∷ below) done f rest
           ≡ walk rules listStore room (run inner (f .tag) (depth + 1) 0 ∷ entry level group depth number position start ∷ below) (done ++ (entryRecord depth number f ∷ [])) rest
       unfolding taking decide inEntry moved listStore
       entry-counts inner position k = rw k
 
-      pub entry-passes : kindOf rules level depth last (f .tag) ≡ ends → taking rules listStore room (entry level group depth number last start ∷ below) done f rest ≡ taking rules listStore room below done f rest
+      pub entry-passes : entryKind rules level depth last (f .tag) ≡ ends → taking rules listStore room (entry level group depth number last start ∷ below) done f rest ≡ taking rules listStore room below done f rest
       unfolding taking decide inEntry
       entry-passes k = rw k
 

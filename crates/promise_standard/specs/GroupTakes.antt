@@ -16,7 +16,7 @@ use Rattle.field_rules.specs.declared.Field.{Field}
 use Rattle.dictionary_layout_rules.specs.declared.Position.{Position}
 use Rattle.dictionary_layout_rules.specs.declared.Position.the-variants.{At, Nowhere}
 use Rattle.build_records.specs.declared.Record.{Record}
-use Rattle.build_group_rules.specs.Groups.{Opened, none, opened, Rules, opens, Kind, plain, count, joins, wrong, ends, counting, declared, kindOf, Frame, Move, adds, joinsAt, disorders, leaves, decide, entryRecord, ended, moved, walk}
+use Rattle.build_group_rules.specs.Groups.{Opened, none, opened, Rules, opens, Kind, plain, count, joins, wrong, ends, counting, declared, entryKind, Frame, Move, adds, joinsAt, disorders, leaves, decide, entryRecord, ended, moved, walk}
 use Rattle.build_group_rules.specs.Reading.{joinedList, listStore}
 use Rattle.promise_standard.specs.Reading.{ReadsAs, no-field, one-field}
 use Rattle.promise_standard.specs.Groups.{recordsAs, Rises, Joins}
@@ -66,8 +66,8 @@ module _ {L : Type 0} (rules : Rules L) where
         by-order true l = says-wrong
         by-order false l = counting-says position (record { no-delimiter = o; placed = e; rises = leb-false _ _ l }) (rules .group level tag) refl
 
-    pub kind-says : Says level depth last tag (kindOf rules level depth last tag)
-    unfolding kindOf
+    pub kind-says : Says level depth last tag (entryKind rules level depth last tag)
+    unfolding entryKind
     kind-says = by-delimiter (opens rules level tag) refl
       where
         by-delimiter : (b : Bool) → opens rules level tag ≡ b → Says level depth last tag (pick b ends (declared rules level depth last tag (rules .position level tag)))

@@ -4,6 +4,7 @@ use Prim.Native.Nat.{ℕ}
 use native.Mathlib.Omega.{arith}
 use lib.ListN.{length-replicate}
 use borrow.Author.Needs.{needs}
+use Rattle.dictionary_chains.specs.Chain.{indexWords}
 use Rattle.builder.specs.ReadingLaws.{refused-dictionary, passing-dictionary, prepared-by}
 use Rattle.builder.proofs.read_checked.Statement.{statement}
 use Rattle.builder.proofs.read_checked.Tie as tie
@@ -15,7 +16,7 @@ returns c = let k = c .before in
 read-message-requires : tie.Need-read-message-requires
 read-message-requires c κs = let k = c .before .before .before in
     let s = k .before .before .before .before .before .before in
-    (s .pre .0, s .pre .1, prepared-by _ _ (k .before .prepare .ensures .1) (sym (k .number-of .ensures) ∙ c .before .before .if1 .left) _ _ (length-replicate {A = ℕ} 96150 0) (k .before .prepare .ensures .0))
+    (s .pre .0, s .pre .1, prepared-by _ _ (k .before .prepare .ensures .1) (sym (k .number-of .ensures) ∙ c .before .before .if1 .left) _ _ (length-replicate {A = ℕ} indexWords 0) (k .before .prepare .ensures .0))
 
 returns-2 : tie.Need-returns-2
 returns-2 c = let r = c .before .before in

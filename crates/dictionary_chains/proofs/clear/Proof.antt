@@ -5,15 +5,16 @@ use Prim.Native.Nat.{_+_, _≤_, _-_}
 use native.Mathlib.Omega.{arith}
 use borrow.Author.Needs.{needs}
 use lib.ListN.{length, length-set, drop, replicate}
+use Rattle.dictionary_chains.specs.Chain.{headWords, indexWords}
 use Rattle.dictionary_chains.specs.ChainLaws.{clear-step}
 use Rattle.dictionary_chains.proofs.clear.Statement.{statement}
 use Rattle.dictionary_chains.proofs.clear.Tie as tie
 
 abbrev Inv-loop : tie.InvT-loop
-Inv-loop index₀ i₀ index i = (i ≤ 6144) × (length index ≡ 96150) × (index ≡ replicate i 0 ++ drop i index₀)
+Inv-loop index₀ i₀ index i = (i ≤ headWords) × (length index ≡ indexWords) × (index ≡ replicate i 0 ++ drop i index₀)
 
 abbrev μ-loop : tie.MeasureT-loop
-μ-loop index₀ i₀ index i = 6144 - i
+μ-loop index₀ i₀ index i = headWords - i
 
 loop-holds : tie.Need-loop-holds Inv-loop μ-loop
 loop-holds c = (omega arith, omega arith, refl)
@@ -23,7 +24,7 @@ loop-again c = let l = c .before in
     (omega arith, simp length-set (omega arith), rw (l .loop .inv .2) (clear-step (l .before .args .index .now) (l .loop .i) (omega arith)))
 
 returns : tie.Need-returns Inv-loop μ-loop
-returns c = let e : c .before .loop .i ≡ 6144 = omega arith in rw e at (c .before .loop .inv .2)
+returns c = let e : c .before .loop .i ≡ headWords = omega arith in rw e at (c .before .loop .inv .2)
 
 pub clear-spec : {M : Type 1} → statement M
 clear-spec =

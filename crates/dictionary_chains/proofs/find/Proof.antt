@@ -4,13 +4,13 @@ use mathlib.Core.Path.{_≡_, sym, ap, _∙_}
 use Prim.Native.Nat.{_≤_}
 use native.Mathlib.Omega.{arith}
 use borrow.Author.Needs.{needs}
-use Rattle.dictionary_chains.specs.Chain.{keyOf, nextOf, followed, found}
+use Rattle.dictionary_chains.specs.Chain.{entryRoom, keyOf, olderOf, followed, found}
 use Rattle.dictionary_chains.specs.ChainLaws.{head-small, follow-none, follow-zero, follow-hit, follow-on}
 use Rattle.dictionary_chains.proofs.find.Statement.{statement}
 use Rattle.dictionary_chains.proofs.find.Tie as tie
 
 abbrev Inv-loop : tie.InvT-loop
-Inv-loop index table key head limit₀ link₀ limit link = (limit ≤ 15001) × (found table index key ≡ followed table index key limit link)
+Inv-loop index table key head limit₀ link₀ limit link = (limit ≤ entryRoom) × (found table index key ≡ followed table index key limit link)
 
 abbrev μ-loop : tie.MeasureT-loop
 μ-loop index table key head limit₀ link₀ limit link = limit
@@ -32,7 +32,7 @@ returns-2 c = let l = c .before .before .before .before .before in sym (l .loop 
 
 loop-again : tie.Need-loop-again Inv-loop μ-loop
 loop-again c = let d = c .before .before in let l = d .before .before .before .before .before in
-    (omega arith, l .loop .inv .1 ∙ follow-on _ _ _ _ _ (d .before .before .before .before .loop-test .taken) (d .before .before .before .if1 .left) (λ k. d .if2 .left (d .before .key-of .ensures ∙ ap (keyOf _) (d .before .before .entry-at .ensures) ∙ k)) ∙ unfold nextOf in rw (c .wide2 .ensures))
+    (omega arith, l .loop .inv .1 ∙ follow-on _ _ _ _ _ (d .before .before .before .before .loop-test .taken) (d .before .before .before .if1 .left) (λ k. d .if2 .left (d .before .key-of .ensures ∙ ap (keyOf _) (d .before .before .entry-at .ensures) ∙ k)) ∙ unfold olderOf in rw (c .wide2 .ensures))
 
 returns-3 : tie.Need-returns-3 Inv-loop μ-loop
 returns-3 c = sym (c .before .loop .inv .1 ∙ follow-none _ _ _ _ _ (c .loop-test .left))

@@ -4,6 +4,7 @@ use Prim.Native.Nat.{_≤_, _-_}
 use native.Mathlib.Omega.{arith}
 use borrow.Author.Needs.{needs}
 use lib.ListN.{length}
+use Rattle.dictionary_chains.specs.Chain.{indexWords}
 use Rattle.dictionary_rules.specs.Record.{recordAt}
 use Rattle.dictionary_rules.specs.Records.{recordsFrom}
 use Rattle.dictionary_rules.specs.RecordsLaws.{record-falls}
@@ -16,7 +17,7 @@ use Rattle.dictionary_check.proofs.walk.Statement.{statement}
 use Rattle.dictionary_check.proofs.walk.Tie as tie
 
 abbrev Inv-loop : tie.InvT-loop
-Inv-loop dictionary index₀ state₀ at₀ index state at = (at ≤ length dictionary) × (length index ≡ 96150) × (walked looksAt noted (recordsFrom dictionary 0) TopLevel index₀ ≡ walked looksAt noted (recordsFrom dictionary at) state index)
+Inv-loop dictionary index₀ state₀ at₀ index state at = (at ≤ length dictionary) × (length index ≡ indexWords) × (walked looksAt noted (recordsFrom dictionary 0) TopLevel index₀ ≡ walked looksAt noted (recordsFrom dictionary at) state index)
 
 abbrev μ-loop : tie.MeasureT-loop
 μ-loop dictionary index₀ state₀ at₀ index state at = length dictionary - at

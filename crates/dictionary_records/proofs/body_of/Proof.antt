@@ -2,7 +2,7 @@
 use mathlib.Core.Path.{sym, _∙_}
 use native.Mathlib.Omega.{arith}
 use borrow.Author.Needs.{needs}
-use Rattle.dictionary_rules.specs.Record.{bodyOf, knownTag, opensComponent, fieldItem, componentItem, opensGroup}
+use Rattle.dictionary_rules.specs.Record.{recordBody, knownTag, opensComponent, fieldItem, componentItem, opensGroup}
 use Rattle.dictionary_rules.specs.RecordLaws.{length-tag, length-component, length-message, length-field, length-item, length-group, body-other}
 use Rattle.dictionary_records.proofs.body_of.Statement.{statement}
 use Rattle.dictionary_records.proofs.body_of.Tie as tie
@@ -35,25 +35,25 @@ shared-slice-read-mark-3 : tie.Need-shared-slice-read-mark-3
 shared-slice-read-mark-3 c = omega (arith, length-group _ (c .before .before .match .keys6), c .before .before .before .before .pre)
 
 returns : tie.Need-returns
-returns c = unfold bodyOf knownTag in rw (c .before .before .match .keys1) (c .tagged .ensures ∙ rw (c .before .four .ensures))
+returns c = unfold recordBody knownTag in rw (c .before .before .match .keys1) (c .tagged .ensures ∙ rw (c .before .four .ensures))
 
 returns-2 : tie.Need-returns-2
-returns-2 c = unfold bodyOf opensComponent in rw (c .before .match .keys2, c .two .ensures)
+returns-2 c = unfold recordBody opensComponent in rw (c .before .match .keys2, c .two .ensures)
 
 returns-3 : tie.Need-returns-3
-returns-3 c = unfold bodyOf in rw (c .before .match .keys3) (c .message-of .ensures)
+returns-3 c = unfold recordBody in rw (c .before .match .keys3) (c .message-of .ensures)
 
 returns-4 : tie.Need-returns-4
-returns-4 c = unfold bodyOf fieldItem in rw (c .before .before .before .before .match .keys4) (c .marked .ensures ∙ rw (c .before .tagged2 .ensures, c .before .before .before .four2 .ensures))
+returns-4 c = unfold recordBody fieldItem in rw (c .before .before .before .before .match .keys4) (c .marked .ensures ∙ rw (c .before .tagged2 .ensures, c .before .before .before .four2 .ensures))
 
 returns-5 : tie.Need-returns-5
-returns-5 c = unfold bodyOf componentItem in rw (c .before .before .before .match .keys5) (c .marked2 .ensures ∙ rw (c .before .two2 .ensures))
+returns-5 c = unfold recordBody componentItem in rw (c .before .before .before .match .keys5) (c .marked2 .ensures ∙ rw (c .before .two2 .ensures))
 
 returns-6 : tie.Need-returns-6
-returns-6 c = unfold bodyOf opensGroup in rw (c .before .before .before .before .match .keys6) (c .marked3 .ensures ∙ rw (c .before .tagged3 .ensures, c .before .before .before .four3 .ensures))
+returns-6 c = unfold recordBody opensGroup in rw (c .before .before .before .before .match .keys6) (c .marked3 .ensures ∙ rw (c .before .tagged3 .ensures, c .before .before .before .four3 .ensures))
 
 returns-7 : tie.Need-returns-7
-returns-7 c = unfold bodyOf in rw (c .match .keys7)
+returns-7 c = unfold recordBody in rw (c .match .keys7)
 
 returns-8 : tie.Need-returns-8
 returns-8 c = let n = c .match .rest in sym (body-other _ _ (n .0 .0 .0 .0 .0 .0 .1) (n .0 .0 .0 .0 .0 .1) (n .0 .0 .0 .0 .1) (n .0 .0 .0 .1) (n .0 .0 .1) (n .0 .1) (n .1))

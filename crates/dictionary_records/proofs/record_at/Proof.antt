@@ -4,7 +4,7 @@ use Prim.Native.Nat.{ℕ, _+_, _≤_, _-_}
 use native.Mathlib.Nat.{add-sub-cancel-left}
 use borrow.Author.Needs.{needs}
 use lib.ListN.{length, getD, take, drop}
-use Rattle.dictionary_rules.specs.Record.{bodyLength, bodyOf}
+use Rattle.dictionary_rules.specs.Record.{recordBodyLength, recordBody}
 use Rattle.dictionary_rules.specs.declared.RecordRead.the-variants.{Whole}
 use Rattle.dictionary_rules.specs.RecordLaws.{at-end, at-cut, at-wrong, at-whole}
 use Rattle.dictionary_records.proofs.record_at.Statement.{statement}
@@ -15,11 +15,11 @@ measured c = c .before .before .before
 
 -- the body that was read is the part of the dictionary that its kind says
 body-read : (c : tie.After-body-of) → let a = measured c .before .before .before .before .args in let kind = getD (a .dictionary .now) (a .place) 0 in
-    c .body-of .result ≡ bodyOf kind (take (bodyLength kind) (drop (a .place + 1) (a .dictionary .now)))
+    c .body-of .result ≡ recordBody kind (take (recordBodyLength kind) (drop (a .place + 1) (a .dictionary .now)))
 body-read c = rw (add-sub-cancel-left, measured c .body-length .ensures) at (c .body-of .ensures)
 
 fits : (c : tie.After-body-of) → let a = measured c .before .before .before .before .args in
-    bodyLength (getD (a .dictionary .now) (a .place) 0) ≤ length (a .dictionary .now) - (a .place + 1)
+    recordBodyLength (getD (a .dictionary .now) (a .place) 0) ≤ length (a .dictionary .now) - (a .place + 1)
 fits c = rw (measured c .body-length .ensures) at (c .before .before .if2 .left)
 
 returns : tie.Need-returns

@@ -10,19 +10,19 @@ use lib.ListN.{length, getD, take, drop, set, length-set}
 use Rattle.message_rules.specs.LookUps.{entryFound}
 use Rattle.message_look_ups.specs.Opening.{openedAt}
 use Rattle.message_look_ups.specs.OpeningLaws.{sized-here}
-use Rattle.message_look_ups.specs.LookUpLaws.{Told, told, entry-none, entry-shut, Ranged, ranged, entry-open}
+use Rattle.message_look_ups.specs.LookUpLaws.{OpeningTold, opening-told, entry-none, entry-shut, Ranged, ranged, entry-open}
 use Rattle.message_look_ups.specs.declared.Opened.the-variants.{NoMessage, Absent, Within}
 use Rattle.message_look_ups.proofs.entry_in.Statement.{statement}
 use Rattle.message_look_ups.proofs.entry_in.Tie as tie
 
 returns : tie.Need-returns
-returns c = sym (entry-none _ _ _ _ _ (told _ _ _ _ (sym (c .before .before .open-map .ensures) ∙ c .enum-told .given .1)))
+returns c = sym (entry-none _ _ _ _ _ (opening-told _ _ _ _ (sym (c .before .before .open-map .ensures) ∙ c .enum-told .given .1)))
 
 returns-2 : tie.Need-returns-2
-returns-2 c = sym (entry-shut _ _ _ _ _ (told _ _ _ _ (sym (c .before .before .open-map .ensures) ∙ c .enum-told2 .given .1)))
+returns-2 c = sym (entry-shut _ _ _ _ _ (opening-told _ _ _ _ (sym (c .before .before .open-map .ensures) ∙ c .enum-told2 .given .1)))
 
-told-at : (c : tie.After-known-told) → Told (c .before .before .before .before .before .before .args .map) (c .before .before .before .before .before .before .args .words .now) (c .before .before .before .before .before .before .args .values .now) (Within (c .before .rows .given .0 .0))
-told-at c = told _ _ _ _ (sym (c .before .before .before .open-map .ensures) ∙ c .before .rows .given .1)
+told-at : (c : tie.After-known-told) → OpeningTold (c .before .before .before .before .before .before .args .map) (c .before .before .before .before .before .before .args .words .now) (c .before .before .before .before .before .before .args .values .now) (Within (c .before .rows .given .0 .0))
+told-at c = opening-told _ _ _ _ (sym (c .before .before .before .open-map .ensures) ∙ c .before .rows .given .1)
 
 entry-from-requires : tie.Need-entry-from-requires
 entry-from-requires c κs = let r = ranged _ _ _ _ (told-at c) in (r .forwards, r .few, sized-here _ _ (r .lent) .whole)

@@ -1,5 +1,5 @@
 -- `gateway_ported_take` meets its contract: the walk of a take, at the ported framer and at what its core says.
-use Rattle.frame_parser_rules.specs.Framer.{valueOf, taken, takenStore, takenOutput}
+use Rattle.frame_parser_rules.specs.Framer.{lengthReturned, taken, takenStore, takenOutput}
 use Rattle.face_told.specs.Told.{told}
 use Rattle.face_framers.specs.States.{portedIn, portedTold}
 use Rattle.face_framers.proofs.ported_take.Symbol as core
@@ -14,5 +14,5 @@ use Rattle.gateway.proofs.framers.gateway_ported_take.Code as code
 pub gateway-ported-take-spec : {M : Type 1} → stated.statement M
 unfolding code.routine
 gateway-ported-take-spec {M} 𝓤 H 𝓜 𝓖 𝓡 =
-    proved ported core.name (λ h s c. portedTold (taken (portedIn h) s c .state) (taken (portedIn h) s c .answer)) (λ h s c. takenStore (portedIn h) s c) (λ h s c. takenOutput (portedIn h) s c) (λ h s c. told 0 (valueOf (taken (portedIn h) s c .answer), 0))
+    proved ported core.name (λ h s c. portedTold (taken (portedIn h) s c .state) (taken (portedIn h) s c .answer)) (λ h s c. takenStore (portedIn h) s c) (λ h s c. takenOutput (portedIn h) s c) (λ h s c. told 0 (lengthReturned (taken (portedIn h) s c .answer), 0))
     M 𝓤 H 𝓜 𝓖 𝓡 code.env name (code.unfolded 𝓤 H 𝓜 𝓡) (cited 𝓤 H _ 𝓜 𝓡 code.env core.name core.routine code.calls-face-framers·ported-take (core-thm.met 𝓤 H 𝓜 𝓖 𝓡))
