@@ -71,7 +71,7 @@ fn ported_told(after: frame_parser_rules::State, answer: frame_parser_rules::Ans
     };
     PortedReply {
         state,
-        number: frame_parser::number(answer),
+        number: frame_answers::parser_number(answer),
     }
 }
 
@@ -95,7 +95,7 @@ fn hunter_told(after: frame_hunter_rules::State, answer: frame_hunter_rules::Ans
     };
     HunterReply {
         state,
-        number: frame_hunter::number(answer),
+        number: frame_answers::hunter_number(answer),
     }
 }
 
@@ -143,7 +143,7 @@ pub fn ported_take(
     let outcome = frame_parser::take(ported_in(state), store, output);
     let after = outcome.state;
     let answer = outcome.answer;
-    face_told::tell(out, 0, frame_parser::length_of(answer), 0);
+    face_told::tell(out, 0, frame_answers::parser_length(answer), 0);
     ported_told(after, answer)
 }
 

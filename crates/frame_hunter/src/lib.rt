@@ -15,7 +15,7 @@ ghost use Prim.Native.Nat.{_-_, _≤_};
 ghost use lib.ListN.{length, take, drop};
 ghost use Rattle.frame_verdict_rules.specs.Verdict.{verdictOf};
 ghost use Rattle.frame_hunter_rules.specs.Hunt.{actOn, huntFrom};
-ghost use Rattle.frame_hunter_rules.specs.Bytes.{unfit, refusedTake, freshState, numberOfHunter, Pushes, Finishes, Takes};
+ghost use Rattle.frame_hunter_rules.specs.Bytes.{unfit, refusedTake, freshState, Pushes, Finishes, Takes};
 
 const STORE_SIZE: usize = 16384;
 
@@ -202,18 +202,5 @@ pub fn reset() -> State
         used: 0,
         dropped: 0,
         ended: false,
-    }
-}
-
-// The answer's number in the rules.
-pub fn number(answer: Answer) -> u32
-    ensures { λ r. ⌜ r ≡ numberOfHunter answer ⌝ }
-{
-    match answer {
-        Answer::Fine => 0,
-        Answer::OutputShort => 23,
-        Answer::StoreFull => 25,
-        Answer::AfterEnd => 26,
-        Answer::BadStore => 27,
     }
 }

@@ -11,7 +11,7 @@ ghost use mathlib.Core.Path.{_≡_};
 ghost use Prim.Native.Nat.{_*_, _%_, _^_, _≤_};
 ghost use lib.ListN.{length, take, drop};
 ghost use Rattle.frame_parser_rules.specs.Announced.{nominal, findFrom, valueFrom, announcedIn};
-ghost use Rattle.frame_parser_rules.specs.Framer.{unusable, fresh, onlyMark, numberOfParser, lengthReturned, answersWith, readyOf, movedToFront, pushed, pushedStore, finished, taken, takenStore, takenOutput};
+ghost use Rattle.frame_parser_rules.specs.Framer.{unusable, fresh, onlyMark, answersWith, readyOf, movedToFront, pushed, pushedStore, finished, taken, takenStore, takenOutput};
 
 const SEPARATOR: u8 = 1;
 
@@ -22,36 +22,6 @@ const MESSAGE_LIMIT: usize = 8192;
 const STORE_SIZE: usize = 16384;
 
 const CHECKSUM_SIZE: usize = 7;
-
-// The number that the rules give an answer.
-pub fn number(answer: Answer) -> u32
-    ensures { λ r. ⌜ r ≡ numberOfParser answer ⌝ }
-{
-    match answer {
-        Answer::Accepted => 0,
-        Answer::Message(_) => 0,
-        Answer::OverLong => 20,
-        Answer::ShortOutput => 23,
-        Answer::StoreFull => 25,
-        Answer::AfterEnd => 26,
-        Answer::BadStore => 27,
-    }
-}
-
-// The length that a take returns, and 0 for every other answer.
-pub fn length_of(answer: Answer) -> usize
-    ensures { λ r. ⌜ r ≡ lengthReturned answer ⌝ }
-{
-    match answer {
-        Answer::Message(length) => length,
-        Answer::Accepted => 0,
-        Answer::OverLong => 0,
-        Answer::ShortOutput => 0,
-        Answer::StoreFull => 0,
-        Answer::AfterEnd => 0,
-        Answer::BadStore => 0,
-    }
-}
 
 fn wide(byte: u8) -> u64
     ensures { λ r. ⌜ r ≡ byte ⌝ }

@@ -99,10 +99,10 @@ use Rattle.frame_parser.proofs.take.Reads as of-frame-parser-take
 use Rattle.frame_parser.proofs.take.Kinds as in-frame-parser-take
 use Rattle.frame_parser.proofs.reset.Reads as of-frame-parser-reset
 use Rattle.frame_parser.proofs.reset.Kinds as in-frame-parser-reset
-use Rattle.frame_parser.proofs.number.Reads as of-frame-parser-number
-use Rattle.frame_parser.proofs.number.Kinds as in-frame-parser-number
-use Rattle.frame_parser.proofs.length_of.Reads as of-frame-parser-length-of
-use Rattle.frame_parser.proofs.length_of.Kinds as in-frame-parser-length-of
+use Rattle.frame_answers.proofs.parser_number.Reads as of-frame-answers-parser-number
+use Rattle.frame_answers.proofs.parser_number.Kinds as in-frame-answers-parser-number
+use Rattle.frame_answers.proofs.parser_length.Reads as of-frame-answers-parser-length
+use Rattle.frame_answers.proofs.parser_length.Kinds as in-frame-answers-parser-length
 use Rattle.frame_verdict.proofs.verdict_of.Reads as of-frame-verdict-verdict-of
 use Rattle.frame_verdict.proofs.verdict_of.Kinds as in-frame-verdict-verdict-of
 use Rattle.frame_hunter.proofs.push.Reads as of-frame-hunter-push
@@ -113,8 +113,8 @@ use Rattle.frame_hunter.proofs.take.Reads as of-frame-hunter-take
 use Rattle.frame_hunter.proofs.take.Kinds as in-frame-hunter-take
 use Rattle.frame_hunter.proofs.reset.Reads as of-frame-hunter-reset
 use Rattle.frame_hunter.proofs.reset.Kinds as in-frame-hunter-reset
-use Rattle.frame_hunter.proofs.number.Reads as of-frame-hunter-number
-use Rattle.frame_hunter.proofs.number.Kinds as in-frame-hunter-number
+use Rattle.frame_answers.proofs.hunter_number.Reads as of-frame-answers-hunter-number
+use Rattle.frame_answers.proofs.hunter_number.Kinds as in-frame-answers-hunter-number
 
 -- the code's part of a build's outcome
 abbrev builtOf : BuildOutcome → Built
@@ -258,11 +258,11 @@ frame-parser-take κs a x y left other p q = (same (p .0) (q .0), same (p .1 .0)
 pub frame-parser-reset : NoFreedom 0 in-frame-parser-reset.ps in-frame-parser-reset.r of-frame-parser-reset.Post (λ κs x y left other. x ≡ y)
 frame-parser-reset κs a x y left other p q = same p q
 
-pub frame-parser-number : NoFreedom 0 in-frame-parser-number.ps in-frame-parser-number.r of-frame-parser-number.Post (λ κs x y left other. x ≡ y)
-frame-parser-number κs a x y left other p q = same p q
+pub frame-answers-parser-number : NoFreedom 0 in-frame-answers-parser-number.ps in-frame-answers-parser-number.r of-frame-answers-parser-number.Post (λ κs x y left other. x ≡ y)
+frame-answers-parser-number κs a x y left other p q = same p q
 
-pub frame-parser-length-of : NoFreedom 0 in-frame-parser-length-of.ps in-frame-parser-length-of.r of-frame-parser-length-of.Post (λ κs x y left other. x ≡ y)
-frame-parser-length-of κs a x y left other p q = same p q
+pub frame-answers-parser-length : NoFreedom 0 in-frame-answers-parser-length.ps in-frame-answers-parser-length.r of-frame-answers-parser-length.Post (λ κs x y left other. x ≡ y)
+frame-answers-parser-length κs a x y left other p q = same p q
 
 pub frame-verdict-verdict-of : NoFreedom 1 in-frame-verdict-verdict-of.ps in-frame-verdict-verdict-of.r of-frame-verdict-verdict-of.Post (λ κs x y left other. x ≡ y)
 frame-verdict-verdict-of κs a x y left other p q = same p q
@@ -279,5 +279,5 @@ frame-hunter-take κs a x y left other p q = (same (p .taken-is) (q .taken-is), 
 pub frame-hunter-reset : NoFreedom 0 in-frame-hunter-reset.ps in-frame-hunter-reset.r of-frame-hunter-reset.Post (λ κs x y left other. x ≡ y)
 frame-hunter-reset κs a x y left other p q = same p q
 
-pub frame-hunter-number : NoFreedom 0 in-frame-hunter-number.ps in-frame-hunter-number.r of-frame-hunter-number.Post (λ κs x y left other. x ≡ y)
-frame-hunter-number κs a x y left other p q = same p q
+pub frame-answers-hunter-number : NoFreedom 0 in-frame-answers-hunter-number.ps in-frame-answers-hunter-number.r of-frame-answers-hunter-number.Post (λ κs x y left other. x ≡ y)
+frame-answers-hunter-number κs a x y left other p q = same p q

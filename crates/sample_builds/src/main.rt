@@ -8,10 +8,9 @@
 mod telling;
 
 use sample_kit::dictionaries;
-use sample_kit::messages;
 use sample_kit::saying;
 use sample_kit::scripts;
-use sample_kit::texts;
+use sample_texts::messages;
 
 // The size of the dictionary, and what a case sets.
 struct Case {
@@ -34,12 +33,12 @@ fn usual(dictionary: usize) -> Case {
 
 fn message(out: &mut [u8], separator: u8, piece: &[u8]) -> usize {
     let mut fields = [0u8; 8300];
-    let text = texts::from(piece, 1);
-    if texts::first_byte(piece) == b'm' {
+    let text = sample_texts::from(piece, 1);
+    if sample_texts::first_byte(piece) == b'm' {
         return messages::spell(out, 0, text, separator);
     }
     let size = messages::spell(&mut fields, 0, text, separator);
-    messages::frame(out, texts::first(&fields, size), separator)
+    messages::frame(out, sample_texts::first(&fields, size), separator)
 }
 
 fn build(case: Case, dictionary: &[u8], piece: &[u8]) {
@@ -48,7 +47,7 @@ fn build(case: Case, dictionary: &[u8], piece: &[u8]) {
     let config = build_config::config_of(case.settings, separator);
     let size = message(&mut space, separator, piece);
     telling::told(
-        texts::first(&space, size),
+        sample_texts::first(&space, size),
         config,
         dictionary,
         case.lent,
@@ -58,9 +57,9 @@ fn build(case: Case, dictionary: &[u8], piece: &[u8]) {
 
 // A word that sets something.
 fn set(case: Case, piece: &[u8]) -> Case {
-    let n = texts::number(texts::from(piece, 1));
+    let n = sample_texts::number(sample_texts::from(piece, 1));
     let mut changed = case;
-    match texts::first_byte(piece) {
+    match sample_texts::first_byte(piece) {
         b's' => changed.separator = (n % 256) as u8,
         b'v' => changed.settings = 0,
         b'r' => changed.lent = n as usize,
@@ -72,14 +71,14 @@ fn set(case: Case, piece: &[u8]) -> Case {
 
 fn step(case: Case, dictionary: &mut [u8], piece: &[u8]) -> Case {
     let size = case.dictionary;
-    match texts::first_byte(piece) {
+    match sample_texts::first_byte(piece) {
         b'*' => usual(dictionaries::spell(dictionary, size, piece)),
         b'.' => {
             saying::piece(piece, b":");
             usual(size)
         }
         b'm' | b'f' => {
-            build(case, texts::first(dictionary, size), piece);
+            build(case, sample_texts::first(dictionary, size), piece);
             case
         }
         _ => set(case, piece),
@@ -90,7 +89,7 @@ fn play(script: &[u8], dictionary: &mut [u8]) {
     let mut case = usual(0);
     let mut from: usize = 0;
     while from < script.len() {
-        let end = texts::end_of(script, from, b'\n');
+        let end = sample_texts::end_of(script, from, b'\n');
         case = step(case, dictionary, &script[from..end]);
         from = end + 1;
     }
@@ -100,5 +99,5 @@ fn main() {
     let mut script = scripts::room();
     let mut dictionary = dictionaries::room();
     let size = scripts::read(&mut script);
-    play(texts::first(&script, size), &mut dictionary);
+    play(sample_texts::first(&script, size), &mut dictionary);
 }

@@ -2,7 +2,6 @@
 use build_config::Config;
 use build_records::Record;
 use sample_kit::saying;
-use sample_kit::texts;
 
 fn show_record(message: &[u8], record: Record) {
     saying::marked(b" ", record.part as u64);
@@ -10,7 +9,7 @@ fn show_record(message: &[u8], record: Record) {
     saying::marked(b"/", record.number as u64);
     saying::marked(b"/", record.tag as u64);
     saying::say(b"/");
-    saying::bytes(texts::part(message, record.place as usize, record.length as usize));
+    saying::bytes(sample_texts::part(message, record.place as usize, record.length as usize));
 }
 
 fn show_records(message: &[u8], words: &[u32; build_records::WORDS], count: usize) {

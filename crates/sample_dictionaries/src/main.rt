@@ -3,7 +3,6 @@
 use sample_kit::dictionaries;
 use sample_kit::saying;
 use sample_kit::scripts;
-use sample_kit::texts;
 
 fn show(dictionary: &[u8]) {
     let checked = dictionary_check::check(dictionary);
@@ -14,13 +13,13 @@ fn show(dictionary: &[u8]) {
 
 fn check(dictionary: &mut [u8], piece: &[u8]) {
     let size = dictionaries::spell(dictionary, 0, piece);
-    show(texts::first(dictionary, size));
+    show(sample_texts::first(dictionary, size));
 }
 
 fn play(script: &[u8], dictionary: &mut [u8]) {
     let mut from: usize = 0;
     while from < script.len() {
-        let end = texts::end_of(script, from, b'\n');
+        let end = sample_texts::end_of(script, from, b'\n');
         check(dictionary, &script[from..end]);
         from = end + 1;
     }
@@ -30,5 +29,5 @@ fn main() {
     let mut script = scripts::room();
     let mut dictionary = dictionaries::room();
     let size = scripts::read(&mut script);
-    play(texts::first(&script, size), &mut dictionary);
+    play(sample_texts::first(&script, size), &mut dictionary);
 }

@@ -9,20 +9,19 @@ use field_rules::Cause;
 use field_rules::FieldRead;
 use field_rules::Number;
 use field_rules::Written;
-use sample_kit::messages;
 use sample_kit::saying;
 use sample_kit::scripts;
-use sample_kit::texts;
+use sample_texts::messages;
 
 fn read(text: &[u8]) -> FieldRead {
     let mut message = [0u8; 100];
-    let numbers = texts::before(text, b':');
-    let place = texts::number_at(numbers, b',', 0) as usize;
-    let separator = (texts::number_at(numbers, b',', 1) % 256) as u8;
-    let size = messages::spell(&mut message, 0, texts::behind(text, b':'), separator);
+    let numbers = sample_texts::before(text, b':');
+    let place = sample_texts::number_at(numbers, b',', 0) as usize;
+    let separator = (sample_texts::number_at(numbers, b',', 1) % 256) as u8;
+    let size = messages::spell(&mut message, 0, sample_texts::behind(text, b':'), separator);
     let mode = field_tagvalue::separated_by(separator);
     let cursor = field_tagvalue::start_at(place);
-    field_tagvalue::next_field(cursor, texts::first(&message, size), mode)
+    field_tagvalue::next_field(cursor, sample_texts::first(&message, size), mode)
 }
 
 fn field(read: FieldRead) {
@@ -58,7 +57,7 @@ fn sum(text: &[u8]) {
     let size = messages::spell(&mut bytes, 0, text, 1);
     saying::marked(
         b"  ",
-        field_numbers::sum_of(texts::first(&bytes, size)) as u64,
+        field_numbers::sum_of(sample_texts::first(&bytes, size)) as u64,
     );
 }
 
@@ -80,16 +79,16 @@ fn written(n: u32, place: usize) {
 }
 
 fn step(piece: &[u8]) {
-    let text = texts::from(piece, 1);
-    match texts::first_byte(piece) {
+    let text = sample_texts::from(piece, 1);
+    match sample_texts::first_byte(piece) {
         b'f' => field(read(text)),
         b'n' => worth(field_numbers::number_of(text)),
         b's' => worth(field_numbers::checksum_of(text)),
         b'+' => sum(text),
-        b'd' => digits(texts::number(text)),
+        b'd' => digits(sample_texts::number(text)),
         b'w' => written(
-            texts::number_at(text, b',', 0),
-            texts::number_at(text, b',', 1) as usize,
+            sample_texts::number_at(text, b',', 0),
+            sample_texts::number_at(text, b',', 1) as usize,
         ),
         _ => saying::piece(piece, b""),
     }
@@ -98,7 +97,7 @@ fn step(piece: &[u8]) {
 fn play(script: &[u8]) {
     let mut from: usize = 0;
     while from < script.len() {
-        let end = texts::end_of(script, from, b'\n');
+        let end = sample_texts::end_of(script, from, b'\n');
         step(&script[from..end]);
         from = end + 1;
     }
@@ -107,5 +106,5 @@ fn play(script: &[u8]) {
 fn main() {
     let mut script = scripts::room();
     let size = scripts::read(&mut script);
-    play(texts::first(&script, size));
+    play(sample_texts::first(&script, size));
 }

@@ -12,10 +12,9 @@ use frame_hunter_rules::Answer;
 use frame_hunter_rules::Reply;
 use frame_hunter_rules::State;
 use frame_hunter_rules::Taken;
-use sample_kit::messages;
 use sample_kit::saying;
 use sample_kit::scripts;
-use sample_kit::texts;
+use sample_texts::messages;
 
 const STORE: usize = 16384;
 
@@ -30,13 +29,13 @@ fn answered(name: &[u8], piece: &[u8], answer: Answer) {
     let size = messages::spell(
         &mut space,
         0,
-        texts::before(texts::from(piece, 1), b':'),
+        sample_texts::before(sample_texts::from(piece, 1), b':'),
         b' ',
     );
     saying::say(b"\n");
     saying::say(name);
-    saying::say(texts::first(&space, size));
-    saying::marked(b" ", frame_hunter::number(answer) as u64);
+    saying::say(sample_texts::first(&space, size));
+    saying::marked(b" ", frame_answers::hunter_number(answer) as u64);
 }
 
 fn told(name: &[u8], piece: &[u8], reply: Reply) -> State {
@@ -49,8 +48,8 @@ fn told(name: &[u8], piece: &[u8], reply: Reply) -> State {
 
 fn push(state: State, store: &mut [u8], piece: &[u8]) -> State {
     let mut chunk = [0u8; 16385];
-    let size = messages::spell(&mut chunk, 0, texts::behind(piece, b':'), 1);
-    let reply = frame_hunter::push(state, store, texts::first(&chunk, size));
+    let size = messages::spell(&mut chunk, 0, sample_texts::behind(piece, b':'), 1);
+    let reply = frame_hunter::push(state, store, sample_texts::first(&chunk, size));
     told(b"push", piece, reply)
 }
 
@@ -61,9 +60,12 @@ fn taken(piece: &[u8], taken: Taken, output: &[u8]) -> State {
     saying::marked(b" length ", taken.length as u64);
     saying::marked(b" used ", state.used as u64);
     saying::marked(b" dropped ", state.dropped);
-    if texts::first_byte(piece) == b'm' {
+    if sample_texts::first_byte(piece) == b'm' {
         saying::say(b"\n");
-        saying::bytes(texts::first(output, texts::number(texts::behind(piece, b':')) as usize));
+        saying::bytes(sample_texts::first(
+            output,
+            sample_texts::number(sample_texts::behind(piece, b':')) as usize,
+        ));
     }
     state
 }
@@ -130,19 +132,22 @@ fn cut(one: &[u8], two: &[u8]) {
 
 fn cut_at(text: &[u8]) {
     let mut space = [0u8; 100];
-    let at = texts::number(texts::before(text, b':')) as usize;
-    let size = messages::spell(&mut space, 0, texts::behind(text, b':'), 1);
-    let stream = texts::first(&space, size);
-    cut(texts::first(stream, at), texts::from(stream, at));
+    let at = sample_texts::number(sample_texts::before(text, b':')) as usize;
+    let size = messages::spell(&mut space, 0, sample_texts::behind(text, b':'), 1);
+    let stream = sample_texts::first(&space, size);
+    cut(
+        sample_texts::first(stream, at),
+        sample_texts::from(stream, at),
+    );
 }
 
 fn call(state: State, store: &mut [u8], piece: &[u8]) -> State {
-    match texts::first_byte(piece) {
+    match sample_texts::first_byte(piece) {
         b'p' => return push(state, store, piece),
         b'e' => return told(b"end", piece, frame_hunter::end(state, store)),
         b't' | b'm' => return take(state, store, piece),
         b'T' => return take_short(state, store, piece),
-        b'c' => cut_at(texts::from(piece, 1)),
+        b'c' => cut_at(sample_texts::from(piece, 1)),
         _ => saying::piece(piece, b""),
     }
     state
@@ -158,11 +163,11 @@ fn fresh() -> Held {
 // What a word does to what is in hand, before its call.
 fn set(held: Held, piece: &[u8]) -> Held {
     let state = held.state;
-    match texts::first_byte(piece) {
+    match sample_texts::first_byte(piece) {
         b'R' => fresh(),
         b'l' => Held {
             state,
-            lent: texts::number(texts::from(piece, 1)) as usize,
+            lent: sample_texts::number(sample_texts::from(piece, 1)) as usize,
         },
         b'x' => Held {
             state: State {
@@ -192,7 +197,7 @@ fn play(script: &[u8], store: &mut [u8]) {
     let mut held = fresh();
     let mut from: usize = 0;
     while from < script.len() {
-        let end = texts::end_of(script, from, b'\n');
+        let end = sample_texts::end_of(script, from, b'\n');
         held = step(held, store, &script[from..end]);
         from = end + 1;
     }
@@ -202,5 +207,5 @@ fn main() {
     let mut script = scripts::room();
     let mut store = [0u8; STORE];
     let size = scripts::read(&mut script);
-    play(texts::first(&script, size), &mut store);
+    play(sample_texts::first(&script, size), &mut store);
 }

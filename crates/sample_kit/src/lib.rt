@@ -1,6 +1,6 @@
-// sample_kit: what the sample programs share. It reads a program's script from standard input, takes texts apart, spells messages and flat
-// dictionaries, and writes what a program says. It is for programs alone: no library of the gateway may stand on it. Its contracts say that
-// it is safe and ends, and how long a part is where a caller slices by it; what a program writes is held to its file `stdout`.
+// sample_kit: what the sample programs share. It reads a program's script from standard input, spells flat dictionaries, and writes what a
+// program says. It is for programs alone: no library of the gateway may stand on it. Its functions have no contract: each is proved to be safe
+// and to end, and what a program writes is held to its file `stdout`.
 //
 // A script has a line for each case.
 //   # TEXT         a remark
@@ -16,7 +16,5 @@
 // A program gets its script in pieces, each ended by a line break: a heading and a dictionary as their lines, of a case `:NAME`, then its
 // words, then `.`. Where a word starts is told by nothing but its first byte, so no word starts with `-`, `*`, `:` or `.`.
 pub mod dictionaries;
-pub mod messages;
 pub mod saying;
 pub mod scripts;
-pub mod texts;

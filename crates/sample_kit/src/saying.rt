@@ -1,5 +1,4 @@
 // Writes to standard output.
-use crate::texts;
 
 pub fn say(text: &[u8]) {
     io::write_all(1, text);
@@ -32,13 +31,13 @@ pub fn bytes(bytes: &[u8]) {
 // What a piece of a script shows that is no word: a heading its line, a name itself with the mark that stands behind names, a case's end a line
 // break.
 pub fn piece(piece: &[u8], mark: &[u8]) {
-    match texts::first_byte(piece) {
+    match sample_texts::first_byte(piece) {
         b'-' => {
             say(piece);
             say(b"\n");
         }
         b':' => {
-            say(texts::from(piece, 1));
+            say(sample_texts::from(piece, 1));
             say(mark);
         }
         b'.' => say(b"\n"),

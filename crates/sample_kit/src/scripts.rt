@@ -1,5 +1,4 @@
 // Reads a script and lays it out in pieces.
-use crate::texts;
 
 fn number_before(n: u32) -> u32 {
     if n == 0 {
@@ -11,10 +10,10 @@ fn number_before(n: u32) -> u32 {
 // A byte of a repeated text at one of its numbers.
 fn numbered_byte(out: &mut [u8], at: usize, byte: u8, n: u32, space: u8) -> usize {
     match byte {
-        b'@' => texts::put_number(out, at, n),
-        b'<' => texts::put_number(out, at, number_before(n)),
-        b' ' => texts::put(out, at, space),
-        _ => texts::put(out, at, byte),
+        b'@' => sample_texts::put_number(out, at, n),
+        b'<' => sample_texts::put_number(out, at, number_before(n)),
+        b' ' => sample_texts::put(out, at, space),
+        _ => sample_texts::put(out, at, byte),
     }
 }
 
@@ -30,9 +29,9 @@ fn numbered(out: &mut [u8], at: usize, text: &[u8], n: u32, space: u8) -> usize 
 
 // `{FIRST..LAST:TEXT`, the text for each number.
 fn repeated(out: &mut [u8], at: usize, text: &[u8], space: u8) -> usize {
-    let piece = texts::behind(text, b':');
-    let last = texts::number(texts::piece(texts::before(text, b':'), b'.', 2));
-    let mut n = texts::number(texts::before(texts::from(text, 1), b'.'));
+    let piece = sample_texts::behind(text, b':');
+    let last = sample_texts::number(sample_texts::piece(sample_texts::before(text, b':'), b'.', 2));
+    let mut n = sample_texts::number(sample_texts::before(sample_texts::from(text, 1), b'.'));
     let mut next = at;
     while n < last {
         next = numbered(out, next, piece, n, space);
@@ -52,7 +51,7 @@ fn spaced(out: &mut [u8], at: usize, text: &[u8], space: u8) -> usize {
     let mut next = at;
     let mut i: usize = 0;
     while i < text.len() {
-        next = texts::put(out, next, spaced_byte(text[i], space));
+        next = sample_texts::put(out, next, spaced_byte(text[i], space));
         i += 1;
     }
     next
@@ -63,8 +62,8 @@ fn written_out(out: &mut [u8], at: usize, text: &[u8], space: u8) -> usize {
     let mut next = at;
     let mut from: usize = 0;
     while from < text.len() {
-        let open = texts::end_of(text, from, b'{');
-        let close = texts::end_of(text, open, b'}');
+        let open = sample_texts::end_of(text, from, b'{');
+        let close = sample_texts::end_of(text, open, b'}');
         next = spaced(out, next, &text[from..open], space);
         next = repeated(out, next, &text[open..close], space);
         from = close + 1;
@@ -73,37 +72,37 @@ fn written_out(out: &mut [u8], at: usize, text: &[u8], space: u8) -> usize {
 }
 
 fn name_of(line: &[u8]) -> &[u8] {
-    if texts::first_byte(line) == b' ' {
-        return texts::first(line, 0);
+    if sample_texts::first_byte(line) == b' ' {
+        return sample_texts::first(line, 0);
     }
-    texts::before(line, b':')
+    sample_texts::before(line, b':')
 }
 
 fn words_of(line: &[u8]) -> &[u8] {
-    if texts::first_byte(line) == b' ' {
+    if sample_texts::first_byte(line) == b' ' {
         return line;
     }
-    texts::behind(line, b':')
+    sample_texts::behind(line, b':')
 }
 
 fn case(out: &mut [u8], at: usize, line: &[u8]) -> usize {
-    let a = texts::put(out, at, b':');
-    let b = texts::copy(out, a, name_of(line));
-    let c = texts::put(out, b, b'\n');
+    let a = sample_texts::put(out, at, b':');
+    let b = sample_texts::copy(out, a, name_of(line));
+    let c = sample_texts::put(out, b, b'\n');
     let d = written_out(out, c, words_of(line), b'\n');
-    texts::copy(out, d, b"\n.\n")
+    sample_texts::copy(out, d, b"\n.\n")
 }
 
 fn line(out: &mut [u8], at: usize, line: &[u8]) -> usize {
-    match texts::first_byte(line) {
+    match sample_texts::first_byte(line) {
         0 | b'#' => at,
         b'-' => {
-            let end = texts::copy(out, at, line);
-            texts::put(out, end, b'\n')
+            let end = sample_texts::copy(out, at, line);
+            sample_texts::put(out, end, b'\n')
         }
         b'*' => {
             let end = written_out(out, at, line, b' ');
-            texts::put(out, end, b'\n')
+            sample_texts::put(out, end, b'\n')
         }
         _ => case(out, at, line),
     }
@@ -114,7 +113,7 @@ fn pieces(out: &mut [u8], text: &[u8]) -> usize {
     let mut next: usize = 0;
     let mut from: usize = 0;
     while from < text.len() {
-        let end = texts::end_of(text, from, b'\n');
+        let end = sample_texts::end_of(text, from, b'\n');
         next = line(out, next, &text[from..end]);
         from = end + 1;
     }
@@ -130,5 +129,5 @@ pub fn room() -> [u8; 600000] {
 pub fn read(out: &mut [u8]) -> usize {
     let mut input = [0u8; 40000];
     let size = io::read_full(0, &mut input);
-    pieces(out, texts::first(&input, size))
+    pieces(out, sample_texts::first(&input, size))
 }

@@ -3,7 +3,6 @@ use crate::calls;
 use message_rules::FoundMap;
 use message_rules::FoundValue;
 use sample_kit::saying;
-use sample_kit::texts;
 
 fn found(values: &[u8], found: FoundValue) {
     match found {
@@ -11,7 +10,7 @@ fn found(values: &[u8], found: FoundValue) {
         FoundValue::Absent => saying::say(b" none"),
         FoundValue::At(place) => {
             saying::say(b" =");
-            saying::say(texts::part(values, place.place, place.size));
+            saying::say(sample_texts::part(values, place.place, place.size));
         }
     }
 }
@@ -26,20 +25,38 @@ fn in_map(words: &[u32], values: &[u8], map: FoundMap, tag: u32) {
 
 // `b58`
 pub fn field(words: &[u32], values: &[u8], text: &[u8]) {
-    let part = message_look_ups::part_map(words, values, calls::part_of(texts::first_byte(text)));
-    in_map(words, values, part, texts::number(texts::from(text, 1)));
+    let part = message_look_ups::part_map(
+        words,
+        values,
+        calls::part_of(sample_texts::first_byte(text)),
+    );
+    in_map(
+        words,
+        values,
+        part,
+        sample_texts::number(sample_texts::from(text, 1)),
+    );
 }
 
 // `b78,0,79`
 pub fn entry(words: &[u32], values: &[u8], text: &[u8]) {
-    let part = message_look_ups::part_map(words, values, calls::part_of(texts::first_byte(text)));
+    let part = message_look_ups::part_map(
+        words,
+        values,
+        calls::part_of(sample_texts::first_byte(text)),
+    );
     let FoundMap::At(head) = part else {
         saying::say(b" 27");
         return;
     };
-    let numbers = texts::from(text, 1);
-    let start = texts::number_at(numbers, b',', 0);
-    let number = texts::number_at(numbers, b',', 1) as usize;
+    let numbers = sample_texts::from(text, 1);
+    let start = sample_texts::number_at(numbers, b',', 0);
+    let number = sample_texts::number_at(numbers, b',', 1) as usize;
     let map = message_look_ups::entry_in(words, values, head, start, number);
-    in_map(words, values, map, texts::number_at(numbers, b',', 2));
+    in_map(
+        words,
+        values,
+        map,
+        sample_texts::number_at(numbers, b',', 2),
+    );
 }

@@ -18,7 +18,6 @@ mod looking;
 mod showing;
 
 use sample_kit::scripts;
-use sample_kit::texts;
 
 // How many words and value bytes are lent.
 struct Lent {
@@ -27,11 +26,11 @@ struct Lent {
 }
 
 fn lent_after(lent: Lent, piece: &[u8]) -> Lent {
-    let text = texts::from(piece, 1);
-    match texts::first_byte(piece) {
+    let text = sample_texts::from(piece, 1);
+    match sample_texts::first_byte(piece) {
         b'l' => Lent {
-            words: texts::number_at(text, b',', 0) as usize,
-            bytes: texts::number_at(text, b',', 1) as usize,
+            words: sample_texts::number_at(text, b',', 0) as usize,
+            bytes: sample_texts::number_at(text, b',', 1) as usize,
         },
         b':' => Lent {
             words: message_maps::WORDS,
@@ -42,11 +41,11 @@ fn lent_after(lent: Lent, piece: &[u8]) -> Lent {
 }
 
 fn lay_aside(aside: &mut [u32], bytes: &mut [u8], words: &[u32], values: &[u8], piece: &[u8]) {
-    if texts::first_byte(piece) != b';' {
+    if sample_texts::first_byte(piece) != b';' {
         return;
     }
     laying::copy(aside, words);
-    texts::copy(bytes, 0, values);
+    sample_texts::copy(bytes, 0, values);
 }
 
 // A call on as much of the words and value bytes in hand as is lent.
@@ -94,7 +93,7 @@ fn play(words: &mut [u32], values: &mut [u8], aside: &mut [u32], bytes: &mut [u8
     let mut lent = Lent { words: 0, bytes: 0 };
     let mut from: usize = 0;
     while from < script.len() {
-        let end = texts::end_of(script, from, b'\n');
+        let end = sample_texts::end_of(script, from, b'\n');
         lent = step(
             lent,
             words,
@@ -120,6 +119,6 @@ fn main() {
         &mut values,
         &mut aside,
         &mut bytes,
-        texts::first(&script, size),
+        sample_texts::first(&script, size),
     );
 }

@@ -4,7 +4,6 @@ use encode_rules::Encoding;
 use message_rules::Change;
 use message_take_over::Taken;
 use sample_kit::saying;
-use sample_kit::texts;
 
 pub fn changed(change: Change) {
     saying::marked(b" ", message_answers::change_number(change) as u64);
@@ -36,7 +35,7 @@ pub fn encoded(encoding: Encoding, output: &[u8]) {
         saying::marked(b" ", length as u64);
         if length < 200 {
             saying::say(b" ");
-            saying::bytes(texts::first(output, length));
+            saying::bytes(sample_texts::first(output, length));
         }
     }
     if !stays(output, length) {
@@ -70,7 +69,7 @@ fn head(words: &[u32], row: u32) {
 fn field(words: &[u32], values: &[u8], row: u32, place: usize) {
     saying::marked(b"", laying::in_row(words, row, 2) as u64);
     saying::say(b"=");
-    saying::bytes(texts::part(values, place, laying::value_size(words, row) as usize));
+    saying::bytes(sample_texts::part(values, place, laying::value_size(words, row) as usize));
     saying::say(b"|");
 }
 

@@ -10,10 +10,9 @@
 use frame_parser_rules::Answer;
 use frame_parser_rules::Outcome;
 use frame_parser_rules::State;
-use sample_kit::messages;
 use sample_kit::saying;
 use sample_kit::scripts;
-use sample_kit::texts;
+use sample_texts::messages;
 
 const STORE: usize = 16384;
 
@@ -39,7 +38,7 @@ fn told(name: &[u8], outcome: Outcome) -> State {
     let answer = outcome.answer;
     let state = outcome.state;
     saying::say(name);
-    saying::marked(b" ", frame_parser::number(answer) as u64);
+    saying::marked(b" ", frame_answers::parser_number(answer) as u64);
     if let Answer::Message(length) = answer {
         saying::marked(b" length ", length as u64);
     }
@@ -51,7 +50,7 @@ fn push(state: State, store: &mut [u8], text: &[u8]) -> State {
     let size = messages::spell(&mut chunk, 0, text, 1);
     told(
         b"push",
-        frame_parser::push(state, store, texts::first(&chunk, size)),
+        frame_parser::push(state, store, sample_texts::first(&chunk, size)),
     )
 }
 
@@ -59,9 +58,12 @@ fn take(state: State, store: &mut [u8], shown: &[u8]) -> State {
     let mut output = [0u8; 8192];
     let left = told(b"take", frame_parser::take(state, store, &mut output));
     if 0 < shown.len() {
-        saying::bytes(texts::first(&output, texts::number_at(shown, b',', 0) as usize));
+        saying::bytes(sample_texts::first(
+            &output,
+            sample_texts::number_at(shown, b',', 0) as usize,
+        ));
         saying::say(b"\n");
-        saying::bytes(texts::first(store, texts::number_at(shown, b',', 1) as usize));
+        saying::bytes(sample_texts::first(store, sample_texts::number_at(shown, b',', 1) as usize));
         saying::say(b"\n");
     }
     left
@@ -87,11 +89,11 @@ fn take_next(came: Came, store: &mut [u8], stream: &[u8]) -> Came {
     let outcome = frame_parser::take(came.state, store, &mut output);
     let answer = outcome.answer;
     let state = outcome.state;
-    let length = frame_parser::length_of(answer);
+    let length = frame_answers::parser_length(answer);
     let mut bytes = came.bytes;
     if check::same(
-        texts::part(stream, bytes, length),
-        texts::first(&output, length),
+        sample_texts::part(stream, bytes, length),
+        sample_texts::first(&output, length),
     ) {
         bytes = bytes % 8192 + length % 8193;
     }
@@ -110,25 +112,25 @@ fn chunk(came: Came, store: &mut [u8], chunk: &[u8], stream: &[u8]) -> Came {
 fn cut(text: &[u8]) {
     let mut store = [0u8; STORE];
     let mut space = [0u8; 100];
-    let at = texts::number(texts::before(text, b':')) as usize;
-    let size = messages::spell(&mut space, 0, texts::behind(text, b':'), 1);
-    let stream = texts::first(&space, size);
+    let at = sample_texts::number(sample_texts::before(text, b':')) as usize;
+    let size = messages::spell(&mut space, 0, sample_texts::behind(text, b':'), 1);
+    let stream = sample_texts::first(&space, size);
     let state = frame_parser::reset();
     let some = chunk(
         Came { state, bytes: 0 },
         &mut store,
-        texts::first(stream, at),
+        sample_texts::first(stream, at),
         stream,
     );
-    let all = chunk(some, &mut store, texts::from(stream, at), stream);
+    let all = chunk(some, &mut store, sample_texts::from(stream, at), stream);
     saying::marked(b"", some.bytes as u64);
     saying::marked(b" ", all.bytes as u64);
     saying::say(b"\n");
 }
 
 fn call(state: State, store: &mut [u8], piece: &[u8]) -> State {
-    let text = texts::from(piece, 1);
-    match texts::first_byte(piece) {
+    let text = sample_texts::from(piece, 1);
+    match sample_texts::first_byte(piece) {
         b'p' => return push(state, store, text),
         b'e' => return told(b"end", frame_parser::end(state, store)),
         b't' | b'm' => return take(state, store, text),
@@ -147,7 +149,7 @@ fn set(held: Held, piece: &[u8]) -> Held {
         state: frame_parser::reset(),
         lent: STORE,
     };
-    match texts::first_byte(piece) {
+    match sample_texts::first_byte(piece) {
         b'r' => {
             saying::say(b"reset");
             shown(frame_parser::reset());
@@ -156,7 +158,7 @@ fn set(held: Held, piece: &[u8]) -> Held {
         b'R' => fresh,
         b'l' => Held {
             state,
-            lent: texts::number(texts::from(piece, 1)) as usize,
+            lent: sample_texts::number(sample_texts::from(piece, 1)) as usize,
         },
         b'x' => Held {
             state: State {
@@ -189,7 +191,7 @@ fn play(script: &[u8], store: &mut [u8]) {
     };
     let mut from: usize = 0;
     while from < script.len() {
-        let end = texts::end_of(script, from, b'\n');
+        let end = sample_texts::end_of(script, from, b'\n');
         held = step(held, store, &script[from..end]);
         from = end + 1;
     }
@@ -199,5 +201,5 @@ fn main() {
     let mut script = scripts::room();
     let mut store = [0u8; STORE];
     let size = scripts::read(&mut script);
-    play(texts::first(&script, size), &mut store);
+    play(sample_texts::first(&script, size), &mut store);
 }

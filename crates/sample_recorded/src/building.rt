@@ -4,12 +4,11 @@ use crate::hexadecimal;
 use build_answers::Answer;
 use build_records::Record;
 use sample_kit::saying;
-use sample_kit::texts;
 
 // Keeps a dictionary and checks it; its size.
 pub fn keep(dictionary: &mut [u8], text: &[u8]) -> usize {
     let size = hexadecimal::read(dictionary, text);
-    let checked = dictionary_check::check(texts::first(dictionary, size));
+    let checked = dictionary_check::check(sample_texts::first(dictionary, size));
     saying::marked(b"", dictionary_check::number_of(checked) as u64);
     saying::marked(b" ", dictionary_check::value_of(checked) as u64);
     size
@@ -22,7 +21,7 @@ fn record(message: &[u8], record: Record) {
     saying::marked(b".", record.number as u64);
     saying::marked(b".", record.tag as u64);
     saying::say(b".");
-    hexadecimal::say(texts::part(message, record.place as usize, record.length as usize));
+    hexadecimal::say(sample_texts::part(message, record.place as usize, record.length as usize));
 }
 
 fn records_of(message: &[u8], words: &[u32; build_records::WORDS], count: usize) {
@@ -59,13 +58,13 @@ fn encode_built(
 pub fn build(text: &[u8], dictionary: &[u8], again: bool) {
     let mut space = [0u8; 2000];
     let mut words = [0u32; build_records::WORDS];
-    let separator = hexadecimal::byte(texts::piece(text, b' ', 1));
-    let settings = texts::number(texts::piece(text, b' ', 2)) as u32;
+    let separator = hexadecimal::byte(sample_texts::piece(text, b' ', 1));
+    let settings = sample_texts::number(sample_texts::piece(text, b' ', 2)) as u32;
     let config = build_config::config_of(settings, separator);
-    let further = texts::piece(text, b' ', 3);
+    let further = sample_texts::piece(text, b' ', 3);
     let given = if again { 4 } else { 3 };
-    let size = hexadecimal::read(&mut space, texts::piece(text, b' ', given));
-    let message = texts::first(&space, size);
+    let size = hexadecimal::read(&mut space, sample_texts::piece(text, b' ', given));
+    let message = sample_texts::first(&space, size);
     let built = builder::build(message, config, dictionary, 1024, &mut words);
     let answer = built.answer;
     let count = built.records;

@@ -1,17 +1,16 @@
 // Runs made by calls, from rows `f.LEVEL.TAG.VALUE` and `h.LEVEL.START.DELIMITER` with commas between: each entry is added and its fields are
 // stored; heads one level deeper that have one start tag and follow each other are a run of their own, made first and hung in the entry.
 use crate::hexadecimal;
-use sample_kit::texts;
 ghost use Prim.Native.Nat.{_≤_};
 ghost use lib.ListN.{length};
 
 fn tag_of(row: &[u8]) -> u32 {
-    texts::number_at(row, b'.', 2)
+    sample_texts::number_at(row, b'.', 2)
 }
 
 // By how many levels a row lies deeper.
 fn deeper(row: &[u8], level: u32) -> u32 {
-    let own = texts::number_at(row, b'.', 1);
+    let own = sample_texts::number_at(row, b'.', 1);
     if level < own {
         return own - level;
     }
@@ -20,7 +19,7 @@ fn deeper(row: &[u8], level: u32) -> u32 {
 
 // The start tag of the nested run that a row starts, 0 where it starts none.
 fn nested_start(row: &[u8], level: u32) -> u32 {
-    if texts::first_byte(row) == b'h' {
+    if sample_texts::first_byte(row) == b'h' {
         if deeper(row, level) == 1 {
             return tag_of(row);
         }
@@ -44,11 +43,11 @@ fn piece_end(rows: &[u8], from: usize, level: u32) -> usize
     requires { ⌜ from ≤ length (now rows) ⌝ }
     ensures { λ r. ⌜ (from ≤ r) × (r ≤ length (now (rows .entry))) ⌝ }
 {
-    let mut end = texts::end_of(rows, from, b',');
+    let mut end = sample_texts::end_of(rows, from, b',');
     let start = nested_start(&rows[from..end], level);
     while end < rows.len() {
         let next = end + 1;
-        let next_end = texts::end_of(rows, next, b',');
+        let next_end = sample_texts::end_of(rows, next, b',');
         if !goes_on(&rows[next..next_end], level, start) {
             return end;
         }
@@ -60,13 +59,13 @@ fn piece_end(rows: &[u8], from: usize, level: u32) -> usize
 fn add(words: &mut [u32], values: &mut [u8], row: &[u8]) -> u32 {
     let mut space = [0u8; 2000];
     let tag = tag_of(row);
-    let last = texts::piece(row, b'.', 3);
-    if texts::first_byte(row) == b'h' {
+    let last = sample_texts::piece(row, b'.', 3);
+    if sample_texts::first_byte(row) == b'h' {
         return message_answers::change_number(message_runs::add_entry(
             words,
             values,
             tag,
-            texts::number(last),
+            sample_texts::number(last),
         ));
     }
     let size = hexadecimal::read(&mut space, last);
@@ -74,7 +73,7 @@ fn add(words: &mut [u32], values: &mut [u8], row: &[u8]) -> u32 {
         words,
         values,
         tag,
-        texts::first(&space, size),
+        sample_texts::first(&space, size),
     ))
 }
 
@@ -98,7 +97,7 @@ fn piece(words: &mut [u32], values: &mut [u8], text: &[u8], level: u32) -> u32 {
 // Makes a draft of rows, `-` for none; the number of the first call that refuses.
 pub fn draft(words: &mut [u32], values: &mut [u8], rows: &[u8], level: u32) -> u32 {
     let mut number = message_answers::change_number(message_runs::empty(words, values));
-    if texts::first_byte(rows) == b'-' {
+    if sample_texts::first_byte(rows) == b'-' {
         return number;
     }
     let mut from: usize = 0;

@@ -2,7 +2,6 @@
 use crate::hexadecimal;
 use frame_parser_rules::State;
 use sample_kit::saying;
-use sample_kit::texts;
 
 fn comma(frames: usize) {
     if 0 < frames {
@@ -28,14 +27,14 @@ fn take_all(fresh: State, store: &mut [u8]) -> State {
     while frames < 16384 {
         let outcome = frame_parser::take(state, store, &mut output);
         let answer = outcome.answer;
-        let length = frame_parser::length_of(answer);
+        let length = frame_answers::parser_length(answer);
         state = outcome.state;
         if length == 0 {
-            last_word(frames, frame_parser::number(answer));
+            last_word(frames, frame_answers::parser_number(answer));
             break;
         }
         comma(frames);
-        hexadecimal::say(texts::first(&output, length));
+        hexadecimal::say(sample_texts::first(&output, length));
         frames += 1;
     }
     state
@@ -44,10 +43,10 @@ fn take_all(fresh: State, store: &mut [u8]) -> State {
 fn chunk(state: State, store: &mut [u8], text: &[u8]) -> State {
     let mut space = [0u8; 2000];
     let size = hexadecimal::read(&mut space, text);
-    let outcome = frame_parser::push(state, store, texts::first(&space, size));
+    let outcome = frame_parser::push(state, store, sample_texts::first(&space, size));
     let answer = outcome.answer;
     let pushed = outcome.state;
-    let number = frame_parser::number(answer);
+    let number = frame_answers::parser_number(answer);
     if 0 < number {
         saying::marked(b"!", number as u64);
         return pushed;
@@ -59,7 +58,7 @@ fn chunks(store: &mut [u8], text: &[u8]) {
     let mut state = frame_parser::reset();
     let mut from: usize = 0;
     while from < text.len() {
-        let end = texts::end_of(text, from, b' ');
+        let end = sample_texts::end_of(text, from, b' ');
         if 0 < from {
             saying::say(b" ");
         }

@@ -1,13 +1,12 @@
 // Reads and writes bytes in hexadecimal.
 use sample_kit::saying;
-use sample_kit::texts;
 
 // Writes the bytes of a text of hexadecimal digits, none for `-`; how many they are.
 pub fn read(out: &mut [u8], text: &[u8]) -> usize {
     let count = text.len() / 2;
     let mut i: usize = 0;
     while i < count {
-        texts::put(out, i, texts::byte_of(text[2 * i], text[2 * i + 1]));
+        sample_texts::put(out, i, sample_texts::byte_of(text[2 * i], text[2 * i + 1]));
         i += 1;
     }
     count
@@ -15,7 +14,10 @@ pub fn read(out: &mut [u8], text: &[u8]) -> usize {
 
 // A separator: the byte of two hexadecimal digits.
 pub fn byte(text: &[u8]) -> u8 {
-    texts::byte_of(texts::byte_at(text, 0), texts::byte_at(text, 1))
+    sample_texts::byte_of(
+        sample_texts::byte_at(text, 0),
+        sample_texts::byte_at(text, 1),
+    )
 }
 
 fn character(digit: u8) -> u8 {

@@ -9,15 +9,14 @@ mod framing;
 mod hexadecimal;
 
 use sample_kit::saying;
-use sample_kit::texts;
 
 // Answers a request; the size of the dictionary that is kept from then on. One is kept at a time: all have the number 0.
 fn answer(text: &[u8], dictionary: &mut [u8], used: usize) -> usize {
-    let rest = texts::behind(text, b' ');
-    match texts::first_byte(text) {
-        b'd' => return building::keep(dictionary, texts::behind(rest, b' ')),
-        b'b' => building::build(rest, texts::first(dictionary, used), false),
-        b'a' => building::build(rest, texts::first(dictionary, used), true),
+    let rest = sample_texts::behind(text, b' ');
+    match sample_texts::first_byte(text) {
+        b'd' => return building::keep(dictionary, sample_texts::behind(rest, b' ')),
+        b'b' => building::build(rest, sample_texts::first(dictionary, used), false),
+        b'a' => building::build(rest, sample_texts::first(dictionary, used), true),
         b'c' => calling::calls(rest),
         b'f' => framing::frames(rest),
         _ => saying::say(b"unreadable"),
@@ -29,7 +28,7 @@ fn answer_all(requests: &[u8], dictionary: &mut [u8]) {
     let mut used: usize = 0;
     let mut from: usize = 0;
     while from < requests.len() {
-        let end = texts::end_of(requests, from, b'\n');
+        let end = sample_texts::end_of(requests, from, b'\n');
         used = answer(&requests[from..end], dictionary, used);
         saying::say(b"\n");
         from = end + 1;
@@ -40,5 +39,5 @@ fn main() {
     let mut requests = sample_kit::scripts::room();
     let mut dictionary = [0u8; 2000];
     let size = io::read_full(0, &mut requests);
-    answer_all(texts::first(&requests, size), &mut dictionary);
+    answer_all(sample_texts::first(&requests, size), &mut dictionary);
 }

@@ -7,7 +7,6 @@ use encode_rules::Encoding;
 use field_rules::FieldRead;
 use message_rules::Part;
 use sample_kit::saying;
-use sample_kit::texts;
 
 const SEPARATOR: u8 = 1;
 
@@ -38,7 +37,7 @@ fn hunt(output: &mut [u8]) -> usize {
     showing::step(b"2. The hunting framer drops", state.dropped as usize);
     showing::step(b" places and hands out", taken.length);
     saying::say(b" bytes:\n");
-    showing::line(texts::first(output, taken.length));
+    showing::line(sample_texts::first(output, taken.length));
     taken.length
 }
 
@@ -74,7 +73,7 @@ fn build(frame: &[u8], words: &mut [u32], values: &mut [u8]) {
 fn encode(words: &mut [u32], values: &mut [u8], output: &mut [u8]) {
     match encoder::encode(words, values, output, SEPARATOR) {
         Encoding::Written(length) => {
-            let written = texts::first(output, length);
+            let written = sample_texts::first(output, length);
             showing::line(written);
             showing::step(b"   Fields written:", count_fields(written));
         }
@@ -88,7 +87,11 @@ fn main() {
     let mut values = [0u8; 8192];
     let mut encoded = [0u8; 8192];
     let length = hunt(&mut output);
-    build(texts::first(&output, length), &mut words, &mut values);
+    build(
+        sample_texts::first(&output, length),
+        &mut words,
+        &mut values,
+    );
     saying::say(b"4. Encoded as it is held, with its own BodyLength and CheckSum:\n");
     encode(&mut words, &mut values, &mut encoded);
     saying::say(b". Every check downstream passes, and nothing shows that it once said 600.\n");

@@ -1,7 +1,6 @@
 // Writes the lines of the way.
 use build_records::Record;
 use sample_kit::saying;
-use sample_kit::texts;
 
 // A sentence, and the number that it goes on with.
 pub fn step(text: &[u8], n: usize) {
@@ -30,7 +29,7 @@ fn record(message: &[u8], record: Record) {
     part(record.part);
     saying::marked(b"", record.tag as u64);
     saying::say(b"=");
-    saying::bytes(texts::part(message, record.place as usize, record.length as usize));
+    saying::bytes(sample_texts::part(message, record.place as usize, record.length as usize));
     saying::say(b"\n");
 }
 

@@ -17,7 +17,7 @@ use Rattle.message_answers.proofs.change_number.Reads as change-number-reads
 use Rattle.sample_recorded.proofs.drafts.add.Reads as add-reads
 use Rattle.sample_recorded.proofs.drafts.nested_start.Reads as nested-start-reads
 use Rattle.sample_recorded.proofs.drafts.piece_end.Reads as piece-end-reads
-use Rattle.sample_kit.proofs.texts.first_byte.Reads as first-byte-reads
+use Rattle.sample_texts.proofs.first_byte.Reads as first-byte-reads
 use Rattle.message_runs.proofs.empty.Reads as empty-reads
 use Rattle.message_runs.proofs.hang_last.Reads as hang-last-reads
 use Rattle.sample_recorded.proofs.drafts.+draft+piece.{statement}

@@ -1,10 +1,10 @@
--- `length_of` meets its contract: each arm knows which answer it was.
+-- `parser_length` meets its contract: each arm knows which answer it was.
 -- The definition gives the length that the arm returns.
 use mathlib.Core.Path.{sym, ap}
 use Rattle.frame_parser_rules.specs.Framer.{lengthReturned}
 use borrow.Author.Needs.{needs}
-use Rattle.frame_parser.proofs.length_of.Statement.{statement}
-use Rattle.frame_parser.proofs.length_of.Tie as tie
+use Rattle.frame_answers.proofs.parser_length.Statement.{statement}
+use Rattle.frame_answers.proofs.parser_length.Tie as tie
 
 returns : tie.Need-returns
 unfolding lengthReturned
@@ -34,8 +34,8 @@ returns-7 : tie.Need-returns-7
 unfolding lengthReturned
 returns-7 c = rw (c .enum-told6 .given .1)
 
-pub length-of-spec : {M : Type 1} → statement M
-length-of-spec =
+pub parser-length-spec : {M : Type 1} → statement M
+parser-length-spec =
     tie.close
     (tie.spec (λ c. search needs) (λ c. search needs) (λ c. search needs) (λ c. search needs) (λ c. search needs)
     (λ c. search needs) (λ c. search needs) returns returns-2 returns-3 returns-4 returns-5 returns-6 returns-7)

@@ -2,8 +2,8 @@
 use native.Mathlib.Omega.{arith}
 use lib.ListN.{length, length-take}
 use borrow.Author.Needs.{needs}
-use Rattle.sample_kit.proofs.texts.first.Statement.{statement}
-use Rattle.sample_kit.proofs.texts.first.Tie as tie
+use Rattle.sample_texts.proofs.first.Statement.{statement}
+use Rattle.sample_texts.proofs.first.Tie as tie
 
 slice-aggregate-result-2 : tie.Need-slice-aggregate-result-2
 slice-aggregate-result-2 c = simp length-take (omega arith)

@@ -1,4 +1,7 @@
-// Takes texts apart and puts them together.
+// sample_texts: what the sample programs do with texts: it takes them apart, puts them together and spells messages. It is for programs alone:
+// no library of the gateway may stand on it. Its contracts say that it is safe and ends, and how long a part is where a caller slices by it.
+pub mod messages;
+
 use field_rules::Found;
 use field_rules::Number;
 use field_rules::Written;

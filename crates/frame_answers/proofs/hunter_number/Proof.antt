@@ -1,9 +1,9 @@
--- `number` meets its contract: each arm is a case of the definition.
+-- `hunter_number` meets its contract: each arm is a case of the definition.
 use mathlib.Core.Path.{sym, ap}
 use borrow.Author.Needs.{needs}
 use Rattle.frame_hunter_rules.specs.Bytes.{numberOfHunter}
-use Rattle.frame_hunter.proofs.number.Statement.{statement}
-use Rattle.frame_hunter.proofs.number.Tie as tie
+use Rattle.frame_answers.proofs.hunter_number.Statement.{statement}
+use Rattle.frame_answers.proofs.hunter_number.Tie as tie
 
 returns : tie.Need-returns
 unfolding numberOfHunter
@@ -25,8 +25,8 @@ returns-5 : tie.Need-returns-5
 unfolding numberOfHunter
 returns-5 c = sym (ap numberOfHunter (c .enum-told5 .given .1))
 
-pub number-spec : {M : Type 1} → statement M
-number-spec =
+pub hunter-number-spec : {M : Type 1} → statement M
+hunter-number-spec =
     tie.close
     (tie.spec (λ c. search needs) (λ c. search needs) (λ c. search needs) (λ c. search needs) (λ c. search needs)
     returns returns-2 returns-3 returns-4 returns-5)

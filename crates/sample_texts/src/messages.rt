@@ -1,5 +1,4 @@
 // Spells messages.
-use crate::texts;
 ghost use Prim.Native.Nat.{_≤_, _<_};
 ghost use lib.ListN.{length};
 
@@ -11,7 +10,7 @@ fn byte_at(text: &[u8], at: usize, separator: u8) -> u8
         b'|' => separator,
         b'\\' => {
             let rest = &text[at..];
-            texts::byte_of(texts::byte_at(rest, 1), texts::byte_at(rest, 2))
+            crate::byte_of(crate::byte_at(rest, 1), crate::byte_at(rest, 2))
         }
         byte => byte,
     }
@@ -35,7 +34,7 @@ pub fn spell(out: &mut [u8], at: usize, text: &[u8], separator: u8) -> usize {
     let mut next = at;
     let mut i: usize = 0;
     while i < text.len() {
-        next = texts::put(out, next, byte_at(text, i, separator));
+        next = crate::put(out, next, byte_at(text, i, separator));
         i = next_of(text, i);
     }
     next
@@ -43,19 +42,19 @@ pub fn spell(out: &mut [u8], at: usize, text: &[u8], separator: u8) -> usize {
 
 // A right CheckSum behind the bytes that are there.
 fn close(out: &mut [u8], at: usize, separator: u8) -> usize {
-    let digits = field_numbers::checksum_digits(field_numbers::sum_of(texts::first(out, at)));
-    let a = texts::copy(out, at, b"10=");
-    let b = texts::copy(out, a, &digits);
-    texts::put(out, b, separator)
+    let digits = field_numbers::checksum_digits(field_numbers::sum_of(crate::first(out, at)));
+    let a = crate::copy(out, at, b"10=");
+    let b = crate::copy(out, a, &digits);
+    crate::put(out, b, separator)
 }
 
 // A message with a right BodyLength and CheckSum, from the bytes between them.
 pub fn frame(out: &mut [u8], fields: &[u8], separator: u8) -> usize {
-    let a = texts::copy(out, 0, b"8=FIX.4.4");
-    let b = texts::put(out, a, separator);
-    let c = texts::copy(out, b, b"9=");
-    let d = texts::put_number(out, c, (fields.len() % 100000) as u32);
-    let e = texts::put(out, d, separator);
-    let f = texts::copy(out, e, fields);
+    let a = crate::copy(out, 0, b"8=FIX.4.4");
+    let b = crate::put(out, a, separator);
+    let c = crate::copy(out, b, b"9=");
+    let d = crate::put_number(out, c, (fields.len() % 100000) as u32);
+    let e = crate::put(out, d, separator);
+    let f = crate::copy(out, e, fields);
     close(out, f, separator)
 }

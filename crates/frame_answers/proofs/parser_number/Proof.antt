@@ -1,9 +1,9 @@
--- `number` meets its contract: each arm knows which answer it was.
+-- `parser_number` meets its contract: each arm knows which answer it was.
 -- The definition gives the number that the arm returns.
 use Rattle.frame_parser_rules.specs.Framer.{numberOfParser}
 use borrow.Author.Needs.{needs}
-use Rattle.frame_parser.proofs.number.Statement.{statement}
-use Rattle.frame_parser.proofs.number.Tie as tie
+use Rattle.frame_answers.proofs.parser_number.Statement.{statement}
+use Rattle.frame_answers.proofs.parser_number.Tie as tie
 
 returns : tie.Need-returns
 unfolding numberOfParser
@@ -33,8 +33,8 @@ returns-7 : tie.Need-returns-7
 unfolding numberOfParser
 returns-7 c = rw (c .enum-told7 .given .1)
 
-pub number-spec : {M : Type 1} → statement M
-number-spec =
+pub parser-number-spec : {M : Type 1} → statement M
+parser-number-spec =
     tie.close
     (tie.spec (λ c. search needs) (λ c. search needs) (λ c. search needs) (λ c. search needs) (λ c. search needs)
     (λ c. search needs) (λ c. search needs) returns returns-2 returns-3 returns-4 returns-5 returns-6 returns-7)

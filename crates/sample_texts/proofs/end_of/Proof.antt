@@ -2,8 +2,8 @@
 use Prim.Native.Nat.{_-_, _≤_}
 use borrow.Author.Needs.{needs}
 use lib.ListN.{length}
-use Rattle.sample_kit.proofs.texts.end_of.Statement.{statement}
-use Rattle.sample_kit.proofs.texts.end_of.Tie as tie
+use Rattle.sample_texts.proofs.end_of.Statement.{statement}
+use Rattle.sample_texts.proofs.end_of.Tie as tie
 
 abbrev Inv-loop : tie.InvT-loop
 Inv-loop text from mark i₀ i = (from ≤ i) × (i ≤ length text)

@@ -3,8 +3,8 @@ use mathlib.Core.Path.{_≡_}
 use Prim.Native.Nat.{_-_, _≤_}
 use borrow.Author.Needs.{needs}
 use lib.ListN.{length}
-use Rattle.sample_kit.proofs.texts.copy.Statement.{statement}
-use Rattle.sample_kit.proofs.texts.copy.Tie as tie
+use Rattle.sample_texts.proofs.copy.Statement.{statement}
+use Rattle.sample_texts.proofs.copy.Tie as tie
 
 abbrev Inv-loop : tie.InvT-loop
 Inv-loop out₀ place text next₀ i₀ out next i = (length out ≡ length out₀) × (i ≤ length text)

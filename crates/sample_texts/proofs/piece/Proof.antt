@@ -2,8 +2,8 @@
 use Prim.Native.Nat.{_-_, _≤_}
 use borrow.Author.Needs.{needs}
 use lib.ListN.{length}
-use Rattle.sample_kit.proofs.texts.piece.Statement.{statement}
-use Rattle.sample_kit.proofs.texts.piece.Tie as tie
+use Rattle.sample_texts.proofs.piece.Statement.{statement}
+use Rattle.sample_texts.proofs.piece.Tie as tie
 
 abbrev Inv-loop : tie.InvT-loop
 Inv-loop text mark number from₀ i₀ from i = (from ≤ length text) × (i ≤ number)
