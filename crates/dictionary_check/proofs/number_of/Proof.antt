@@ -4,36 +4,12 @@ use Rattle.dictionary_rules.specs.Check.{numberOfCheck}
 use Rattle.dictionary_check.proofs.number_of.Statement.{statement}
 use Rattle.dictionary_check.proofs.number_of.Tie as tie
 
-returns : tie.Need-returns
-returns c = unfold numberOfCheck in rw (c .enum-told .given .1)
-
-returns-2 : tie.Need-returns-2
-returns-2 c = unfold numberOfCheck in rw (c .enum-told2 .given .1)
-
-returns-3 : tie.Need-returns-3
-returns-3 c = unfold numberOfCheck in rw (c .enum-told3 .given .1)
-
-returns-4 : tie.Need-returns-4
-returns-4 c = unfold numberOfCheck in rw (c .enum-told4 .given .1)
-
-returns-5 : tie.Need-returns-5
-returns-5 c = unfold numberOfCheck in rw (c .enum-told5 .given .1)
-
-returns-6 : tie.Need-returns-6
-returns-6 c = unfold numberOfCheck in rw (c .enum-told6 .given .1)
-
-returns-7 : tie.Need-returns-7
-returns-7 c = unfold numberOfCheck in rw (c .enum-told7 .given .1)
-
-returns-8 : tie.Need-returns-8
-returns-8 c = unfold numberOfCheck in rw (c .enum-told8 .given .1)
-
-returns-9 : tie.Need-returns-9
-returns-9 c = unfold numberOfCheck in rw (c .enum-told9 .given .1)
-
 pub number-of-spec : {M : Type 1} → statement M
+unfolding numberOfCheck
 number-of-spec =
     tie.close
     (tie.spec (λ c. search needs) (λ c. search needs) (λ c. search needs) (λ c. search needs) (λ c. search needs)
-    (λ c. search needs) (λ c. search needs) (λ c. search needs) (λ c. search needs) returns returns-2 returns-3
-    returns-4 returns-5 returns-6 returns-7 returns-8 returns-9)
+    (λ c. search needs) (λ c. search needs) (λ c. search needs) (λ c. search needs) (λ c. rw (c .enum-told .given .1))
+    (λ c. rw (c .enum-told2 .given .1)) (λ c. rw (c .enum-told3 .given .1)) (λ c. rw (c .enum-told4 .given .1))
+    (λ c. rw (c .enum-told5 .given .1)) (λ c. rw (c .enum-told6 .given .1)) (λ c. rw (c .enum-told7 .given .1))
+    (λ c. rw (c .enum-told8 .given .1)) (λ c. rw (c .enum-told9 .given .1)))

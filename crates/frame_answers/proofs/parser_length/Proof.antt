@@ -6,36 +6,11 @@ use borrow.Author.Needs.{needs}
 use Rattle.frame_answers.proofs.parser_length.Statement.{statement}
 use Rattle.frame_answers.proofs.parser_length.Tie as tie
 
-returns : tie.Need-returns
-unfolding lengthReturned
-returns c = sym (ap lengthReturned (c .before .answer .given .1))
-
-returns-2 : tie.Need-returns-2
-unfolding lengthReturned
-returns-2 c = rw (c .enum-told .given .1)
-
-returns-3 : tie.Need-returns-3
-unfolding lengthReturned
-returns-3 c = rw (c .enum-told2 .given .1)
-
-returns-4 : tie.Need-returns-4
-unfolding lengthReturned
-returns-4 c = rw (c .enum-told3 .given .1)
-
-returns-5 : tie.Need-returns-5
-unfolding lengthReturned
-returns-5 c = rw (c .enum-told4 .given .1)
-
-returns-6 : tie.Need-returns-6
-unfolding lengthReturned
-returns-6 c = rw (c .enum-told5 .given .1)
-
-returns-7 : tie.Need-returns-7
-unfolding lengthReturned
-returns-7 c = rw (c .enum-told6 .given .1)
-
 pub parser-length-spec : {M : Type 1} → statement M
+unfolding lengthReturned
 parser-length-spec =
     tie.close
     (tie.spec (λ c. search needs) (λ c. search needs) (λ c. search needs) (λ c. search needs) (λ c. search needs)
-    (λ c. search needs) (λ c. search needs) returns returns-2 returns-3 returns-4 returns-5 returns-6 returns-7)
+    (λ c. search needs) (λ c. search needs) (λ c. sym (ap lengthReturned (c .before .answer .given .1)))
+    (λ c. rw (c .enum-told .given .1)) (λ c. rw (c .enum-told2 .given .1)) (λ c. rw (c .enum-told3 .given .1))
+    (λ c. rw (c .enum-told4 .given .1)) (λ c. rw (c .enum-told5 .given .1)) (λ c. rw (c .enum-told6 .given .1)))

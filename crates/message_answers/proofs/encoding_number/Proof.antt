@@ -4,36 +4,11 @@ use borrow.Author.Needs.{needs}
 use Rattle.message_answers.proofs.encoding_number.Statement.{statement}
 use Rattle.message_answers.proofs.encoding_number.Tie as tie
 
-returns : tie.Need-returns
-unfolding numberOfEncoding
-returns c = rw (c .enum-told .given .1)
-
-returns-2 : tie.Need-returns-2
-unfolding numberOfEncoding
-returns-2 c = rw (c .enum-told2 .given .1)
-
-returns-3 : tie.Need-returns-3
-unfolding numberOfEncoding
-returns-3 c = rw (c .enum-told3 .given .1)
-
-returns-4 : tie.Need-returns-4
-unfolding numberOfEncoding
-returns-4 c = rw (c .enum-told4 .given .1)
-
-returns-5 : tie.Need-returns-5
-unfolding numberOfEncoding
-returns-5 c = rw (c .enum-told5 .given .1)
-
-returns-6 : tie.Need-returns-6
-unfolding numberOfEncoding
-returns-6 c = rw (c .enum-told6 .given .1)
-
-returns-7 : tie.Need-returns-7
-unfolding numberOfEncoding
-returns-7 c = rw (c .enum-told7 .given .1)
-
 pub encoding-number-spec : {M : Type 1} → statement M
+unfolding numberOfEncoding
 encoding-number-spec =
     tie.close
     (tie.spec (λ c. search needs) (λ c. search needs) (λ c. search needs) (λ c. search needs) (λ c. search needs)
-    (λ c. search needs) (λ c. search needs) returns returns-2 returns-3 returns-4 returns-5 returns-6 returns-7)
+    (λ c. search needs) (λ c. search needs) (λ c. rw (c .enum-told .given .1)) (λ c. rw (c .enum-told2 .given .1))
+    (λ c. rw (c .enum-told3 .given .1)) (λ c. rw (c .enum-told4 .given .1)) (λ c. rw (c .enum-told5 .given .1))
+    (λ c. rw (c .enum-told6 .given .1)) (λ c. rw (c .enum-told7 .given .1)))
