@@ -18,7 +18,7 @@ use Rattle.build_answers.specs.Answer.{numberOf, valuesOf, listed}
 use Rattle.build_group_rules.specs.Groups.{isDelimiter, opens, counting, declared, entryKind, run, inEntry, decide, entryRecord, RunOutcome, ended, refused, moved, walk}
 use Rattle.build_group_rules.specs.Reading.{answerOf, accepted, openedAs, layoutRules, joinedList, listStore}
 
--- what is runTold of a run: 0, the tag that ended it and the room left, and for each record its depth, entry number, tag and place; or the
+-- what is told of a run: 0, the tag that ended it and the room left, and for each record its depth, entry number, tag and place; or the
 -- refusal's number and values
 abbrev RunTold : Type 0
 RunTold = ℕ × (List ℕ) × (List (ℕ × ℕ × ℕ × ℕ))

@@ -17,7 +17,7 @@ headWords = 6144
 abbrev pub entryStart : ℕ → ℕ
 entryStart number = headWords + 6 * number
 
--- entries, entry 0 among them; a dictionary's 60,000 bytes enter fewer
+-- entries, entry 0 among them: places below 60,000 give numbers up to 15,000
 abbrev pub entryRoom : ℕ
 entryRoom = 15001
 

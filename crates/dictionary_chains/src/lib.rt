@@ -4,7 +4,7 @@ ghost use mathlib.Core.Path.{_≡_};
 ghost use mathlib.Core.List.{_++_};
 ghost use Prim.Native.Nat.{_<_};
 ghost use lib.ListN.{length, drop, replicate};
-ghost use Rattle.dictionary_chains.specs.Chain.{entryRoom, headWords, indexWords, keyOf, headOf, entryAt, olderOf, found, entered};
+ghost use Rattle.dictionary_chains.specs.Chain.{entryRoom, headWords, indexWords, keyOf, headOf, entryAt, found, entered};
 
 // Words of heads, 2,048 to each table.
 const HEAD_WORDS: usize = 6144;
