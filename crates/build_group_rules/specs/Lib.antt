@@ -4,4 +4,5 @@ pub mod GroupLaws
 pub mod ReadingLaws
 pub mod Alike
 pub mod Meaning
+pub mod FourLevels
 pub mod Examples

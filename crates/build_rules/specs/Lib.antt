@@ -1,3 +1,4 @@
 pub mod Beginning
 pub mod Message
+pub mod FourLevels
 pub mod Examples

@@ -17,7 +17,7 @@ use Rattle.dictionary_layout_rules.specs.Layout.{items}
 use Rattle.dictionary_layout_rules.specs.Tree.{Choice, knows, trailerTags, layoutOf}
 use Rattle.dictionary_rules.specs.Index.{tagAt}
 use Rattle.dictionary_meaning_rules.specs.Meaning.{dictionaryOf}
-use Rattle.dictionary_meaning_rules.specs.MsgTypeText.{Bytes, no-bytes, a-byte}
+use Rattle.dictionary_meaning_rules.specs.MsgTypeText.{Bytes, no-bytes, a-byte, take-bytes, drop-bytes}
 use Rattle.dictionary_meaning_rules.specs.MessageTable.{Tabling, tabling, messageTable}
 use Rattle.dictionary_meaning_rules.specs.Theorem.{TableOf, no-table, a-table, tables-mean-tree}
 use Rattle.dictionary_meaning_rules.specs.KnownTags.{tags-known}
@@ -50,20 +50,10 @@ module _ (i count : ℕ) (rs : List Record) where
   unfolding msgTypeRecord recordAt
   type-nowhere h behind l = rw (between-end i count rs h) (sym (List·getD-eq-default rs blank l))
 
--- what the code knows of each element of a text, and of its parts
+-- what the code knows of each element of a text
 pub bytes-of : (s : List ℕ) → ((i : ℕ) → getD s i 0 < 256) → Bytes s
 bytes-of [] h = no-bytes
 bytes-of (b ∷ s) h = a-byte (h 0) (bytes-of s (λ i. h (suc i)))
-
-take-bytes : (n : ℕ) {s : List ℕ} → Bytes s → Bytes (take n s)
-take-bytes zero h = no-bytes
-take-bytes (suc n) no-bytes = no-bytes
-take-bytes (suc n) (a-byte b h) = a-byte b (take-bytes n h)
-
-drop-bytes : (n : ℕ) {s : List ℕ} → Bytes s → Bytes (drop n s)
-drop-bytes zero h = h
-drop-bytes (suc n) no-bytes = no-bytes
-drop-bytes (suc n) (a-byte b h) = drop-bytes n h
 
 pub type-inside : (message : List ℕ) (r kind : Record) → r ≡ kind → kind .place + kind .length ≤ length message → r .place + r .length ≤ length message
 type-inside message r kind e h = rw e h

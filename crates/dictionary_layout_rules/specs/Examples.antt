@@ -3,12 +3,14 @@
 use mathlib.Core.Path.{_≡_, refl}
 use mathlib.Core.List.{List, [], _∷_, map}
 use mathlib.Core.Bool.{Bool, true, false}
-use Prim.Native.Nat.{ℕ, _+_}
+use Prim.Native.Nat.{ℕ, zero, suc, _+_, _≤_}
+use native.Mathlib.Omega.{arith}
 use Prim.Native.String.{String}
 use Rattle.field_rules.specs.Text.{bytes}
 use Rattle.dictionary_layout_rules.specs.Layout.{Layout, end, field, group, followedBy, firstOf, positionFrom, positionIn, Group, none, entries, groupSince, groupOf, delimiterOf, requiredTags, items, larger, depth}
 use Rattle.dictionary_layout_rules.specs.Tree.{Nodes, nothing, fieldItem, componentItem, groupItem, Message, Dictionary, holdsTag, knows, plainFields, headerTags, trailerTags, flattened, sameBytes, Choice, noMessage, laidOut, messageOf, layoutOf}
 use Rattle.dictionary_layout_rules.specs.Table.{rowStride, mark, rowsFrom, nextSibling, rowAt, siblingsWithin, siblingsFrom, stopOf, siblings, positionAmong, positionOf, laterGroup, groupAmong, groupWithin, firstAmong, delimiterAt, firstRequired, nextRequired}
+use Rattle.dictionary_layout_rules.specs.Measures.{NoEmptyGroup, none-at-end, none-after-field, none-in-group, Bounded}
 use Rattle.dictionary_layout_rules.specs.declared.Level.{Level}
 use Rattle.dictionary_layout_rules.specs.declared.Position.{Position}
 use Rattle.dictionary_layout_rules.specs.declared.Position.the-variants.{At, Nowhere}
@@ -89,6 +91,50 @@ delimiters = refl
 sizes : map {B = ℕ × ℕ} (λ (layout : Layout). (items layout, depth layout)) (order ∷ twice ∷ entriesOf ∷ end ∷ []) ≡ (8, 2) ∷ (8, 1) ∷ (5, 1) ∷ (0, 0) ∷ []
 unfolding items depth larger
 sizes = refl
+
+-- groups one in the other around a field; fields one after the other
+abbrev nested : ℕ → Layout
+nested zero = field 1 false end
+nested (suc n) = group 2 false (nested n) end
+
+abbrev fields : ℕ → Layout
+fields zero = end
+fields (suc n) = field 1 false (fields n)
+
+nested-filled : (n : ℕ) → NoEmptyGroup (nested n)
+nested-filled zero = none-after-field none-at-end
+nested-filled (suc n) = none-in-group (some n) (nested-filled n) none-at-end
+  where
+    some : (n : ℕ) → nested n ≡ end → ⊥
+    some zero e = let z : _≡_ {A = ℕ} 0 1 = cc in omega arith
+    some (suc n) e = let z : _≡_ {A = ℕ} 0 1 = cc in omega arith
+
+fields-filled : (n : ℕ) → NoEmptyGroup (fields n)
+fields-filled zero = none-at-end
+fields-filled (suc n) = none-after-field (fields-filled n)
+
+-- the bounds can be reached and not passed: "five deep", "1,024 items", "closes empty"
+measures : (depth (nested 4) ≡ 4) × (items (nested 4) ≡ 5) × (depth (nested 5) ≡ 5) × (depth (fields 1024) ≡ 0) × (items (fields 1024) ≡ 1024) × (items (fields 1025) ≡ 1025)
+unfolding items depth larger
+measures = (refl, refl, refl, refl, refl, refl)
+
+reached : Bounded (nested 4) × Bounded (fields 1024)
+reached = (
+  record { shallow = omega (arith, measures .0); few = omega (arith, measures .1); filled = nested-filled 4 },
+  record { shallow = omega (arith, measures .3); few = omega (arith, measures .4); filled = fields-filled 1024 },
+)
+
+five-deep : Bounded (nested 5) → ⊥
+five-deep b = omega (arith, b .shallow, measures .2)
+
+over-many : Bounded (fields 1025) → ⊥
+over-many b = omega (arith, b .few, measures .5)
+
+closes-empty : Bounded (group 1 false end end) → ⊥
+closes-empty b = go (b .filled)
+  where
+    go : NoEmptyGroup (group 1 false end end) → ⊥
+    go (none-in-group some inner rest) = some refl
 
 -- the table of `D`: tag, required mark, group mark, where what belongs to it ends
 abbrev orderTable : List ℕ

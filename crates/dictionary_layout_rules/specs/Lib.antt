@@ -1,6 +1,7 @@
 pub mod Layout
 pub mod Tree
 pub mod Table
+pub mod Measures
 pub mod TreeLaws
 pub mod TableLaws
 pub mod RequiredLaws

@@ -8,7 +8,9 @@ use lib.Dec.{eqb}
 use lib.ListN.{replicate}
 use Rattle.field_rules.specs.Choice.{pick}
 use Rattle.field_rules.specs.Text.{bytes}
-use Rattle.dictionary_layout_rules.specs.Tree.{Nodes, nothing, fieldItem, componentItem, groupItem, Message, Dictionary}
+use Rattle.dictionary_layout_rules.specs.Layout.{Layout, end, group}
+use Rattle.dictionary_layout_rules.specs.Layout.{field as plainField, followedBy as followedInPlace}
+use Rattle.dictionary_layout_rules.specs.Tree.{Nodes, nothing, fieldItem, componentItem, groupItem, Message, Dictionary, flattened}
 use Rattle.dictionary_layout_rules.specs.Table.{mark}
 use Rattle.dictionary_rules.specs.Record.{lowFirst, zeroFilled, recordBodyLength, withTag, withMark, knownTag, opensComponent, opensMessage, recordBody, withBody, withKind, recordFrom, recordAt}
 use Rattle.dictionary_rules.specs.Record.{fieldItem as fieldBody, componentItem as componentBody, opensGroup as groupBody}
@@ -16,6 +18,7 @@ use Rattle.dictionary_rules.specs.Records.{Records, recordsFrom, recordsWithin,
 use Rattle.dictionary_rules.specs.Names.{componentIn}
 use Rattle.dictionary_rules.specs.declared.Component.{Component}
 use Rattle.dictionary_meaning_rules.specs.Meaning.{onTop, groupOnTop, below, innermost, levelsOf, declarationsOf, nodesOf, expanded, definedBy, definedAfter, bytesWithin, msgTypeBytes, messageIn, messagesFrom, tagIn, tagsFrom, meaningOf, dictionaryOf}
+use Rattle.dictionary_meaning_rules.specs.ClosedOff.{openAfter, closes, closedOff, openOf, layoutsBy, layoutsAfter, layoutsOf}
 use Rattle.dictionary_meaning_rules.specs.Laying.{Laying, laying, behindOpening, expanding, standsAt, putRow, afterGroup, afterComponent, onComponent, onRecord, onRead, itemsWithin, itemsFrom, layItems}
 use Rattle.dictionary_meaning_rules.specs.MsgType.{noZero, nameOf}
 use Rattle.dictionary_meaning_rules.specs.declared.Laid.the-variants.{Upto, Broken}
@@ -61,6 +64,22 @@ tree : dictionaryOf dictionary ≡ record {
 }
 unfolding dictionaryOf meaningOf tagsFrom tagIn messagesFrom messageIn msgTypeBytes bytesWithin definedAfter definedBy expanded nodesOf declarationsOf levelsOf innermost below groupOnTop onTop recordsFrom recordsWithin followedBy recordAt recordFrom withKind withBody recordBody recordBodyLength knownTag opensComponent opensMessage fieldBody componentBody groupBody withTag withMark zeroFilled lowFirst
 tree = refl
+
+-- as far as it was read: 38 in the message with group 78 open, the same with component 4 in the group, and with the group closed
+abbrev pair : Layout
+pair = plainField 79 true (plainField 80 false end)
+
+abbrev others : List Layout
+others = pair ∷ pair ∷ plainField 10 true end ∷ plainField 8 true end ∷ end ∷ []
+
+so-far : map {B = ℕ × List Layout} (λ (first : ℕ). (openOf first 0 (recordsFrom dictionary 0), layoutsOf (closedOff first 0 (recordsFrom dictionary 0)))) (24 ∷ 27 ∷ 28 ∷ 29 ∷ []) ≡
+    (0, others)
+    ∷ (2, plainField 38 false (group 78 true end end) ∷ others)
+    ∷ (2, plainField 38 false (group 78 true pair end) ∷ others)
+    ∷ (1, plainField 38 false (group 78 true pair end) ∷ others)
+    ∷ []
+unfolding openOf openAfter closedOff closes layoutsOf layoutsAfter layoutsBy flattened followedInPlace definedBy expanded nodesOf declarationsOf levelsOf innermost below groupOnTop onTop recordsFrom recordsWithin followedBy recordAt recordFrom withKind withBody recordBody recordBodyLength knownTag opensComponent opensMessage fieldBody componentBody groupBody withTag withMark zeroFilled lowFirst
+so-far = refl
 
 abbrev components : List Component
 components =

@@ -17,6 +17,13 @@ pub mod MessageTableLaws
 pub mod MsgTypeText
 pub mod MsgTypeRecords
 pub mod Theorem
+pub mod ClosedOff
+pub mod SoFar
+pub mod TreeSoFar
+pub mod Beside
+pub mod BesideSteps
+pub mod Bounds
+pub mod TreeBounds
 pub mod PlainTags
 pub mod PlainTagsLaws
 pub mod TagsMeant

@@ -5,7 +5,7 @@ use mathlib.Core.Bool.{Bool, true, false}
 use mathlib.Core.List.{List, [], _∷_}
 use Prim.Native.Nat.{ℕ, zero, suc, _+_, _-_, _*_, _/_, _%_, _≤_, _<_}
 use native.Mathlib.Omega.{arith}
-use lib.ListN.{length, getD}
+use lib.ListN.{length, getD, take, drop}
 use lib.Dec.{eqb, ltb}
 use borrow.Author.Tests.{eq-eqb, ne-eqb, eqb-true, eqb-false, le-ltb, ltb-false}
 use Rattle.field_rules.specs.Choice.{pick, pick-same}
@@ -21,6 +21,17 @@ use Rattle.dictionary_meaning_rules.specs.declared.MsgTypeName.the-varia
 pub data Bytes : List ℕ → Type 0 where
   no-bytes : Bytes []
   a-byte : {b : ℕ} {s : List ℕ} → b < 256 → Bytes s → Bytes (b ∷ s)
+
+-- so are those of a part
+pub take-bytes : (n : ℕ) {s : List ℕ} → Bytes s → Bytes (take n s)
+take-bytes zero h = no-bytes
+take-bytes (suc n) no-bytes = no-bytes
+take-bytes (suc n) (a-byte b h) = a-byte b (take-bytes n h)
+
+pub drop-bytes : (n : ℕ) {s : List ℕ} → Bytes s → Bytes (drop n s)
+drop-bytes zero h = h
+drop-bytes (suc n) no-bytes = no-bytes
+drop-bytes (suc n) (a-byte b h) = drop-bytes n h
 
 never : {A : Type 0} → true ≡ false → A
 never e = let z : _≡_ {A = ℕ} 0 1 = cc in absurd (omega arith)

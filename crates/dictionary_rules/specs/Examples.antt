@@ -131,6 +131,8 @@ table =
     ∷ (joined (tag 8 ∷ component 5 ∷ four ∷ group 8 ∷ []), 35, 32 ∷ [])
     ∷ (joined (tag 8 ∷ component 9 ∷ group 8 ∷ field 8 ∷ close ∷ close ∷ message "D" ∷ four ∷ item 9 ∷ []), 35, 55 ∷ [])
     ∷ (joined (tag 8 ∷ component 9 ∷ group 8 ∷ group 8 ∷ field 8 ∷ close ∷ close ∷ close ∷ component 5 ∷ group 8 ∷ group 8 ∷ group 8 ∷ item 9 ∷ []), 35, 50 ∷ [])
+    -- 35: the deepest group counts, also where one less deep comes after it
+    ∷ (joined (tag 8 ∷ component 9 ∷ group 8 ∷ group 8 ∷ field 8 ∷ close ∷ close ∷ group 8 ∷ field 8 ∷ close ∷ close ∷ component 5 ∷ group 8 ∷ group 8 ∷ group 8 ∷ item 9 ∷ []), 35, 63 ∷ [])
     -- 36: a component's number, a MsgType
     ∷ (joined (least ∷ component 0 ∷ []), 36, 8 ∷ [])
     ∷ (joined (message "D" ∷ close ∷ message "D" ∷ []), 36, 10 ∷ [])
@@ -143,6 +145,7 @@ table =
     ∷ (field 8, 31, 0 ∷ [])
     ∷ (joined (tag 8 ∷ component 5 ∷ four ∷ group 9 ∷ []), 33, 9 ∷ [])
     ∷ (joined (thousand ∷ message "D" ∷ item 10 ∷ []), 31, 142 ∷ [])
+    ∷ (joined (thousand ∷ message "D" ∷ four ∷ item 9 ∷ item 8 ∷ item 7 ∷ item 6 ∷ item 5 ∷ item 4 ∷ item 3 ∷ item 2 ∷ group 8 ∷ []), 35, 194 ∷ [])
     ∷ []
 
 answers : map (λ (row : Row). numberOfCheck (checkOf (row .0)) ∷ valuesOfCheck (checkOf (row .0))) table ≡ map (λ (row : Row). row .1 ∷ row .2) table

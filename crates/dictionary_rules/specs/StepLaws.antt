@@ -1,10 +1,13 @@
 -- The laws of a step: one for each way that a record can go inside something open.
 use mathlib.Core.Path.{_≡_, refl, ap}
-use mathlib.Core.Bool.{true, false}
+use mathlib.Core.Bool.{Bool, true, false}
+use mathlib.Core.Logic.{_⊎_, inl, inr}
 use mathlib.Core.List.{List}
 use Prim.Native.Nat.{ℕ, _+_, _≤_, _<_}
 use native.Mathlib.Omega.{arith}
-use borrow.Author.Tests.{lt-ltb, le-ltb}
+use lib.Dec.{ltb}
+use borrow.Author.Tests.{ltb-true, ltb-false, lt-ltb, le-ltb}
+use Rattle.field_rules.specs.Choice.{pick}
 use Rattle.dictionary_rules.specs.Step.{depthOf, opened, deeper, grown, heldWith, inside, closedBefore, knownBefore, notTooDeep, notTooMany, onField, onItem, onGroup, onClose, closesOwner, closesGroup, closesInnermost}
 use Rattle.dictionary_rules.specs.Index.{tagAt, componentAt, messageAt, looksAt}
 use Rattle.dictionary_rules.specs.declared.Checked.the-variants.{NoComponent, UnknownTag, TooDeep, TooManyItems}
@@ -29,6 +32,32 @@ depth-small (OneGroup a) = omega arith
 depth-small (TwoGroups a b) = omega arith
 depth-small (ThreeGroups a b c) = omega arith
 depth-small (FourGroups a b c d) = omega arith
+
+-- of two depths the greater: no less than either, and one of them
+module _ (a b : ℕ) where
+  pub first-no-deeper : a ≤ deeper a b
+  unfolding deeper
+  first-no-deeper = go (ltb a b) refl
+    where
+      go : (t : Bool) → ltb a b ≡ t → a ≤ pick t b a
+      go true e = let h = ltb-true a b e in omega arith
+      go false e = omega arith
+
+  pub second-no-deeper : b ≤ deeper a b
+  unfolding deeper
+  second-no-deeper = go (ltb a b) refl
+    where
+      go : (t : Bool) → ltb a b ≡ t → b ≤ pick t b a
+      go true e = omega arith
+      go false e = ltb-false a b e
+
+  pub deeper-either : (deeper a b ≡ a) ⊎ (deeper a b ≡ b)
+  unfolding deeper
+  deeper-either = go (ltb a b)
+    where
+      go : (t : Bool) → (pick t b a ≡ a) ⊎ (pick t b a ≡ b)
+      go true = inr refl
+      go false = inl refl
 
 -- what the index answers
 pub looks-known : (index : List ℕ) (tag : ℕ) → looksAt index .known tag ≡ tagAt index tag
