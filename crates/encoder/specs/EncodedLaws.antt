@@ -10,8 +10,8 @@ use Rattle.field_rules.specs.Choice.{pick}
 use Rattle.field_rules.specs.Separator.{isRefusedSeparator}
 use Rattle.message_lent.specs.Lent.{isMessage}
 use Rattle.message_lent.specs.Meaning.{Message, wordsOf, valueBytesOf, messageIn}
-use Rattle.message_lent.specs.Formed.{Formed}
-use Rattle.message_lent.specs.FormedLaws.{lent-formed, Lends, layout-lends}
+use Rattle.message_lent.specs.Formed.{Formed, Within}
+use Rattle.message_lent.specs.FormedLaws.{lent-formed, Lends, IsLayout, is-layout-lends}
 use Rattle.message_lent.specs.StoredLaws.{formed-stored, formed-without}
 use Rattle.message_rules.specs.Changes.{fieldTotal, valueTotal}
 use Rattle.encode_rules.specs.Encoding.{dropped, bodyLength, measured, encoding, encodedMessage}
@@ -32,16 +32,14 @@ encoded-formed separator m f =
       trailer = formed-stored 10 _ _ (λ e. omega arith) (formed-without 10 (m .trailer) (f .trailer));
     }
 
-fit-lends : (separator : ℕ) (words values output : List ℕ) (body : ℕ) → Encodable separator words values output body
-    → Lends (wordsOf (encodedMessage separator (messageIn words values))) (valueBytesOf (encodedMessage separator (messageIn words values))) (encodedMessage separator (messageIn words values))
-fit-lends separator words values output body fit =
+fit-within : (separator : ℕ) (words values output : List ℕ) (body : ℕ) → Encodable separator words values output body → Within (encodedMessage separator (messageIn words values))
+fit-within separator words values output body fit =
     let m = messageIn words values in
-    layout-lends (encodedMessage separator m)
-    (record {
+    record {
       formed = encoded-formed separator m (lent-formed words values (fit .message) .formed);
       small = unfold valueTotal in omega (arith, encoded-values separator m, fit .short);
       few = unfold fieldTotal in fit .few;
-    })
+    }
 
 -- no refusal says 0
 pub never-written : (separator : ℕ) (words values : List ℕ) (room n : ℕ) → encodeVerdict separator words values room ≡ Refused (Written n) → ⊥
@@ -61,20 +59,41 @@ never-written separator words values room n verdict =
     by-tests true false false false false true v = let z : _≡_ {A = ℕ} 0 1 = cc in omega arith
     by-tests true false false false false false v = let z : _≡_ {A = ℕ} 0 1 = cc in omega arith
 
+-- nor 27, where a message is lent
+pub never-none : (separator : ℕ) (words values : List ℕ) (room : ℕ) → isMessage words values ≡ true → encodeVerdict separator words values room ≡ Refused NoMessage → ⊥
+unfolding encodeVerdict judging
+never-none separator words values room lent verdict =
+    let m = messageIn words values in
+    by-tests (isRefusedSeparator separator) (isIncomplete (dropped m)) (ltb 8192 (length (encoding separator m))) (ltb 1024 (fieldTotal (encodedMessage separator m))) (ltb room (length (encoding separator m))) (rw lent at verdict)
+  where
+    by-tests : (b c d e f : Bool)
+        → pick b (Refused InvalidSeparator) (pick c (Refused Incomplete) (pick d (Refused TooLong) (pick e (Refused TooManyFields) (pick f (Refused NoRoom) (Measured (bodyLength (dropped (messageIn words values)))))))) ≡ Refused NoMessage
+        → ⊥
+    by-tests true c d e f v = let z : _≡_ {A = ℕ} 0 1 = cc in omega arith
+    by-tests false true d e f v = let z : _≡_ {A = ℕ} 0 1 = cc in omega arith
+    by-tests false false true e f v = let z : _≡_ {A = ℕ} 0 1 = cc in omega arith
+    by-tests false false false true f v = let z : _≡_ {A = ℕ} 0 1 = cc in omega arith
+    by-tests false false false false true v = let z : _≡_ {A = ℕ} 0 1 = cc in omega arith
+    by-tests false false false false false v = let z : _≡_ {A = ℕ} 0 1 = cc in omega arith
+
 left-is : (separator : ℕ) (m : Message) (output : List ℕ) (n : ℕ) (w v o : List ℕ) → encoded separator m output ≡ left (Written n) w v o
     → (wordsOf (encodedMessage separator m) ≡ w) × (valueBytesOf (encodedMessage separator m) ≡ v)
 unfolding encoded
 left-is separator m output n w v o e = (cc, cc)
 
-pub encode-lends : (separator : ℕ) (words values output : List ℕ) (n : ℕ) (w v o : List ℕ) → encodingOf separator words values output ≡ left (Written n) w v o → (isMessage words values ≡ true) × Lends w v (encodedMessage separator (messageIn words values))
-encode-lends separator words values output n w v o e = by-verdict (encodeVerdict separator words values (length output)) refl
+-- the layout of the message that encoding leaves, with zeros behind it
+pub encode-layout : (separator : ℕ) (words values output : List ℕ) (n : ℕ) (w v o : List ℕ) → encodingOf separator words values output ≡ left (Written n) w v o → (isMessage words values ≡ true) × IsLayout (encodedMessage separator (messageIn words values)) w v
+encode-layout separator words values output n w v o e = by-verdict (encodeVerdict separator words values (length output)) refl
   where
-    by-verdict : (d : Verdict) → encodeVerdict separator words values (length output) ≡ d → (isMessage words values ≡ true) × Lends w v (encodedMessage separator (messageIn words values))
+    by-verdict : (d : Verdict) → encodeVerdict separator words values (length output) ≡ d → (isMessage words values ≡ true) × IsLayout (encodedMessage separator (messageIn words values)) w v
     by-verdict (Measured body) d =
         let fit = fit-to-encode separator words values output body d in
         let same = left-is separator (messageIn words values) output n w v o (sym (encodes separator words values output body d) ∙ e) in
-        (fit .message, rw (← (same .0), ← (same .1)) (fit-lends separator words values output body fit))
+        (fit .message, record { within = fit-within separator words values output body fit; words-are = sym (same .0); values-are = sym (same .1) })
     by-verdict (Refused refusal) d =
         let same = sym (refuses separator words values output refusal d) ∙ e in
         let is-written : Refused refusal ≡ Refused (Written n) = cc in
         absurd (never-written separator words values (length output) n (d ∙ is-written))
+
+pub encode-lends : (separator : ℕ) (words values output : List ℕ) (n : ℕ) (w v o : List ℕ) → encodingOf separator words values output ≡ left (Written n) w v o → (isMessage words values ≡ true) × Lends w v (encodedMessage separator (messageIn words values))
+encode-lends separator words values output n w v o e = let l = encode-layout separator words values output n w v o e in (l .0, is-layout-lends _ w v (l .1))

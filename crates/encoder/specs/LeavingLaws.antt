@@ -1,7 +1,7 @@
 -- The steps by which a message that was found fit is encoded: its 10 is dropped, its 9 is set, it is written, and gets its new 10. What each
 -- step leaves is a message again, so that the next finds it.
 use mathlib.Core.Path.{_≡_, refl, sym, ap, _∙_}
-use mathlib.Core.Bool.{Bool, true, false}
+use mathlib.Core.Bool.{true}
 use mathlib.Core.List.{List, [], _∷_, _++_, append-assoc}
 use Prim.Native.Nat.{ℕ, _+_, _-_, _≤_}
 use native.Mathlib.Omega.{arith}
@@ -10,12 +10,12 @@ use lib.Seq.{take-at, drop-at}
 use borrow.Author.Tests.{le-leb}
 use Rattle.field_rules.specs.Decimal.{decimal, writtenAt}
 use Rattle.field_rules.specs.DecimalLaws.{written-fits}
-use Rattle.message_maps.specs.Map.{holds, withoutField, stored}
+use Rattle.message_maps.specs.Map.{stored}
 use Rattle.message_lent.specs.Meaning.{Message, wordsOf, valueBytesOf, messageIn}
-use Rattle.message_lent.specs.FormedLaws.{lent-formed, Lends}
+use Rattle.message_lent.specs.FormedLaws.{Lends}
 use Rattle.message_rules.specs.Changes.{after, partOf, withPart, fieldTotal, valueTotal, judged, storing, removing}
-use Rattle.message_rules.specs.ChangeLaws.{store-on, remove-none, remove-on}
-use Rattle.message_rules.specs.FormedLaws.{store-lends, remove-lends}
+use Rattle.message_rules.specs.ChangeLaws.{store-on}
+use Rattle.message_rules.specs.FormedLaws.{store-lends, remove-lends, remove-made}
 use Rattle.message_rules.specs.declared.Part.{Part}
 use Rattle.message_rules.specs.declared.Part.the-variants.{Header, Trailer}
 use Rattle.message_rules.specs.declared.Change.{Change}
@@ -27,7 +27,7 @@ use Rattle.encode_rows.specs.declared.Encoded.{Encoded}
 use Rattle.encode_rows.specs.declared.Encoded.the-variants.{Written}
 use Rattle.encode_rules.specs.Encode.{left, encoded}
 use Rattle.encoder.specs.Leaving.{Encodable}
-use Rattle.encoder.specs.SizeLaws.{dropped-values, dropped-fields, sum-size, measured-values, measured-fields, encoded-values}
+use Rattle.encoder.specs.SizeLaws.{sum-size, measured-values, measured-fields, encoded-values}
 use Rattle.encode_rules.specs.declared.Encoding.the-variants.{Written as Encoded-Written}
 
 -- digits that are written at the start, and read back
@@ -63,16 +63,7 @@ module _ (part : Part) (tag : ℕ) (value words values : List ℕ) (m : Message)
 -- the trailer's 10 is dropped
 module _ (words values : List ℕ) (m : Message) (lends : Lends words values m) where
   removed-made : (r : Change) (w v : List ℕ) → after r w v ≡ removing Trailer 10 words values → r ≡ Made
-  removed-made r w v done = by-test (holds 10 (partOf Trailer (messageIn words values))) refl
-    where
-      by-test : (b : Bool) → holds 10 (partOf Trailer (messageIn words values)) ≡ b → r ≡ Made
-      by-test true h =
-          let n = messageIn words values in
-          let limits = lent-formed words values (lends .is-message) in
-          let small : valueTotal (withPart Trailer (withoutField 10 (partOf Trailer n)) n) ≤ 8192 = unfold withPart partOf valueTotal dropped in omega (arith, dropped-values n, limits .small) in
-          let few : fieldTotal (withPart Trailer (withoutField 10 (partOf Trailer n)) n) ≤ 1024 = unfold withPart partOf fieldTotal dropped in omega (arith, dropped-fields n, limits .few) in
-          made (done ∙ remove-on Trailer 10 words values (lends .is-message) h ∙ judged-made words values _ small few) .0
-      by-test false h = made (done ∙ remove-none Trailer 10 words values (lends .is-message) h) .0
+  removed-made r w v done = made (done ∙ remove-made Trailer 10 words values (lends .is-message)) .0
 
   pub drop-meant : (r : Change) (w v : List ℕ) → after r w v ≡ removing Trailer 10 words values → Lends w v (dropped m)
   unfolding dropped withPart partOf

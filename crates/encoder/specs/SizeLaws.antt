@@ -16,6 +16,7 @@ use Rattle.message_lent.specs.Meaning.{Message}
 use Rattle.message_rules.specs.Changes.{fieldTotal, valueTotal}
 use Rattle.message_rules.specs.LayoutLaws.{count-joined}
 use Rattle.message_rules.specs.PlaceLaws.{part-values}
+use Rattle.message_rules.specs.StoreLaws.{count-without}
 use Rattle.message_rules.specs.SplitLaws.{field-split, field-gone, run-split}
 use Rattle.encode_rules.specs.Encoding.{messageText, bytesOf, dropped, bodyLength, measured, sumDigits, encoding, encodedMessage}
 use Rattle.encode_rows.specs.MessageLaws.{message-length, summed-length}
@@ -112,33 +113,12 @@ count-stored tag value m = by-test (holds tag m) refl
           count-joined (s .run) (s .back),
         )
 
-count-without : (tag : ℕ) (m : Map) → fieldCount (withoutField tag m) + pick (holds tag m) 1 0 ≡ fieldCount m
-count-without tag m = by-test (holds tag m) refl
-  where
-    by-test : (b : Bool) → holds tag m ≡ b → fieldCount (withoutField tag m) + pick b 1 0 ≡ fieldCount m
-    by-test true e =
-        let s = field-split tag m e in
-        omega (arith, ap fieldCount (s .gone), count-joined (s .front) (s .back), ap fieldCount (s .whole), count-joined (s .front) (field tag (s .value) (s .back)), count-field tag (s .value) (s .back))
-    by-test false e = omega (arith, ap fieldCount (field-gone tag m e))
-
 -- values are among the bytes
 values-short : (m : Map) → length (valuesIn m) ≤ bytesOf m
 unfolding valuesIn bytesOf
 values-short end = omega arith
 values-short (field t v rest) = omega (arith, length-append v (valuesIn rest), values-short rest)
 values-short (entry s d own rest) = omega (arith, length-append (valuesIn own) (valuesIn rest), values-short own, values-short rest)
-
--- dropping a field leaves no more
-values-without : (tag : ℕ) (m : Map) → length (valuesIn (withoutField tag m)) ≤ length (valuesIn m)
-unfolding withoutField valuesIn
-values-without tag end = omega arith
-values-without tag (field t v rest) = by-test (eqb t tag) (values-without tag rest)
-  where
-    by-test : (b : Bool) → length (valuesIn (withoutField tag rest)) ≤ length (valuesIn rest) → length (valuesIn (pick b rest (field t v (withoutField tag rest)))) ≤ length (v ++ valuesIn rest)
-    by-test true h = omega (arith, length-append v (valuesIn rest))
-    by-test false h = omega (arith, length-append v (valuesIn rest), length-append v (valuesIn (withoutField tag rest)))
-values-without tag (entry s d own rest) =
-    omega (arith, values-without tag rest, length-append (valuesIn own) (valuesIn rest), length-append (valuesIn own) (valuesIn (withoutField tag rest)))
 
 total-values : (m : Message) → valueTotal m ≡ length (valuesIn (m .header)) + (length (valuesIn (m .body)) + length (valuesIn (m .trailer)))
 unfolding valueTotal
@@ -153,16 +133,6 @@ total-values m =
 
 total-short : (m : Message) → valueTotal m ≤ bytesOf (m .header) + (bytesOf (m .body) + bytesOf (m .trailer))
 total-short m = omega (arith, total-values m, values-short (m .header), values-short (m .body), values-short (m .trailer))
-
-pub dropped-values : (m : Message) → valueTotal (dropped m) ≤ valueTotal m
-unfolding dropped
-dropped-values m =
-    let n : Message = record { header = m .header; body = m .body; trailer = withoutField 10 (m .trailer) } in
-    omega (arith, total-values n, total-values m, values-without 10 (m .trailer))
-
-pub dropped-fields : (m : Message) → fieldTotal (dropped m) ≤ fieldTotal m
-unfolding dropped fieldTotal
-dropped-fields m = omega (arith, count-without 10 (m .trailer))
 
 digits-of-nine : length (decimal 9) ≡ 1
 unfolding decimal decimalWithin

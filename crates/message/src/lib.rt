@@ -10,7 +10,7 @@ ghost use mathlib.Core.Bool.{true, false};
 ghost use Prim.Native.Nat.{_+_, _-_, _*_, _≤_, _<_};
 ghost use lib.ListN.{length};
 ghost use lib.Dec.{leb};
-ghost use Rattle.message_rules.specs.Changes.{locatedIn, Cuttable, changedAt, Ready, putAt, after, emptying, making, storing, removing};
+ghost use Rattle.message_rules.specs.Changes.{locatedIn, heldRows, Cuttable, changedAt, Ready, putAt, after, emptying, making, storing, removing};
 
 // Where a part of the message stands that is lent, if it is one.
 pub fn locate(words: &[u32], values: &[u8], part: Part) -> Located
@@ -203,7 +203,17 @@ pub fn new(words: &mut [u32], values: &mut [u8], begin_string: &[u8], message_ty
     store(words, values, Part::Header, 35, message_type)
 }
 
-// Removes a field from a part of a message; a run that hung on it stays.
+// How many rows a field has that was found before an end: none where it was not.
+fn held_rows(found: usize, end: usize) -> usize
+    ensures { λ r. ⌜ r ≡ heldRows found end ⌝ }
+{
+    if found < end {
+        return 1;
+    }
+    0
+}
+
+// Removes a field from a part of a message; a run that hung on it stays. Where it is not held, what stood behind the message goes all the same.
 pub fn remove(words: &mut [u32], values: &mut [u8], part: Part, tag: u32) -> Change
     ensures { λ r. ⌜ after r (now (words .exit)) (now (values .exit)) ≡ removing part tag (now (words .entry)) (now (values .entry)) ⌝ }
 {
@@ -214,17 +224,15 @@ pub fn remove(words: &mut [u32], values: &mut [u8], part: Part, tag: u32) -> Cha
     let to = span.to;
     let count = span.count;
     let at = message_maps::find_row(words, 1, 1, tag, from, to);
-    if to <= at {
-        return Change::Made;
-    }
+    let held = held_rows(at, to);
     let fields = message_lent::fields_in(words, 1, 0, count);
     let no_words = [0u32; 1];
     let no_bytes = [0u8; 1];
     let place = Cut {
         from: at,
-        to: at + 1,
-        kept: at + 1,
-        until: at + 1,
+        to: at + held,
+        kept: at + held,
+        until: at + held,
         count,
     };
     cut_rows(
@@ -235,6 +243,6 @@ pub fn remove(words: &mut [u32], values: &mut [u8], part: Part, tag: u32) -> Cha
         0,
         &no_bytes[..0],
         true,
-        fields - 1,
+        fields - held,
     )
 }

@@ -31,6 +31,12 @@ isFormed (entry s d own rest) =
     (pick (eqb d 0) false
     (pick (stands s (pastLeading s rest)) false (pick (goesOn s d rest) (pick (isFormed own) (isFormed rest) false) false)))
 
+-- entries alone, each of such a map; their own start and delimiter tags may be any
+unfoldable pub entriesFormed : Map → Bool
+entriesFormed end = true
+entriesFormed (field t v rest) = false
+entriesFormed (entry s d own rest) = pick (isFormed own) (entriesFormed rest) false
+
 -- a message of three such maps
 pub record Formed (m : Message) : Type 0 where
   pub header : isFormed (m .header) ≡ true

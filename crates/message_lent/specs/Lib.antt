@@ -8,6 +8,7 @@ pub mod StandLaws
 pub mod AllowedLaws
 pub mod LaidLaws
 pub mod FormedLaws
+pub mod Exact
 pub mod KeptLaws
 pub mod StoredLaws
 pub mod HungLaws

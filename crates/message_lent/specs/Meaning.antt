@@ -1,5 +1,6 @@
 -- What lent words and bytes mean: three maps. The rows are read from the last to the first, over the maps that are open at each level.
 use Prim.Native.Nat.{ℕ, zero, suc, _+_, _-_, _*_}
+use mathlib.Core.Path.{_≡_}
 use mathlib.Core.List.{List, [], _∷_, _++_}
 use lib.ListN.{length, take, drop}
 use lib.Dec.{eqb}
@@ -24,6 +25,16 @@ wordsOf m = padded messageWords (length (laid 0 (parts m)) ∷ flat (laid 0 (par
 
 unfoldable pub valueBytesOf : Message → List ℕ
 valueBytesOf m = padded 8192 (valuesIn (parts m))
+
+-- words and values that lay a map out: the number of its rows, its rows, and its values. What stands behind the rows and behind the values
+-- is no part of the layout, and may be anything.
+pub record LaysOut (map : Map) (words values : List ℕ) : Type 0 where
+  pub words-lent : length words ≡ messageWords
+  pub values-lent : length values ≡ 8192
+  pub behind-rows : List ℕ
+  pub rows-first : words ≡ length (laid 0 map) ∷ (flat (laid 0 map) ++ behind-rows)
+  pub behind-values : List ℕ
+  pub values-first : values ≡ valuesIn map ++ behind-values
 
 -- so many empty maps are opened
 unfoldable pub opened : ℕ → List Map → List Map

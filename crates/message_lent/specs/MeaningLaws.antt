@@ -7,16 +7,17 @@ use mathlib.Core.List.{List, [], _∷_, _++_, append-assoc, append-nil}
 use Prim.Native.Nat.{ℕ, zero, suc, _+_, _-_, _*_, _≤_, _<_}
 use native.Mathlib.Omega.{arith}
 use native.Mathlib.Numerals.{add-one}
-use lib.ListN.{length, getD, take, drop, length-append, length-take, length-drop}
+use native.Mathlib.Nat.{sub-zero}
+use lib.ListN.{length, getD, take, drop, length-append, length-take, length-drop, take-append-drop}
 use lib.Seq.{take-add, length-take-le, drop-cons, take-all, take-length, drop-drop}
 use lib.Dec.{leb, ltb, eqb}
 use borrow.Author.Tests.{eqb-true, leb-true, eq-eqb, ne-eqb}
 use Rattle.field_rules.specs.Choice.{pick}
 use Rattle.message_maps.specs.Map.{Map, end, field, entry, valuesIn}
-use Rattle.message_maps.specs.Rows.{Row, row, laid, flat, rowAt, rowsFrom, padded, levelOf, sizeOf, sizes, matches}
+use Rattle.message_maps.specs.Rows.{Row, row, laid, flat, rowAt, rowsFrom, padded, levelOf, sizeOf, sizes, matches, messageWords, messageRows}
 use Rattle.message_lent.specs.Lent.{deepest, fieldAllowed, headAllowed, rowAllowed, rowsAllowed, delimiterIs, isPart, nextPart, partsFrom, rowCount, rowsOf, isMessage}
 use Rattle.message_lent.specs.LentLaws.{both, Laid, Held, message-held}
-use Rattle.message_lent.specs.Meaning.{Message, parts, opened, withField, withEntry, withRow, openIn, outermost, thirdOf, secondOf, partsIn, messageIn}
+use Rattle.message_lent.specs.Meaning.{Message, parts, LaysOut, opened, withField, withEntry, withRow, openIn, outermost, thirdOf, secondOf, partsIn, messageIn}
 
 -- the rows and the values of what is open, the deepest first
 unfoldable pub openRows : List Map → List Row
@@ -220,6 +221,20 @@ rows-flat (suc n) i words h =
     let d = word-next words (4 * i + 4) (4 * (i + 1) + 1) (omega arith) (omega arith) in
     rw (four, a, b, c, d, rows-flat n (i + 1) words (omega arith))
 
+pub rows-length : (n i : ℕ) (words : List ℕ) → length (rowsFrom n i words) ≡ n
+unfolding rowsFrom
+rows-length zero i words = refl
+rows-length (suc n) i words = ap suc (rows-length n (i + 1) words)
+
+-- the words that hold rows
+pub words-hold : (words : List ℕ) → length words ≡ messageWords → rowCount words ≤ messageRows → words ≡ rowCount words ∷ (flat (rowsOf words) ++ drop (4 * rowCount words) (drop 1 words))
+unfolding rowsOf rowCount
+words-hold words whole counted =
+    let n = getD words 0 0 in
+    let z : n - 0 ≡ n = sub-zero n in
+    let f : flat (rowsFrom (n - 0) 0 words) ≡ take (4 * n) (drop 1 words) = rw z (rows-flat n 0 words (omega arith)) in
+    drop-cons words 0 0 (omega arith) ∙ ap (λ (t : List ℕ). n ∷ t) (sym (take-append-drop (4 * n) (drop 1 words)) ∙ rw f)
+
 -- the message that is lent has the rows and the values that are lent
 pub record Means (words values : List ℕ) (m : Message) : Type 0 where
   pub rows : rowsOf words ≡ laid 0 (parts m)
@@ -240,6 +255,22 @@ laid-means words values l =
     let o = open-all [] (rowsOf words) values (l .allowed) (omega (arith, l .within, l .store)) in
     let u = outermost-only (openIn (rowsOf words) values) _ _ (o .some) (o .high) (o .same-rows) (o .same-values) in
     (sym (u .0), sym (u .1))
+
+-- and lays it out
+pub lent-laid : (words values : List ℕ) → Laid words values → LaysOut (outermost (openIn (rowsOf words) values)) words values
+lent-laid words values l =
+    let m = laid-means words values l in
+    let n : rowCount words ≡ length (rowsOf words) = unfold rowsOf in sym (rows-length (rowCount words - 0) 0 words ∙ sub-zero (rowCount words)) in
+    record {
+      words-lent = l .whole;
+      values-lent = l .store;
+      behind-rows = drop (4 * rowCount words) (drop 1 words);
+      rows-first = words-hold words (l .whole) (l .counted)
+          ∙ ap (λ (c : ℕ). c ∷ (flat (rowsOf words) ++ drop (4 * rowCount words) (drop 1 words))) n
+          ∙ ap (λ (r : List Row). length r ∷ (flat r ++ drop (4 * rowCount words) (drop 1 words))) (m .0);
+      behind-values = drop (sizes (rowsOf words)) values;
+      values-first = sym (take-append-drop (sizes (rowsOf words)) values) ∙ ap (λ (t : List ℕ). t ++ drop (sizes (rowsOf words)) values) (m .1);
+    }
 
 pub means : (words values : List ℕ) → Held words values → Means words values (messageIn words values)
 unfolding messageIn

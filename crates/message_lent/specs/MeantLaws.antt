@@ -1,5 +1,5 @@
--- A message's layout means that message, whatever its maps are: the rows are read back from the words, and what a map's rows open is that
--- map in front of what the rows behind it open.
+-- A map's layout means that map, whatever it is and whatever stands behind: the rows are read back from the words, and what a map's rows
+-- open is that map in front of what the rows behind it open.
 use mathlib.Core.Path.{_≡_, refl, sym, ap, _∙_}
 use mathlib.Core.List.{List, [], _∷_, _++_, append-assoc, append-nil}
 use Prim.Native.Nat.{ℕ, suc, _+_, _-_, _*_, _≤_}
@@ -10,7 +10,7 @@ use lib.Seq.{take-at, drop-at, getD-drop, drop-drop}
 use Rattle.message_maps.specs.Map.{Map, end, field, entry, joined, valuesIn}
 use Rattle.message_maps.specs.Rows.{Row, row, laid, flat, rowAt, rowsFrom, padded, sizeOf, messageWords}
 use Rattle.message_lent.specs.Lent.{rowCount, rowsOf}
-use Rattle.message_lent.specs.Meaning.{Message, parts, wordsOf, valueBytesOf, opened, withField, withEntry, withRow, openIn, outermost, thirdOf, secondOf, partsIn, messageIn}
+use Rattle.message_lent.specs.Meaning.{Message, parts, wordsOf, valueBytesOf, LaysOut, opened, withField, withEntry, withRow, openIn, outermost, thirdOf, secondOf, partsIn, messageIn}
 use Rattle.message_lent.specs.MeaningLaws.{opened-length}
 
 -- the rows that words hold are those that they were made from
@@ -24,11 +24,9 @@ rows-back (row k l t x ∷ rows) i words behind e =
     let next : drop (4 * (i + 1) + 1) words ≡ flat rows ++ behind = ap (λ (n : ℕ). drop n words) (sym five) ∙ sym (drop-drop 4 (4 * i + 1) words) ∙ ap (drop 4) e in
     rw (word 0 (4 * i + 1) (omega arith), word 1 (4 * i + 2) (omega arith), word 2 (4 * i + 3) (omega arith), word 3 (4 * i + 4) (omega arith), rows-back rows (i + 1) words behind next)
 
-pub rows-of-layout : (m : Message) → rowsOf (wordsOf m) ≡ laid 0 (parts m)
-unfolding rowsOf rowCount wordsOf padded
-rows-of-layout m =
-    let rows = laid 0 (parts m) in
-    rw (sub-zero (length rows)) (rows-back rows 0 (length rows ∷ (flat rows ++ replicate (messageWords - suc (length (flat rows))) 0)) (replicate (messageWords - suc (length (flat rows))) 0) refl)
+rows-read : (rows : List Row) (behind : List ℕ) → rowsOf (length rows ∷ (flat rows ++ behind)) ≡ rows
+unfolding rowsOf rowCount
+rows-read rows behind = rw (sub-zero (length rows)) (rows-back rows 0 (length rows ∷ (flat rows ++ behind)) behind refl)
 
 -- what is open, down to a level at least
 unfoldable raised : ℕ → List Map → List Map
@@ -122,14 +120,37 @@ unfolding outermost raised opened
 outermost-raised [] = refl
 outermost-raised (m ∷ maps) = let e : 0 + 1 - suc (length maps) ≡ 0 = omega arith in rw e
 
-open-parts : (m : Message) (values : List ℕ) → outermost (openIn (laid 0 (parts m)) (valuesIn (parts m) ++ values)) ≡ parts m
-open-parts m values =
-    ap (λ (rows : List Row). outermost (openIn rows (valuesIn (parts m) ++ values))) (sym (append-nil (laid 0 (parts m))))
-    ∙ sym (outermost-raised (openIn (laid 0 (parts m) ++ []) (valuesIn (parts m) ++ values)))
-    ∙ ap outermost (open-laid 0 (parts m) [] values (unfold openIn in omega arith))
-    ∙ (unfold openIn raised opened inFront outermost in joined-end (parts m))
+open-whole : (map : Map) (values : List ℕ) → outermost (openIn (laid 0 map) (valuesIn map ++ values)) ≡ map
+open-whole map values =
+    ap (λ (rows : List Row). outermost (openIn rows (valuesIn map ++ values))) (sym (append-nil (laid 0 map)))
+    ∙ sym (outermost-raised (openIn (laid 0 map ++ []) (valuesIn map ++ values)))
+    ∙ ap outermost (open-laid 0 map [] values (unfold openIn in omega arith))
+    ∙ (unfold openIn raised opened inFront outermost in joined-end map)
 
--- a layout means the message that it was made from
+-- a layout means the map that it was made from, whatever stands behind it
+map-read : (map : Map) (behind-rows behind-values : List ℕ)
+    → outermost (openIn (rowsOf (length (laid 0 map) ∷ (flat (laid 0 map) ++ behind-rows))) (valuesIn map ++ behind-values)) ≡ map
+map-read map behind-rows behind-values = rw (rows-read (laid 0 map) behind-rows) (open-whole map behind-values)
+
+parts-back : (m : Message) → partsIn (parts m) ≡ m
+unfolding parts partsIn secondOf thirdOf
+parts-back m = refl
+
 pub layout-meant : (m : Message) → messageIn (wordsOf m) (valueBytesOf m) ≡ m
-unfolding messageIn valueBytesOf padded
-layout-meant m = rw (rows-of-layout m, open-parts m _) (unfold parts partsIn secondOf thirdOf in refl)
+unfolding messageIn wordsOf valueBytesOf padded
+layout-meant m = ap partsIn (map-read (parts m) _ _) ∙ parts-back m
+
+-- and so does whatever lays it out
+module _ (map : Map) (words values : List ℕ) (l : LaysOut map words values) where
+  pub rows-laid : rowsOf words ≡ laid 0 map
+  rows-laid = ap rowsOf (l .rows-first) ∙ rows-read (laid 0 map) (l .behind-rows)
+
+  pub map-meant : outermost (openIn (rowsOf words) values) ≡ map
+  map-meant =
+      ap (λ (w : List ℕ). outermost (openIn (rowsOf w) values)) (l .rows-first)
+      ∙ ap (λ (v : List ℕ). outermost (openIn (rowsOf (length (laid 0 map) ∷ (flat (laid 0 map) ++ l .behind-rows))) v)) (l .values-first)
+      ∙ map-read map (l .behind-rows) (l .behind-values)
+
+pub message-meant : (m : Message) (words values : List ℕ) → LaysOut (parts m) words values → messageIn words values ≡ m
+unfolding messageIn
+message-meant m words values l = ap partsIn (map-meant (parts m) words values l) ∙ parts-back m

@@ -13,9 +13,10 @@ use Rattle.message_lent.specs.Meaning.{Message, parts, messageIn}
 use Rattle.message_rules.specs.Changes.{placeOf, spanOf}
 use Rattle.message_rules.specs.declared.Part.{Part}
 use Rattle.message_rules.specs.declared.Part.the-variants.{Header, Body, Trailer}
-use Rattle.message_rules.specs.LookUps.{rowsIn, standing, mapAt, valueIn, entryIn, partRow, valueUnder, entryOf, partFound, fieldFound, entryFound}
+use Rattle.message_rules.specs.LookUps.{rowsIn, standing, mapAt, valueIn, entryIn, partRow, valueOfMap, entryOf, partFound, fieldFound, entryFound}
+use Rattle.message_rules.specs.LookUpLimits.{rows-in}
 use Rattle.message_look_ups.specs.Opening.{rowsBelow, openedAt, valueFrom, entryFrom}
-use Rattle.message_look_ups.specs.RowLaws.{rows-in, value-laid, entry-laid}
+use Rattle.message_look_ups.specs.RowLaws.{value-laid, entry-laid}
 use Rattle.message_look_ups.specs.OpeningLaws.{Inside, Opens, shut, opened, opens, opened-no}
 use Rattle.message_rules.specs.declared.FoundValue.the-variants as value
 use Rattle.message_rules.specs.declared.FoundMap.the-variants as map
@@ -47,7 +48,7 @@ module _ (head : ℕ) (words values : List ℕ) where
   field-none tag (no-message e) = rw e
 
   pub field-shut : (tag : ℕ) → OpeningTold head words values Absent → fieldFound head tag words values ≡ value.Absent
-  unfolding fieldFound valueUnder
+  unfolding fieldFound valueOfMap
   field-shut tag (no-map e n) = rw (e, n)
 
   pub entry-none : (start number : ℕ) → OpeningTold head words values NoMessage → entryFound head start number words values ≡ map.NoMessage
@@ -70,7 +71,7 @@ module _ (head : ℕ) (words values : List ℕ) where
       record { forwards = i .forwards; few = i .few; small = omega (arith, i .starts, i .small); lent = e }
 
   pub field-open : (tag : ℕ) (rows : Rows) → OpeningTold head words values (Within rows) → valueFrom (rows .level) tag (placeOf words (rows .from)) (rowsFrom (rows .to - rows .from) (rows .from) words) ≡ fieldFound head tag words values
-  unfolding fieldFound valueUnder
+  unfolding fieldFound valueOfMap
   field-open tag rows (a-map e i) = rw (e, i .named, i .own-rows, i .starts) (value-laid (rows .level) tag (i .place) (i .own))
 
   pub entry-open : (start number : ℕ) (rows : Rows) → OpeningTold head words values (Within rows) → entryFrom (rows .level) start number (rows .from) (rowsFrom (rows .to - rows .from) (rows .from) words) ≡ entryFound head start number words values

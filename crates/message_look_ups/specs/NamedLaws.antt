@@ -14,8 +14,9 @@ use Rattle.message_maps.specs.Rows.{Row, row, laid, levelOf, sizeOf, sizes}
 use Rattle.message_rules.specs.LayoutLaws.{sizes-append, sizes-laid}
 use Rattle.message_lent.specs.LaidLaws.{shallow}
 use Rattle.message_rules.specs.LookUps.{rowsIn, Standing, standing, mapAt}
+use Rattle.message_rules.specs.LookUpLimits.{rows-in}
 use Rattle.message_look_ups.specs.Opening.{isHead}
-use Rattle.message_look_ups.specs.RowLaws.{rows-in, headIn, head-past, MapSplit, MapNamed, there, nowhere}
+use Rattle.message_look_ups.specs.RowLaws.{headIn, head-past, MapSplit, MapNamed, there, nowhere}
 
 shallow-map : (l d : ℕ) (m : Map) → d ≤ l → shallow l (laid d m) ≡ true
 unfolding shallow laid levelOf

@@ -21,12 +21,6 @@ use Rattle.message_rules.specs.declared.FoundValue.the-variants as value
 use Rattle.message_rules.specs.declared.FoundMap.{FoundMap}
 use Rattle.message_rules.specs.declared.FoundMap.the-variants as map
 
-pub rows-in : (l : ℕ) (m : Map) → length (laid l m) ≡ rowsIn m
-unfolding laid rowsIn
-rows-in l end = refl
-rows-in l (field t v rest) = omega (arith, rows-in l rest)
-rows-in l (entry s d own rest) = omega (arith, length-append (laid (l + 1) own) (laid l rest), rows-in (l + 1) own, rows-in l rest)
-
 -- rows that stand deeper are passed over
 module _ (l : ℕ) where
   value-below : (tag : ℕ) (m : Map) (d place : ℕ) (rest : List Row) → l < d → valueFrom l tag place (laid d m ++ rest) ≡ valueFrom l tag (place + length (valuesIn m)) rest

@@ -8,7 +8,7 @@ use lib.ListN.{length, set}
 use lib.Dec.{leb, ltb, eqb}
 use borrow.Author.Tests.{le-leb, lt-leb, eq-eqb, ne-eqb, lt-ltb, le-ltb}
 use Rattle.field_rules.specs.Choice.{pick}
-use Rattle.message_maps.specs.Map.{Map, end, entry, valuesIn, holds, withoutField, stored}
+use Rattle.message_maps.specs.Map.{Map, end, entry, valuesIn, withoutField, stored}
 use Rattle.message_maps.specs.Rows.{laid, flat, part, padded, spliced, rowsFrom, findFrom, runEndFrom, messageWords}
 use Rattle.message_lent.specs.Lent.{isMessage}
 use Rattle.message_lent.specs.Meaning.{Message, parts, wordsOf, valueBytesOf, messageIn}
@@ -124,13 +124,9 @@ module _ (part : Part) (tag : ℕ) (words values : List ℕ) where
   unfolding storing
   store-on value h e = of-message words values _ h ∙ rw (ne-eqb tag 0 e)
 
-  pub remove-none : isMessage words values ≡ true → holds tag (partOf part (messageIn words values)) ≡ false → removing part tag words values ≡ after Made words values
+  pub remove-on : isMessage words values ≡ true → removing part tag words values ≡ judged words values true (withPart part (withoutField tag (partOf part (messageIn words values))) (messageIn words values))
   unfolding removing
-  remove-none h e = of-message words values _ h ∙ rw e
-
-  pub remove-on : isMessage words values ≡ true → holds tag (partOf part (messageIn words values)) ≡ true → removing part tag words values ≡ judged words values true (withPart part (withoutField tag (partOf part (messageIn words values))) (messageIn words values))
-  unfolding removing
-  remove-on h e = of-message words values _ h ∙ rw e
+  remove-on h = of-message words values _ h
 
 -- an empty message takes the place of what was there
 pub empty-words : (words spliced-words : List ℕ) → length words ≡ messageWords → spliced-words ≡ padded messageWords (spliced 1 1 1 1 1 (2 ∷ 0 ∷ 1 ∷ 0 ∷ 2 ∷ 0 ∷ 2 ∷ 0 ∷ 2 ∷ 0 ∷ 3 ∷ 0 ∷ []) words) → set spliced-words 0 3 ≡ wordsOf noFields

@@ -6,7 +6,7 @@ use mathlib.Core.List.{List, [], _∷_, _++_}
 use lib.ListN.{length, set}
 use lib.Dec.{eqb, leb, ltb}
 use Rattle.field_rules.specs.Choice.{pick}
-use Rattle.message_maps.specs.Map.{Map, end, field, entry, holds, withoutField, stored, hung, fieldCount, valuesIn}
+use Rattle.message_maps.specs.Map.{Map, end, field, entry, withoutField, stored, hung, fieldCount, valuesIn}
 use Rattle.message_maps.specs.Rows.{laid, flat, rowsFrom, findFrom, runEndFrom, sizes, padded, spliced, messageWords, messageRows}
 use Rattle.message_lent.specs.Lent.{isMessage}
 use Rattle.message_lent.specs.Meaning.{Message, parts, wordsOf, valueBytesOf, messageIn}
@@ -107,13 +107,10 @@ storing part tag value words values =
     pick (eqb tag 0) (after NotStorable words values)
     (judged words values true (withPart part (stored tag value (partOf part m)) m)))
 
--- a field is removed from a part; its run stays. What is not held leaves everything as it was.
+-- a field is removed from a part; its run stays. Where it isn't held the message stays as it is.
 unfoldable pub removing : Part → ℕ → List ℕ → List ℕ → After
 removing part tag words values =
-    ofMessage words values (λ m.
-    pick (holds tag (partOf part m))
-    (judged words values true (withPart part (withoutField tag (partOf part m)) m))
-    (after Made words values))
+    ofMessage words values (λ m. judged words values true (withPart part (withoutField tag (partOf part m)) m))
 
 -- where a part's rows stand
 unfoldable pub spanOf : Part → Message → Span
@@ -187,6 +184,10 @@ runPlace span tag words = findFrom 2 1 tag (span .from) (rowsFrom (span .to - sp
 
 unfoldable pub runStop : Span → ℕ → List ℕ → ℕ
 runStop span tag words = runEndFrom 1 tag (runPlace span tag words) (rowsFrom (span .to - runPlace span tag words) (runPlace span tag words) words)
+
+-- how many rows a field has that is looked for up to the end of its map: none where it isn't held
+unfoldable pub heldRows : ℕ → ℕ → ℕ
+heldRows at to = pick (ltb at to) 1 0
 
 -- the cut of one row, and the cut that moves a run behind what follows it in its part
 unfoldable pub oneRow : ℕ → ℕ → Cut

@@ -15,7 +15,7 @@ use Rattle.message_maps.specs.Rows.{Row, row, laid, flat, part, padded, rowAt, 
 use Rattle.message_lent.specs.Lent.{rowCount, rowsOf, isMessage}
 use Rattle.message_lent.specs.LentLaws.{Laid, Held, message-held}
 use Rattle.message_lent.specs.Meaning.{Message, parts, wordsOf, valueBytesOf, messageIn}
-use Rattle.message_lent.specs.MeaningLaws.{Means, means, flat-length, flat-append, rows-flat}
+use Rattle.message_lent.specs.MeaningLaws.{Means, means, flat-length, flat-append, words-hold}
 use Rattle.message_rules.specs.Changes.{After, after, placeOf, Cuttable, cutRows, cutSize, cutWords, cutValues, changedAt, mapWords, mapValues, judgedMap}
 use Rattle.message_rules.specs.LayoutLaws.{sizes-append, sizes-laid}
 use Rattle.message_rules.specs.PlaceLaws.{rows-length, rows-part, part-rows, part-values, spliced-parts}
@@ -48,15 +48,6 @@ pub record Cutting (words values : List ℕ) (cut : Cut) (a b c d e : List Row) 
   pub to : cut .to ≡ length a + length b + length c
   pub until : cut .until ≡ length a + length b + length c + length d
   pub count : cut .count ≡ length a + length b + length c + length d + length e
-
--- the words that hold rows
-pub words-hold : (words values : List ℕ) → Sized words values → words ≡ rowCount words ∷ (flat (rowsOf words) ++ drop (4 * rowCount words) (drop 1 words))
-unfolding rowsOf rowCount
-words-hold words values l =
-    let n = getD words 0 0 in
-    let z : n - 0 ≡ n = sub-zero n in
-    let f : flat (rowsFrom (n - 0) 0 words) ≡ take (4 * n) (drop 1 words) = rw z (rows-flat n 0 words (omega (arith, l .whole, l .counted))) in
-    drop-cons words 0 0 (omega (arith, l .whole)) ∙ ap (λ (t : List ℕ). n ∷ t) (sym (take-append-drop (4 * n) (drop 1 words)) ∙ rw f)
 
 module _ (words values : List ℕ) (cut : Cut) (a b c d e : List Row) (va vb vc vd ve : List ℕ) (k : Cutting words values cut a b c d e va vb vc vd ve) where
   rows-from : rowsFrom (rowCount words) 0 words ≡ a ++ (b ++ (c ++ (d ++ e)))
@@ -99,7 +90,7 @@ module _ (words values : List ℕ) (cut : Cut) (a b c d e : List Row) (va vb vc 
       let n = rowCount words in
       let t = drop (4 * n) (drop 1 words) in
       let s : words ≡ (n ∷ flat a) ++ (flat b ++ (flat c ++ (flat d ++ (flat e ++ t)))) =
-      words-hold words values (k .laid-out) ∙ ap (λ (r : List ℕ). n ∷ r) (rw (k .rows, flat-append, flat-append, flat-append, flat-append) (simp append-assoc)) in
+      words-hold words (k .laid-out .whole) (k .laid-out .counted) ∙ ap (λ (r : List ℕ). n ∷ r) (rw (k .rows, flat-append, flat-append, flat-append, flat-append) (simp append-assoc)) in
       let r : spliced (4 * cut .from + 1) (4 * cut .to + 1) (4 * cut .kept + 1) (4 * cut .until + 1) (4 * cut .count + 1) (flat x) words ≡ n ∷ flat (a ++ (d ++ (x ++ (c ++ e)))) =
       spliced-parts (n ∷ flat a) (flat b) (flat c) (flat d) (flat e) t (flat x) words _ _ _ _ _ s
       (omega (arith, k .from, flat-length a)) (omega (arith, k .kept, flat-length a, flat-length b)) (omega (arith, k .to, flat-length a, flat-length b, flat-length c))

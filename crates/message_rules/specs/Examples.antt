@@ -87,7 +87,7 @@ allocated-lent = layout-lends allocated (record { formed = record { header = ref
 abbrev left : Message → After
 left m = after Made (wordsOf m) (valueBytesOf m)
 
--- a replaced field keeps its place (P5); tag 0 is refused; a removed count leaves its run; what is not held leaves all as it was
+-- a replaced field keeps its place (P5); tag 0 is refused; a removed count leaves its run; what is not held leaves the message as it was
 calls :
     (storing Body 38 (bytes "800") (wordsOf allocated) (valueBytesOf allocated) ≡ left (dealt (field 38 (bytes "800") (field 78 (bytes "1") (entry 78 79 (field 79 (bytes "A") end) (field 58 (bytes "x") end))))))
     × (storing Trailer 0 (bytes "x") (wordsOf allocated) (valueBytesOf allocated) ≡ after NotStorable (wordsOf allocated) (valueBytesOf allocated))

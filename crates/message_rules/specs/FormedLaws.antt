@@ -1,28 +1,27 @@
--- What the operations leave is a message again, and means what the rules say: the message before with one part changed.
-use mathlib.Core.Path.{_≡_, refl, sym, ap, _∙_}
+-- What the operations leave is a message again, and means what the rules say: the message before with one part changed. One law to each
+-- operation, for all that it may answer.
+use mathlib.Core.Path.{_≡_, refl, ap, _∙_}
 use mathlib.Core.Bool.{Bool, true, false}
-use mathlib.Core.List.{List}
-use Prim.Native.Nat.{ℕ, _≤_}
+use mathlib.Core.List.{List, _++_}
+use Prim.Native.Nat.{ℕ, _+_, _≤_}
 use native.Mathlib.Omega.{arith}
-use lib.ListN.{length}
-use lib.Dec.{leb, eqb}
-use borrow.Author.Tests.{leb-true, eqb-true, eqb-false}
-use Rattle.message_maps.specs.Rows.{messageWords}
-use Rattle.field_rules.specs.Choice.{pick}
-use Rattle.message_maps.specs.Map.{Map, holds, withoutField, stored, fieldCount, valuesIn}
+use lib.ListN.{length, length-append}
+use lib.Dec.{eqb}
+use borrow.Author.Tests.{eqb-false, le-leb}
+use Rattle.message_maps.specs.Map.{Map, end, withoutField, stored, fieldCount, valuesIn}
 use Rattle.message_lent.specs.Lent.{isMessage}
 use Rattle.message_lent.specs.Meaning.{Message, parts, wordsOf, valueBytesOf, messageIn}
 use Rattle.message_lent.specs.Formed.{isFormed, Formed, Within}
-use Rattle.message_lent.specs.FormedLaws.{lent-formed, Lends, layout-lends}
+use Rattle.message_lent.specs.FormedLaws.{lent-formed, Lends, IsLayout, is-layout-lends}
 use Rattle.message_lent.specs.StoredLaws.{formed-stored, formed-without}
-use Rattle.message_rules.specs.Changes.{after, partOf, withPart, fieldTotal, valueTotal, judged, noFields, ofStore, emptying, storing, removing}
-use Rattle.message_rules.specs.ChangeLaws.{no-message, store-zero, store-on, remove-none, remove-on}
-use Rattle.message_rules.specs.SplitLaws.{field-gone}
+use Rattle.message_rules.specs.Changes.{after, partOf, withPart, fieldTotal, valueTotal, judged, ofMessage, noFields, emptying, newMessage, making, storing, removing}
+use Rattle.message_rules.specs.ChangeLaws.{remove-on}
+use Rattle.message_rules.specs.Answered.{Answered, made-with, none-lent, said-of-made, answered-by, not-storable, answered-judged, NotLent, answered-store}
 use Rattle.message_rules.specs.PartLaws.{part-split}
+use Rattle.message_rules.specs.StoreLaws.{count-without, values-without}
 use Rattle.message_rules.specs.declared.Part.{Part}
 use Rattle.message_rules.specs.declared.Part.the-variants.{Header, Body, Trailer}
-use Rattle.message_rules.specs.declared.Change.{Change}
-use Rattle.message_rules.specs.declared.Change.the-variants.{Made, NoMessage, NotStorable, NoRun, TooManyFields}
+use Rattle.message_rules.specs.declared.Change.the-variants.{Made}
 
 -- a formed message's parts are formed, and with a formed map in a part it is formed
 pub part-formed : (part : Part) (m : Message) → Formed m → isFormed (partOf part m) ≡ true
@@ -46,121 +45,103 @@ pub within-totals : (m : Message) → Within m → (valueTotal m ≤ 8192) × (f
 unfolding valueTotal fieldTotal
 within-totals m w = (w .small, w .few)
 
--- two outcomes that are the same leave the same
-same-words : {a b : Change} {w v x y : List ℕ} → after a w v ≡ after b x y → (w ≡ x) × (v ≡ y)
-same-words e = (cc, cc)
-
-still-message : {a b : Change} (words values w v : List ℕ) → after a words values ≡ after b w v → isMessage words values ≡ true → isMessage w v ≡ true
-still-message words values w v e h = let q = same-words e in rw (← (q .0), ← (q .1)) h
-
--- a message that is judged and made is left, where it is formed if its run is whole
-pub made-lends : (words values : List ℕ) (whole : Bool) (m : Message) (w v : List ℕ) → (whole ≡ true → Formed m) → judged words values whole m ≡ after Made w v → Lends w v m
+-- a message that is judged is left where it is formed, and its run whole
+pub judged-answered : {none : Type 0} {said : List ℕ → List ℕ → Type 0} {words values : List ℕ} (whole : Bool) (m : Message) → (whole ≡ true → Formed m)
+    → (IsLayout m (wordsOf m) (valueBytesOf m) → said (wordsOf m) (valueBytesOf m)) → Answered none said words values (judged words values whole m)
 unfolding judged
-made-lends words values whole m w v f e = by-tests (leb (valueTotal m) 8192) whole (leb (fieldTotal m) 1024) refl refl refl e
-  where
-    by-tests : (a b c : Bool) → leb (valueTotal m) 8192 ≡ a → whole ≡ b → leb (fieldTotal m) 1024 ≡ c
-        → pick a (pick b (pick c (after Made (wordsOf m) (valueBytesOf m)) (after TooManyFields words values)) (after NoRun words values)) (after NotStorable words values) ≡ after Made w v
-        → Lends w v m
-    by-tests true true true s u n e =
-        let q = same-words e in
-        rw (← (q .0), ← (q .1)) (layout-lends m (totals-within m (f u) (leb-true _ _ s) (leb-true _ _ n)))
-    by-tests true true false s u n e = let z : _≡_ {A = ℕ} 0 1 = cc in absurd (omega arith)
-    by-tests true false c s u n e = let z : _≡_ {A = ℕ} 0 1 = cc in absurd (omega arith)
-    by-tests false b c s u n e = let z : _≡_ {A = ℕ} 0 1 = cc in absurd (omega arith)
+judged-answered whole m formed made =
+    answered-judged (valueTotal m) whole (fieldTotal m) (wordsOf m) (valueBytesOf m) (λ small is-whole few.
+    made (record { within = totals-within m (formed is-whole) small few; words-are = refl; values-are = refl }))
 
--- and whatever is answered, a message is left where there was one
-pub judged-keeps : (words values : List ℕ) (whole : Bool) (m : Message) (r : Change) (w v : List ℕ) → (whole ≡ true → Formed m) → isMessage words values ≡ true → judged words values whole m ≡ after r w v → isMessage w v ≡ true
-unfolding judged
-judged-keeps words values whole m r w v f h e = by-tests (leb (valueTotal m) 8192) whole (leb (fieldTotal m) 1024) refl refl refl e
-  where
-    by-tests : (a b c : Bool) → leb (valueTotal m) 8192 ≡ a → whole ≡ b → leb (fieldTotal m) 1024 ≡ c
-        → pick a (pick b (pick c (after Made (wordsOf m) (valueBytesOf m)) (after TooManyFields words values)) (after NoRun words values)) (after NotStorable words values) ≡ after r w v
-        → isMessage w v ≡ true
-    by-tests true true true s u n e =
-        still-message (wordsOf m) (valueBytesOf m) w v e (layout-lends m (totals-within m (f u) (leb-true _ _ s) (leb-true _ _ n)) .is-message)
-    by-tests true true false s u n e = still-message words values w v e h
-    by-tests true false c s u n e = still-message words values w v e h
-    by-tests false b c s u n e = still-message words values w v e h
+-- an empty message, and a new one
+none-formed : Formed noFields
+unfolding noFields isFormed
+none-formed = record { header = refl; body = refl; trailer = refl }
 
--- an empty message
-pub empty-lends : (words values w v : List ℕ) → emptying words values ≡ after Made w v → Lends w v noFields
-unfolding emptying ofStore
-empty-lends words values w v e = by-tests (eqb (length words) messageWords) (eqb (length values) 8192) e
-  where
-    none-formed : Formed noFields
-    none-formed = unfold noFields isFormed in record { header = refl; body = refl; trailer = refl }
+module _ (words values : List ℕ) where
+  pub empty-answered : Answered (NotLent words values) (IsLayout noFields) words values (emptying words values)
+  unfolding emptying
+  empty-answered =
+      answered-store
+      (made-with (wordsOf noFields) (valueBytesOf noFields)
+      (record {
+        within = record { formed = none-formed; small = unfold noFields parts valuesIn in omega arith; few = unfold noFields fieldCount in omega arith };
+        words-are = refl;
+        values-are = refl;
+      }))
 
-    by-tests : (a b : Bool) → pick a (pick b (after Made (wordsOf noFields) (valueBytesOf noFields)) (after NoMessage words values)) (after NoMessage words values) ≡ after Made w v → Lends w v noFields
-    by-tests true true e =
-        let q = same-words e in
-        rw (← (q .0), ← (q .1))
-        (layout-lends noFields (record { formed = none-formed; small = unfold noFields parts valuesIn in omega arith; few = unfold noFields fieldCount in omega arith }))
-    by-tests true false e = let z : _≡_ {A = ℕ} 0 1 = cc in absurd (omega arith)
-    by-tests false b e = let z : _≡_ {A = ℕ} 0 1 = cc in absurd (omega arith)
+  pub new-answered : (beginString messageType : List ℕ) → Answered (NotLent words values) (IsLayout (newMessage beginString messageType)) words values (making beginString messageType words values)
+  unfolding making newMessage
+  new-answered beginString messageType =
+      let header = stored 35 messageType (stored 8 beginString end) in
+      let formed = formed-stored 35 messageType (stored 8 beginString end) (λ e. omega arith) (formed-stored 8 beginString end (λ e. omega arith) (unfold isFormed in refl)) in
+      answered-store (judged-answered true (withPart Header header noFields) (λ u. with-part-formed Header header noFields none-formed formed) (λ l. l))
+
+  -- what `empty` and `new` leave where they answer 0
+  pub empty-lends : (w v : List ℕ) → emptying words values ≡ after Made w v → Lends w v noFields
+  empty-lends w v e = is-layout-lends noFields w v (said-of-made empty-answered w v e)
+
+  pub new-lends : (beginString messageType w v : List ℕ) → making beginString messageType words values ≡ after Made w v → Lends w v (newMessage beginString messageType)
+  new-lends beginString messageType w v e = is-layout-lends (newMessage beginString messageType) w v (said-of-made (new-answered beginString messageType) w v e)
 
 module _ (part : Part) (tag : ℕ) (words values : List ℕ) where
-  -- the message with a field stored in a part, and with a field removed from it, are formed where a message is lent
-  stored-formed : (value : List ℕ) → (tag ≡ 0 → ⊥) → isMessage words values ≡ true → Formed (withPart part (stored tag value (partOf part (messageIn words values))) (messageIn words values))
-  stored-formed value some h =
+  -- a field is stored
+  pub store-answered : (value : List ℕ)
+      → Answered (isMessage words values ≡ false) (λ w v. (isMessage words values ≡ true) × IsLayout (withPart part (stored tag value (partOf part (messageIn words values))) (messageIn words values)) w v) words values (storing part tag value words values)
+  unfolding storing ofMessage
+  store-answered value =
+      answered-by (isMessage words values)
+      (λ h.
       let m = messageIn words values in
       let f = lent-formed words values h .formed in
-      with-part-formed part (stored tag value (partOf part m)) m f (formed-stored tag value (partOf part m) some (part-formed part m f))
+      answered-by (eqb tag 0) (λ e. not-storable) (λ e.
+      judged-answered true (withPart part (stored tag value (partOf part m)) m)
+      (λ u. with-part-formed part (stored tag value (partOf part m)) m f (formed-stored tag value (partOf part m) (eqb-false tag 0 e) (part-formed part m f))) (λ l. (h, l))))
+      none-lent
 
-  removed-formed : isMessage words values ≡ true → Formed (withPart part (withoutField tag (partOf part (messageIn words values))) (messageIn words values))
-  removed-formed h =
+  -- a field is removed
+  pub remove-answered : Answered (isMessage words values ≡ false) (λ w v. (isMessage words values ≡ true) × IsLayout (withPart part (withoutField tag (partOf part (messageIn words values))) (messageIn words values)) w v) words values (removing part tag words values)
+  unfolding removing ofMessage
+  remove-answered =
+      answered-by (isMessage words values)
+      (λ h.
       let m = messageIn words values in
       let f = lent-formed words values h .formed in
-      with-part-formed part (withoutField tag (partOf part m)) m f (formed-without tag (partOf part m) (part-formed part m f))
+      judged-answered true (withPart part (withoutField tag (partOf part m)) m)
+      (λ u. with-part-formed part (withoutField tag (partOf part m)) m f (formed-without tag (partOf part m) (part-formed part m f))) (λ l. (h, l)))
+      none-lent
 
-  store-none : (value : List ℕ) → isMessage words values ≡ false → storing part tag value words values ≡ after NoMessage words values
-  unfolding storing
-  store-none value h = no-message words values _ h
-
-  remove-no-message : isMessage words values ≡ false → removing part tag words values ≡ after NoMessage words values
-  unfolding removing
-  remove-no-message h = no-message words values _ h
-
-  -- what `store` leaves where it answers 0
+  -- what `store` and `remove` leave where they answer 0
   pub store-lends : (value w v : List ℕ) → storing part tag value words values ≡ after Made w v
       → (isMessage words values ≡ true) × Lends w v (withPart part (stored tag value (partOf part (messageIn words values))) (messageIn words values))
-  store-lends value w v e = by-tests (isMessage words values) (eqb tag 0) refl refl
-    where
-      by-tests : (a b : Bool) → isMessage words values ≡ a → eqb tag 0 ≡ b
-          → (a ≡ true) × Lends w v (withPart part (stored tag value (partOf part (messageIn words values))) (messageIn words values))
-      by-tests false b h k = let q = sym (store-none value h) ∙ e in let z : _≡_ {A = ℕ} 0 1 = cc in absurd (omega arith)
-      by-tests true true h k = let q = sym (store-zero part tag words values value h (eqb-true tag 0 k)) ∙ e in let z : _≡_ {A = ℕ} 0 1 = cc in absurd (omega arith)
-      by-tests true false h k =
-          let some = eqb-false tag 0 k in
-          (refl, made-lends words values true _ w v (λ u. stored-formed value some h) (sym (store-on part tag words values value h some) ∙ e))
+  store-lends value w v e = let l = said-of-made (store-answered value) w v e in (l .0, is-layout-lends _ w v (l .1))
 
-  -- and whatever it answers
-  pub store-keeps : (value : List ℕ) (r : Change) (w v : List ℕ) → isMessage words values ≡ true → storing part tag value words values ≡ after r w v → isMessage w v ≡ true
-  store-keeps value r w v h e = by-test (eqb tag 0) refl
-    where
-      by-test : (b : Bool) → eqb tag 0 ≡ b → isMessage w v ≡ true
-      by-test true k = still-message words values w v (sym (store-zero part tag words values value h (eqb-true tag 0 k)) ∙ e) h
-      by-test false k =
-          let some = eqb-false tag 0 k in
-          judged-keeps words values true _ r w v (λ u. stored-formed value some h) h (sym (store-on part tag words values value h some) ∙ e)
-
-  -- what `remove` leaves where it answers 0
   pub remove-lends : (w v : List ℕ) → removing part tag words values ≡ after Made w v
       → (isMessage words values ≡ true) × Lends w v (withPart part (withoutField tag (partOf part (messageIn words values))) (messageIn words values))
-  remove-lends w v e = by-tests (isMessage words values) (holds tag (partOf part (messageIn words values))) refl refl
-    where
-      by-tests : (a b : Bool) → isMessage words values ≡ a → holds tag (partOf part (messageIn words values)) ≡ b
-          → (a ≡ true) × Lends w v (withPart part (withoutField tag (partOf part (messageIn words values))) (messageIn words values))
-      by-tests false b h k = let q = sym (remove-no-message h) ∙ e in let z : _≡_ {A = ℕ} 0 1 = cc in absurd (omega arith)
-      by-tests true true h k = (refl, made-lends words values true _ w v (λ u. removed-formed h) (sym (remove-on part tag words values h k) ∙ e))
-      by-tests true false h k =
-          let m = messageIn words values in
-          let q = same-words (sym (remove-none part tag words values h k) ∙ e) in
-          let same : m ≡ withPart part (withoutField tag (partOf part m)) m = sym (ap (λ (x : Map). withPart part x m) (field-gone tag (partOf part m) k) ∙ part-split part m .same) in
-          (refl, rw (← (q .0), ← (q .1)) (record { is-message = h; meant = same }))
+  remove-lends w v e = let l = said-of-made remove-answered w v e in (l .0, is-layout-lends _ w v (l .1))
 
-  pub remove-keeps : (r : Change) (w v : List ℕ) → isMessage words values ≡ true → removing part tag words values ≡ after r w v → isMessage w v ≡ true
-  remove-keeps r w v h e = by-test (holds tag (partOf part (messageIn words values))) refl
-    where
-      by-test : (b : Bool) → holds tag (partOf part (messageIn words values)) ≡ b → isMessage w v ≡ true
-      by-test true k = judged-keeps words values true _ r w v (λ u. removed-formed h) h (sym (remove-on part tag words values h k) ∙ e)
-      by-test false k = still-message words values w v (sym (remove-none part tag words values h k) ∙ e) h
+  -- a field is always removed, held or not: what is left is the layout of the message without it, with zeros behind
+  pub remove-made : isMessage words values ≡ true
+      → removing part tag words values ≡ after Made (wordsOf (withPart part (withoutField tag (partOf part (messageIn words values))) (messageIn words values))) (valueBytesOf (withPart part (withoutField tag (partOf part (messageIn words values))) (messageIn words values)))
+  unfolding judged valueTotal
+  remove-made h =
+      let m = messageIn words values in
+      let own = partOf part m in
+      let less = withoutField tag own in
+      let s = part-split part m in
+      let limits = within-totals m (lent-formed words values h) in
+      let fewer : fieldTotal (withPart part less m) ≤ 1024 = omega (arith, s .fields less, s .fields own, ap fieldTotal (s .same), count-without tag own, limits .1) in
+      let smaller : length (valuesIn (parts (withPart part less m))) ≤ 8192 =
+      omega (
+        arith,
+        ap length (s .texts less),
+        ap length (s .texts own),
+        ap (λ (n : Message). length (valuesIn (parts n))) (s .same),
+        length-append (s .values-before) (valuesIn less ++ s .values-behind),
+        length-append (valuesIn less) (s .values-behind),
+        length-append (s .values-before) (valuesIn own ++ s .values-behind),
+        length-append (valuesIn own) (s .values-behind),
+        values-without tag own,
+        limits .0,
+      ) in
+      remove-on part tag words values h ∙ rw (le-leb _ _ smaller, le-leb _ _ fewer)

@@ -13,9 +13,9 @@ use Rattle.field_rules.specs.Choice.{pick}
 use Rattle.message_maps.specs.Map.{Map, end, field, entry, joined, holds, holdsAny, replaced, withoutField, leading, pastLeading, runOn, withoutRun, stored, hungOnCount, hungAlone, hung, fieldCount, valuesIn}
 use Rattle.message_maps.specs.Rows.{Row, row, laid, flat, rowsFrom, sizes, sizeOf, matches, findFrom, runEndFrom, messageRows}
 use Rattle.message_lent.specs.Lent.{rowCount, rowsOf}
-use Rattle.message_rules.specs.Changes.{After, after, Cuttable, changedAt, judgedMap, fieldRow, fieldPlace, runPlace, runStop, oneRow, runLast, putAt, Ready}
+use Rattle.message_rules.specs.Changes.{After, after, Cuttable, changedAt, judgedMap, fieldRow, fieldPlace, runPlace, runStop, heldRows, oneRow, runLast, putAt, Ready}
 use Rattle.message_rules.specs.LayoutLaws.{joined-assoc, laid-joined, values-joined, count-joined, sizes-append, sizes-laid}
-use Rattle.message_rules.specs.SplitLaws.{FieldSplit, field-split, field-absent, RunSplit, run-split, leading-joined, leading-ends}
+use Rattle.message_rules.specs.SplitLaws.{FieldSplit, field-split, field-absent, field-gone, RunSplit, run-split, leading-joined, leading-ends}
 use Rattle.message_rules.specs.PlaceLaws.{rows-length, rows-part}
 use Rattle.message_rules.specs.CutLaws.{Sized, Cutting, cut-judged, cut-able}
 use Rattle.message_rules.specs.declared.Cut.{Cut}
@@ -187,12 +187,40 @@ module _ (words values : List ℕ) (span : Span) (own : Map) (whole : Map → Ma
         stored-held s = unfold stored in (rw held (s .put value))
 
     -- the field is removed
-    pub remove-leaves : Leaves words values (record { from = at; to = at + 1; kept = at + 1; until = at + 1; count = span .count }) [] 0 [] (total (withoutField tag own)) (whole (withoutField tag own))
+    held-leaves : Leaves words values (record { from = at; to = at + 1; kept = at + 1; until = at + 1; count = span .count }) [] 0 [] (total (withoutField tag own)) (whole (withoutField tag own))
     unfolding flat
-    remove-leaves =
+    held-leaves =
         field-leaves (withoutField tag own) [] []
         (λ s. ap (laid 1) (s .gone) ∙ laid-joined 1 (s .front) (s .back))
         (λ s. ap valuesIn (s .gone) ∙ values-joined (s .front) (s .back))
+
+  -- a field is removed; where it isn't held, no row is cut
+  module _ (tag at : ℕ) (found : at ≡ findFrom 1 1 tag (span .from) (rowsFrom (span .to - span .from) (span .from) words)) where
+    absent-leaves : holds tag own ≡ false → Leaves words values (record { from = at; to = at + 0; kept = at + 0; until = at + 0; count = span .count }) [] 0 [] (total (withoutField tag own)) (whole (withoutField tag own))
+    unfolding flat sizes
+    absent-leaves absent =
+        let same = field-gone tag own absent in
+        middle-leaves (laid 1 own) [] [] (valuesIn own) [] [] at (at + 0) (withoutField tag own) [] [] (sym (append-nil (laid 1 own))) (sym (append-nil (valuesIn own)))
+        (sizes-laid 1 own) refl refl (at-own tag at found ∙ field-absent tag own absent 1 (span .from)) refl
+        (ap (laid 1) same ∙ sym (append-nil (laid 1 own))) (ap valuesIn same ∙ sym (append-nil (valuesIn own)))
+
+    pub remove-leaves : (held : ℕ) → held ≡ heldRows at (span .to)
+        → Leaves words values (record { from = at; to = at + held; kept = at + held; until = at + held; count = span .count }) [] 0 [] (total (withoutField tag own)) (whole (withoutField tag own))
+    unfolding heldRows
+    remove-leaves held e = rw e (by-test (ltb at (span .to)) refl)
+      where
+        by-test : (b : Bool) → ltb at (span .to) ≡ b
+            → Leaves words values (record { from = at; to = at + pick b 1 0; kept = at + pick b 1 0; until = at + pick b 1 0; count = span .count }) [] 0 [] (total (withoutField tag own)) (whole (withoutField tag own))
+        by-test true e = held-leaves tag at found (is-held tag at found (ltb-true _ _ e))
+        by-test false e = absent-leaves (is-absent tag at found (ltb-false _ _ e))
+
+    pub held-rows : (held : ℕ) → held ≡ heldRows at (span .to) → held ≡ pick (holds tag own) 1 0
+    unfolding heldRows
+    held-rows held e = e ∙ by-test (ltb at (span .to)) refl
+      where
+        by-test : (b : Bool) → ltb at (span .to) ≡ b → _≡_ {A = ℕ} (pick b 1 0) (pick (holds tag own) 1 0)
+        by-test true e = rw (is-held tag at found (ltb-true _ _ e))
+        by-test false e = rw (is-absent tag at found (ltb-false _ _ e))
 
   -- a new field comes last, and takes its run along
   pub append-leaves : (tag : ℕ) → holds tag own ≡ false → (value : List ℕ) (first last : ℕ)

@@ -8,9 +8,16 @@ pub mod PartLaws
 pub mod FrameLaws
 pub mod StoreLaws
 pub mod NewLaws
+pub mod Answered
 pub mod FormedLaws
 pub mod Examples
 pub mod LookUps
+pub mod LookUpNames
+pub mod LookUpFinds
+pub mod LookUpMeaning
+pub mod LookUpLimits
 pub mod LookUpExamples
 pub mod Runs
+pub mod Drafts
+pub mod DraftLaws
 pub mod RunExamples

@@ -9,7 +9,7 @@ use Rattle.field_rules.specs.Text.{bytes}
 use Rattle.message_maps.specs.Map.{Map, end, field, entry, Looked, none, some, valuesIn}
 use Rattle.message_lent.specs.Meaning.{Message, parts}
 use Rattle.message_rules.specs.declared.Part.the-variants.{Header, Body, Trailer}
-use Rattle.message_rules.specs.LookUps.{rowsIn, standing, mapAt, valueIn, entryIn, partRow, valueUnder, entryOf}
+use Rattle.message_rules.specs.LookUps.{rowsIn, standing, mapAt, valueIn, entryIn, partRow, valueOfMap, entryOf}
 use Rattle.message_rules.specs.declared.FoundValue.the-variants as value
 use Rattle.message_rules.specs.declared.FoundMap.the-variants as map
 
@@ -37,9 +37,9 @@ unfolding order second parts mapAt rowsIn valuesIn
 maps-named = refl
 
 -- 58 stands behind both entries; 79 is no field of the body itself
-values-found : valueUnder 58 (mapAt 3 0 (parts order)) ∷ valueUnder 79 (mapAt 3 0 (parts order)) ∷ valueUnder 524 (mapAt 11 0 (parts order)) ∷ valueUnder 38 (mapAt 4 0 (parts order)) ∷ []
+values-found : valueOfMap 58 (mapAt 3 0 (parts order)) ∷ valueOfMap 79 (mapAt 3 0 (parts order)) ∷ valueOfMap 524 (mapAt 11 0 (parts order)) ∷ valueOfMap 38 (mapAt 4 0 (parts order)) ∷ []
     ≡ value.At (record { place = 20; size = 1 }) ∷ value.Absent ∷ value.At (record { place = 15; size = 5 }) ∷ value.Absent ∷ []
-unfolding order second parts mapAt rowsIn valuesIn valueUnder valueIn
+unfolding order second parts mapAt rowsIn valuesIn valueOfMap valueIn
 values-found = refl
 
 -- entries from 0; the nested run hangs in the second entry

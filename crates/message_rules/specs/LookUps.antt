@@ -68,9 +68,9 @@ partRow Body m = 1 + rowsIn (m .header)
 partRow Trailer m = 1 + rowsIn (m .header) + (1 + rowsIn (m .body))
 
 -- what is looked for in the map that a row names
-unfoldable pub valueUnder : ℕ → Looked Standing → FoundValue
-valueUnder tag none = value.Absent
-valueUnder tag (some (standing own place)) = valueIn tag place own
+unfoldable pub valueOfMap : ℕ → Looked Standing → FoundValue
+valueOfMap tag none = value.Absent
+valueOfMap tag (some (standing own place)) = valueIn tag place own
 
 unfoldable pub entryOf : ℕ → ℕ → ℕ → Looked Standing → FoundMap
 entryOf start number row none = map.Absent
@@ -82,7 +82,7 @@ partFound part words values = pick (isMessage words values) (map.At (partRow par
 
 unfoldable pub fieldFound : ℕ → ℕ → List ℕ → List ℕ → FoundValue
 fieldFound row tag words values =
-    pick (isMessage words values) (valueUnder tag (mapAt row 0 (parts (messageIn words values)))) value.NoMessage
+    pick (isMessage words values) (valueOfMap tag (mapAt row 0 (parts (messageIn words values)))) value.NoMessage
 
 unfoldable pub entryFound : ℕ → ℕ → ℕ → List ℕ → List ℕ → FoundMap
 entryFound row start number words values =

@@ -17,14 +17,10 @@ use Rattle.message_lent.specs.Lent.{rowCount, rowsOf, isMessage}
 use Rattle.message_lent.specs.LentLaws.{Laid, Held, message-held}
 use Rattle.message_lent.specs.Meaning.{Message, parts, wordsOf, valueBytesOf, messageIn}
 use Rattle.message_lent.specs.MeaningLaws.{Means, means, flat-length, flat-append, rows-flat}
+pub use Rattle.message_lent.specs.MeaningLaws.{rows-length}
 use Rattle.message_rules.specs.Changes.{After, after, placeOf, Cuttable, cutRows, cutSize, cutWords, cutValues, changedAt, locatedIn, spanOf}
 use Rattle.message_rules.specs.LayoutLaws.{sizes-append, sizes-laid, end-below}
 use Rattle.message_rules.specs.declared.Cut.{Cut}
-
-pub rows-length : (n i : ℕ) (words : List ℕ) → length (rowsFrom n i words) ≡ n
-unfolding rowsFrom
-rows-length zero i words = refl
-rows-length (suc n) i words = ap suc (rows-length n (i + 1) words)
 
 pub rows-split : (a b i : ℕ) (words : List ℕ) → rowsFrom (a + b) i words ≡ rowsFrom a i words ++ rowsFrom b (i + a) words
 unfolding rowsFrom

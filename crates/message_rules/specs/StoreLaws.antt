@@ -16,9 +16,9 @@ use Rattle.message_lent.specs.LaidLaws.{rows-parts}
 use Rattle.message_lent.specs.LentLaws.{message-held}
 use Rattle.message_lent.specs.Meaning.{Message, parts, wordsOf, valueBytesOf, messageIn}
 use Rattle.message_lent.specs.MeaningLaws.{means}
-use Rattle.message_rules.specs.Changes.{after, Cuttable, changedAt, partOf, withPart, fieldTotal, valueTotal, mapWords, mapValues, judgedMap, judged, spanOf, putAt, Ready}
+use Rattle.message_rules.specs.Changes.{after, Cuttable, changedAt, partOf, withPart, fieldTotal, valueTotal, mapWords, mapValues, judgedMap, judged, spanOf, heldRows, putAt, Ready}
 use Rattle.message_rules.specs.LayoutLaws.{values-joined, count-joined}
-use Rattle.message_rules.specs.SplitLaws.{field-split, run-split}
+use Rattle.message_rules.specs.SplitLaws.{field-split, field-gone, run-split}
 use Rattle.message_rules.specs.CutLaws.{Sized, laid-sized}
 use Rattle.message_rules.specs.FrameLaws.{Frame, Leaves}
 use Rattle.message_rules.specs.FrameLaws as frame
@@ -85,11 +85,27 @@ stored-adds tag value m absent =
     let new : stored tag value m ≡ joined (joined (s .front) (s .back)) (field tag value (s .run)) = unfold stored in rw (absent, s .gone, s .taken) in
     omega (arith, ap fieldCount new, count-joined (joined (s .front) (s .back)) (field tag value (s .run)), count-joined (s .front) (s .back), ap fieldCount (s .whole), count-joined (s .front) (joined (s .run) (s .back)), count-joined (s .run) (s .back))
 
-without-takes : (tag : ℕ) (m : Map) → holds tag m ≡ true → fieldCount (withoutField tag m) + 1 ≡ fieldCount m
+pub count-without : (tag : ℕ) (m : Map) → fieldCount (withoutField tag m) + pick (holds tag m) 1 0 ≡ fieldCount m
 unfolding fieldCount
-without-takes tag m held =
-    let s = field-split tag m held in
-    omega (arith, ap fieldCount (s .gone), count-joined (s .front) (s .back), ap fieldCount (s .whole), count-joined (s .front) (field tag (s .value) (s .back)))
+count-without tag m = by-test (holds tag m) refl
+  where
+    by-test : (b : Bool) → holds tag m ≡ b → fieldCount (withoutField tag m) + pick b 1 0 ≡ fieldCount m
+    by-test true e =
+        let s = field-split tag m e in
+        omega (arith, ap fieldCount (s .gone), count-joined (s .front) (s .back), ap fieldCount (s .whole), count-joined (s .front) (field tag (s .value) (s .back)))
+    by-test false e = omega (arith, ap fieldCount (field-gone tag m e))
+
+-- removing leaves no more values
+pub values-without : (tag : ℕ) (m : Map) → length (valuesIn (withoutField tag m)) ≤ length (valuesIn m)
+unfolding withoutField valuesIn
+values-without tag end = omega arith
+values-without tag (field t v rest) = by-test (eqb t tag) (values-without tag rest)
+  where
+    by-test : (b : Bool) → length (valuesIn (withoutField tag rest)) ≤ length (valuesIn rest) → length (valuesIn (pick b rest (field t v (withoutField tag rest)))) ≤ length (v ++ valuesIn rest)
+    by-test true h = omega (arith, length-append v (valuesIn rest))
+    by-test false h = omega (arith, length-append v (valuesIn rest), length-append v (valuesIn (withoutField tag rest)))
+values-without tag (entry s d own rest) =
+    omega (arith, values-without tag rest, length-append (valuesIn own) (valuesIn rest), length-append (valuesIn own) (valuesIn (withoutField tag rest)))
 
 -- a message is judged as the map of its parts
 pub judged-parts : (words values : List ℕ) (whole : Bool) (m : Message) → judgedMap words values whole (fieldTotal m) (parts m) ≡ judged words values whole m
@@ -155,19 +171,13 @@ module _ (words values : List ℕ) (part : Part) (m : Message) (i : In words val
   fields-of x = omega (arith, i .split .fields x, i .split .fields (partOf part m), ap fieldTotal (i .split .same))
 
   module _ (tag at : ℕ) (found : at ≡ findFrom 1 1 tag (spanOf part m .from) (rowsFrom (spanOf part m .to - spanOf part m .from) (spanOf part m .from) words)) where
-    pub is-held : at < spanOf part m .to → holds tag (partOf part m) ≡ true
-    is-held = frame.is-held _ _ _ _ _ _ part-frame tag at found
+    -- the field is removed, or nothing where it isn't held
+    module _ (held : ℕ) (rows-held : held ≡ heldRows at (spanOf part m .to)) where
+      pub remove-leaves : LeavesMessage words values (record { from = at; to = at + held; kept = at + held; until = at + held; count = spanOf part m .count }) [] 0 [] (withPart part (withoutField tag (partOf part m)) m)
+      remove-leaves = leaves-message _ _ _ _ _ _ _ (frame.remove-leaves _ _ _ _ _ _ part-frame tag at found held rows-held)
 
-    pub is-absent : spanOf part m .to ≤ at → holds tag (partOf part m) ≡ false
-    is-absent = frame.is-absent _ _ _ _ _ _ part-frame tag at found
-
-    -- the field is removed
-    module _ (held : holds tag (partOf part m) ≡ true) where
-      pub remove-leaves : LeavesMessage words values (record { from = at; to = at + 1; kept = at + 1; until = at + 1; count = spanOf part m .count }) [] 0 [] (withPart part (withoutField tag (partOf part m)) m)
-      remove-leaves = leaves-message _ _ _ _ _ _ _ (frame.remove-leaves _ _ _ _ _ _ part-frame tag at found held)
-
-      pub remove-fields : fieldTotal (withPart part (withoutField tag (partOf part m)) m) + 1 ≡ fieldTotal m
-      remove-fields = omega (arith, fields-of (withoutField tag (partOf part m)), without-takes tag (partOf part m) held)
+      pub remove-fields : fieldTotal (withPart part (withoutField tag (partOf part m)) m) + held ≡ fieldTotal m
+      remove-fields = omega (arith, fields-of (withoutField tag (partOf part m)), count-without tag (partOf part m), frame.held-rows _ _ _ _ _ _ part-frame tag at found held rows-held)
 
   -- storing in a part is judged by the message that it would leave
   module _ (tag : ℕ) (value : List ℕ) where

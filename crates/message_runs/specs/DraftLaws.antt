@@ -13,7 +13,6 @@ use Rattle.message_maps.specs.Map.{Map, end, field, entry, joined, holds, holds
 use Rattle.message_maps.specs.Rows.{Row, row, laid, flat, part, padded, spliced, rowsFrom, sizes, sizeOf, messageWords, messageRows}
 use Rattle.message_lent.specs.Lent.{rowCount, rowsOf, fieldsIn, isLaid}
 use Rattle.message_lent.specs.LentLaws.{both, Laid, laid-out}
-use Rattle.message_lent.specs.LaidLaws.{fields-laid, rows-few, shallow}
 use Rattle.message_lent.specs.Meaning.{openIn, outermost}
 use Rattle.message_lent.specs.MeaningLaws.{laid-means}
 use Rattle.message_rules.specs.Changes.{After, after, ofStore, Cuttable, changedAt, mapWords, mapValues, judgedMap, putAt, Ready}
@@ -24,7 +23,8 @@ use Rattle.message_rules.specs.FrameLaws.{Frame}
 use Rattle.message_rules.specs.declared.Span.{Span}
 use Rattle.message_rules.specs.declared.Change.the-variants.{Made, NoMessage, NotStorable, NoRun}
 use Rattle.message_rules.specs.Runs.{isDraft, runIn, ofDraft, judgedRun, starting, entering, isEmpty, inLast, storingLast}
-use Rattle.message_runs.specs.RunLaws.{onlyEntries, allowed-entries, LastSplit, Last, none-last, one-last, last-of}
+use Rattle.message_rules.specs.Drafts.{lent-run, few-rows}
+use Rattle.message_runs.specs.RunLaws.{onlyEntries, entries-only, LastSplit, Last, none-last, one-last, last-of}
 
 -- what is known of a draft
 pub record Draft (words values : List ℕ) (run : Map) : Type 0 where
@@ -34,22 +34,18 @@ pub record Draft (words values : List ℕ) (run : Map) : Type 0 where
   pub only : onlyEntries run ≡ true
   pub few : fieldCount run ≤ 1024
 
-pub fields-run : (run : Map) → fieldsIn 0 (laid 0 run) ≡ fieldCount run
-unfolding fieldsIn shallow
-fields-run run = ap (fieldsIn 0) (sym (append-nil (laid 0 run))) ∙ fields-laid 0 0 run [] (omega arith) refl ∙ omega arith
-
 pub draft-of : (words values : List ℕ) → isDraft words values ≡ true → Draft words values (runIn words values)
 unfolding isDraft runIn
 draft-of words values h =
-    let k = both (isLaid words values) _ h in
-    let l = laid-out words values (k .0) in
+    let l = laid-out words values (both (isLaid words values) _ h .0) in
     let m = laid-means words values l in
+    let w = lent-run words values h in
     record {
       sized = laid-sized words values l;
       rows = m .0;
       texts = m .1;
-      only = allowed-entries (outermost (openIn (rowsOf words) values)) [] (rw (m .0) at (l .allowed));
-      few = omega (arith, leb-true (fieldsIn 0 (rowsOf words)) 1024 (k .1), ap (fieldsIn 0) (m .0), fields-run (outermost (openIn (rowsOf words) values)));
+      only = entries-only _ (w .entries);
+      few = w .few;
     }
 
 module _ (words values : List ℕ) (refused : After) (then : Map → After) where
@@ -83,13 +79,6 @@ module _ (words values : List ℕ) where
   pub start-made : length words ≡ messageWords → length values ≡ 8192 → starting words values ≡ after Made (mapWords end) (mapValues end)
   unfolding starting ofStore
   start-made h k = rw (eq-eqb _ _ h, eq-eqb _ _ k)
-
-pub few-rows : (m : Map) → fieldCount m ≤ 1024 → length (laid 0 m) ≤ messageRows
-few-rows m h = by-any (holdsAny m) (rows-few 0 m)
-  where
-    by-any : (b : Bool) → length (laid 0 m) + pick b 1 0 ≤ 2 * fieldCount m → length (laid 0 m) ≤ messageRows
-    by-any true k = omega arith
-    by-any false k = omega arith
 
 -- the map of the last entry, with any other in its place
 module _ (words values : List ℕ) (run : Map) (d : Draft words values run) (s : LastSplit run) where

@@ -16,7 +16,8 @@ use Rattle.message_rules.specs.PlaceLaws.{rows-length}
 use Rattle.message_rules.specs.CutLaws.{Cutting, cut-judged, cut-able}
 use Rattle.message_rules.specs.declared.Cut.{Cut}
 use Rattle.message_rules.specs.Runs.{judgedRun}
-use Rattle.message_runs.specs.DraftLaws.{Draft, fields-run, few-rows}
+use Rattle.message_rules.specs.Drafts.{fields-run, few-rows}
+use Rattle.message_runs.specs.DraftLaws.{Draft}
 
 module _ (words values : List ℕ) (run : Map) (d : Draft words values run) where
   pub count-rows : rowCount words ≡ length (laid 0 run)

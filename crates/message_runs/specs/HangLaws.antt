@@ -24,7 +24,8 @@ use Rattle.message_hung_rows.specs.RowLaws.{hang-none, hang-some}
 use Rattle.message_hung_rows.specs.RaiseLaws.{raised-length}
 use Rattle.message_rules.specs.Runs.{isEmpty, isWhole, hungRun}
 use Rattle.message_runs.specs.RunLaws.{onlyEntries, raised-laid, within-laid, all-laid}
-use Rattle.message_runs.specs.DraftLaws.{Draft, fields-run}
+use Rattle.message_rules.specs.Drafts.{fields-run}
+use Rattle.message_runs.specs.DraftLaws.{Draft}
 use Rattle.message_runs.specs.EnterLaws.{count-rows}
 use Rattle.message_runs.specs.HungLaws.{HungAt, hung-at, hung-leaves, hung-replaced, hung-count}
 

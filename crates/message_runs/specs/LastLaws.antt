@@ -23,7 +23,8 @@ use Rattle.message_rules.specs.FrameLaws as frame
 use Rattle.message_rules.specs.declared.Change.the-variants.{NotStorable, NoRun}
 use Rattle.message_rules.specs.Runs.{isDraft, runIn, judgedRun, isEmpty, inLast, lastFrom, storingLast}
 use Rattle.message_runs.specs.RunLaws.{LastSplit, Last, none-last, one-last, last-of}
-use Rattle.message_runs.specs.DraftLaws.{Draft, draft-of, draft-yes, fields-run, last-frame}
+use Rattle.message_rules.specs.Drafts.{fields-run}
+use Rattle.message_runs.specs.DraftLaws.{Draft, draft-of, draft-yes, last-frame}
 
 -- a map in which a field was stored has one
 any-joined : (a : Map) (t : ℕ) (v : List ℕ) (b : Map) → holdsAny (joined a (field t v b)) ≡ true

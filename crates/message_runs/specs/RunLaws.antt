@@ -10,10 +10,8 @@ use borrow.Author.Tests.{eq-eqb, ne-eqb, le-leb}
 use Rattle.field_rules.specs.Choice.{pick}
 use Rattle.message_maps.specs.Map.{Map, end, field, entry, joined}
 use Rattle.message_maps.specs.Rows.{Row, row, laid, levelOf}
-use Rattle.message_lent.specs.Lent.{deepest, fieldAllowed, rowAllowed, rowsAllowed}
 use Rattle.message_lent.specs.LentLaws.{both}
-use Rattle.message_lent.specs.AllowedLaws.{allowed-split}
-use Rattle.message_lent.specs.Formed.{isRun}
+use Rattle.message_lent.specs.Formed.{isFormed, entriesFormed, isRun}
 use Rattle.message_rules.specs.LayoutLaws.{laid-joined}
 use Rattle.message_hung_rows.specs.Hanging.{raised, within, isUntagged, untaggedIn, isOf, allOf}
 use Rattle.message_rules.specs.Runs.{isEmpty, inLast, lastFrom, hasUntagged}
@@ -24,16 +22,11 @@ onlyEntries end = true
 onlyEntries (field t v rest) = false
 onlyEntries (entry s d own rest) = onlyEntries rest
 
-pub allowed-entries : (m : Map) (before : List Row) → rowsAllowed before (laid 0 m) ≡ true → onlyEntries m ≡ true
-unfolding onlyEntries laid rowsAllowed
-allowed-entries end before h = refl
-allowed-entries (field t v rest) before h = no-field (both (rowAllowed before (row 1 0 t (length v))) _ h .0)
-  where
-    no-field : rowAllowed before (row 1 0 t (length v)) ≡ true → false ≡ true
-    no-field k = unfold rowAllowed fieldAllowed in both (leb 0 (deepest before)) false k .1
-allowed-entries (entry s d own rest) before h =
-    let k = both (rowAllowed before (row 2 0 s d)) _ h in
-    allowed-entries rest _ (allowed-split (row 2 0 s d ∷ before) (laid 1 own) (laid 0 rest) (k .1) .1)
+pub entries-only : (m : Map) → entriesFormed m ≡ true → onlyEntries m ≡ true
+unfolding onlyEntries entriesFormed
+entries-only end h = refl
+entries-only (field t v rest) h = h
+entries-only (entry s d own rest) h = entries-only rest (both (isFormed own) _ h .1)
 
 pub raised-laid : (l : ℕ) (m : Map) → raised (laid l m) ≡ laid (l + 1) m
 unfolding raised laid

@@ -1,0 +1,9 @@
+pub mod Calls
+pub mod Keeping
+pub mod TakenKept
+pub mod EncodedKept
+pub mod FoundKept
+pub mod MessageKept
+pub mod DraftKept
+pub mod NeverSeen
+pub mod DraftNeverSeen
