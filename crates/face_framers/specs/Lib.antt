@@ -1,3 +1,4 @@
 pub mod States
 pub mod StateLaws
 pub mod CallLaws
+pub mod Exports

@@ -1,4 +1,4 @@
--- Marks, and states as they are lent, read and told.
+-- Marks, and states as they are lent, read and told. A state that a call left is read by the next call as it was meant.
 use Prim.Native.Nat.{ℕ}
 use mathlib.Core.Path.{_≡_, refl, sym, ap}
 use mathlib.Core.Bool.{Bool, true, false}
@@ -41,3 +41,17 @@ pub hunter-reply : (s : Hunter) (answer : Hunted) (b n : ℕ) → b ≡ pick (s 
     → _≡_ {A = HunterReply} (record { state = record { used = s .used; dropped = s .dropped; ended = b }; number = n }) (hunterTold s answer)
 unfolding hunterOut
 hunter-reply s answer b n eb en = rw (eb, en) refl
+
+read-back : (b : Bool) → isSet (pick b 1 0) ≡ b
+unfolding isSet
+read-back true = refl
+read-back false = refl
+
+-- NOTHING OF A STATE IS LOST between two calls
+pub ported-kept : (s : State) → portedIn (portedOut s) ≡ s
+unfolding portedIn portedOut
+ported-kept s = rw (read-back (s .ended), read-back (s .over)) refl
+
+pub hunter-kept : (s : Hunter) → hunterIn (hunterOut s) ≡ s
+unfolding hunterIn hunterOut
+hunter-kept s = rw (read-back (s .ended)) refl

@@ -15,7 +15,7 @@ use Rattle.frame_verdict_rules.specs.VerdictLaws.{verdict-laws}
 use Rattle.frame_hunter_rules.specs.Hunt.{Framer, framer, storeSize, countWrap, tookBy, huntFrom, takeOne, Given, accepted, refused, giveChunk, giveEnd}
 use Rattle.frame_hunter_rules.specs.TakeLaws.{step, places, took-small}
 use Rattle.frame_hunter_rules.specs.RunLaws.{chunk-fits, end-open}
-use Rattle.frame_hunter_rules.specs.Bytes.{framerOf, stateOf, storedOver, unfit, Left, leftBy, pushed, finished, Handout, unmoved, movedBy, tookFrom, Pushes, Finishes, Takes}
+use Rattle.frame_hunter_rules.specs.Bytes.{framerOf, stateOf, storedOver, unfit, Left, leftBy, pushed, finished, Handout, refusedTake, unmoved, movedBy, tookFrom, Pushes, Finishes, Takes}
 use Rattle.frame_hunter_rules.specs.declared.State.{State}
 use Rattle.frame_hunter_rules.specs.declared.Answer.{Answer}
 use Rattle.frame_hunter_rules.specs.declared.Answer.the-variants.{Fine, OutputShort, StoreFull, AfterEnd, BadStore}
@@ -184,6 +184,16 @@ module _ (s : State) (store output : List ℕ) where
       let f = fits s store u in
       let t : tookFrom s store output ≡ movedBy store output (tookBy h (framerOf s store)) = take-is u l ∙ ap (λ (x : Hunted). movedBy store output (tookBy x (framerOf s store))) (sym e) in
       subst (λ (o : Handout). Moved s store output h o) (sym t) (moving s store output h f (hunt-inside h f e))
+
+-- what a take hands out has at most 8,192 bytes, whatever state, store and output are
+pub take-small : (s : State) (store output : List ℕ) → tookFrom s store output .taken .length ≤ frameMost
+unfolding tookFrom unmoved refusedTake movedBy
+take-small s store output = by-tests (unfit s (length store)) (ltb (length output) frameMost)
+  where
+    by-tests : (u l : Bool) → pick u (unmoved s store output BadStore) (pick l (unmoved s store output OutputShort) (movedBy store output (takeOne verdictOf (framerOf s store)))) .taken .length ≤ frameMost
+    by-tests true l = omega arith
+    by-tests false true = omega arith
+    by-tests false false = took-small verdictOf verdict-laws (framerOf s store)
 
 -- ---- the contracts leave no freedom: two results of one call are the same
 

@@ -1,22 +1,26 @@
 -- The calling rule can always be kept: after any sequence of calls a further chunk, or the end, can be given and all that is ready taken.
-use mathlib.Core.Path.{_≡_, refl}
-use mathlib.Core.Bool.{true, false}
+-- And calls in vain can be made of it at any place.
+use mathlib.Core.Path.{_≡_, refl, ap, _∙_}
+use mathlib.Core.Bool.{Bool, true, false}
 use mathlib.Core.List.{List, [], _∷_, _++_}
 use Prim.Native.Nat.{ℕ, zero, suc, _≤_, _<_}
 use native.Mathlib.Nat.{le-refl}
 use native.Mathlib.Omega.{arith}
 use lib.ListN.{length, take, replicate, length-replicate}
+use borrow.Author.Tests.{ne-eqb}
 use Rattle.frame_verdict_rules.specs.Frame.{frameMost}
 use Rattle.frame_verdict_rules.specs.Verdict.{verdictOf}
 use Rattle.frame_verdict_rules.specs.VerdictLaws.{verdict-laws}
 use Rattle.frame_hunter_rules.specs.Hunt.{storeSize, takeOne}
 use Rattle.frame_hunter_rules.specs.TakeLaws.{step}
-use Rattle.frame_hunter_rules.specs.Bytes.{framerOf, pushed, finished, Handout, tookFrom, freshState, Pushes, Finishes, Takes}
-use Rattle.frame_hunter_rules.specs.BytesLaws.{Fit}
+use Rattle.frame_hunter_rules.specs.Bytes.{numberOfHunter, framerOf, unfit, pushed, finished, Handout, refusedTake, unmoved, tookFrom, freshState, Pushes, Finishes, Takes}
+use Rattle.frame_hunter_rules.specs.BytesLaws.{Fit, fit-is, push-unfit, push-ended, end-unfit, end-ended, take-unfit, take-short}
 use Rattle.frame_hunter_rules.specs.Calls.{TakenAll, last-take, next-take, Calls, after-reset, after-chunk, after-end}
-use Rattle.frame_hunter_rules.specs.CallsLaws.{holds-used, TakeIs, take-simulates, is-run, taken-in, end-simulates, open-state}
+use Rattle.frame_hunter_rules.specs.CallsLaws.{holds-used, TakeIs, take-simulates, is-run, taken-in, end-simulates, open-state, outcome}
 use Rattle.frame_hunter_rules.specs.RunLaws.{run-is}
 use Rattle.frame_hunter_rules.specs.declared.State.{State}
+use Rattle.frame_hunter_rules.specs.declared.Reply.{Reply}
+use Rattle.frame_hunter_rules.specs.declared.Taken.{Taken}
 
 -- some output that is large enough
 abbrev blank : List ℕ
@@ -77,3 +81,44 @@ can-end {s = s} {store = store} calls =
     let g = end-simulates s store (i .holds .fit) (finished s store .reply) p (open-state (i .framed) s store (i .holds) (run-is verdictOf verdict-laws (i .run) .open-still)) .1 in
     let d = can-drain (suc (finished s store .reply .state .used)) (finished s store .reply .state) store (g .fit) (le-refl _) in
     (d .0, d .1, d .2, after-end calls p (d .3))
+
+-- ---- calls in vain can be made at any place: 23, 26 and 27 are answered where the rules say so
+
+-- "23: an output under 8,192 bytes at any take, even with nothing ready"
+pub short-output-refused : {over : Bool} {stream : List ℕ} {frames : List (List ℕ)} {s : State} {store store′ output output′ : List ℕ} {r : Taken} →
+    Calls over stream frames s store → length output < frameMost → Takes s store output r store′ output′ → numberOfHunter (r .answer) ≡ 23
+unfolding numberOfHunter unmoved refusedTake
+short-output-refused {s = s} {store = store} {output = output} {r = r} calls l p =
+    ap (λ (x : Taken). numberOfHunter (x .answer)) (p .taken-is ∙ ap (λ (h : Handout). h .taken) (take-short s store output (fit-is s store (is-run calls .holds .fit)) l))
+
+-- "26: a chunk or an end after the end"
+pub late-chunk-refused : {stream : List ℕ} {frames : List (List ℕ)} {s : State} {store store′ chunk : List ℕ} {r : Reply} →
+    Calls true stream frames s store → Pushes s store chunk r store′ → numberOfHunter (r .answer) ≡ 26
+unfolding numberOfHunter
+late-chunk-refused {s = s} {store = store} {chunk = chunk} calls p =
+    ap (λ (x : Reply). numberOfHunter (x .answer)) (p .reply-is ∙ push-ended s store chunk (fit-is s store (is-run calls .holds .fit)) (outcome calls .flag) .reply)
+
+pub late-end-refused : {stream : List ℕ} {frames : List (List ℕ)} {s : State} {store : List ℕ} {r : Reply} →
+    Calls true stream frames s store → Finishes s store r → numberOfHunter (r .answer) ≡ 26
+unfolding numberOfHunter
+late-end-refused {s = s} {store = store} calls p =
+    ap (λ (x : Reply). numberOfHunter (x .answer)) (p .reply-is ∙ end-ended s store (fit-is s store (is-run calls .holds .fit)) (outcome calls .flag) .reply)
+
+-- "27: the store isn't 16,384 bytes"
+module _ (s : State) (place : List ℕ) (wrong : length place ≡ storeSize → ⊥) where
+  wrong-size : unfit s (length place) ≡ true
+  unfolding unfit
+  wrong-size = rw (ne-eqb _ _ wrong)
+
+  pub wrong-store-chunk-refused : (chunk : List ℕ) (r : Reply) (place′ : List ℕ) → Pushes s place chunk r place′ → numberOfHunter (r .answer) ≡ 27
+  unfolding numberOfHunter
+  wrong-store-chunk-refused chunk r place′ p = ap (λ (x : Reply). numberOfHunter (x .answer)) (p .reply-is ∙ push-unfit s place chunk wrong-size .reply)
+
+  pub wrong-store-end-refused : (r : Reply) → Finishes s place r → numberOfHunter (r .answer) ≡ 27
+  unfolding numberOfHunter
+  wrong-store-end-refused r p = ap (λ (x : Reply). numberOfHunter (x .answer)) (p .reply-is ∙ end-unfit s place wrong-size .reply)
+
+  pub wrong-store-take-refused : (output : List ℕ) (r : Taken) (place′ output′ : List ℕ) → Takes s place output r place′ output′ → numberOfHunter (r .answer) ≡ 27
+  unfolding numberOfHunter unmoved refusedTake
+  wrong-store-take-refused output r place′ output′ p =
+      ap (λ (x : Taken). numberOfHunter (x .answer)) (p .taken-is ∙ ap (λ (h : Handout). h .taken) (take-unfit s place output wrong-size))

@@ -1,9 +1,12 @@
 -- Calls over bytes are calls of the framer that state and store hold, so a sequence of calls is a run, and no chunk of it is refused.
+-- Calls in vain and takes when nothing is ready are no part of the run: they leave the framer that is held.
 use mathlib.Core.Path.{_≡_, refl, sym, ap, _∙_, subst}
+use mathlib.Core.Logic.{inl}
 use mathlib.Core.Bool.{Bool, true, false}
 use mathlib.Core.List.{List, [], _∷_, _++_}
-use Prim.Native.Nat.{ℕ, _+_, _%_, _≤_}
+use Prim.Native.Nat.{ℕ, _+_, _%_, _≤_, _<_}
 use native.Mathlib.Omega.{arith}
+use lib.Dec.{lit<}
 use lib.ListN.{length, take, drop, length-append, length-drop}
 use lib.Seq.{take-append-seam}
 use Rattle.frame_verdict_rules.specs.Frame.{frameMost}
@@ -12,13 +15,15 @@ use Rattle.frame_verdict_rules.specs.VerdictLaws.{verdict-laws}
 use Rattle.frame_hunter_rules.specs.Hunt.{Framer, framer, freshFramer, storeSize, countWrap, Took, takeOne, accepted, giveChunk, Drained, dry, more, Run, reset, chunk, Ended, ends, Hunt, joined}
 use Rattle.frame_hunter_rules.specs.TakeLaws.{step}
 use Rattle.frame_hunter_rules.specs.RunLaws.{run-is, held-small, chunk-accepted, end-open, ended-is, Same, unique, conserved}
-use Rattle.frame_hunter_rules.specs.Bytes.{framerOf, stateOf, storedOver, Left, leftBy, Handout, movedBy, freshState, Pushes, Finishes, Takes}
-use Rattle.frame_hunter_rules.specs.BytesLaws.{Fit, fit-is, held-length, pushed-is, end-fine, take-is}
-use Rattle.frame_hunter_rules.specs.Calls.{TakenAll, last-take, next-take, Calls, after-reset, after-chunk, after-end}
+use Rattle.frame_hunter_rules.specs.Bytes.{framerOf, stateOf, storedOver, unfit, Left, leftBy, Handout, movedBy, freshState, Pushes, Finishes, Takes}
+use Rattle.frame_hunter_rules.specs.BytesLaws.{Fit, fit-is, held-length, push-unfit, pushed-is, push-ended, push-fine, end-fine, take-is}
+use Rattle.frame_hunter_rules.specs.Calls.{Refused, TakenAll, last-take, next-take, after-refusal, Calls, after-reset, after-chunk, after-end, take-again, call-in-vain}
+use Rattle.frame_hunter_rules.specs.InVainLaws.{refused-leaves, AtRest, Nothing, take-at-rest}
 use Rattle.frame_hunter_rules.specs.declared.State.{State}
 use Rattle.frame_hunter_rules.specs.declared.Reply.{Reply}
 use Rattle.frame_hunter_rules.specs.declared.Taken.{Taken}
-use Rattle.frame_hunter_rules.specs.declared.Answer.the-variants.{Fine}
+use Rattle.frame_hunter_rules.specs.declared.Answer.{Answer}
+use Rattle.frame_hunter_rules.specs.declared.Answer.the-variants.{Fine, StoreFull, AfterEnd, BadStore}
 
 -- ---- state and store after a call
 
@@ -88,6 +93,9 @@ module _ (s : State) (store : List ℕ) (fit : Fit s store) where
 
 -- ---- a sequence of calls is a run
 
+pub held-still : (f : Framer) {s z : State} {store store′ : List ℕ} → Refused s store z store′ → Holds f s store → Holds f z store′
+held-still f c h = let k = refused-leaves c in rw (k .0, k .1) h
+
 -- takes until one answers 0 drain the framer
 taken-all : {s z : State} {store store″ : List ℕ} {frames : List (List ℕ)} → TakenAll s store frames z store″ → (f : Framer) → Holds f s store → (g : Framer) × Drained verdictOf f frames g × Holds g z store″
 taken-all (last-take {s = s} {store = store} {store′ = store′} {output = output} {output′ = output′} {r = r} l p z) f h = go (rw (h .same) at (take-simulates s store (h .fit) output r store′ output′ l p))
@@ -99,6 +107,7 @@ taken-all (next-take {s = s} {z = z} {store = store} {store′ = store′} {stor
   where
     go : TakeIs s store (h .fit) (takeOne verdictOf f) r store′ output′ → ((g : Framer) → Holds g (r .state) store′ → (k : Framer) × Drained verdictOf g frames k × Holds k z store″) → (g : Framer) × Drained verdictOf f (take (r .length) output′ ∷ frames) g × Holds g z store″
     go i ih = let d = ih (takeOne verdictOf f .after) (i .holds) in (d .0, rw (i .frame) (more {f = f} (omega (arith, i .size)) (d .1)), d .2)
+taken-all (after-refusal c rest) f h = taken-all rest f (held-still f c h)
 
 -- the framer's run that a sequence of calls is
 abbrev pub Ran : Bool → List ℕ → List (List ℕ) → Framer → Type 0
@@ -109,6 +118,19 @@ pub record IsRun (over : Bool) (stream : List ℕ) (frames : List (List ℕ)) (s
   pub framed : Framer
   pub run : Ran over stream frames framed
   pub holds : Holds framed s store
+
+-- all that is ready was taken
+resting : (over : Bool) (stream : List ℕ) (frames : List (List ℕ)) (f : Framer) → Ran over stream frames f → AtRest (f .ended) (f .held) × (f .dropped < countWrap)
+resting false stream frames f r = let i = run-is verdictOf verdict-laws r in (rw (i .open-still) (i .rests), omega (arith, i .count))
+resting true stream frames f r = let i = ended-is verdictOf verdict-laws r in (inl (i .all-gone), omega (arith, i .count))
+
+-- so a further take finds nothing
+take-nothing : {over : Bool} {stream : List ℕ} {frames : List (List ℕ)} (s : State) (store output : List ℕ) (r : Taken) (store′ output′ : List ℕ) → IsRun over stream frames s store → frameMost ≤ length output → Takes s store output r store′ output′ →
+    (r .answer ≡ Fine) × Nothing s store output r store′ output′
+unfolding framerOf
+take-nothing {over} {stream} {frames} s store output r store′ output′ i l p =
+    let q = subst (λ (f : Framer). AtRest (f .ended) (f .held) × (f .dropped < countWrap)) (sym (i .holds .same)) (resting over stream frames (i .framed) (i .run)) in
+    take-at-rest s store output r store′ output′ (i .holds .fit) (q .0) (q .1) l p
 
 at-reset : (s : State) (store : List ℕ) → length store ≡ storeSize → s ≡ freshState → Holds freshFramer s store
 unfolding freshState stateOf framerOf
@@ -151,10 +173,47 @@ is-run (after-end {stream = stream} {frames = frames} {more = gs} {s = s} {z = z
         let h : Holds g (r .state) store = rw (i .holds .same) at (e .1) in
         let t = taken-all all g h in
         record { framed = t .0; run = ends (i .run) (end-open (i .framed) o) (t .1); holds = t .2 }
+is-run (take-again {over = over} {stream = stream} {frames = frames} {s = s} {store = store} {store′ = store′} {output = output} {output′ = output′} {r = r} calls l p) = go (is-run calls)
+  where
+    go : IsRun over stream frames s store → IsRun over stream frames (r .state) store′
+    go i = let n = take-nothing s store output r store′ output′ i l p .1 in record { framed = i .framed; run = i .run; holds = rw (n .state-is, n .store-is) (i .holds) }
+is-run (call-in-vain {over = over} {stream = stream} {frames = frames} {s = s} {z = z} {store = store} {store′ = store′} calls c) = go (is-run calls)
+  where
+    go : IsRun over stream frames s store → IsRun over stream frames z store′
+    go i = record { framed = i .framed; run = i .run; holds = held-still (i .framed) c (i .holds) }
+
+-- A FURTHER TAKE ANSWERS 0 AND LEAVES STATE, STORE AND OUTPUT
+pub nothing-again : {over : Bool} {stream : List ℕ} {frames : List (List ℕ)} {s : State} {store store′ output output′ : List ℕ} {r : Taken} → Calls over stream frames s store → frameMost ≤ length output → Takes s store output r store′ output′ →
+    (r .answer ≡ Fine) × Nothing s store output r store′ output′
+nothing-again calls l p = take-nothing _ _ _ _ _ _ (is-run calls) l p
 
 -- 25 NEVER OCCURS: whatever was called before, a chunk of at most 8,192 bytes is taken
 pub never-full : {stream : List ℕ} {frames : List (List ℕ)} {s : State} {store store′ : List ℕ} {r : Reply} (c : List ℕ) → Calls false stream frames s store → length c ≤ frameMost → Pushes s store c r store′ → r .answer ≡ Fine
 never-full {s = s} {store = store} {store′ = store′} {r = r} c calls l p = let i = is-run calls in taken-in s store (i .run) (i .holds) c l r store′ p .0
+
+-- fewer bytes than a frame may have are held
+held-few : (over : Bool) (stream : List ℕ) (frames : List (List ℕ)) (f : Framer) → Ran over stream frames f → length (f .held) < frameMost
+held-few false stream frames f r = held-small verdictOf verdict-laws (f .held) (run-is verdictOf verdict-laws r .rests)
+held-few true stream frames f r = rw (ended-is verdictOf verdict-laws r .all-gone) (lit< tt)
+
+pub used-few : {over : Bool} {stream : List ℕ} {frames : List (List ℕ)} {s : State} {store : List ℕ} → Calls over stream frames s store → s .used < frameMost
+used-few {over} {stream} {frames} {s} {store} calls =
+    let i : IsRun over stream frames s store = is-run calls in omega (arith, holds-used (i .framed) s store (i .holds), held-few over stream frames (i .framed) (i .run))
+
+-- nor does 25 occur after the end, or with other bytes lent as the store
+pub never-full-elsewhere : {over : Bool} {stream : List ℕ} {frames : List (List ℕ)} {s : State} {store place place′ : List ℕ} {r : Reply} (c : List ℕ) → Calls over stream frames s store → length c ≤ frameMost → Pushes s place c r place′ → r .answer ≡ StoreFull → ⊥
+never-full-elsewhere {s = s} {place = place} {r = r} c calls l p full = by-store (unfit s (length place)) refl
+  where
+    other : (a : Answer) (q : Reply) → q .answer ≡ a → r ≡ q → (a ≡ StoreFull → ⊥) → ⊥
+    other a q e same apart = apart (sym e ∙ sym (ap (λ (x : Reply). x .answer) same) ∙ full)
+
+    by-end : unfit s (length place) ≡ false → (e : Bool) → s .ended ≡ e → ⊥
+    by-end u true e = other AfterEnd _ refl (p .reply-is ∙ push-ended s place c u e .reply) (λ z. let y : _≡_ {A = ℕ} 0 1 = cc in omega arith)
+    by-end u false e = other Fine _ refl (p .reply-is ∙ push-fine s place c u e (omega (arith, used-few calls)) .reply) (λ z. let y : _≡_ {A = ℕ} 0 1 = cc in omega arith)
+
+    by-store : (u : Bool) → unfit s (length place) ≡ u → ⊥
+    by-store true u = other BadStore _ refl (p .reply-is ∙ push-unfit s place c u .reply) (λ z. let y : _≡_ {A = ℕ} 0 1 = cc in omega arith)
+    by-store false u = by-end u (s .ended) refl
 
 -- ---- what a sequence of calls comes to
 

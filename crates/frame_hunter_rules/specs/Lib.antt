@@ -5,6 +5,7 @@ pub mod Recovery
 pub mod Bytes
 pub mod BytesLaws
 pub mod Calls
+pub mod InVainLaws
 pub mod CallsLaws
 pub mod Demand3
 pub mod Examples

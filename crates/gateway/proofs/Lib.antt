@@ -1,5 +1,6 @@
 pub mod Calling
 pub mod Counting
+pub mod ExportedFramers
 pub mod Framer
 pub mod NoFreedom
 pub mod Walk
