@@ -16,6 +16,4 @@ pub mod FieldsLaws
 pub mod PlaceLaws
 pub mod SpelledLaws
 pub mod Computing
-pub mod Standard
-pub mod StandardLaws
 pub mod Examples

@@ -10,6 +10,7 @@ use native.Mathlib.Omega.{arith}
 use lib.ListN.{length, take, drop, length-append, take-append-drop}
 use lib.Dec.{leb}
 use borrow.Author.Tests.{leb-true, leb-false}
+use Rattle.standard_rules.specs.Standard.{Tables}
 use Rattle.field_rules.specs.Decimal.{writtenAt}
 use Rattle.frame_parser_rules.specs.Announced.{announcedIn}
 use Rattle.frame_parser_rules.specs.Framer.{fresh, held, pushAnswer, withChunk, pushed, readyOf, readyAnswer, takeAnswer, takeState, movedToFront}
@@ -34,24 +35,24 @@ whole-or-part n used = by-test (leb n used) refl
     by-test true e = inl (leb-true n used e)
     by-test false e = inr (leb-false n used e)
 
-first-fits : {Pair : ℕ → ℕ → Type 0} {message : List ℕ} {messages : List (List ℕ)} → Each (Fits Pair) (message ∷ messages) → Fits Pair message
+first-fits : {T : Tables} {message : List ℕ} {messages : List (List ℕ)} → Each (Fits T) (message ∷ messages) → Fits T message
 first-fits (stream.also f fs) = f
 
 -- in the midst of a stream: `given` has arrived of the messages `all`, `rest` is to come, and `messages` came out
-record Midst (Pair : ℕ → ℕ → Type 0) (given rest : List ℕ) (all messages : List (List ℕ)) (state : State) (store : List ℕ) : Type 0 where
+record Midst (T : Tables) (given rest : List ℕ) (all messages : List (List ℕ)) (state : State) (store : List ℕ) : Type 0 where
   later : List (List ℕ)
   in-order : all ≡ messages ++ later
-  fit : Each (Fits Pair) later
+  fit : Each (Fits T) later
   running : Running state store
   flows : held state store ++ rest ≡ joined later
   none-lost : given ≡ joined messages ++ held state store
   at-once : (next : List ℕ) (others : List (List ℕ)) → later ≡ next ∷ others → length (held state store) < length next
 
 -- what is left after a take that hands out a message
-record Behind (Pair : ℕ → ℕ → Type 0) (rest : List ℕ) (all : List (List ℕ)) (front message : List ℕ) (state : State) (store : List ℕ) : Type 0 where
+record Behind (T : Tables) (rest : List ℕ) (all : List (List ℕ)) (front message : List ℕ) (state : State) (store : List ℕ) : Type 0 where
   others : List (List ℕ)
   in-order : all ≡ message ∷ others
-  fit : Each (Fits Pair) others
+  fit : Each (Fits T) others
   running : Running state store
   flows : held state store ++ rest ≡ joined others
   splits : front ≡ message ++ held state store
@@ -60,12 +61,12 @@ record Behind (Pair : ℕ → ℕ → Type 0) (rest : List ℕ) (all : List (Lis
 answers-ready : {state after : State} {store handed left : List ℕ} {k : ℕ} (r : Running state store) (n : ℕ) → readyOf (state .used) (announcedIn (held state store)) ≡ Length n → n ≤ state .used → Takes state store k handed after left → n ≡ k
 answers-ready r n ready enough t = take-did r n ready enough _ _ _ _ t .0
 
-module _ {Pair : ℕ → ℕ → Type 0} {state : State} {store : List ℕ} (r : Running state store) (rest : List ℕ) where
+module _ {T : Tables} {state : State} {store : List ℕ} (r : Running state store) (rest : List ℕ) where
   -- a take that answers 0 leaves all as it was, and no whole message was held
-  stays : {handed left : List ℕ} {after : State} (all : List (List ℕ)) → Each (Fits Pair) all → held state store ++ rest ≡ joined all
+  stays : {handed left : List ℕ} {after : State} (all : List (List ℕ)) → Each (Fits T) all → held state store ++ rest ≡ joined all
       → readyOf (state .used) (announcedIn (held state store)) ≡ Length 0
       → ((next : List ℕ) (others : List (List ℕ)) → all ≡ next ∷ others → state .used < length next)
-      → Takes state store 0 handed after left → Midst Pair (held state store) rest all [] after left
+      → Takes state store 0 handed after left → Midst T (held state store) rest all [] after left
   stays {handed} {left} {after} all fit flows ready short t =
       let did = take-did r 0 ready (omega arith) 0 _ _ _ t in
       let same : held after left ≡ held state store = rw (did .1, did .2) (take-held r 0 ready (omega arith)) in
@@ -79,8 +80,8 @@ module _ {Pair : ℕ → ℕ → Type 0} {state : State} {store : List ℕ} (r :
         at-once = λ next others e. omega (arith, ap length same, held-length r, short next others e);
       }
 
-  dried : {handed left : List ℕ} {after : State} (all : List (List ℕ)) → Each (Fits Pair) all → held state store ++ rest ≡ joined all
-      → Takes state store 0 handed after left → Midst Pair (held state store) rest all [] after left
+  dried : {handed left : List ℕ} {after : State} (all : List (List ℕ)) → Each (Fits T) all → held state store ++ rest ≡ joined all
+      → Takes state store 0 handed after left → Midst T (held state store) rest all [] after left
   dried [] fit flows t =
       stays [] fit flows (nothing-ready r rest flows) (λ next others e. let z : _≡_ {A = ℕ} 0 1 = cc in absurd (omega arith)) t
   dried (message ∷ messages) fit flows t =
@@ -94,8 +95,8 @@ module _ {Pair : ℕ → ℕ → Type 0} {state : State} {store : List ℕ} (r :
       (λ next others e. let same : message ≡ next = cc in omega (arith, ap length same)) t)
       (whole-or-part (length message) (state .used))
 
-  handed-out : {n : ℕ} {message left : List ℕ} {after : State} (all : List (List ℕ)) → Each (Fits Pair) all → held state store ++ rest ≡ joined all
-      → Takes state store (suc n) message after left → Behind Pair rest all (held state store) message after left
+  handed-out : {n : ℕ} {message left : List ℕ} {after : State} (all : List (List ℕ)) → Each (Fits T) all → held state store ++ rest ≡ joined all
+      → Takes state store (suc n) message after left → Behind T rest all (held state store) message after left
   handed-out [] fit flows t =
       let none = answers-ready r 0 (nothing-ready r rest flows) (omega arith) t in absurd (omega arith)
   handed-out {message = got} {left = left} {after = after} (message ∷ messages) (stream.also f fit) flows t =
@@ -120,9 +121,9 @@ module _ {Pair : ℕ → ℕ → Type 0} {state : State} {store : List ℕ} (r :
       (whole-or-part (length message) (state .used))
 
 -- takes until one answers 0 hand out whole messages, and keep what is not whole
-drains : {Pair : ℕ → ℕ → Type 0} {state after : State} {store left : List ℕ} {messages : List (List ℕ)} (rest : List ℕ) (all : List (List ℕ))
-    → Running state store → Each (Fits Pair) all → held state store ++ rest ≡ joined all → Drained state store messages after left
-    → Midst Pair (held state store) rest all messages after left
+drains : {T : Tables} {state after : State} {store left : List ℕ} {messages : List (List ℕ)} (rest : List ℕ) (all : List (List ℕ))
+    → Running state store → Each (Fits T) all → held state store ++ rest ≡ joined all → Drained state store messages after left
+    → Midst T (held state store) rest all messages after left
 drains rest all r fit flows (dry t) = dried r rest all fit flows t
 drains rest all r fit flows (more {message = message} t d) =
     let b = handed-out r rest all fit flows t in
@@ -140,29 +141,29 @@ drains rest all r fit flows (more {message = message} t d) =
 -- ===== a run =====
 
 -- what is held in the midst is less than a message: a further chunk has room
-midst-small : {Pair : ℕ → ℕ → Type 0} {given rest : List ℕ} {all messages : List (List ℕ)} {state : State} {store : List ℕ} → Midst Pair given rest all messages state store → state .used ≤ 8192
+midst-small : {T : Tables} {given rest : List ℕ} {all messages : List (List ℕ)} {state : State} {store : List ℕ} → Midst T given rest all messages state store → state .used ≤ 8192
 midst-small {rest = rest} {state = state} {store = store} m = by-later (m .later) (m .fit) (m .flows) (m .at-once)
   where
-    by-later : {Pair : ℕ → ℕ → Type 0} (later : List (List ℕ)) → Each (Fits Pair) later → held state store ++ rest ≡ joined later → ((next : List ℕ) (others : List (List ℕ)) → later ≡ next ∷ others → length (held state store) < length next) → state .used ≤ 8192
+    by-later : {T : Tables} (later : List (List ℕ)) → Each (Fits T) later → held state store ++ rest ≡ joined later → ((next : List ℕ) (others : List (List ℕ)) → later ≡ next ∷ others → length (held state store) < length next) → state .used ≤ 8192
     by-later [] fit flows short = omega (arith, held-length (m .running), simp length-append at (ap length flows))
     by-later (message ∷ messages) fit flows short =
         omega (arith, held-length (m .running), short message messages refl, first-fits fit .size)
 
 -- and no whole message: nothing is ready
-midst-ready : {Pair : ℕ → ℕ → Type 0} {given rest : List ℕ} {all messages : List (List ℕ)} {state : State} {store : List ℕ} → Midst Pair given rest all messages state store → readyOf (state .used) (announcedIn (held state store)) ≡ Length 0
+midst-ready : {T : Tables} {given rest : List ℕ} {all messages : List (List ℕ)} {state : State} {store : List ℕ} → Midst T given rest all messages state store → readyOf (state .used) (announcedIn (held state store)) ≡ Length 0
 midst-ready {rest = rest} {state = state} {store = store} m = by-later (m .later) (m .fit) (m .flows) (m .at-once)
   where
-    by-later : {Pair : ℕ → ℕ → Type 0} (later : List (List ℕ)) → Each (Fits Pair) later → held state store ++ rest ≡ joined later → ((next : List ℕ) (others : List (List ℕ)) → later ≡ next ∷ others → length (held state store) < length next) → readyOf (state .used) (announcedIn (held state store)) ≡ Length 0
+    by-later : {T : Tables} (later : List (List ℕ)) → Each (Fits T) later → held state store ++ rest ≡ joined later → ((next : List ℕ) (others : List (List ℕ)) → later ≡ next ∷ others → length (held state store) < length next) → readyOf (state .used) (announcedIn (held state store)) ≡ Length 0
     by-later [] fit flows short = nothing-ready (m .running) rest flows
     by-later (message ∷ messages) fit flows short =
         part-not-ready (m .running) message rest (joined messages) (first-fits fit) flows (omega (arith, held-length (m .running), short message messages refl))
 
-answers-nothing : {Pair : ℕ → ℕ → Type 0} {given rest : List ℕ} {all messages : List (List ℕ)} {state : State} {store : List ℕ} → Midst Pair given rest all messages state store → (output : List ℕ) → 8192 ≤ length output → takeAnswer state store output ≡ Message 0
+answers-nothing : {T : Tables} {given rest : List ℕ} {all messages : List (List ℕ)} {state : State} {store : List ℕ} → Midst T given rest all messages state store → (output : List ℕ) → 8192 ≤ length output → takeAnswer state store output ≡ Message 0
 unfolding readyAnswer
 answers-nothing {state = state} {store = store} m output long =
     take-judges state store output (running-usable (m .running)) long (m .running .unmarked) ∙ ap readyAnswer (midst-ready m)
 
-module _ {Pair : ℕ → ℕ → Type 0} {given rest : List ℕ} {all messages : List (List ℕ)} {state : State} {store : List ℕ} (m : Midst Pair given rest all messages state store) (c : List ℕ) (small : length c ≤ 8192) where
+module _ {T : Tables} {given rest : List ℕ} {all messages : List (List ℕ)} {state : State} {store : List ℕ} (m : Midst T given rest all messages state store) (c : List ℕ) (small : length c ≤ 8192) where
   room : state .used + length c ≤ 16384
   room = omega (arith, midst-small m)
 
@@ -175,7 +176,7 @@ all-there messages new given before c after lost still =
     rw (lost, append-assoc, still, joined-append) (sym (append-assoc (joined messages) (joined new) after))
 
 -- before the first chunk
-starts : {Pair : ℕ → ℕ → Type 0} {store : List ℕ} (rest : List ℕ) (all : List (List ℕ)) → length store ≡ 16384 → Each (Fits Pair) all → rest ≡ joined all → Midst Pair [] rest all [] fresh store
+starts : {T : Tables} {store : List ℕ} (rest : List ℕ) (all : List (List ℕ)) → length store ≡ 16384 → Each (Fits T) all → rest ≡ joined all → Midst T [] rest all [] fresh store
 unfolding fresh held
 starts rest all size fit flows =
     record {
@@ -190,12 +191,12 @@ starts rest all size fit flows =
     }
 
 -- a chunk that was accepted, and what it is in the midst of
-record Given (Pair : ℕ → ℕ → Type 0) (before c rest : List ℕ) (later : List (List ℕ)) (state : State) (store : List ℕ) : Type 0 where
+record Given (T : Tables) (before c rest : List ℕ) (later : List (List ℕ)) (state : State) (store : List ℕ) : Type 0 where
   running : Running state store
   is-held : held state store ≡ before ++ c
   flows : held state store ++ rest ≡ joined later
 
-gives : {Pair : ℕ → ℕ → Type 0} {given : List ℕ} {all messages : List (List ℕ)} {state between : State} {store filled : List ℕ} (c rest : List ℕ) (m : Midst Pair given (c ++ rest) all messages state store) → length c ≤ 8192 → Pushes state store c between filled → Given Pair (held state store) c rest (m .later) between filled
+gives : {T : Tables} {given : List ℕ} {all messages : List (List ℕ)} {state between : State} {store filled : List ℕ} (c rest : List ℕ) (m : Midst T given (c ++ rest) all messages state store) → length c ≤ 8192 → Pushes state store c between filled → Given T (held state store) c rest (m .later) between filled
 gives {state = state} {between = between} {store = store} {filled = filled} c rest m small p =
     let fits = room m c small in
     let accepted = chunk-accepted (m .running) c fits in
@@ -209,7 +210,7 @@ gives {state = state} {between = between} {store = store} {filled = filled} c re
     }
 
 -- a chunk more, and all that is ready taken
-joins : {Pair : ℕ → ℕ → Type 0} {given : List ℕ} {all messages new : List (List ℕ)} {state between after : State} {store filled left : List ℕ} (c rest : List ℕ) (m : Midst Pair given (c ++ rest) all messages state store) → Given Pair (held state store) c rest (m .later) between filled → Midst Pair (held between filled) rest (m .later) new after left → Midst Pair (given ++ c) rest all (messages ++ new) after left
+joins : {T : Tables} {given : List ℕ} {all messages new : List (List ℕ)} {state between after : State} {store filled left : List ℕ} (c rest : List ℕ) (m : Midst T given (c ++ rest) all messages state store) → Given T (held state store) c rest (m .later) between filled → Midst T (held between filled) rest (m .later) new after left → Midst T (given ++ c) rest all (messages ++ new) after left
 joins {given = given} {messages = messages} {new = new} {state = state} {after = after} {store = store} {left = left} c rest m g n =
     record {
       later = n .later;
@@ -222,7 +223,7 @@ joins {given = given} {messages = messages} {new = new} {state = state} {after =
     }
 
 -- the run so far is in the midst of its stream
-runs : {Pair : ℕ → ℕ → Type 0} {given : List ℕ} {messages : List (List ℕ)} {state : State} {store : List ℕ} (rest : List ℕ) (all : List (List ℕ)) → Run given messages state store → Each (Fits Pair) all → given ++ rest ≡ joined all → Midst Pair given rest all messages state store
+runs : {T : Tables} {given : List ℕ} {messages : List (List ℕ)} {state : State} {store : List ℕ} (rest : List ℕ) (all : List (List ℕ)) → Run given messages state store → Each (Fits T) all → given ++ rest ≡ joined all → Midst T given rest all messages state store
 runs rest all (begins size) fit flows = starts rest all size fit flows
 runs rest all (chunk {given = given} c run small p d) fit flows =
     let m = runs (c ++ rest) all run fit (sym (append-assoc given c rest) ∙ flows) in
@@ -230,7 +231,7 @@ runs rest all (chunk {given = given} c run small p d) fit flows =
     joins c rest m g (drains rest (m .later) (g .running) (m .fit) (g .flows) d)
 
 -- THE FRAMING, while the stream goes on: `given` has arrived of the messages `all`, and `rest` is to come
-pub framing : {Pair : ℕ → ℕ → Type 0} {given : List ℕ} {messages : List (List ℕ)} {state : State} {store : List ℕ} (rest : List ℕ) (all : List (List ℕ)) → Run given messages state store → Each (Fits Pair) all → given ++ rest ≡ joined all → Framed given all messages state store
+pub framing : {T : Tables} {given : List ℕ} {messages : List (List ℕ)} {state : State} {store : List ℕ} (rest : List ℕ) (all : List (List ℕ)) → Run given messages state store → Each (Fits T) all → given ++ rest ≡ joined all → Framed given all messages state store
 framing rest all run fit flows =
     let m = runs rest all run fit flows in
     record {
@@ -243,7 +244,7 @@ framing rest all run fit flows =
     }
 
 -- THE FRAMING of a stream that has arrived whole: just its messages came out
-pub framing-whole : {Pair : ℕ → ℕ → Type 0} {messages : List (List ℕ)} {state : State} {store : List ℕ} (all : List (List ℕ)) → Run (joined all) messages state store → Each (Fits Pair) all → messages ≡ all
+pub framing-whole : {T : Tables} {messages : List (List ℕ)} {state : State} {store : List ℕ} (all : List (List ℕ)) → Run (joined all) messages state store → Each (Fits T) all → messages ≡ all
 framing-whole {messages = messages} {state = state} {store = store} all run fit =
     let f = framing [] all run fit (append-nil (joined all)) in
     by-left (f .left) (f .in-order) (f .none-lost) (f .at-once)
@@ -271,7 +272,7 @@ record Dried (state : State) (store : List ℕ) : Type 0 where
   drained : Drained state store messages after left
 
 -- takes with an output of 8,192 bytes or more come to a 0, and are never refused
-can-drain : {Pair : ℕ → ℕ → Type 0} {state : State} {store : List ℕ} (output rest : List ℕ) (all : List (List ℕ)) → 8192 ≤ length output → Running state store → Each (Fits Pair) all → held state store ++ rest ≡ joined all → Dried state store
+can-drain : {T : Tables} {state : State} {store : List ℕ} (output rest : List ℕ) (all : List (List ℕ)) → 8192 ≤ length output → Running state store → Each (Fits T) all → held state store ++ rest ≡ joined all → Dried state store
 can-drain output rest [] long r fit flows =
     record { messages = []; after = _; left = _; drained = dry (take-does r 0 (nothing-ready r rest flows) (omega arith) output long) }
 can-drain {state = state} {store = store} output rest (message ∷ messages) long r (stream.also f fit) flows =
@@ -298,7 +299,7 @@ can-drain {state = state} {store = store} output rest (message ∷ messages) lon
     (whole-or-part (length message) (state .used))
 
 -- THE FRAMING goes on: the next chunk is accepted, 25 doesn't occur, and takes with an output that is long enough come to a 0
-pub framing-goes-on : {Pair : ℕ → ℕ → Type 0} {given : List ℕ} {messages : List (List ℕ)} {state : State} {store : List ℕ} (c rest output : List ℕ) (all : List (List ℕ)) → Run given messages state store → Each (Fits Pair) all → given ++ (c ++ rest) ≡ joined all → length c ≤ 8192 → 8192 ≤ length output → Further given c messages
+pub framing-goes-on : {T : Tables} {given : List ℕ} {messages : List (List ℕ)} {state : State} {store : List ℕ} (c rest output : List ℕ) (all : List (List ℕ)) → Run given messages state store → Each (Fits T) all → given ++ (c ++ rest) ≡ joined all → length c ≤ 8192 → 8192 ≤ length output → Further given c messages
 framing-goes-on {state = state} {store = store} c rest output all run fit flows small long =
     let m = runs (c ++ rest) all run fit flows in
     let accepted = chunk-accepted (m .running) c (room m c small) in

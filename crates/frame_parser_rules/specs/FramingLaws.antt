@@ -10,6 +10,7 @@ use lib.ListN.{length, take, drop, length-append, length-drop}
 use lib.Seq.{length-take-le, take-at, drop-append-seam, drop-append-le}
 use lib.Dec.{ltb}
 use borrow.Author.Tests.{ltb-true, ltb-false}
+use Rattle.standard_rules.specs.Standard.{Tables}
 use Rattle.field_rules.specs.Decimal.{writtenAt}
 use Rattle.field_rules.specs.DecimalLaws.{written-fits, written-length}
 use Rattle.frame_parser_rules.specs.Announced.{announcedIn, withFirst, valueFrom, withEquals, findFrom}
@@ -143,7 +144,7 @@ module _ {state : State} {store : List ℕ} (r : Running state store) where
       no-bytes [] e = refl
       no-bytes (x ∷ bytes) e = let z : _≡_ {A = ℕ} 0 1 = cc in absurd (omega arith)
 
-  module _ {Pair : ℕ → ℕ → Type 0} (message rest more : List ℕ) (fits : Fits Pair message) (stream : held state store ++ rest ≡ message ++ more) where
+  module _ {T : Tables} (message rest more : List ℕ) (fits : Fits T message) (stream : held state store ++ rest ≡ message ++ more) where
     pub whole-ready : length message ≤ state .used → readyOf (state .used) (announcedIn (held state store)) ≡ Length (length message)
     whole-ready arrived =
         let there : length message ≤ length (held state store) = omega (arith, held-length r) in

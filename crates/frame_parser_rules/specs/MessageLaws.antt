@@ -9,9 +9,9 @@ use lib.ListN.{length, getD, take, drop, length-append, take-append-drop}
 use lib.Seq.{drop-at, take-append-le, take-append-seam}
 use Rattle.field_rules.specs.Decimal.{decimal, decimalWithin}
 use Rattle.field_rules.specs.DecimalLaws.{decimal-unique}
-use Rattle.field_rules.specs.Standard as standard
-use Rattle.field_rules.specs.Standard.{Message, SOH, equals}
-use Rattle.field_rules.specs.StandardLaws.{digits-all, worth-same, absent-all}
+use Rattle.standard_rules.specs.Standard as standard
+use Rattle.standard_rules.specs.Standard.{Tables, Message, SOH, equals}
+use Rattle.standard_rules.specs.FieldReads.{digits-all, worth-same, absent-all}
 use Rattle.frame_parser_rules.specs.Announced.{nominal, findFrom, valueFrom, messageEnd, limited, announcedIn}
 use Rattle.frame_parser_rules.specs.AnnouncedLaws.{nominal-worth, from-joins, value-between, announced-second, announced-stays, limit-ends}
 use Rattle.frame_parser_rules.specs.declared.Value.the-variants.{Between}
@@ -63,7 +63,7 @@ pub seven-bytes : (value bytes : List ℕ) → standard.Field 10 value bytes →
 seven-bytes value bytes field three =
     ap length (field .whole) ∙ simp length-append (omega (arith, two-digits (field .text) (field .is-tag)))
 
-module _ {Pair : ℕ → ℕ → Type 0} (message : List ℕ) (m : Message Pair message) (fits : length message ≤ 8192) where
+module _ {T : Tables} (message : List ℕ) (m : Message T message) (fits : length message ≤ 8192) where
   sizes : length message ≡ length (m .first) + length (m .second) + length (m .counted) + 7
   sizes =
       ap length (m .whole)

@@ -4,7 +4,7 @@ use mathlib.Core.Path.{_≡_}
 use mathlib.Core.List.{List, [], _∷_, _++_}
 use Prim.Native.Nat.{ℕ, suc, _≤_, _<_}
 use lib.ListN.{length, take}
-use Rattle.field_rules.specs.Standard.{Message}
+use Rattle.standard_rules.specs.Standard.{Tables, Message}
 use Rattle.frame_parser_rules.specs.Framer.{answersWith, fresh, held, pushAnswer, pushed, pushedStore, takeAnswer, taken, takenStore, takenOutput}
 use Rattle.frame_parser_rules.specs.declared.State.{State}
 use Rattle.frame_parser_rules.specs.declared.Answer.the-variants as answer
@@ -21,8 +21,8 @@ joined [] = []
 joined (message ∷ messages) = message ++ joined messages
 
 -- a message of the standard of at most 8,192 bytes
-pub record Fits (Pair : ℕ → ℕ → Type 0) (bytes : List ℕ) : Type 0 where
-  pub message : Message Pair bytes
+pub record Fits (T : Tables) (bytes : List ℕ) : Type 0 where
+  pub message : Message T bytes
   pub size : length bytes ≤ 8192
 
 -- ===== the calls =====

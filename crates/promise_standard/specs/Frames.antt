@@ -9,9 +9,10 @@ use native.Mathlib.Omega.{arith}
 use lib.ListN.{length, length-append}
 use Rattle.field_rules.specs.CheckSum.{sumOf}
 use Rattle.field_rules.specs.Decimal.{decimal, decimalWithin}
-use Rattle.field_rules.specs.Standard as standard
-use Rattle.field_rules.specs.Standard.{Message, Told, told, Int, TagNum, SOH, total}
-use Rattle.field_rules.specs.StandardLaws.{digits-all, worth-same}
+use Rattle.standard_rules.specs.Standard as standard
+use Rattle.standard_rules.specs.Standard.{Tables, Message, Told, told, Int, TagNum, SOH, total}
+use Rattle.standard_rules.specs.Reading.{others}
+use Rattle.standard_rules.specs.FieldReads.{digits-all, worth-same}
 use Rattle.frame_verdict_rules.specs.Frame.{IsFrame, IsBeginString, NoSeparator, separator, beginTag, lengthTag, typeTag, sumTag, lead}
 use Rattle.frame_verdict_rules.specs.Frame as frame
 use Rattle.promise_standard.specs.Texts.{sum-same, tag-text, digits-int, digits-plain}
@@ -39,35 +40,35 @@ field-ends : (text value : List ℕ) → EndsDelimited (text ++ (61 ∷ (value +
 field-ends text value = (text ++ (61 ∷ value), sym (append-assoc text (61 ∷ value) (1 ∷ [])))
 
 -- fields of the standard, if any, end with a delimiter
-module _ {Pair : ℕ → ℕ → Type 0} where
-  fields-end : (f : Told) (fs : List Told) (bytes : List ℕ) → standard.Fields Pair (f ∷ fs) bytes → EndsDelimited bytes
+module _ {T : Tables} where
+  fields-end : (f : Told) (fs : List Told) (bytes : List ℕ) → standard.Fields T (f ∷ fs) bytes → EndsDelimited bytes
   fields-end f fs bytes s = ended (f ∷ fs) bytes s (λ e. let z : _≡_ {A = ℕ} 0 1 = cc in omega arith)
     where
-      nothing : (fs : List Told) (rest : List ℕ) → standard.Fields Pair fs rest → fs ≡ [] → rest ≡ []
+      nothing : (fs : List Told) (rest : List ℕ) → standard.Fields T fs rest → fs ≡ [] → rest ≡ []
       nothing _ _ standard.Fields.no-field e = refl
       nothing _ _ (standard.Fields.plain p n s) e = let z : _≡_ {A = ℕ} 0 1 = cc in absurd (omega arith)
       nothing _ _ (standard.Fields.paired p d s) e = let z : _≡_ {A = ℕ} 0 1 = cc in absurd (omega arith)
 
-      behind : (fs : List Told) (a rest : List ℕ) → standard.Fields Pair fs rest → EndsDelimited a → ((fs ≡ [] → ⊥) → EndsDelimited rest) → EndsDelimited (a ++ rest)
+      behind : (fs : List Told) (a rest : List ℕ) → standard.Fields T fs rest → EndsDelimited a → ((fs ≡ [] → ⊥) → EndsDelimited rest) → EndsDelimited (a ++ rest)
       behind [] a rest s e more = let n = nothing [] rest s refl in (e .0, rw n (append-nil-of a (e .0) (e .1)))
         where
           append-nil-of : (a u : List ℕ) → a ≡ u ++ (1 ∷ []) → a ++ [] ≡ u ++ (1 ∷ [])
           append-nil-of a u e = append-nil a ∙ e
       behind (f ∷ fs) a rest s e more = ends-behind a rest (more (λ x. let z : _≡_ {A = ℕ} 0 1 = cc in omega arith))
 
-      ended : (fs : List Told) (bytes : List ℕ) → standard.Fields Pair fs bytes → (fs ≡ [] → ⊥) → EndsDelimited bytes
+      ended : (fs : List Told) (bytes : List ℕ) → standard.Fields T fs bytes → (fs ≡ [] → ⊥) → EndsDelimited bytes
       ended _ _ standard.Fields.no-field n = absurd (n refl)
       ended _ _ (standard.Fields.plain {v = v} {bytes = bytes} {rest = rest} {fs = fs} p x s) n = behind fs bytes rest s (rw (p .whole) (field-ends (p .text) v)) (λ k. ended fs rest s k)
       ended _ _ (standard.Fields.paired {v = v} {bytes = bytes} {rest = rest} {fs = fs} p d s) n = behind fs bytes rest s (rw (d .whole) (ends-behind (d .length-bytes) (d .text ++ (61 ∷ (v ++ (1 ∷ [])))) (field-ends (d .text) v))) (λ k. ended fs rest s k)
 
   -- the first of them starts with the digits of its tag and `=`
-  fields-start : (tag : ℕ) (value : List ℕ) (fs : List Told) (bytes : List ℕ) → standard.Fields Pair (told tag value ∷ fs) bytes → (u : List ℕ) × (bytes ≡ decimal tag ++ (61 ∷ u))
+  fields-start : (tag : ℕ) (value : List ℕ) (fs : List Told) (bytes : List ℕ) → standard.Fields T (told tag value ∷ fs) bytes → (u : List ℕ) × (bytes ≡ decimal tag ++ (61 ∷ u))
   fields-start tag value fs bytes s = started (told tag value ∷ fs) bytes s refl
     where
       opened : (t : ℕ) (v a rest : List ℕ) → t ≡ tag → a ≡ decimal t ++ (61 ∷ (v ++ (1 ∷ []))) → (u : List ℕ) × (a ++ rest ≡ decimal tag ++ (61 ∷ u))
       opened t v a rest e w = ((v ++ (1 ∷ [])) ++ rest, ap (λ (l : List ℕ). l ++ rest) w ∙ rw e (append-assoc (decimal tag) (61 ∷ (v ++ (1 ∷ []))) rest))
 
-      started : (gs : List Told) (bytes : List ℕ) → standard.Fields Pair gs bytes → gs ≡ told tag value ∷ fs → (u : List ℕ) × (bytes ≡ decimal tag ++ (61 ∷ u))
+      started : (gs : List Told) (bytes : List ℕ) → standard.Fields T gs bytes → gs ≡ told tag value ∷ fs → (u : List ℕ) × (bytes ≡ decimal tag ++ (61 ∷ u))
       started _ _ standard.Fields.no-field e = let z : _≡_ {A = ℕ} 0 1 = cc in absurd (omega arith)
       started _ _ (standard.Fields.plain {t = t} {v = v} {bytes = bytes} {rest = rest} p x s) e =
           let same : told t v ≡ told tag value = cc in
@@ -79,7 +80,7 @@ module _ {Pair : ℕ → ℕ → Type 0} where
           (o .0, ap (λ (x : List ℕ). x ++ rest) (d .whole) ∙ append-assoc (d .length-bytes) tail rest ∙ o .1)
 
   -- "a message of the standard with a BeginString of 1 to 16 bytes, at most five BodyLength digits and at most 8,192 bytes is a frame"
-  pub message-frame : (bytes : List ℕ) (m : Message Pair bytes) → length (m .begin-string) ≤ 16 → length (m .body-length) ≤ 5 → length bytes ≤ 8192 → IsFrame bytes
+  pub message-frame : (bytes : List ℕ) (m : Message T bytes) → length (m .begin-string) ≤ 16 → length (m .body-length) ≤ 5 → length bytes ≤ 8192 → IsFrame bytes
   unfolding decimal decimalWithin
   message-frame bytes m begin-small digits-few small =
       let first : m .first ≡ 56 ∷ 61 ∷ (m .begin-string ++ (1 ∷ [])) = field-bytes 8 (m .begin-string) (m .first) (m .first-is) in
@@ -98,8 +99,8 @@ module _ {Pair : ℕ → ℕ → Type 0} where
         digits-most = digits-few;
         digits-are = digits-all (m .body-length) (m .length-is .digits);
         announced = worth-same 0 (m .body-length) ∙ m .length-is .worth;
-        body-starts = fields-start 35 (m .msg-type) (m .others) (m .counted) (m .counted-is);
-        body-ends = fields-end (told 35 (m .msg-type)) (m .others) (m .counted) (m .counted-is);
+        body-starts = fields-start 35 (m .msg-type) (others m) (m .counted) (m .counted-is);
+        body-ends = fields-end (told 35 (m .msg-type)) (others m) (m .counted) (m .counted-is);
         sum-size = m .three-digits;
         sum-digits = digits-all (m .check-sum) (m .sum-is .digits);
         sum-is = worth-same 0 (m .check-sum) ∙ m .sum-is .worth ∙ ap (λ (n : ℕ). n % 256) (sym (sum-same (m .first ++ (m .second ++ m .counted)))) ∙ ap (λ (l : List ℕ). sumOf l % 256) summed;

@@ -9,8 +9,8 @@ use Rattle.promise_standard.specs.Reading.{standardMode}
 use Rattle.field_rules.specs.Field.{startAt, fieldAt}
 use Rattle.field_rules.specs.Fields.{Fields, field, fieldsFrom}
 use Rattle.field_rules.specs.FieldsLaws.{fields-field}
-use Rattle.field_rules.specs.Standard as standard
-use Rattle.field_rules.specs.Standard.{Told, entries, Members}
+use Rattle.standard_rules.specs.Standard as standard
+use Rattle.standard_rules.specs.Standard.{Tables, Told, entries, Stands}
 use Rattle.field_rules.specs.declared.Cursor.{Cursor}
 use Rattle.field_rules.specs.declared.Field.{Field}
 use Rattle.field_rules.specs.declared.FieldRead.the-variants.{Read}
@@ -28,10 +28,10 @@ use Rattle.promise_standard.specs.Reading.{ReadsAs, Readable, fields-rea
 use Rattle.promise_standard.specs.Groups.{numbered, recordsAs, entriesOf, Leaves, Fits}
 use Rattle.promise_standard.specs.GroupReading.{group-read, layout-group-read}
 
-module _ {d n : ℕ} {gs : List Told} (s : Members (entries d (suc n)) gs) (layout : Layout) (message : List ℕ) (left : ℕ) (x : Field) where
+module _ {T : Tables} {Here : ℕ → Type 0} {c d n : ℕ} {gs : List Told} (s : Stands T Here (entries c d (suc n)) gs) (layout : Layout) (message : List ℕ) (left : ℕ) (x : Field) where
   -- the bytes of a group's entries, wherever they stand in a message
-  pub group-bytes-read : {Pair : ℕ → ℕ → Type 0} (accepts : ℕ → Bool) (tag : ℕ) (before bytes after : List ℕ) → message ≡ before ++ (bytes ++ after) → standard.Fields Pair gs bytes → Readable gs → fieldAt standardMode message (startAt (length before + length bytes)) ≡ Read x
-      → Fits (layoutRules accepts) (entriesOf layout 1) (x .tag) (entries d (suc n)) gs s → Leaves (layoutRules accepts) layout (x .tag)
+  pub group-bytes-read : (accepts : ℕ → Bool) (tag : ℕ) (before bytes after : List ℕ) → message ≡ before ++ (bytes ++ after) → standard.Fields T gs bytes → Readable gs → fieldAt standardMode message (startAt (length before + length bytes)) ≡ Read x
+      → Fits (layoutRules accepts) (entriesOf layout 1) (x .tag) (entries c d (suc n)) gs s → Leaves (layoutRules accepts) layout (x .tag)
       → walk (layoutRules accepts) listStore (length gs + suc left) (run layout tag 1 0 ∷ []) [] (fieldsFrom standardMode message (startAt (length before)))
       ≡ ended x (fieldsFrom standardMode message (x .next)) left (recordsAs (numbered 1 0 s) (fieldsFrom standardMode message (startAt (length before))))
   group-bytes-read accepts tag before bytes after whole fields readable next fits leaves =
@@ -41,9 +41,9 @@ module _ {d n : ℕ} {gs : List Told} (s : Members (entries d (suc n)) gs) (layo
   -- what the code reads of a table into words
   pub run-read : (config : Config) (table : List ℕ) (known has : ℕ → Bool) → ((tag : ℕ) → known tag ≡ has tag) → (group : Group) → Tabled table (group .level) layout → (cursor : Cursor) (progress : Progress) (words : List ℕ) (done after : List Record) (tail : List ℕ) → Holds after tail (progress .room) (memory progress words) done
       → (rest : Fields) → progress .room ≡ length gs + suc left → ReadsAs message (fieldsFrom (config .mode) message cursor) gs (field x rest)
-      → Fits (layoutRules (accepted config has)) (entriesOf layout (group .depth)) (x .tag) (entries d (suc n)) gs s → Leaves (layoutRules (accepted config has)) layout (x .tag)
+      → Fits (layoutRules (accepted config has)) (entriesOf layout (group .depth)) (x .tag) (entries c d (suc n)) gs s → Leaves (layoutRules (accepted config has)) layout (x .tag)
       → OutcomeAlike (Holds after tail) (Lays after tail) (runOf message config table known group cursor progress words) (ended x rest left (done ++ recordsAs (numbered (group .depth) 0 s) (fieldsFrom (config .mode) message cursor)))
   run-read config table known has same group tabled cursor progress words done after tail holds rest room reads fits leaves =
       let means = run-means message config table known has same group layout tabled cursor progress words done after tail holds in
-      let read = group-read (layoutRules (accepted config has)) message s layout (group .tag) (group .depth) left done (fieldsFrom (config .mode) message cursor) x rest fits leaves reads in
+      let read = group-read (layoutRules (accepted config has)) message _ _ s layout (group .tag) (group .depth) left done (fieldsFrom (config .mode) message cursor) x rest fits leaves reads in
       rw (ap (λ (k : ℕ). walk (layoutRules (accepted config has)) listStore k (run layout (group .tag) (group .depth) 0 ∷ []) done (fieldsFrom (config .mode) message cursor)) room ∙ read) at means

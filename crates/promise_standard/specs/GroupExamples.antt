@@ -1,7 +1,7 @@
 -- A group of the standard that fits its layout, with the depth and entry number of each field; and for each condition of what fits the
 -- smallest group of the standard without it, which is read otherwise.
 use mathlib.Core.Path.{_≡_, refl}
-use mathlib.Core.Logic.{_≢_, inl}
+use mathlib.Core.Logic.{inl}
 use mathlib.Core.List.{List, [], _∷_, map}
 use mathlib.Core.Bool.{Bool, true, false}
 use Prim.Native.Nat.{ℕ, _-_}
@@ -14,7 +14,8 @@ use Rattle.field_rules.specs.Text.{bytes}
 use Rattle.field_rules.specs.Number.{worth}
 use Rattle.field_rules.specs.Field.{startAt}
 use Rattle.field_rules.specs.Fields.{fieldsFrom}
-use Rattle.field_rules.specs.Standard.{All, Told, told, Int, Distinct, entries, Members}
+use Rattle.standard_rules.specs.Standard.{Body, Told, told, entries, Stands}
+use Rattle.standard_rules.specs.Samples.{Sample, no-count, in-body, once, of-group, int}
 use Rattle.dictionary_layout_rules.specs.Layout.{Layout, end, field, group, firstOf, positionFrom, positionIn, groupSince, groupOf, delimiterOf}
 use Rattle.build_records.specs.Records.{stored}
 use Rattle.build_records.specs.declared.Record.{Record}
@@ -41,25 +42,19 @@ allocations = field 79 true (field 80 true (group 539 false nestedParties end))
 abbrev fields : List Told
 fields = told 79 (65 ∷ []) ∷ told 80 (53 ∷ []) ∷ told 539 (50 ∷ []) ∷ told 524 (112 ∷ []) ∷ told 525 (113 ∷ []) ∷ told 524 (114 ∷ []) ∷ told 79 (66 ∷ []) ∷ told 80 (55 ∷ []) ∷ []
 
-two : Int (50 ∷ []) 2
-two = record { some = omega arith; digits = All.also {x = 50} (omega arith, omega arith) All.none; worth = refl }
+abbrev parties : Stands Sample (Body Sample) (entries 539 524 2) (told 524 (112 ∷ []) ∷ told 525 (113 ∷ []) ∷ told 524 (114 ∷ []) ∷ [])
+parties =
+    Stands.entry (Stands.field (in-body 524 refl refl) (no-count 524 refl) (Stands.field (in-body 525 refl refl) (no-count 525 refl) Stands.no-member)) (of-group 539 (524 ∷ 525 ∷ []) refl) (once (524 ∷ 525 ∷ []) refl)
+    (Stands.entry (Stands.field (in-body 524 refl refl) (no-count 524 refl) Stands.no-member) (of-group 539 (524 ∷ []) refl) (once (524 ∷ []) refl) Stands.no-entry)
 
-one-tag : (a : ℕ) → Distinct (a ∷ [])
-one-tag a = Distinct.fresh All.none Distinct.empty
-
-two-tags : (a b : ℕ) → b ≢ a → Distinct (a ∷ b ∷ [])
-two-tags a b n = Distinct.fresh (All.also n All.none) (one-tag b)
-
-three-tags : (a b c : ℕ) → b ≢ a → c ≢ a → c ≢ b → Distinct (a ∷ b ∷ c ∷ [])
-three-tags a b c m n o = Distinct.fresh (All.also m (All.also n All.none)) (two-tags b c o)
-
-abbrev parties : Members (entries 524 2) (told 524 (112 ∷ []) ∷ told 525 (113 ∷ []) ∷ told 524 (114 ∷ []) ∷ [])
-parties = Members.entry (Members.field (Members.field Members.no-member)) (two-tags 524 525 (λ e. omega arith)) (Members.entry (Members.field Members.no-member) (one-tag 524) Members.no-entry)
-
-abbrev allocated : Members (entries 79 2) fields
+abbrev allocated : Stands Sample (Body Sample) (entries 78 79 2) fields
 allocated =
-    Members.entry (Members.field (Members.field (Members.group two parties Members.no-member))) (three-tags 79 80 539 (λ e. omega arith) (λ e. omega arith) (λ e. omega arith))
-    (Members.entry (Members.field (Members.field Members.no-member)) (two-tags 79 80 (λ e. omega arith)) Members.no-entry)
+    Stands.entry
+    (Stands.field (in-body 79 refl refl) (no-count 79 refl)
+    (Stands.field (in-body 80 refl refl) (no-count 80 refl)
+    (Stands.group (in-body 539 refl refl) refl (int (50 ∷ []) 2 refl) parties Stands.no-member)))
+    (of-group 78 (79 ∷ 80 ∷ 539 ∷ []) refl) (once (79 ∷ 80 ∷ 539 ∷ []) refl)
+    (Stands.entry (Stands.field (in-body 79 refl refl) (no-count 79 refl) (Stands.field (in-body 80 refl refl) (no-count 80 refl) Stands.no-member)) (of-group 78 (79 ∷ 80 ∷ []) refl) (once (79 ∷ 80 ∷ []) refl) Stands.no-entry)
 
 quantity-rises : Rises (layoutRules strict) allocations 0 1 80
 unfolding layoutRules opens isDelimiter positionIn positionFrom firstOf delimiterOf
@@ -74,7 +69,7 @@ unfolding layoutRules opens isDelimiter positionIn positionFrom firstOf delimite
 source-rises = record { no-delimiter = refl; placed = refl; rises = omega arith }
 
 -- behind it stands 10
-allocated-fits : Fits (layoutRules strict) (entriesOf allocations 1) 10 (entries 79 2) fields allocated
+allocated-fits : Fits (layoutRules strict) (entriesOf allocations 1) 10 (entries 78 79 2) fields allocated
 unfolding layoutRules opens isDelimiter positionIn positionFrom firstOf groupOf groupSince delimiterOf openedAs tagBehind
 allocated-fits =
     let inner : Fits (layoutRules strict) (entriesOf nestedParties 2) 79 _ _ parties = Fits.starts refl (Fits.plain source-rises (inl refl) Fits.no-member) (Fits.starts refl Fits.no-member Fits.no-entry) in
@@ -117,7 +112,7 @@ shared = field 79 false (group 539 false (field 524 false (field 80 false end)) 
 
 -- five groups, each in the one before
 abbrev deep : Layout
-deep = field 1 false (group 2 false (field 3 false (group 4 false (field 5 false (group 6 false (field 7 false (group 8 false (field 9 false end) end)) end)) end)) end)
+deep = field 1 false (group 2 false (field 3 false (group 4 false (field 5 false (group 6 false (field 7 false (group 11 false (field 12 false end) end)) end)) end)) end)
 
 -- the fields of one entry in the standard's structure, up to the last one, which stands behind the group
 abbrev unfit : List ((Layout × String) × Reading)
@@ -134,8 +129,8 @@ unfit =
     ∷ ((nesting, "79=A|539=0|10=0|"), (2, 0, []))
     -- a group is a field of the layout
     ∷ ((pair, "79=A|80=1|81=B|10=0|"), (0, 81, (1, 1, 79) ∷ (1, 1, 80) ∷ []))
-    -- a fifth level: 9 is the entry of the group 8
-    ∷ ((deep, "1=a|2=1|3=b|4=1|5=c|6=1|7=d|8=1|9=e|10=0|"), (0, 9, (1, 1, 1) ∷ (1, 1, 2) ∷ (2, 1, 3) ∷ (2, 1, 4) ∷ (3, 1, 5) ∷ (3, 1, 6) ∷ (4, 1, 7) ∷ (4, 1, 8) ∷ []))
+    -- a fifth level: 12 is the entry of the group 11
+    ∷ ((deep, "1=a|2=1|3=b|4=1|5=c|6=1|7=d|11=1|12=e|10=0|"), (0, 12, (1, 1, 1) ∷ (1, 1, 2) ∷ (2, 1, 3) ∷ (2, 1, 4) ∷ (3, 1, 5) ∷ (3, 1, 6) ∷ (4, 1, 7) ∷ (4, 1, 11) ∷ []))
     -- the nested group takes the tag behind it, which the standard's structure has in the outer entry
     ∷ ((shared, "79=A|539=1|524=B|80=C|10=0|"), (0, 10, (1, 1, 79) ∷ (1, 1, 539) ∷ (2, 1, 524) ∷ (2, 1, 80) ∷ []))
     -- the group takes the tag behind it, which the standard's structure has outside: the delimiter; a declared tag

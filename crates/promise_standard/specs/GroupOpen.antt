@@ -10,7 +10,7 @@ use lib.Dec.{eqb}
 use borrow.Author.Tests.{eq-eqb}
 use Rattle.field_rules.specs.Choice.{pick}
 use Rattle.field_rules.specs.Fields.{Fields, field}
-use Rattle.field_rules.specs.Standard.{Told, Stretch, entries, Members}
+use Rattle.standard_rules.specs.Standard.{Tables, Told, Stretch, entries, Stands}
 use Rattle.field_rules.specs.declared.Field.{Field}
 use Rattle.build_group_rules.specs.Groups.{none, opened, Rules, opens, Kind, plain, count, joins, wrong, ends, entryKind, Frame, run, entry, Move, adds, disorders, inEntry, decide}
 use Rattle.promise_standard.specs.Groups.{numbered, Rises, Joins}
@@ -34,26 +34,26 @@ head-map h head-none = head-none
 head-map h (head-some p) = head-some (h _ _ p)
 
 -- members stand at their depth, and so does what comes behind them or it stands above
-pub members-head : {stretch : Stretch} {fs : List Told} (depth number : ℕ) (more : List (ℕ × ℕ)) (s : Members stretch fs) → Head (Above (depth + 1)) more → Head (Above (depth + 1)) (numbered depth number s ++ more)
+pub members-head : {T : Tables} {Here : ℕ → Type 0} {stretch : Stretch} {fs : List Told} (depth number : ℕ) (more : List (ℕ × ℕ)) (s : Stands T Here stretch fs) → Head (Above (depth + 1)) more → Head (Above (depth + 1)) (numbered depth number s ++ more)
 unfolding numbered
-members-head depth number more Members.no-member h = h
-members-head depth number more (Members.field s) h = head-some {n = (depth, _)} (record { above = omega arith })
-members-head depth number more (Members.group i g s) h = head-some {n = (depth, _)} (record { above = omega arith })
-members-head depth number more Members.no-entry h = h
-members-head depth number more (Members.entry (Members.field m) d g) h = head-some {n = (depth, _)} (record { above = omega arith })
-members-head depth number more (Members.entry (Members.group i b m) d g) h = head-some {n = (depth, _)} (record { above = omega arith })
+members-head depth number more Stands.no-member h = h
+members-head depth number more (Stands.field _ _ s) h = head-some {n = (depth, _)} (record { above = omega arith })
+members-head depth number more (Stands.group _ _ i g s) h = head-some {n = (depth, _)} (record { above = omega arith })
+members-head depth number more Stands.no-entry h = h
+members-head depth number more (Stands.entry (Stands.field _ _ m) _ d g) h = head-some {n = (depth, _)} (record { above = omega arith })
+members-head depth number more (Stands.entry (Stands.group _ _ i b m) _ d g) h = head-some {n = (depth, _)} (record { above = omega arith })
 
 -- the next entry has another number
-pub entries-head : {d n : ℕ} {gs : List Told} (depth number : ℕ) (more : List (ℕ × ℕ)) (g : Members (entries d n) gs) → Head (Above depth) more → Head (Elsewhere depth number) (numbered depth number g ++ more)
+pub entries-head : {T : Tables} {Here : ℕ → Type 0} {c d n : ℕ} {gs : List Told} (depth number : ℕ) (more : List (ℕ × ℕ)) (g : Stands T Here (entries c d n) gs) → Head (Above depth) more → Head (Elsewhere depth number) (numbered depth number g ++ more)
 unfolding numbered
-entries-head depth number more Members.no-entry h = head-map (λ d n p. record { up-to = omega (arith, p .above); other = λ e f. omega (arith, p .above) }) h
-entries-head depth number more (Members.entry (Members.field m) d g) h = head-some {n = (depth, number + 1)} (record { up-to = omega arith; other = λ e f. omega arith })
-entries-head depth number more (Members.entry (Members.group i b m) d g) h = head-some {n = (depth, number + 1)} (record { up-to = omega arith; other = λ e f. omega arith })
+entries-head depth number more Stands.no-entry h = head-map (λ d n p. record { up-to = omega (arith, p .above); other = λ e f. omega (arith, p .above) }) h
+entries-head depth number more (Stands.entry (Stands.field _ _ m) _ d g) h = head-some {n = (depth, number + 1)} (record { up-to = omega arith; other = λ e f. omega arith })
+entries-head depth number more (Stands.entry (Stands.group _ _ i b m) _ d g) h = head-some {n = (depth, number + 1)} (record { up-to = omega arith; other = λ e f. omega arith })
 
-pub entries-start : {d n : ℕ} {gs : List Told} (depth number : ℕ) (g : Members (entries d (suc n)) gs) → (ns : List (ℕ × ℕ)) × (numbered depth number g ≡ (depth, number + 1) ∷ ns)
+pub entries-start : {T : Tables} {Here : ℕ → Type 0} {c d n : ℕ} {gs : List Told} (depth number : ℕ) (g : Stands T Here (entries c d (suc n)) gs) → (ns : List (ℕ × ℕ)) × (numbered depth number g ≡ (depth, number + 1) ∷ ns)
 unfolding numbered
-entries-start depth number (Members.entry (Members.field m) d g) = (_, refl)
-entries-start depth number (Members.entry (Members.group i b m) d g) = (_, refl)
+entries-start depth number (Stands.entry (Stands.field _ _ m) _ d g) = (_, refl)
+entries-start depth number (Stands.entry (Stands.group _ _ i b m) _ d g) = (_, refl)
 
 module _ {L : Type 0} (rules : Rules L) where
   -- what holds of each depth and number that is given by what is open

@@ -12,7 +12,7 @@ use lib.Dec.{eqb}
 use borrow.Author.Tests.{eqb-true}
 use Rattle.field_rules.specs.Choice.{pick}
 use Rattle.field_rules.specs.Fields.{Fields, unreadable, field}
-use Rattle.field_rules.specs.Standard.{All, Told, Distinct, Stretch, Members}
+use Rattle.standard_rules.specs.Standard.{Tables, All, Told, Distinct, Stretch, Stands}
 use Rattle.field_rules.specs.declared.Field.{Field}
 use Rattle.build_records.specs.Records.{stored}
 use Rattle.build_records.specs.declared.Record.{Record}
@@ -29,7 +29,7 @@ free-append : {depth tag : ℕ} {rs ss : List Record} → Free depth tag rs → 
 free-append free-none b = b
 free-append (free-more h a) b = free-more h (free-append a b)
 
-stored-free : (r : Record) (rs : List Record) → Free (r .depth) (r .tag) rs → stored r rs ≡ rs ++ (r ∷ [])
+pub stored-free : (r : Record) (rs : List Record) → Free (r .depth) (r .tag) rs → stored r rs ≡ rs ++ (r ∷ [])
 unfolding stored
 stored-free r _ free-none = refl
 stored-free r _ (free-more {r = x} {rs = rs} h a) = by-tests (eqb (x .depth) (r .depth)) refl (eqb (x .tag) (r .tag)) refl (stored-free r rs a)
@@ -44,7 +44,7 @@ unfolding joinedList
 joined-free start r done f = rw (stored-free r (drop start done) f) (sym (append-assoc (take start done) (drop start done) (r ∷ [])) ∙ ap (λ (l : List Record). l ++ (r ∷ [])) (take-append-drop start done))
 
 -- a record that is stored comes last, or takes the place of another
-stored-either : (r : Record) (rs : List Record) → (stored r rs ≡ rs ++ (r ∷ [])) ⊎ (length (stored r rs) ≡ length rs)
+pub stored-either : (r : Record) (rs : List Record) → (stored r rs ≡ rs ++ (r ∷ [])) ⊎ (length (stored r rs) ≡ length rs)
 unfolding stored
 stored-either r [] = inl refl
 stored-either r (x ∷ rs) = by-tests (eqb (x .depth) (r .depth)) (eqb (x .tag) (r .tag)) (stored-either r rs)
@@ -67,7 +67,7 @@ joined-either start r done = by-stored (stored-either r (drop start done))
     by-stored (inr e) = inr (omega (arith, length-append (take start done) (stored r (drop start done)), length-append (take start done) (drop start done), ap length (take-append-drop start done)))
 
 -- each stands deeper
-data Deep (depth : ℕ) : List (ℕ × ℕ) → Type 0 where
+pub data Deep (depth : ℕ) : List (ℕ × ℕ) → Type 0 where
   deep-none : Deep depth []
   deep-more : {n : ℕ × ℕ} {ns : List (ℕ × ℕ)} → depth < n .0 → Deep depth ns → Deep depth (n ∷ ns)
 
@@ -75,13 +75,13 @@ deep-append : {depth : ℕ} {ns ms : List (ℕ × ℕ)} → Deep depth ns → De
 deep-append deep-none b = b
 deep-append (deep-more h a) b = deep-more h (deep-append a b)
 
-numbered-deep : {stretch : Stretch} {fs : List Told} (above depth number : ℕ) (s : Members stretch fs) → above < depth → Deep above (numbered depth number s)
+pub numbered-deep : {T : Tables} {Here : ℕ → Type 0} {stretch : Stretch} {fs : List Told} (above depth number : ℕ) (s : Stands T Here stretch fs) → above < depth → Deep above (numbered depth number s)
 unfolding numbered
-numbered-deep above depth number Members.no-member h = deep-none
-numbered-deep above depth number (Members.field s) h = deep-more {n = (depth, _)} h (numbered-deep above depth number s h)
-numbered-deep above depth number (Members.group i g s) h = deep-more {n = (depth, _)} h (deep-append (numbered-deep above (depth + 1) 0 g (omega arith)) (numbered-deep above depth number s h))
-numbered-deep above depth number Members.no-entry h = deep-none
-numbered-deep above depth number (Members.entry m d g) h = deep-append (numbered-deep above depth (number + 1) m h) (numbered-deep above depth (number + 1) g h)
+numbered-deep above depth number Stands.no-member h = deep-none
+numbered-deep above depth number (Stands.field _ _ s) h = deep-more {n = (depth, _)} h (numbered-deep above depth number s h)
+numbered-deep above depth number (Stands.group _ _ i g s) h = deep-more {n = (depth, _)} h (deep-append (numbered-deep above (depth + 1) 0 g (omega arith)) (numbered-deep above depth number s h))
+numbered-deep above depth number Stands.no-entry h = deep-none
+numbered-deep above depth number (Stands.entry m _ d g) h = deep-append (numbered-deep above depth (number + 1) m h) (numbered-deep above depth (number + 1) g h)
 
 deep-free : {depth tag : ℕ} {ns : List (ℕ × ℕ)} (fields : Fields) → Deep depth ns → Free depth tag (recordsAs ns fields)
 unfolding recordsAs entryRecord
@@ -122,16 +122,19 @@ fresh-more start depth ts done more within d old new =
     }
 
 -- a member more, which is the first of them
+pub fresh-record : (start depth t : ℕ) (ts : List ℕ) (done : List Record) (r : Record) → r .tag ≡ t → Fresh start depth (t ∷ ts) done → Fresh start depth ts (done ++ (r ∷ []))
+fresh-record start depth t ts done r same fresh = by-distinct (fresh .distinct) (fresh .free)
+  where
+    by-distinct : Distinct (t ∷ ts) → All (λ t. Free depth t (drop start done)) (t ∷ ts) → Fresh start depth ts (done ++ (r ∷ []))
+    by-distinct (Distinct.fresh others d) (All.also p a) =
+        fresh-more start depth ts done (r ∷ []) (fresh .within) d a (all-map (λ u n. free-more {r = r} (λ e q. n (sym q ∙ same)) free-none) others)
+
 pub fresh-field : (start depth number t : ℕ) (ts : List ℕ) (done : List Record) (f : Field) → f .tag ≡ t → Fresh start depth (t ∷ ts) done → Fresh start depth ts (done ++ (entryRecord depth number f ∷ []))
 unfolding entryRecord
-fresh-field start depth number t ts done f same fresh = by-distinct (fresh .distinct) (fresh .free)
-  where
-    by-distinct : Distinct (t ∷ ts) → All (λ t. Free depth t (drop start done)) (t ∷ ts) → Fresh start depth ts (done ++ (entryRecord depth number f ∷ []))
-    by-distinct (Distinct.fresh others d) (All.also p a) =
-        fresh-more start depth ts done (entryRecord depth number f ∷ []) (fresh .within) d a (all-map (λ u n. free-more {r = entryRecord depth number f} (λ e q. n (sym q ∙ same)) free-none) others)
+fresh-field start depth number t ts done f same fresh = fresh-record start depth t ts done (entryRecord depth number f) same fresh
 
 -- a nested group more
-pub fresh-nested : {stretch : Stretch} {gs : List Told} (start depth : ℕ) (ts : List ℕ) (done : List Record) (g : Members stretch gs) (fields : Fields) → Fresh start depth ts done → Fresh start depth ts (done ++ recordsAs (numbered (depth + 1) 0 g) fields)
+pub fresh-nested : {T : Tables} {Here : ℕ → Type 0} {stretch : Stretch} {gs : List Told} (start depth : ℕ) (ts : List ℕ) (done : List Record) (g : Stands T Here stretch gs) (fields : Fields) → Fresh start depth ts done → Fresh start depth ts (done ++ recordsAs (numbered (depth + 1) 0 g) fields)
 fresh-nested start depth ts done g fields fresh =
     fresh-more start depth ts done _ (fresh .within) (fresh .distinct) (fresh .free) (all-map (λ t p. deep-free fields (numbered-deep depth (depth + 1) 0 g (omega arith))) (fresh .free))
 

@@ -10,7 +10,7 @@ use lib.ListN.{length, length-append}
 use borrow.Author.Tests.{ne-eqb, lt-leb, lt-ltb, le-ltb}
 use Rattle.field_rules.specs.Field.{valueOf}
 use Rattle.field_rules.specs.Fields.{Fields, field}
-use Rattle.field_rules.specs.Standard.{Told, Stretch, Members}
+use Rattle.standard_rules.specs.Standard.{Tables, Told, Stretch, Stands}
 use Rattle.field_rules.specs.declared.Field.{Field}
 use Rattle.build_records.specs.declared.Record.{Record}
 use Rattle.build_group_rules.specs.Groups.{Opened, none, opened, Rules, opens, plain, count, joins, ends, counting, declared, entryKind, Frame, run, entry, inEntry, decide, entryRecord, ended, moved, walk, taking}
@@ -118,16 +118,16 @@ module _ (message : List ℕ) (last : Field) (behind : Fields) where
       record { next = s .next; rest = s .rest; reads-first = one-field tag value (s .reads-first); reads-second = s .reads-second; tag-is = s .tag-is }
 
 -- each field has its depth and number
-pub numbered-each : {stretch : Stretch} {fs : List Told} (depth number : ℕ) (s : Members stretch fs) → length (numbered depth number s) ≡ length fs
+pub numbered-each : {T : Tables} {Here : ℕ → Type 0} {stretch : Stretch} {fs : List Told} (depth number : ℕ) (s : Stands T Here stretch fs) → length (numbered depth number s) ≡ length fs
 unfolding numbered
-numbered-each depth number Members.no-member = refl
-numbered-each depth number (Members.field s) = omega (arith, numbered-each depth number s)
-numbered-each depth number (Members.group {gs = gs} {fs = fs} i g s) = omega (arith, numbered-each (depth + 1) 0 g, numbered-each depth number s, length-append gs fs, length-append (numbered (depth + 1) 0 g) (numbered depth number s))
-numbered-each depth number Members.no-entry = refl
-numbered-each depth number (Members.entry {fs = fs} {gs = gs} m d g) =
+numbered-each depth number Stands.no-member = refl
+numbered-each depth number (Stands.field _ _ s) = omega (arith, numbered-each depth number s)
+numbered-each depth number (Stands.group {gs = gs} {fs = fs} _ _ i g s) = omega (arith, numbered-each (depth + 1) 0 g, numbered-each depth number s, length-append gs fs, length-append (numbered (depth + 1) 0 g) (numbered depth number s))
+numbered-each depth number Stands.no-entry = refl
+numbered-each depth number (Stands.entry {fs = fs} {gs = gs} m _ d g) =
     omega (arith, numbered-each depth (number + 1) m, numbered-each depth (number + 1) g, length-append fs gs, length-append (numbered depth (number + 1) m) (numbered depth (number + 1) g))
 
-records-split : (message : List ℕ) (fields middle : Fields) (fs : List Told) (ns more : List (ℕ × ℕ)) → ReadsAs message fields fs middle → length ns ≡ length fs → recordsAs (ns ++ more) fields ≡ recordsAs ns fields ++ recordsAs more middle
+pub records-split : (message : List ℕ) (fields middle : Fields) (fs : List Told) (ns more : List (ℕ × ℕ)) → ReadsAs message fields fs middle → length ns ≡ length fs → recordsAs (ns ++ more) fields ≡ recordsAs ns fields ++ recordsAs more middle
 unfolding recordsAs
 records-split message _ middle _ [] more no-field e = refl
 records-split message _ middle _ (n ∷ ns) more no-field e = absurd (omega arith)
@@ -143,7 +143,7 @@ records-behind message done r fields middle fs ns more reads e =
     ∙ ap (λ (l : List Record). done ++ (r ∷ l)) (sym (records-split message fields middle fs ns more reads e))
 
 -- fields that were read as the standard tells them make records that tell the same
-pub records-tell : (message : List ℕ) (fields last : Fields) (fs : List Told) (ns : List (ℕ × ℕ)) → ReadsAs message fields fs last → length ns ≡ length fs → Tell message ns fs (recordsAs ns fields)
+pub records-tell : (message : List ℕ) (fields last : Fields) (fs : List Told) (ns : List (ℕ × ℕ)) → ReadsAs message fields fs last → length ns ≡ length fs → Tell message 2 ns fs (recordsAs ns fields)
 unfolding recordsAs entryRecord valueOf
 records-tell message _ last _ [] no-field e = no-record
 records-tell message _ last _ (n ∷ ns) no-field e = absurd (omega arith)
@@ -151,6 +151,6 @@ records-tell message _ last _ [] (one-field tag value r) e = absurd (omega arith
 records-tell message _ last _ (n ∷ ns) (one-field tag value r) e = one-record refl refl refl tag value (records-tell message _ last _ ns r (omega arith))
 
 -- as many records as fields
-pub tell-each : {message : List ℕ} {ns : List (ℕ × ℕ)} {fs : List Told} {rs : List Record} → Tell message ns fs rs → length rs ≡ length fs
+pub tell-each : {message : List ℕ} {part : ℕ} {ns : List (ℕ × ℕ)} {fs : List Told} {rs : List Record} → Tell message part ns fs rs → length rs ≡ length fs
 tell-each no-record = refl
 tell-each (one-record part depth number tag value more) = ap suc (tell-each more)

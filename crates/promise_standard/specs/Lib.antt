@@ -2,13 +2,6 @@ pub mod Texts
 pub mod Frames
 pub mod Reading
 pub mod Sound
-pub mod EncodedMaps
-pub mod EncodedHeader
-pub mod EncodedStandard
-pub mod EncodedRecords
-pub mod EncodedClean
-pub mod EncodedAnswer
-pub mod EncodedExamples
 pub mod Groups
 pub mod GroupSteps
 pub mod GroupOwn

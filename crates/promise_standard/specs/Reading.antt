@@ -10,9 +10,9 @@ use Rattle.field_rules.specs.declared.Mode.{Mode}
 use Rattle.field_rules.specs.Field.{startAt, fieldAt, valueOf, separatedBy}
 use Rattle.field_rules.specs.Fields.{Fields, field, fieldsFrom}
 use Rattle.field_rules.specs.FieldsLaws.{fields-field}
-use Rattle.field_rules.specs.Standard as standard
-use Rattle.field_rules.specs.Standard.{SOH, All, NotDelimiter, Told, told}
-use Rattle.field_rules.specs.StandardLaws.{standard-field}
+use Rattle.standard_rules.specs.Standard as standard
+use Rattle.standard_rules.specs.Standard.{Tables, SOH, All, NotDelimiter, Told, told}
+use Rattle.standard_rules.specs.FieldReads.{standard-field}
 use Rattle.field_rules.specs.declared.Cursor.{Cursor}
 use Rattle.field_rules.specs.declared.Field.{Field}
 use Rattle.field_rules.specs.declared.FieldRead.the-variants.{Read}
@@ -60,9 +60,9 @@ module _ (message : List ℕ) where
   reads-append F G H _ us no-field b = b
   reads-append F G H _ us (one-field tag value a) b = one-field tag value (reads-append _ G H _ us a b)
 
-  module _ {Pair : ℕ → ℕ → Type 0} where
+  module _ {T : Tables} where
     -- a sequence of fields of the standard is read field by field
-    pub fields-read : (fs : List Told) (bytes before after : List ℕ) (n m : ℕ) → message ≡ before ++ (bytes ++ after) → n ≡ length before → m ≡ n + length bytes → standard.Fields Pair fs bytes → Readable fs
+    pub fields-read : (fs : List Told) (bytes before after : List ℕ) (n m : ℕ) → message ≡ before ++ (bytes ++ after) → n ≡ length before → m ≡ n + length bytes → standard.Fields T fs bytes → Readable fs
         → ReadsAs message (fieldsFrom standardMode message (startAt n)) fs (fieldsFrom standardMode message (startAt m))
     fields-read _ _ before after n m w p q standard.Fields.no-field r =
         let same : m ≡ n = omega arith in rw same no-field
@@ -89,11 +89,11 @@ module _ (message : List ℕ) where
         (fields-read fs rest ((before ++ a) ++ c) after j m (behind message (before ++ a) c rest after w₂) at-rest (omega arith) more r))
 
     -- the first of them, whatever stands in the others
-    pub first-read : (t : ℕ) (v : List ℕ) (fs : List Told) (bytes before after : List ℕ) (n : ℕ) → message ≡ before ++ (bytes ++ after) → n ≡ length before → standard.Fields Pair (told t v ∷ fs) bytes → t ≤ 4294967295
+    pub first-read : (t : ℕ) (v : List ℕ) (fs : List Told) (bytes before after : List ℕ) (n : ℕ) → message ≡ before ++ (bytes ++ after) → n ≡ length before → standard.Fields T (told t v ∷ fs) bytes → t ≤ 4294967295
         → (f : Field) × (fieldAt standardMode message (startAt n) ≡ Read f) × (f .tag ≡ t) × (valueOf message f ≡ v)
     first-read t v fs bytes before after n w p s small = by-form (told t v ∷ fs) bytes w s refl
       where
-        by-form : (gs : List Told) (bytes : List ℕ) → message ≡ before ++ (bytes ++ after) → standard.Fields Pair gs bytes → gs ≡ told t v ∷ fs → (f : Field) × (fieldAt standardMode message (startAt n) ≡ Read f) × (f .tag ≡ t) × (valueOf message f ≡ v)
+        by-form : (gs : List Told) (bytes : List ℕ) → message ≡ before ++ (bytes ++ after) → standard.Fields T gs bytes → gs ≡ told t v ∷ fs → (f : Field) × (fieldAt standardMode message (startAt n) ≡ Read f) × (f .tag ≡ t) × (valueOf message f ≡ v)
         by-form _ _ w standard.Fields.no-field e = let z : _≡_ {A = ℕ} 0 1 = cc in absurd (omega arith)
         by-form _ _ w (standard.Fields.plain {t = u} {v = x} {bytes = b} {rest = rest} s y more) e =
             let same : told u x ≡ told t v = cc in

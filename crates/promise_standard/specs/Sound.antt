@@ -17,9 +17,10 @@ use Rattle.field_rules.specs.Field.{startAt, fieldAt, valueOf}
 use Rattle.field_rules.specs.FieldLaws.{past-end}
 use Rattle.field_rules.specs.Fields.{unreadable, fieldsFrom}
 use Rattle.field_rules.specs.FieldsLaws.{fields-end, step-lies}
-use Rattle.field_rules.specs.Standard as standard
-use Rattle.field_rules.specs.Standard.{told, Message}
-use Rattle.field_rules.specs.StandardLaws.{int-read}
+use Rattle.standard_rules.specs.Standard as standard
+use Rattle.standard_rules.specs.Standard.{Tables, told, Message}
+use Rattle.standard_rules.specs.Reading.{others}
+use Rattle.standard_rules.specs.FieldReads.{int-read}
 use Rattle.field_rules.specs.declared.Cursor.{Cursor}
 use Rattle.field_rules.specs.declared.Field.{Field}
 use Rattle.field_rules.specs.declared.FieldRead.the-variants.{Read}
@@ -41,7 +42,7 @@ sound-steps message a b c t n s ra ta rb tb nb lb rc tc sc ec rt tt =
     rw (ra, eq-eqb _ _ ta, rb, eq-eqb _ _ tb, nb, eq-eqb _ _ lb, rc, eq-eqb _ _ tc, sc, eq-eqb _ _ ec, rt, eq-eqb _ _ tt)
 
 -- what integrity answers to a message of the standard
-pub record SoundAs {Pair : ℕ → ℕ → Type 0} (bytes : List ℕ) (m : Message Pair bytes) : Type 0 where
+pub record SoundAs {T : Tables} (bytes : List ℕ) (m : Message T bytes) : Type 0 where
   pub verified : Verified
   pub sound : integrityOf standardMode bytes ≡ Sound verified
   pub begin-string : valueOf bytes (verified .«begin_string») ≡ m .begin-string
@@ -49,7 +50,7 @@ pub record SoundAs {Pair : ℕ → ℕ → Type 0} (bytes : List ℕ) (m : Messa
   pub msg-type : valueOf bytes (verified .«msg_type») ≡ m .msg-type
   pub check-sum : valueOf bytes (verified .checksum) ≡ m .check-sum
 
-module _ {Pair : ℕ → ℕ → Type 0} (bytes : List ℕ) (m : Message Pair bytes) (small : length bytes ≤ 8192) where
+module _ {T : Tables} (bytes : List ℕ) (m : Message T bytes) (small : length bytes ≤ 8192) where
   abbrev a : ℕ
   a = length (m .first)
 
@@ -84,7 +85,7 @@ module _ {Pair : ℕ → ℕ → Type 0} (bytes : List ℕ) (m : Message Pair by
   second-field = reads-one bytes (m .first) (m .second) (m .counted ++ m .last) a b 9 (m .body-length) at-second refl refl (m .second-is) (omega arith)
 
   third-field : (f : Field) × (fieldAt standardMode bytes (startAt b) ≡ Read f) × (f .tag ≡ 35) × (valueOf bytes f ≡ m .msg-type)
-  third-field = first-read bytes 35 (m .msg-type) (m .others) (m .counted) (m .first ++ m .second) (m .last) b at-counted (sym (length-append (m .first) (m .second))) (m .counted-is) (omega arith)
+  third-field = first-read bytes 35 (m .msg-type) (others m) (m .counted) (m .first ++ m .second) (m .last) b at-counted (sym (length-append (m .first) (m .second))) (m .counted-is) (omega arith)
 
   last-field : (f : Field) × (fieldAt standardMode bytes (startAt c) ≡ Read f) × (f .tag ≡ 10) × (valueOf bytes f ≡ m .check-sum) × (f .next ≡ startAt (length bytes))
   last-field =
@@ -115,11 +116,11 @@ module _ {Pair : ℕ → ℕ → Type 0} (bytes : List ℕ) (m : Message Pair by
       }
 
   -- "and its fields are read as the standard gives them"
-  pub standard-read : Readable (told 35 (m .msg-type) ∷ m .others)
-      → ReadsAs bytes (fieldsFrom standardMode bytes (startAt 0)) (told 8 (m .begin-string) ∷ (told 9 (m .body-length) ∷ ((told 35 (m .msg-type) ∷ m .others) ++ (told 10 (m .check-sum) ∷ [])))) (unreadable NoEquals (length bytes))
+  pub standard-read : Readable (told 35 (m .msg-type) ∷ others m)
+      → ReadsAs bytes (fieldsFrom standardMode bytes (startAt 0)) (told 8 (m .begin-string) ∷ (told 9 (m .body-length) ∷ ((told 35 (m .msg-type) ∷ others m) ++ (told 10 (m .check-sum) ∷ [])))) (unreadable NoEquals (length bytes))
   standard-read r =
       let size : b ≡ length (m .first ++ m .second) = sym (length-append (m .first) (m .second)) in
-      let middle = fields-read bytes (told 35 (m .msg-type) ∷ m .others) (m .counted) (m .first ++ m .second) (m .last) b c at-counted size refl (m .counted-is) r in
+      let middle = fields-read bytes (told 35 (m .msg-type) ∷ others m) (m .counted) (m .first ++ m .second) (m .last) b c at-counted size refl (m .counted-is) r in
       let past : fieldsFrom standardMode bytes (startAt (length bytes)) ≡ unreadable NoEquals (length bytes) = fields-end standardMode bytes (startAt (length bytes)) NoEquals (length bytes) (past-end standardMode bytes (startAt (length bytes)) (omega arith)) in
       let end : ReadsAs bytes (fieldsFrom standardMode bytes (startAt c)) (told 10 (m .check-sum) ∷ []) (unreadable NoEquals (length bytes)) = reads-then bytes c (length bytes) 10 (m .check-sum) [] _ last-field (rw past no-field) in
       reads-then bytes 0 a 8 (m .begin-string) _ _ first-field

@@ -11,9 +11,9 @@ use Rattle.field_rules.specs.Number.{allDigits, worth}
 use Rattle.field_rules.specs.CheckSum.{sumOf}
 use Rattle.field_rules.specs.Decimal.{decimal}
 use Rattle.field_rules.specs.DecimalLaws.{decimal-unique, all-digits-first}
-use Rattle.field_rules.specs.Standard as standard
-use Rattle.field_rules.specs.Standard.{All, Digit, NotDelimiter, TagNum, Int, Value, total}
-use Rattle.field_rules.specs.StandardLaws.{digits-all, worth-same}
+use Rattle.standard_rules.specs.Standard as standard
+use Rattle.standard_rules.specs.Standard.{All, Digit, NotDelimiter, TagNum, Int, Value, total}
+use Rattle.standard_rules.specs.FieldReads.{digits-all, worth-same}
 
 pub sum-same : (s : List ℕ) → sumOf s ≡ total s
 unfolding sumOf

@@ -1,1 +1,1 @@
-// promise_standard: the FIX TagValue encoding, as `field_tagvalue` has it from the public standard, against integrity, reading and the hunting framer. Laws alone.
+// promise_standard: messages of the standard (`standard_rules`) against integrity, reading, repeating groups and the hunting framer. Laws alone.

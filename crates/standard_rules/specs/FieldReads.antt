@@ -1,28 +1,28 @@
 -- The reader against the standard, as far as one field goes: a field of the standard is read with its tag and value.
 -- Its text has the digits, the `=` and the delimiter just where reading looks for them.
-use mathlib.Core.Path.{_≡_, refl, sym, ap, _∙_}
+use mathlib.Core.Path.{_≡_, refl, ap, _∙_}
 use mathlib.Core.Bool.{true}
 use mathlib.Core.List.{List, [], _∷_, _++_}
 use mathlib.Core.Logic.{_≢_}
-use Prim.Native.Nat.{ℕ, _+_, _*_, _-_, _≤_, _<_}
+use Prim.Native.Nat.{ℕ, _+_, _*_, _-_, _≤_}
 use native.Mathlib.Omega.{arith}
 use lib.ListN.{length, drop}
 use lib.Seq.{drop-append-seam}
 use borrow.Author.Tests.{le-leb}
 use Rattle.field_rules.specs.Number.{isDigit, allDigits, worth, numberIn, tagOf}
 use Rattle.field_rules.specs.NumberLaws.{worth-least, number-good, tag-good}
 use Rattle.field_rules.specs.FindLaws.{Absent}
 use Rattle.field_rules.specs.FindLaws as find
-use Rattle.field_rules.specs.Field.{separatedBy, startAt, fieldAt, fieldBytes, valueOf}
+use Rattle.field_rules.specs.Field.{separatedBy, startAt, fieldAt, valueOf}
 use Rattle.field_rules.specs.FieldTextLaws.{Spelled, spelt, spelled-read, bytes-size}
 use Rattle.field_rules.specs.FieldsLaws.{step-value}
-use Rattle.field_rules.specs.Standard as standard
-use Rattle.field_rules.specs.Standard.{All, Digit, SOH}
+use Rattle.standard_rules.specs.Standard as standard
+use Rattle.standard_rules.specs.Standard.{All, Digit, SOH}
 use Rattle.field_rules.specs.declared.Number.the-variants.{Worth}
 use Rattle.field_rules.specs.declared.Mode.{Mode}
 use Rattle.field_rules.specs.declared.Cursor.{Cursor}
 use Rattle.field_rules.specs.declared.Field.{Field}
 use Rattle.field_rules.specs.declared.FieldRead.the-variants.{Read}
 
 pub digits-all : (text : List ℕ) → All Digit text → allDigits text ≡ true
 unfolding allDigits isDigit
@@ -51,7 +51,12 @@ not-nothing d ds n (All.also digit a) =
 pub tag-read : (text : List ℕ) (tag : ℕ) → standard.TagNum text tag → tag ≤ 4294967295 → tagOf text ≡ Worth tag
 tag-read text tag t h =
     tag-good text tag (int-read text tag (t .int) h)
-    (λ e. omega (arith, t .int .worth, not-nothing (t .highest) (t .others) (t .no-leading-zero) (rw (t .starts) at (t .int .digits)), ap (standard.worthAfter 0) (t .starts)))
+    (λ e. omega (
+      arith,
+      t .int .worth,
+      not-nothing (t .highest) (t .others) (t .no-leading-zero) (rw (t .starts) at (t .int .digits)),
+      ap (standard.worthAfter 0) (t .starts),
+    ))
 
 -- a field that was read at a place, with its tag, its value and where it ends
 pub record ReadAs (mode : Mode) (message : List ℕ) (at tag : ℕ) (value : List ℕ) (next : ℕ) : Type 0 where
@@ -64,7 +69,8 @@ pub record ReadAs (mode : Mode) (message : List ℕ) (at tag : ℕ) (value : Lis
 
 -- THE STANDARD, one field: wherever it stands in a message, a field of the standard is read with its tag and value, and reading goes
 -- on right behind it. The standard sets no limit to tags; the rules do.
-pub standard-field : (tag : ℕ) (value bytes before rest : List ℕ) → standard.Field tag value bytes → tag ≤ 4294967295 → ReadAs (separatedBy SOH) (before ++ (bytes ++ rest)) (length before) tag value (length before + length bytes)
+pub standard-field : (tag : ℕ) (value bytes before rest : List ℕ) → standard.Field tag value bytes → tag ≤ 4294967295
+    → ReadAs (separatedBy SOH) (before ++ (bytes ++ rest)) (length before) tag value (length before + length bytes)
 unfolding fieldAt
 standard-field tag value bytes before rest s h =
     let text : List ℕ = s .text in

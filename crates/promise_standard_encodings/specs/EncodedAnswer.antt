@@ -9,7 +9,8 @@ use lib.ListN.{length, take, drop}
 use lib.Seq.{take-at}
 use Rattle.field_rules.specs.Choice.{pick}
 use Rattle.field_rules.specs.Number.{isDigit}
-use Rattle.field_rules.specs.Standard as standard
+use Rattle.standard_rules.specs.Standard as standard
+use Rattle.standard_rules.specs.Standard.{Tables, Value}
 use Rattle.message_maps.specs.Map.{holds}
 use Rattle.message_lent.specs.Meaning.{Message, messageIn}
 use Rattle.message_lent.specs.FormedLaws.{lent-formed}
@@ -22,8 +23,7 @@ use Rattle.encoder.specs.VerdictLaws.{refused-incomplete, encodes, refuses}
 use Rattle.encode_rules.specs.declared.Encoding.the-variants.{Written, Incomplete}
 use Rattle.encode_rules.specs.declared.Verdict.{Verdict}
 use Rattle.encode_rules.specs.declared.Verdict.the-variants.{Measured, Refused}
-use Rattle.promise_standard.specs.EncodedMaps.{NoPair}
-use Rattle.promise_standard.specs.EncodedStandard.{Complete, Conformant, encoding-standard}
+use Rattle.promise_standard_encodings.specs.EncodedStandard.{Complete, Conformant, encoding-standard}
 
 -- "a header without 8 or 35" is incomplete
 holds-both : (m : Message) → isIncomplete (dropped m) ≡ false → (holds 8 (m .header) ≡ true) × (holds 35 (m .header) ≡ true)
@@ -68,5 +68,5 @@ module _ (words values output : List ℕ) (n : ℕ) (w v o : List ℕ) (answered
       record { formed = lent-formed words values lent .formed; begin-string = both .0; msg-type = both .1 }
 
   -- THE STANDARD, encodings
-  pub encode-standard : Conformant (messageIn words values) → standard.Message NoPair (take n o)
+  pub encode-standard : {T : Tables} → Conformant T Value (messageIn words values) → standard.Message T (take n o)
   encode-standard c = rw bytes-written (encoding-standard (messageIn words values) complete c)

@@ -1,5 +1,5 @@
 -- The header as it is written: 8, 9 and 35 stand in it once and without runs, so each is written once, and all the rest behind them in map
--- order. What is left out of a conforming map, where no run hangs on it, leaves a conforming map.
+-- order.
 use mathlib.Core.Path.{_≡_, refl, sym, ap, _∙_}
 use mathlib.Core.Bool.{Bool, true, false}
 use mathlib.Core.List.{List, [], _++_, append-nil}
@@ -21,7 +21,6 @@ use Rattle.encoder.specs.CountLaws.{gone-once}
 use Rattle.encoder.specs.FoundLaws.{hangs}
 use Rattle.encoder.specs.SizeLaws.{sizeUnder}
 use Rattle.encode_rewriting_laws.specs.EncodedBuilt.{under-absent, under-rest}
-use Rattle.promise_standard.specs.EncodedMaps.{Next, fields, entries, Conforms, no-more, alone, counted, no-entry, one-entry}
 
 -- ===== leaving out =====
 
@@ -46,29 +45,6 @@ holds-without tag gone (field t v rest) h =
     by-test true e h again = h
     by-test false e h again = rw e again
 holds-without tag gone (entry s d own rest) h = holds-without tag gone rest h
-
--- a run that comes next hangs on its start tag
-run-hangs : (start d n : ℕ) (m : Map) → Conforms (entries start d (suc n)) m → hangs start m ≡ true
-unfolding hangs
-run-hangs start d n _ (one-entry first more) = rw (eq-eqb start start refl)
-
-pub conforms-without : (tag : ℕ) (next : Next) (m : Map) → Conforms next m → hangs tag m ≡ false → Conforms next (withoutField tag m)
-unfolding hangs withoutField
-conforms-without tag _ _ no-more h = no-more
-conforms-without tag _ _ (alone {t = t} {v = v} {rest = rest} value more) h = by-test (eqb t tag) (conforms-without tag fields rest more h)
-  where
-    by-test : (b : Bool) → Conforms fields (withoutField tag rest) → Conforms fields (pick b rest (field t v (withoutField tag rest)))
-    by-test true again = more
-    by-test false again = alone value again
-conforms-without tag _ _ (counted {t = t} {d = d} {n = n} {v = v} {rest = rest} i more) h =
-    by-test (eqb t tag) refl (conforms-without tag (entries t d (suc n)) rest more h)
-  where
-    by-test : (b : Bool) → eqb t tag ≡ b → Conforms (entries t d (suc n)) (withoutField tag rest) → Conforms fields (pick b rest (field t v (withoutField tag rest)))
-    by-test true e again = never (sym (run-hangs t d n rest more) ∙ ap (λ (s : ℕ). hangs s rest) (eqb-true t tag e) ∙ h)
-    by-test false e again = counted i again
-conforms-without tag _ _ (no-entry {rest = rest} more) h = no-entry (conforms-without tag fields rest more h)
-conforms-without tag _ _ (one-entry {s = s} {d = d} {n = n} {rest = rest} first more) h =
-    one-entry first (conforms-without tag (entries s d n) rest more (nor (eqb s tag) (hangs tag rest) h .1))
 
 -- a tag that is held no more, and on which no run hangs, stands nowhere
 nowhere : (tag : ℕ) (m : Map) → holds tag m ≡ false → hangs tag m ≡ false → stands tag m ≡ false
@@ -222,12 +198,6 @@ module _ (header : Map) (formed : isFormed header ≡ true) where
       (holds-without 8 35 second (gone-once 8 first (formed-without 9 header formed)), holds-without 9 35 second (holds-without 9 8 first (gone-once 9 header formed)), gone-once 35 second second-formed)
 
 module _ (header : Map) (formed : isFormed header ≡ true) (eight : hangs 8 header ≡ false) (nine : hangs 9 header ≡ false) (type : hangs 35 header ≡ false) where
-  pub others-conform : Conforms fields (withoutField 9 header) → Conforms fields (othersOf header)
-  unfolding othersOf
-  others-conform c =
-      conforms-without 35 fields (withoutField 8 (withoutField 9 header)) (conforms-without 8 fields (withoutField 9 header) c (hangs-without 8 9 header ∙ eight))
-      (hangs-without 35 8 (withoutField 9 header) ∙ hangs-without 35 9 header ∙ type)
-
   rest-others : (separator : ℕ) → textUnder isRest separator (withoutField 9 header) ≡ text separator (othersOf header)
   unfolding isRest isFirst
   rest-others separator =
