@@ -2,3 +2,4 @@ pub mod Told
 pub mod ToldLaws
 pub mod PartLaws
 pub mod FoundLaws
+pub mod UncutLaws

@@ -73,7 +73,7 @@ module _ (message : List ℕ) where
     header-shown (ended f rest room h) k = type-shown f rest room h (layoutOf dictionary (valueAt message (msgTypeRecord h))) (k f rest room h refl)
 
   module _ (dictionary : Dictionary) (config : Config) where
-    verified-kept : (v : Verified) → VerifiedRead (config .mode) message v → Kept message (fieldsFrom (config .mode) message (v .«msg_type» .next)) 1021 (verifiedRecords v)
+    pub verified-kept : (v : Verified) → VerifiedRead (config .mode) message v → Kept message (fieldsFrom (config .mode) message (v .«msg_type» .next)) 1021 (verifiedRecords v)
     unfolding verifiedRecords
     verified-kept v r = record {
       small =

@@ -1,0 +1,6 @@
+pub mod DictionaryNumbers
+pub mod LayoutNumbers
+pub mod RunNumbers
+pub mod AnswerNumbers
+pub mod LengthNumbers
+pub mod ToldUncut
