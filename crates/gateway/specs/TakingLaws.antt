@@ -40,12 +40,12 @@ table-read fs zero h = refl
 table-read [] (suc n) h = absurd (not-suc-le-zero h)
 table-read (f ∷ fs) (suc n) h = ap (λ (rs : List Record). recordOfLent f ∷ rs) (table-read fs n (le-of-suc-le-suc h))
 
-length-from : (fs : List FieldRecord) → length (recordsFrom fs) ≡ length fs
+pub length-from : (fs : List FieldRecord) → length (recordsFrom fs) ≡ length fs
 unfolding recordsFrom
 length-from [] = refl
 length-from (f ∷ fs) = ap suc (length-from fs)
 
-take-from : (n : ℕ) (fs : List FieldRecord) → recordsFrom (take n fs) ≡ take n (recordsFrom fs)
+pub take-from : (n : ℕ) (fs : List FieldRecord) → recordsFrom (take n fs) ≡ take n (recordsFrom fs)
 unfolding recordsFrom
 take-from zero fs = refl
 take-from (suc n) [] = refl
@@ -81,7 +81,7 @@ put-words fs n lent most = ap (take (stride * n)) whole ∙ take-at (laid read) 
     size = laid-length read ∙ ap (λ (k : ℕ). stride * k) (length-from (take n fs) ∙ length-take-le n fs lent)
 
 -- the records that words of lent records hold
-lent-records : (fs : List FieldRecord) → recordsOf (wordsLent fs) ≡ recordsFrom fs
+pub lent-records : (fs : List FieldRecord) → recordsOf (wordsLent fs) ≡ recordsFrom fs
 unfolding wordsLent recordsOf
 lent-records fs = ap recordsOf (sym (append-nil (laid (recordsFrom fs)))) ∙ records-laid (recordsFrom fs) [] ∙ append-nil (recordsFrom fs)
 
@@ -108,7 +108,7 @@ too-many records count bytes words values e =
 lent-length : (fs : List FieldRecord) → length (recordsOf (wordsLent fs)) ≡ length fs
 lent-length fs = ap length (lent-records fs) ∙ length-from fs
 
-first-of : (count : ℕ) (rs : List Record) → between 0 count rs ≡ take count rs
+pub first-of : (count : ℕ) (rs : List Record) → between 0 count rs ≡ take count rs
 unfolding between
 first-of count rs = let e : count - 0 ≡ count = omega arith in ap (λ (n : ℕ). take n rs) e
 

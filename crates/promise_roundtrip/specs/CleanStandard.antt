@@ -1,5 +1,5 @@
--- "a clean message whose values are non-empty, whose counts equal their entries and whose tags don't repeat across parts is one of the
--- standard": it is its own encoding, and its records are those of the fields that were read, so no value holds a separator.
+-- A clean message that keeps to FIX's tables is one of the standard: it is its own encoding, and its records are those of the fields that were
+-- read, so no value holds a separator.
 use mathlib.Core.Path.{_≡_, refl, sym, ap, _∙_, subst}
 use mathlib.Core.Bool.{Bool}
 use mathlib.Core.List.{List, [], _∷_, _++_}
@@ -8,7 +8,8 @@ use lib.ListN.{length}
 use Rattle.field_rules.specs.Field.{startAt}
 use Rattle.field_rules.specs.Fields.{field}
 use Rattle.field_rules.specs.FieldsLaws.{fields-field}
-use Rattle.field_rules.specs.Standard as standard
+use Rattle.standard_rules.specs.Standard as standard
+use Rattle.standard_rules.specs.Standard.{Tables}
 use Rattle.build_integrity_rules.specs.VerifiedLaws.{verified-read}
 use Rattle.build_config.specs.declared.Config.{Config}
 use Rattle.dictionary_layout_rules.specs.Tree.{Dictionary}
@@ -22,15 +23,21 @@ use Rattle.build_rules.specs.Message.{messageRead}
 use Rattle.encode_rules.specs.Encoding.{encoding}
 use Rattle.message_read_laws.specs.PartReading.{of-field}
 use Rattle.message_read_laws.specs.ShapeLaws.{all-left, all-right}
-use Rattle.promise_records.specs.TakenOver.{build-takes, build-shown}
+use Rattle.message_read_laws.specs.Parted.{Takes}
+use Rattle.promise_records.specs.TakenOver.{TakenOver, build-of-taken}
+use Rattle.message_take_over.specs.Taking.{takingOver, after}
+use Rattle.message_take_over.specs.declared.Taken.the-variants.{Made}
+use Rattle.message_maps.specs.Rows.{messageWords}
+use Rattle.message_lent.specs.Meaning.{Message, wordsOf, valueBytesOf, messageIn}
+use Rattle.message_lent.specs.MeantLaws.{layout-meant}
 use Rattle.build_order_laws.specs.Follows.{no-field, one-field}
 use Rattle.build_order_laws.specs.InOrder.{InOrder}
 use Rattle.encode_rewriting_laws.specs.EncodedBuilt.{encoding-rewritten}
 use Rattle.encode_rewriting_laws.specs.ReadWritten.{Writable, follows-writable}
 use Rattle.encode_rewriting_laws.specs.ReadMessage.{Followed, followed-writable}
-use Rattle.promise_standard.specs.EncodedMaps.{NoPair}
-use Rattle.promise_standard.specs.EncodedRecords.{StandardRecords}
-use Rattle.promise_standard.specs.EncodedClean.{built-standard}
+use Rattle.promise_standard_encodings.specs.EncodedMaps.{Some}
+use Rattle.promise_standard_encodings.specs.EncodedStandard.{Conformant}
+use Rattle.promise_standard_encodings.specs.EncodedClean.{built-standard}
 use Rattle.promise_roundtrip.specs.Clean.{Clean}
 use Rattle.promise_roundtrip.specs.ComesBack.{repeat-free-order, order-built, clean-text}
 
@@ -56,21 +63,32 @@ module _ (dictionary : Dictionary) (config : Config) (message : List ℕ) (o : I
       (all-append (Writable (config .mode .separator) message) (all-left (o .parts .body) (o .trailer) behind)
       (all-append (Writable (config .mode .separator) message) check-writable (all-right (o .parts .body) (o .trailer) behind)))
 
--- THE STANDARD, clean messages
-pub clean-standard : (dictionary : Dictionary) (config : Config) (message : List ℕ) → config .mode .separator ≡ 1 → Clean dictionary config message → length message ≤ 8192
-    → StandardRecords message (messageRead dictionary config message .records) → standard.Message NoPair message
-clean-standard dictionary config message one c short given =
+-- THE STANDARD, clean messages: for all of FIX's tables that what was built keeps to
+pub clean-standard : {T : Tables} (dictionary : Dictionary) (config : Config) (message : List ℕ) → config .mode .separator ≡ 1 → Clean dictionary config message
+    → (t : Takes message (messageRead dictionary config message .records)) → Conformant T Some (t .meant) → standard.Message T message
+clean-standard dictionary config message one c t conforms =
     let o = repeat-free-order dictionary config message (c .repeat-free) in
-    let t = build-takes dictionary config message short (c .repeat-free .valid) in
     let built = order-built dictionary config message o (t .meant) t refl in
     let same : message ≡ encoding (config .mode .separator) (t .meant) = clean-text dictionary config message o c ∙ sym (encoding-rewritten (config .mode .separator) built) in
     let starts = ap (λ (l : List Record). l ++ (o .parts .body ++ (partRecord 3 (o .parts .verified .checksum) ∷ o .trailer))) (o .header-starts) in
     let writable : All (Writable 1 message) (o .parts .header ++ (o .parts .body ++ (partRecord 3 (o .parts .verified .checksum) ∷ o .trailer))) =
     subst (λ (separator : ℕ). All (Writable separator message) (o .parts .header ++ (o .parts .body ++ (partRecord 3 (o .parts .verified .checksum) ∷ o .trailer)))) one (order-writable dictionary config message o) in
-    built-standard built (subst (All (Writable 1 message)) starts writable) (subst (StandardRecords message) (o .records ∙ starts) given) (same ∙ ap (λ (separator : ℕ). encoding separator (t .meant)) one)
+    built-standard built (subst (All (Writable 1 message)) starts writable) conforms (same ∙ ap (λ (separator : ℕ). encoding separator (t .meant)) one)
 
--- and of the call: what build answers with 0 is within 8,192 bytes
-pub clean-message-standard : (message : List ℕ) (config : Config) (dictionary : List ℕ) (lent : ℕ) (before : List ℕ) → config .mode .separator ≡ 1 → buildOf message config dictionary lent before .answer ≡ Valid
-    → Clean (dictionaryOf dictionary) config message → StandardRecords message (messageRead (dictionaryOf dictionary) config message .records) → standard.Message NoPair message
-clean-message-standard message config dictionary lent before one valid c given =
-    clean-standard (dictionaryOf dictionary) config message one c (build-shown message config dictionary lent before valid .short) given
+-- and of the calls: what a build answered with 0 is taken over, and what that leaves keeps to the tables
+pub clean-message-standard : {T : Tables} (message : List ℕ) (config : Config) (dictionary : List ℕ) (lent : ℕ) (before words values taken-words taken-values : List ℕ) → length words ≡ messageWords → length values ≡ 8192
+    → config .mode .separator ≡ 1 → buildOf message config dictionary lent before .answer ≡ Valid → Clean (dictionaryOf dictionary) config message
+    → takingOver (buildOf message config dictionary lent before .words) (buildOf message config dictionary lent before .records) message words values ≡ after Made taken-words taken-values
+    → Conformant T Some (messageIn taken-words taken-values) → standard.Message T message
+clean-message-standard {T} message config dictionary lent before words values taken-words taken-values whole store one valid c taken conforms =
+    let t = build-of-taken message config dictionary lent before words values whole store valid in
+    let m = t .0 .takes .meant in
+    let same : after Made (wordsOf m) (valueBytesOf m) ≡ after Made taken-words taken-values = sym (t .1) ∙ taken in
+    let meant : messageIn taken-words taken-values ≡ m = left-meant m taken-words taken-values same in
+    clean-standard (dictionaryOf dictionary) config message one c (t .0 .takes) (subst (Conformant T Some) meant conforms)
+  where
+    left-meant : (m : Message) (w v : List ℕ) → after Made (wordsOf m) (valueBytesOf m) ≡ after Made w v → messageIn w v ≡ m
+    left-meant m w v e =
+        let words-same : wordsOf m ≡ w = cc in
+        let values-same : valueBytesOf m ≡ v = cc in
+        rw (← words-same, ← values-same) (layout-meant m)

@@ -34,7 +34,6 @@ use Rattle.build_order_laws.specs.Follows.{Follows}
 use Rattle.build_order_laws.specs.TrailerStores.{Last, at-stop, at-end}
 use Rattle.build_order_laws.specs.InOrder.{InOrder, in-order}
 use Rattle.build_order_laws.specs.VerifiedTags.{verified-tags}
-use Rattle.build_order_laws.specs.TwiceMessage.{once-all}
 use Rattle.encode_rewriting_laws.specs.Written.{rewritten}
 use Rattle.encode_rewriting_laws.specs.EncodedBuilt.{Built}
 use Rattle.encode_rewriting_laws.specs.EncodedFit.{encoding-written}
@@ -45,7 +44,7 @@ use Rattle.promise_roundtrip.specs.Clean.{RepeatFree, Clean}
 module _ (dictionary : Dictionary) (config : Config) (message : List ℕ) where
   -- "no tag stored twice in one map": the records stand in the order of reading
   pub repeat-free-order : RepeatFree dictionary config message → InOrder dictionary config message
-  repeat-free-order r = in-order dictionary config message (r .valid) (once-all dictionary config message (r .valid) (r .none-twice))
+  repeat-free-order r = in-order dictionary config message (r .valid) (r .none-twice)
 
   module _ (o : InOrder dictionary config message) where
     abbrev begin : Record

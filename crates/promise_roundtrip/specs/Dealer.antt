@@ -1,5 +1,5 @@
 -- THEOREM 5, the dealer's case: where a tag was stored twice in one map, the encoding holds fewer fields than were read. There are fewer
--- records than fields, and an encoding has a field to each record. A clean message has no such tag.
+-- records than fields, and an encoding has a field to each record. Encode is never refused but for its length. A clean message has no such tag.
 use mathlib.Core.Path.{_≡_}
 use mathlib.Core.Bool.{Bool, true, false}
 use mathlib.Core.List.{List}
@@ -13,7 +13,7 @@ use Rattle.dictionary_layout_rules.specs.Tree.{Dictionary}
 use Rattle.build_answers.specs.declared.Answer.the-variants.{Valid}
 use Rattle.build_rules.specs.Message.{messageRead}
 use Rattle.builder.specs.Build.{BuildOutcome, buildOf}
-use Rattle.message_lent.specs.Meaning.{wordsOf, valueBytesOf, messageIn}
+use Rattle.message_lent.specs.Meaning.{Message, wordsOf, valueBytesOf, messageIn}
 use Rattle.message_rules.specs.Changes.{fieldTotal}
 use Rattle.encode_rules.specs.Encoding.{encodedMessage}
 use Rattle.encode_rules.specs.Encode.{left, encodingOf}
@@ -27,8 +27,9 @@ use Rattle.build_order_laws.specs.Counted.{fieldsCounted}
 use Rattle.build_order_laws.specs.InParts.{in-parts}
 use Rattle.build_order_laws.specs.Twice.{storedTwice}
 use Rattle.build_order_laws.specs.TwiceMessage.{twice-fewer}
-use Rattle.promise_roundtrip.specs.Clean.{Clean}
+use Rattle.promise_roundtrip.specs.Clean.{Clean, none-twice-iff}
 use Rattle.promise_roundtrip.specs.DealerHolds.{length-held, checksum-held, encoded-records}
+use Rattle.promise_roundtrip.specs.DealerEncodes.{OnlyLength, built-encodes}
 
 module _ (dictionary : Dictionary) (config : Config) (message : List ℕ) where
   -- an encoding of what was built has a field to each record, repeats or not
@@ -52,14 +53,15 @@ module _ (dictionary : Dictionary) (config : Config) (message : List ℕ) where
 
   -- ".. and no clean message has such a tag"
   pub clean-never-twice : Clean dictionary config message → storedTwice dictionary config message ≡ false
-  clean-never-twice c = c .repeat-free .none-twice
+  clean-never-twice c = none-twice-iff dictionary config message (c .repeat-free .valid) .0 (c .repeat-free .none-twice)
 
--- what the calls of build and take-over make of a message, and how many fields an encode that is not refused leaves of it
+-- what the calls of build and take-over make of a message, and what an encode then answers and leaves of it: it is refused by its length alone,
+-- with 20 or 23, and where it is not, there are fewer fields than were read
 pub record Loses (message : List ℕ) (config : Config) (dictionary : List ℕ) (built : BuildOutcome) (words values : List ℕ) : Type 0 where
-  pub taken-words : List ℕ
-  pub taken-values : List ℕ
-  pub takes-over : takingOver (built .words) (built .records) message words values ≡ after Made taken-words taken-values
-  pub loses : (output : List ℕ) (size : ℕ) (left-words left-values left-output : List ℕ) → encodingOf (config .mode .separator) taken-words taken-values output ≡ left (Written size) left-words left-values left-output
+  pub taken : Message
+  pub takes-over : takingOver (built .words) (built .records) message words values ≡ after Made (wordsOf taken) (valueBytesOf taken)
+  pub only-length : (output : List ℕ) → OnlyLength (config .mode .separator) taken output
+  pub loses : (output : List ℕ) (size : ℕ) (left-words left-values left-output : List ℕ) → encodingOf (config .mode .separator) (wordsOf taken) (valueBytesOf taken) output ≡ left (Written size) left-words left-values left-output
       → fieldTotal (messageIn left-words left-values) < fieldsCounted (config .mode) message (messageRead (dictionaryOf dictionary) config message .stop)
 
 -- THE DEALER'S CASE, for every message, dictionary, separator and setting, through the operations
@@ -71,9 +73,9 @@ message-loses message config dictionary lent before words values whole store a t
     let l = stored-twice-lost (dictionaryOf dictionary) config message words values (s .valid) twice (s .short) whole store in
     let t = l .taken in
     record {
-      taken-words = wordsOf (t .takes .meant);
-      taken-values = valueBytesOf (t .takes .meant);
+      taken = t .takes .meant;
       takes-over = rw (s .words, s .count) (t .made);
+      only-length = λ output. built-encodes (dictionaryOf dictionary) config message output (s .valid) (s .separates) (t .takes);
       loses = λ output size w v o e.
           let left-is = encode-lends (config .mode .separator) (wordsOf (t .takes .meant)) (valueBytesOf (t .takes .meant)) output size w v o e .1 .meant in
           rw (left-is, t .lends .meant) (l .fewer);

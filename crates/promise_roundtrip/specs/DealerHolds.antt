@@ -99,10 +99,21 @@ of-part : (part : ℕ) (f : Field) → partRecord part f .part ≡ part
 unfolding partRecord
 of-part part f = refl
 
--- the verified BodyLength is in the header, and stays there
-verified-held : (v : Verified) → VerifiedTags v → Held 1 9 (verifiedRecords v)
-unfolding verifiedRecords
-verified-held v t = held-stored (partRecord 1 (v .«msg_type»)) (of-part 1 (v .«msg_type»)) (held-new (partRecord 1 (v .«body_length»)) (under-field 1 9 (v .«body_length») (t .counts)) _)
+-- the verified BeginString, BodyLength and MsgType are in the header, and stay there
+module _ (v : Verified) (t : VerifiedTags v) where
+  begin-held : Held 1 8 (verifiedRecords v)
+  unfolding verifiedRecords
+  begin-held =
+      held-stored (partRecord 1 (v .«msg_type»)) (of-part 1 (v .«msg_type»))
+      (held-stored (partRecord 1 (v .«body_length»)) (of-part 1 (v .«body_length»)) (held-new (partRecord 1 (v .«begin_string»)) (under-field 1 8 (v .«begin_string») (t .begins)) []))
+
+  size-held : Held 1 9 (verifiedRecords v)
+  unfolding verifiedRecords
+  size-held = held-stored (partRecord 1 (v .«msg_type»)) (of-part 1 (v .«msg_type»)) (held-new (partRecord 1 (v .«body_length»)) (under-field 1 9 (v .«body_length») (t .counts)) _)
+
+  type-held : Held 1 35 (verifiedRecords v)
+  unfolding verifiedRecords
+  type-held = held-new (partRecord 1 (v .«msg_type»)) (under-field 1 35 (v .«msg_type») (t .types)) _
 
 header-held : {tag : ℕ} (tags : List ℕ) (fields : Fields) (room : ℕ) (rs : List Record) (f : Field) (rest : Fields) (left : ℕ) (ss : List Record) → headerFrom tags fields room rs ≡ ended f rest left ss → Held 1 tag rs → Held 1 tag ss
 unfolding headerFrom
@@ -127,11 +138,20 @@ trailer-held {tag} (field g more) (suc room) rs stop ts e h = by-tag (eqb (g .ta
     by-tag false q later = later q
 
 module _ (dictionary : Dictionary) (config : Config) (message : List ℕ) (outcome : Outcome) (p : InParts dictionary config message outcome) where
-  pub length-held : Held 1 9 (outcome .records)
-  length-held =
+  in-header : {tag : ℕ} → Held 1 tag (verifiedRecords (p .verified)) → Held 1 tag (outcome .records)
+  in-header held =
       let v = p .verified in
-      let h = header-held (headerTags dictionary) (fieldsFrom (config .mode) message (v .«msg_type» .next)) 1021 (verifiedRecords v) (p .f) (p .rest) (p .room) (p .header) (unfold headerOf in p .header-read) (verified-held v (verified-tags (config .mode) message v (p .sound))) in
+      let h = header-held (headerTags dictionary) (fieldsFrom (config .mode) message (v .«msg_type» .next)) 1021 (verifiedRecords v) (p .f) (p .rest) (p .room) (p .header) (unfold headerOf in p .header-read) held in
       rw (p .records) (held-left (p .body ++ p .whole-trailer) h)
+
+  pub begin-string-held : Held 1 8 (outcome .records)
+  begin-string-held = in-header (begin-held (p .verified) (verified-tags (config .mode) message (p .verified) (p .sound)))
+
+  pub length-held : Held 1 9 (outcome .records)
+  length-held = in-header (size-held (p .verified) (verified-tags (config .mode) message (p .verified) (p .sound)))
+
+  pub msg-type-held : Held 1 35 (outcome .records)
+  msg-type-held = in-header (type-held (p .verified) (verified-tags (config .mode) message (p .verified) (p .sound)))
 
   pub checksum-held : Held 3 10 (outcome .records)
   checksum-held =
@@ -168,7 +188,7 @@ module _ {bytes : List ℕ} {m : Message} {rs : List Record} (stand : StandFor b
       all : Held part tag (stand .ofHeader ++ (stand .ofBody ++ stand .ofTrailer))
       all = rw (stand .all) at h
 
-  header-holds : {tag : ℕ} → Held 1 tag rs → holds tag (m .header) ≡ true
+  pub header-holds : {tag : ℕ} → Held 1 tag rs → holds tag (m .header) ≡ true
   header-holds h =
       ⊎-elim (λ a. stands-hold (stand .header) a)
       (⊎-elim (λ a. let z = stands-part (stand .body) a in absurd (omega arith)) (λ a. let z = stands-part (stand .trailer) a in absurd (omega arith)))
