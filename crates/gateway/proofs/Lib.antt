@@ -1,5 +1,6 @@
 pub mod Calling
 pub mod Counting
+pub mod Ensured
 pub mod ExportedFramers
 pub mod Framer
 pub mod NoFreedom

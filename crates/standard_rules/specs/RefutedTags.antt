@@ -2,17 +2,18 @@
 -- of entries, a part of the message within another. Each has the right BodyLength and CheckSum. In quotation marks: a row of the table
 -- "From the standard" of docs/DIFFERENCES.md.
 use mathlib.Core.Path.{_≡_, refl, ap, subst}
-use mathlib.Core.Bool.{true}
-use mathlib.Core.List.{List, [], _∷_}
+use mathlib.Core.Bool.{Bool, true, false}
+use mathlib.Core.List.{List, [], _∷_, _++_}
 use mathlib.Core.Logic.{_≢_, inl, inr}
 use Prim.Native.Nat.{ℕ, _<_}
 use Prim.Native.String.{String}
 use native.Mathlib.Omega.{arith}
+use Rattle.field_rules.specs.Choice.{pick}
 use Rattle.field_rules.specs.Text.{bytes}
 use Rattle.standard_rules.specs.Standard.{All, worthAfter, Told, told, Distinct, placed, Message}
 use Rattle.standard_rules.specs.Reading.{just, walk, step, goes, end, by-length, others, others-are}
-use Rattle.standard_rules.specs.StandardLaws.{tags, times, Followed, followed, stand, OpensNone, distinct-behind, all-once, placed-nowhere, Later, header-first, trailer-last, once-at-most, counted, counted-at-most}
-use Rattle.standard_rules.specs.Samples.{delimiter-of, Sample, lookup, no-member, only-allocations, never, apart, framed}
+use Rattle.standard_rules.specs.StandardLaws.{tags, times, Followed, followed, stand, OpensNone, distinct-behind, all-once, one-of, placed-refused, Later, header-first, trailer-last, once-at-most, counted, counted-at-most}
+use Rattle.standard_rules.specs.Samples.{delimiter-of, header-tags, trailer-tags, Sample, lookup, no-member, only-allocations, never, apart, framed}
 
 -- ===== a tag twice =====
 
@@ -81,10 +82,7 @@ unfolding walk step goes end by-length
 length-again-fields m = others-are lookup m
 
 pub length-again-refused : Message Sample (bytes length-again) → ⊥
-length-again-refused m = first (subst (λ (ts : List ℕ). All (λ y. y ≢ 9) ts) (ap tags (length-again-fields m)) (placed-nowhere m 9 refl))
-  where
-    first : All (λ y. y ≢ 9) (9 ∷ []) → ⊥
-    first (All.also n _) = n refl
+length-again-refused m = placed-refused m 9 (length-again-fields m) refl refl
 
 -- "`0` with `35=x|35=0|`": the same
 abbrev pub type-again : String
@@ -95,10 +93,7 @@ unfolding walk step goes end by-length
 type-again-fields m = others-are lookup m
 
 pub type-again-refused : Message Sample (bytes type-again) → ⊥
-type-again-refused m = first (subst (λ (ts : List ℕ). All (λ y. y ≢ 35) ts) (ap tags (type-again-fields m)) (placed-nowhere m 35 refl))
-  where
-    first : All (λ y. y ≢ 35) (35 ∷ []) → ⊥
-    first (All.also n _) = n refl
+type-again-refused m = placed-refused m 35 (type-again-fields m) refl refl
 
 -- a 10 before the CheckSum: CheckSum is the last field
 abbrev pub sum-again : String
@@ -109,10 +104,7 @@ unfolding walk step goes end by-length
 sum-again-fields m = others-are lookup m
 
 pub sum-again-refused : Message Sample (bytes sum-again) → ⊥
-sum-again-refused m = first (subst (λ (ts : List ℕ). All (λ y. y ≢ 10) ts) (ap tags (sum-again-fields m)) (placed-nowhere m 10 refl))
-  where
-    first : All (λ y. y ≢ 10) (10 ∷ []) → ⊥
-    first (All.also n _) = n refl
+sum-again-refused m = placed-refused m 10 (sum-again-fields m) refl refl
 
 -- "`0` with `10=|x` before the CheckSum": the same, and what follows is no field
 abbrev pub sum-early : String
@@ -123,10 +115,7 @@ unfolding walk step goes end by-length
 sum-early-fields m = others-are lookup m
 
 pub sum-early-refused : Message Sample (bytes sum-early) → ⊥
-sum-early-refused m = first (subst (λ (ts : List ℕ). All (λ y. y ≢ 10) ts) (ap tags (sum-early-fields m)) (placed-nowhere m 10 refl))
-  where
-    first : All (λ y. y ≢ 10) (10 ∷ []) → ⊥
-    first (All.also n _) = n refl
+sum-early-refused m = placed-refused m 10 (sum-early-fields m) refl refl
 
 -- a 10 inside an entry
 abbrev pub sum-in-entry : String
@@ -137,10 +126,7 @@ unfolding walk step goes end by-length
 sum-in-entry-fields m = others-are lookup m
 
 pub sum-in-entry-refused : Message Sample (bytes sum-in-entry) → ⊥
-sum-in-entry-refused m = third (subst (λ (ts : List ℕ). All (λ y. y ≢ 10) ts) (ap tags (sum-in-entry-fields m)) (placed-nowhere m 10 refl))
-  where
-    third : All (λ y. y ≢ 10) (78 ∷ 79 ∷ 10 ∷ []) → ⊥
-    third (All.also _ (All.also _ (All.also n _))) = n refl
+sum-in-entry-refused m = placed-refused m 10 (sum-in-entry-fields m) refl refl
 
 -- and between an entry's fields
 abbrev pub inner : String
@@ -152,10 +138,7 @@ unfolding walk step goes end by-length
 inner-fields m = others-are lookup m
 
 pub inner-refused : Message Sample (bytes inner) → ⊥
-inner-refused m = third (subst (λ (ts : List ℕ). All (λ y. y ≢ 10) ts) (ap tags (inner-fields m)) (placed-nowhere m 10 refl))
-  where
-    third : All (λ y. y ≢ 10) (78 ∷ 79 ∷ 10 ∷ 80 ∷ []) → ⊥
-    third (All.also _ (All.also _ (All.also n _))) = n refl
+inner-refused m = placed-refused m 10 (inner-fields m) refl refl
 
 -- ===== a count is the number of entries, and entries start with the delimiter =====
 
@@ -294,6 +277,19 @@ header-in-entry-refused m =
     third : All (Later Sample) (78 ∷ 79 ∷ 34 ∷ []) → ⊥
     third (All.also _ (All.also _ (All.also l _))) = sequence-number l
 
+-- from a field of the trailer on, one is none of it
+abbrev trailing : List ℕ → Bool
+trailing [] = true
+trailing (t ∷ ts) = pick (one-of trailer-tags t) (trailing ts) false
+
+all-trailing : (ts : List ℕ) → All (Sample .Trailer) ts → trailing ts ≡ true
+all-trailing [] All.none = refl
+all-trailing (t ∷ ts) (All.also e a) = rw e (all-trailing ts a)
+
+trailer-refused : {text : List ℕ} (m : Message Sample text) (es : List Told) (f : Told) (fs : List Told)
+    → others m ≡ es ++ (f ∷ fs) → one-of header-tags (f .tag) ≡ false → one-of trailer-tags (f .tag) ≡ true → trailing (tags (f ∷ fs)) ≡ false → ⊥
+trailer-refused m es f fs e h t n = apart n (all-trailing _ (trailer-last m es f fs e (λ k. apart h k) (λ b. b .no-trailer t)))
+
 -- a trailer tag before a body tag
 abbrev pub early : String
 early = "8=F|9=20|35=D|93=1|89=s|58=x|10=159|"
@@ -303,12 +299,7 @@ unfolding walk step goes end by-length
 early-fields m = others-are lookup m
 
 pub early-refused : Message Sample (bytes early) → ⊥
-early-refused m =
-    third (trailer-last m [] (told 93 (bytes "1")) (told 89 (bytes "s") ∷ told 58 (bytes "x") ∷ []) (early-fields m)
-    (λ h. apart refl h) (λ b. b .no-trailer refl))
-  where
-    third : All (Sample .Trailer) (93 ∷ 89 ∷ 58 ∷ []) → ⊥
-    third (All.also _ (All.also _ (All.also t _))) = apart refl t
+early-refused m = trailer-refused m [] (told 93 (bytes "1")) (told 89 (bytes "s") ∷ told 58 (bytes "x") ∷ []) (early-fields m) refl refl refl
 
 -- trailer tags in the middle of the body
 abbrev pub middle : String
@@ -320,12 +311,7 @@ unfolding walk step goes end by-length
 middle-fields m = others-are lookup m
 
 pub middle-refused : Message Sample (bytes middle) → ⊥
-middle-refused m =
-    third (trailer-last m (told 58 (bytes "x") ∷ []) (told 93 (bytes "1")) (told 89 (bytes "s") ∷ told 38 (bytes "1") ∷ []) (middle-fields m)
-    (λ h. apart refl h) (λ b. b .no-trailer refl))
-  where
-    third : All (Sample .Trailer) (93 ∷ 89 ∷ 38 ∷ []) → ⊥
-    third (All.also _ (All.also _ (All.also t _))) = apart refl t
+middle-refused m = trailer-refused m (told 58 (bytes "x") ∷ []) (told 93 (bytes "1")) (told 89 (bytes "s") ∷ told 38 (bytes "1") ∷ []) (middle-fields m) refl refl refl
 
 -- a body tag behind the trailer
 abbrev pub behind-trailer : String
@@ -336,12 +322,7 @@ unfolding walk step goes end by-length
 behind-trailer-fields m = others-are lookup m
 
 pub behind-trailer-refused : Message Sample (bytes behind-trailer) → ⊥
-behind-trailer-refused m =
-    third (trailer-last m [] (told 93 (bytes "1")) (told 89 (bytes "s") ∷ told 38 (bytes "1") ∷ []) (behind-trailer-fields m)
-    (λ h. apart refl h) (λ b. b .no-trailer refl))
-  where
-    third : All (Sample .Trailer) (93 ∷ 89 ∷ 38 ∷ []) → ⊥
-    third (All.also _ (All.also _ (All.also t _))) = apart refl t
+behind-trailer-refused m = trailer-refused m [] (told 93 (bytes "1")) (told 89 (bytes "s") ∷ told 38 (bytes "1") ∷ []) (behind-trailer-fields m) refl refl refl
 
 -- "`0` with `93=|38=|`": 38 is no trailer field; the values are empty besides
 abbrev pub no-trailer : String
@@ -352,12 +333,7 @@ unfolding walk step goes end by-length
 no-trailer-fields m = others-are lookup m
 
 pub no-trailer-refused : Message Sample (bytes no-trailer) → ⊥
-no-trailer-refused m =
-    second (trailer-last m [] (told 93 (bytes "")) (told 38 (bytes "") ∷ []) (no-trailer-fields m)
-    (λ h. apart refl h) (λ b. b .no-trailer refl))
-  where
-    second : All (Sample .Trailer) (93 ∷ 38 ∷ []) → ⊥
-    second (All.also _ (All.also t _)) = apart refl t
+no-trailer-refused m = trailer-refused m [] (told 93 (bytes "")) (told 38 (bytes "") ∷ []) (no-trailer-fields m) refl refl refl
 
 -- ===== and not for their frame =====
 

@@ -178,6 +178,10 @@ distinct-apart (z ∷ xs) ys x e (Distinct.fresh a o) = by (eqb x z) refl e (λ 
     by true q h more = subst (λ (k : ℕ). All (λ y. y ≢ k) ys) (sym (eqb-true x z q)) (all-behind xs ys a)
     by false q h more = more h
 
+one-absent : (x : ℕ) (ts : List ℕ) → All (λ y. y ≢ x) ts → one-of ts x ≡ true → ⊥
+one-absent x [] All.none e = let z : _≡_ {A = ℕ} 0 1 = cc in omega arith
+one-absent x (t ∷ ts) (All.also n a) e = one-absent x ts a (rw (ne-eqb x t (λ q. n (sym q))) at e)
+
 unplaced : (x : ℕ) → one-of placed x ≡ true → (ts : List ℕ) → Once ts → All (λ y. y ≢ x) ts
 unplaced x p ts o = distinct-apart placed ts x p (o .distinct)
 
@@ -273,6 +277,10 @@ module _ {T : Tables} {bytes : List ℕ} (m : Message T bytes) where
   -- 8, 9, 35, 10 stand in no entry, and not outside either
   pub placed-nowhere : (x : ℕ) → one-of placed x ≡ true → All (λ y. y ≢ x) (tags (others m))
   placed-nowhere x p = nowhere (unplaced x p) stand (unplaced x p all-tags (m .no-tag-twice))
+
+  -- so a text is refused where one of them stands among its others
+  pub placed-refused : {fs : List Told} (x : ℕ) → others m ≡ fs → one-of placed x ≡ true → one-of (tags fs) x ≡ true → ⊥
+  placed-refused x e p stands = one-absent x _ (subst (λ (fs : List Told). All (λ y. y ≢ x) (tags fs)) e (placed-nowhere x p)) stands
 
   -- a tag that is in no group's entries stands once at most, whatever groups there are
   pub once-at-most : (x : ℕ) → ((c : ℕ) → T .Member c x → ⊥) → times x (tags (others m)) ≤ 1
