@@ -12,9 +12,9 @@ use Rattle.field_rules.specs.Decimal.{decimal}
 use Rattle.field_rules.specs.Field.{fieldBytes}
 use Rattle.build_records.specs.declared.Record.{Record}
 use Rattle.message_maps.specs.Map.{Map, end, field, entry, holds, replaced, withoutField, pastLeading, stored}
-use Rattle.message_lent.specs.Meaning.{Message}
-use Rattle.message_lent.specs.Formed.{stands, isFormed, Within}
-use Rattle.message_lent.specs.StandLaws.{nor, field-formed, behind-field}
+use Rattle.message_lent_rules.specs.Meaning.{Message}
+use Rattle.message_lent_rules.specs.Formed.{stands, isFormed, Within}
+use Rattle.message_lent_rules.specs.StandLaws.{nor, field-formed, behind-field}
 use Rattle.build_nesting_laws.specs.Formed.{Own}
 use Rattle.build_nesting_laws.specs.Entries.{All}
 use Rattle.message_read_laws.specs.ShapeLaws.{all-first, all-rest}

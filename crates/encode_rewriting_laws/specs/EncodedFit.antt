@@ -8,8 +8,8 @@ use native.Mathlib.Omega.{arith}
 use lib.ListN.{length, drop, length-append}
 use Rattle.build_records.specs.declared.Record.{Record}
 use Rattle.message_maps.specs.Map.{Map, holds}
-use Rattle.message_lent.specs.Meaning.{Message, wordsOf, valueBytesOf}
-use Rattle.message_lent.specs.FormedLaws.{layout-lends}
+use Rattle.message_lent_rules.specs.Meaning.{Message, wordsOf, valueBytesOf}
+use Rattle.message_lent_rules.specs.FormedLaws.{layout-lends}
 use Rattle.message_rules.specs.Changes.{fieldTotal}
 use Rattle.build_nesting_laws.specs.Formed.{Own}
 use Rattle.build_nesting_laws.specs.Entries.{All}

@@ -7,8 +7,8 @@ use native.Mathlib.Omega.{arith}
 use Rattle.field_rules.specs.Fields.{Fields}
 use Rattle.build_records.specs.declared.Record.{Record}
 use Rattle.message_maps.specs.Map.{Map}
-use Rattle.message_lent.specs.Meaning.{Message}
-use Rattle.message_lent.specs.Formed.{Within}
+use Rattle.message_lent_rules.specs.Meaning.{Message}
+use Rattle.message_lent_rules.specs.Formed.{Within}
 use Rattle.build_nesting_laws.specs.Formed.{Own}
 use Rattle.build_nesting_laws.specs.Entries.{All, all-none, all-more, all-append, all-map}
 use Rattle.message_read_laws.specs.ShapeLaws.{all-first}

@@ -14,8 +14,8 @@ use Rattle.field_rules.specs.Decimal.{decimal}
 use Rattle.field_rules.specs.Field.{fieldBytes}
 use Rattle.build_records.specs.declared.Record.{Record}
 use Rattle.message_maps.specs.Map.{Map, field, holds, holdsAny, fieldCount}
-use Rattle.message_lent.specs.Formed.{isFormed}
-use Rattle.message_lent.specs.StandLaws.{field-formed, entry-formed}
+use Rattle.message_lent_rules.specs.Formed.{isFormed}
+use Rattle.message_lent_rules.specs.StandLaws.{field-formed, entry-formed}
 use Rattle.message_take_over.specs.Derived.{Stands, no-more, own, in-entry}
 use Rattle.encode_rules.specs.Encoding.{text, bytesOf}
 use Rattle.encode_rows.specs.WritingLaws.{text-length}

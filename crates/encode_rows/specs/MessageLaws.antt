@@ -7,8 +7,8 @@ use Prim.Native.Nat.{ℕ, zero, suc, _+_, _-_, _*_, _≤_, _<_}
 use native.Mathlib.Omega.{arith}
 use lib.ListN.{length, take, drop, length-append, take-append-drop}
 use lib.Seq.{take-at, drop-at, length-take-le}
-use lib.Dec.{leb, eqb}
-use borrow.Author.Tests.{eqb-true, le-leb, lt-leb}
+use lib.Dec.{eqb}
+use borrow.Author.Tests.{eqb-true}
 use Rattle.field_rules.specs.Choice.{pick, pick-same}
 use Rattle.field_rules.specs.Decimal.{decimal, writtenAt}
 use Rattle.field_rules.specs.DecimalLaws.{written-fits}
@@ -16,8 +16,8 @@ use Rattle.field_rules.specs.CheckSum.{checksumDigits}
 use Rattle.field_rules.specs.Field.{fieldBytes}
 use Rattle.message_maps.specs.Map.{Map, end, field, entry, valuesIn}
 use Rattle.message_maps.specs.Rows.{Row, row, laid, rowsFrom, sizes, messageRows}
-use Rattle.message_lent.specs.Lent.{rowCount, rowsOf, isMessage}
-use Rattle.message_lent.specs.Meaning.{Message, parts, messageIn}
+use Rattle.message_lent_rules.specs.Lent.{rowCount, rowsOf, isMessage}
+use Rattle.message_lent_rules.specs.Meaning.{Message, parts, messageIn}
 use Rattle.message_rules.specs.Changes.{placeOf, partOf, spanOf}
 use Rattle.message_rules.specs.LayoutLaws.{sizes-append, sizes-laid}
 use Rattle.message_rules.specs.PlaceLaws.{rows-part, part-rows, place-grows}
@@ -25,9 +25,8 @@ use Rattle.message_rules.specs.StoreLaws.{In, lent-in, rows-all, own-rows, coun
 use Rattle.message_rules.specs.declared.Part.{Part}
 use Rattle.message_rules.specs.declared.Part.the-variants.{Header, Body, Trailer}
 use Rattle.encode_rules.specs.Encoding.{text, textUnder, isFirst, isRest, headerText, messageText, bytesOf, sumDigits, summed}
-use Rattle.encode_rows.specs.Writing.{chosen, rowsText, bytesIn, rowBytes, itemsAt, textAt, Spans, tailOf, WritingOutcome, outcome, writing}
+use Rattle.encode_rows.specs.Writing.{chosen, rowsText, bytesIn, rowBytes, itemsAt, textAt, Spans, tailOf}
 use Rattle.encode_rows.specs.WritingLaws.{text-laid, bytes-append, bytes-laid, text-length, written-twice}
-use Rattle.encode_rows.specs.declared.Encoded.the-variants.{Written, NoMessage, NoRoom}
 
 -- all of a map
 text-all : (separator : ℕ) (m : Map) → textUnder (chosen 0) separator m ≡ text separator m
@@ -174,20 +173,3 @@ tail-written separator at what output one two room e o t =
     let last : writtenAt 0 (what ++ tailOf separator what) output ≡ writtenAt 0 (summed separator what) output = unfold summed tailOf in refl in
     t ∙ rw (before, o, e) (ap (λ (k : ℕ). writtenAt k (tailOf separator what) (writtenAt 0 what output)) (sym n) ∙ written-twice 0 what (tailOf separator what) output (omega arith))
     ∙ last
-
-module _ (separator : ℕ) (words values output : List ℕ) where
-  pub writing-no : isMessage words values ≡ false → writing separator words values output ≡ outcome NoMessage output
-  unfolding writing
-  writing-no h = rw h
-
-  pub writing-full : isMessage words values ≡ true → length output < length (messageText separator (messageIn words values)) + 7 → writing separator words values output ≡ outcome NoRoom output
-  unfolding writing
-  writing-full h room = rw (h, lt-leb _ _ (rw (← summed-length separator (messageText separator (messageIn words values))) at room))
-
-  pub writing-done : isMessage words values ≡ true → length (messageText separator (messageIn words values)) + 7 ≤ length output → (next : ℕ) (left : List ℕ)
-      → next ≡ length (messageText separator (messageIn words values)) + 7 → left ≡ writtenAt 0 (summed separator (messageText separator (messageIn words values))) output
-      → outcome (Written next) left ≡ writing separator words values output
-  unfolding writing
-  writing-done h room next left n l =
-      let e = summed-length separator (messageText separator (messageIn words values)) in
-      sym (rw (h, le-leb _ _ (rw (← e) at room), e, ← n, ← l))

@@ -9,14 +9,9 @@ use Rattle.field_rules.specs.Choice.{pick}
 use Rattle.field_rules.specs.Decimal.{decimal}
 use Rattle.field_rules.specs.Field.{fieldBytes}
 use Rattle.message_maps.specs.Rows.{Row, row, rowsFrom, sizeOf, sizes, messageWords, messageRows}
-use Rattle.field_rules.specs.Decimal.{writtenAt}
-use Rattle.message_lent.specs.Lent.{heldBefore, isMessage}
-use Rattle.message_lent.specs.Meaning.{Message, messageIn}
 use Rattle.message_rules.specs.Changes.{placeOf}
 use Rattle.message_rules.specs.declared.Span.{Span}
-use Rattle.encode_rows.specs.declared.Encoded.{Encoded}
-use Rattle.encode_rows.specs.declared.Encoded.the-variants.{Written, NoMessage, NoRoom}
-use Rattle.encode_rules.specs.Encoding.{isRest, sumDigits, summed, messageText}
+use Rattle.encode_rules.specs.Encoding.{isRest, sumDigits}
 
 -- which tags of a map are written: all (0), all but 8, 9 and 35 (1), or one
 unfoldable pub chosen : ℕ → ℕ → Bool
@@ -43,14 +38,6 @@ unfoldable pub bytesIn : List Row → ℕ
 bytesIn [] = 0
 bytesIn (r ∷ rows) = rowBytes r + bytesIn rows
 
--- "a run without its count field": an entry before which its map has no field of its start tag
-unfoldable pub isUncounted : List Row → Row → Bool
-isUncounted before (row k l t x) = pick (eqb k 2) (pick (eqb l 0) false (pick (heldBefore 1 l t before) false true)) false
-
-unfoldable pub uncounted : List Row → List Row → Bool
-uncounted before [] = false
-uncounted before (r ∷ rows) = pick (isUncounted before r) true (uncounted (r ∷ before) rows)
-
 -- what is written of a map whose rows stand in a span
 unfoldable pub itemsAt : List ℕ → List ℕ → Span → ℕ → ℕ → List ℕ
 itemsAt words values span which separator =
@@ -73,16 +60,3 @@ pub record Spans (words values output : List ℕ) (head middle tail : Span) (sep
 -- "the prefix `10=`, three digits and the separator"
 unfoldable pub tailOf : ℕ → List ℕ → List ℕ
 tailOf separator before = 49 ∷ 48 ∷ 61 ∷ (sumDigits before ++ (separator ∷ []))
-
--- what writing a message answers, and what it leaves of the output
-pub data WritingOutcome : Type 0 where
-  outcome : Encoded → List ℕ → WritingOutcome
-
--- a message is written at the start of the output where it has room; the rest of the output stays
-unfoldable pub writing : ℕ → List ℕ → List ℕ → List ℕ → WritingOutcome
-writing separator words values output =
-    pick (isMessage words values)
-    (pick (leb (length (summed separator (messageText separator (messageIn words values)))) (length output))
-    (outcome (Written (length (summed separator (messageText separator (messageIn words values))))) (writtenAt 0 (summed separator (messageText separator (messageIn words values))) output))
-    (outcome NoRoom output))
-    (outcome NoMessage output)

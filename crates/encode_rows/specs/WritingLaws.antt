@@ -15,13 +15,12 @@ use Rattle.field_rules.specs.DecimalLaws.{written-fits, written-length, written
 use Rattle.field_rules.specs.Field.{fieldBytes}
 use Rattle.message_maps.specs.Map.{Map, end, field, entry, valuesIn}
 use Rattle.message_maps.specs.Rows.{Row, row, laid, rowAt, rowsFrom, rowsBefore, sizeOf, sizes, levelOf}
-use Rattle.message_maps.specs.RowsLaws.{rows-step, rows-none, before-step}
-use Rattle.message_lent.specs.Lent.{heldBefore}
+use Rattle.message_maps.specs.RowsLaws.{rows-step, rows-none}
 use Rattle.message_rules.specs.Changes.{placeOf}
 use Rattle.message_rules.specs.LayoutLaws.{sizes-append}
 use Rattle.message_rules.specs.PlaceLaws.{rows-split, place-grows}
 use Rattle.encode_rules.specs.Encoding.{text, textUnder, bytesOf}
-use Rattle.encode_rows.specs.Writing.{chosen, rowOn, rowText, rowsText, rowBytes, bytesIn, isUncounted, uncounted}
+use Rattle.encode_rows.specs.Writing.{chosen, rowOn, rowText, rowsText, rowBytes, bytesIn}
 
 module _ (words : List ℕ) (i to : ℕ) (more : i < to) where
   pub text-on : (which separator : ℕ) (on : Bool) (values : List ℕ)
@@ -34,17 +33,6 @@ module _ (words : List ℕ) (i to : ℕ) (more : i < to) where
   unfolding bytesIn
   bytes-on = rw (rows-step words i to more)
 
-  pub uncounted-here : isUncounted (rowsBefore i words) (rowAt words i) ≡ true → uncounted (rowsBefore i words) (rowsFrom (to - i) i words) ≡ true
-  unfolding uncounted
-  uncounted-here h = rw (rows-step words i to more, h)
-
-  pub uncounted-on : isUncounted (rowsBefore i words) (rowAt words i) ≡ false → uncounted (rowsBefore i words) (rowsFrom (to - i) i words) ≡ uncounted (rowsBefore (i + 1) words) (rowsFrom (to - (i + 1)) (i + 1) words)
-  unfolding uncounted
-  uncounted-on h = rw (rows-step words i to more, h) (ap (λ (b : List Row). uncounted b (rowsFrom (to - (i + 1)) (i + 1) words)) (sym before-next))
-    where
-      before-next : rowsBefore (i + 1) words ≡ rowAt words i ∷ rowsBefore i words
-      before-next = let e : i + 1 - 1 ≡ i = omega arith in rw e at (before-step words (i + 1) (omega arith))
-
 module _ (words : List ℕ) (i to : ℕ) (past : to ≤ i) where
   pub text-end : (which separator : ℕ) (on : Bool) (values : List ℕ) → rowsText which separator on (rowsFrom (to - i) i words) values ≡ []
   unfolding rowsText
@@ -53,10 +41,6 @@ module _ (words : List ℕ) (i to : ℕ) (past : to ≤ i) where
   pub bytes-end : bytesIn (rowsFrom (to - i) i words) ≡ 0
   unfolding bytesIn
   bytes-end = rw (rows-none words i to past)
-
-  pub uncounted-end : uncounted (rowsBefore i words) (rowsFrom (to - i) i words) ≡ false
-  unfolding uncounted
-  uncounted-end = rw (rows-none words i to past)
 
 -- what is written behind what was written
 pub written-twice : (at : ℕ) (a b output : List ℕ) → at + length (a ++ b) ≤ length output → writtenAt (at + length a) b (writtenAt at a output) ≡ writtenAt at (a ++ b) output

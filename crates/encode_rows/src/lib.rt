@@ -1,21 +1,22 @@
-// encode_rows: a message as bytes. It writes what a lent message holds in one pass over its rows, with the CheckSum behind it (27, 23); `encoder`
-// judges a message first and sets its BodyLength. It keeps nothing and demands nothing of what is lent.
+// encode_rows: a message as bytes. It writes what a lent message holds in one pass over its rows, with the CheckSum behind it. Only `encoder` calls
+// it, which judges a message first and sets its BodyLength: its functions may ask that a message is lent and has room.
 use field_numbers::wide;
 use field_rules::Written;
-use message_rules::Located;
 use message_rules::Part;
 use message_rules::Span;
 ghost use mathlib.Core.Path.{_≡_};
 ghost use mathlib.Core.Bool.{true, false};
-ghost use mathlib.Core.List.{[]};
 ghost use Prim.Native.Nat.{_+_, _-_, _*_, _%_, _≤_, _<_};
 ghost use lib.ListN.{length, take, drop};
 ghost use Rattle.field_rules.specs.Decimal.{decimal, writtenAt};
 ghost use Rattle.field_rules.specs.CheckSum.{sumOf};
 ghost use Rattle.field_rules.specs.Field.{fieldBytes};
-ghost use Rattle.message_maps.specs.Rows.{rowAt, rowsFrom, rowsBefore, sizeOf, sizes, messageWords, messageRows};
+ghost use Rattle.message_maps.specs.Rows.{rowAt, rowsFrom, sizeOf, messageWords, messageRows};
+ghost use Rattle.message_lent_rules.specs.Lent.{isMessage};
+ghost use Rattle.message_lent_rules.specs.Meaning.{messageIn};
 ghost use Rattle.message_rules.specs.Changes.{placeOf};
-ghost use Rattle.encode_rows.specs.Writing.{chosen, rowOn, rowText, rowsText, rowBytes, bytesIn, isUncounted, uncounted, itemsAt, textAt, Spans, tailOf, WritingOutcome, outcome, writing};
+ghost use Rattle.encode_rules.specs.Encoding.{messageText, summed};
+ghost use Rattle.encode_rows.specs.Writing.{chosen, rowOn, rowText, rowsText, rowBytes, bytesIn, textAt, Spans, tailOf};
 
 fn write_bytes(output: &mut [u8], at: usize, text: &[u8]) -> usize
     requires { ⌜ at + length (now text) ≤ length (now output) ⌝ }
@@ -88,37 +89,6 @@ pub fn bytes_between(words: &[u32], from: usize, to: usize) -> usize
     size
 }
 
-fn is_uncounted(words: &[u32], row: usize) -> bool
-    requires { ⌜ (row < messageRows) × (length (now words) ≡ messageWords) ⌝ }
-    ensures { λ r. ⌜ r ≡ isUncounted (rowsBefore row (now (words .entry))) (rowAt (now (words .entry)) row) ⌝ }
-{
-    if message_maps::kind_of(words, row) != 2 {
-        return false;
-    }
-    let level = message_maps::level_of(words, row);
-    if level == 0 {
-        return false;
-    }
-    if message_lent::held_before(words, row, 1, level, message_maps::tag_of(words, row)) {
-        return false;
-    }
-    true
-}
-
-pub fn has_uncounted(words: &[u32], to: usize) -> bool
-    requires { ⌜ (to ≤ messageRows) × (length (now words) ≡ messageWords) ⌝ }
-    ensures { λ r. ⌜ r ≡ uncounted [] (rowsFrom (to - 0) 0 (now (words .entry))) ⌝ }
-{
-    let mut i: usize = 0;
-    while i < to {
-        if is_uncounted(words, i) {
-            return true;
-        }
-        i += 1;
-    }
-    false
-}
-
 fn row_on(words: &[u32], row: usize, which: u32, on: bool) -> bool
     requires { ⌜ (row < messageRows) × (length (now words) ≡ messageWords) ⌝ }
     ensures { λ r. ⌜ r ≡ rowOn which on (rowAt (now (words .entry)) row) ⌝ }
@@ -188,13 +158,6 @@ fn write_items(
     next
 }
 
-// How writing a message ended: 0 with the length, 27, 23.
-pub enum Encoded {
-    Written(usize),
-    NoMessage,
-    NoRoom,
-}
-
 // The header's 8, 9 and 35, the rest of the header, body and trailer.
 fn write_text(
     words: &[u32],
@@ -253,25 +216,17 @@ fn write_tail(output: &mut [u8], at: usize, separator: u8)
     write_bytes(output, second, &ending[..]);
 }
 
-// Writes a message as it is held, with the CheckSum of its bytes behind it: 27, 23.
-pub fn write_message(words: &[u32], values: &[u8], output: &mut [u8], separator: u8) -> Encoded
-    ensures { λ r. ⌜ outcome r (now (output .exit)) ≡ writing separator (now (words .entry)) (now (values .entry)) (now (output .entry)) ⌝ }
+// Writes a message as it is held, with the CheckSum of its bytes behind it, and answers its length.
+pub fn write_message(words: &[u32], values: &[u8], output: &mut [u8], separator: u8) -> usize
+    requires { ⌜ isMessage (now words) (now values) ≡ true ⌝ }
+    requires { ⌜ (length (messageText separator (messageIn (now words) (now values))) + 7 ≤ 8192) × (length (messageText separator (messageIn (now words) (now values))) + 7 ≤ length (now output)) ⌝ }
+    ensures { λ r. ⌜ r ≡ length (messageText separator (messageIn (now (words .entry)) (now (values .entry)))) + 7 ⌝ }
+    ensures { λ _. ⌜ now (output .exit) ≡ writtenAt 0 (summed separator (messageText separator (messageIn (now (words .entry)) (now (values .entry))))) (now (output .entry)) ⌝ }
 {
-    let Located::At(head) = message::locate(words, values, Part::Header) else {
-        return Encoded::NoMessage;
-    };
-    let Located::At(middle) = message::locate(words, values, Part::Body) else {
-        return Encoded::NoMessage;
-    };
-    let Located::At(tail) = message::locate(words, values, Part::Trailer) else {
-        return Encoded::NoMessage;
-    };
-    let count = head.count;
-    let size = bytes_between(words, 0, count);
-    if output.len() < size + 7 {
-        return Encoded::NoRoom;
-    }
+    let head = message::span_of(words, values, Part::Header);
+    let middle = message::span_of(words, values, Part::Body);
+    let tail = message::span_of(words, values, Part::Trailer);
     let at = write_text(words, values, output, head, middle, tail, separator);
     write_tail(output, at, separator);
-    Encoded::Written(at + 7)
+    at + 7
 }

@@ -7,8 +7,8 @@ use lib.Dec.{ltb}
 use Rattle.field_rules.specs.Choice.{pick}
 use Rattle.field_rules.specs.Separator.{isRefusedSeparator}
 use Rattle.message_maps.specs.Map.{Map, end, field, entry, holds}
-use Rattle.message_lent.specs.Lent.{isMessage}
-use Rattle.message_lent.specs.Meaning.{Message, wordsOf, valueBytesOf, messageIn}
+use Rattle.message_lent_rules.specs.Lent.{isMessage}
+use Rattle.message_lent_rules.specs.Meaning.{Message, wordsOf, valueBytesOf, messageIn}
 use Rattle.message_rules.specs.Changes.{fieldTotal}
 use Rattle.encode_rules.specs.Encoding.{dropped, bodyLength, encoding, encodedMessage}
 use Rattle.encode_rules.specs.declared.Encoding.{Encoding}

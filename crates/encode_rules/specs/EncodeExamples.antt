@@ -11,8 +11,8 @@ use Rattle.field_rules.specs.CheckSum.{sumOf, checksumDigits}
 use Rattle.field_rules.specs.Separator.{isRefusedSeparator}
 use Rattle.message_maps.specs.Map.{Map, end, field, entry, joined, holds, holdsAny, replaced, withoutField, runOn, withoutRun, stored, fieldCount, valuesIn}
 use Rattle.message_maps.specs.Rows.{laid, flat, padded, rowAt, rowsFrom, levelOf, sizeOf, matches, sizes}
-use Rattle.message_lent.specs.Lent.{heldBefore, delimiterIs, continues, followsOn, deepest, fieldAllowed, headAllowed, rowAllowed, rowsAllowed, isPart, nextPart, partsFrom, isOwn, ownBelow, weight, fieldsIn, rowCount, rowsOf, isLaid, isMessage}
-use Rattle.message_lent.specs.Meaning.{Message, parts, wordsOf, valueBytesOf, opened, withField, withEntry, withRow, openIn, outermost, thirdOf, secondOf, partsIn, messageIn}
+use Rattle.message_lent_rules.specs.Lent.{heldBefore, delimiterIs, continues, followsOn, deepest, fieldAllowed, headAllowed, rowAllowed, rowsAllowed, isPart, nextPart, partsFrom, isOwn, ownBelow, weight, fieldsIn, rowCount, rowsOf, isLaid, isMessage}
+use Rattle.message_lent_rules.specs.Meaning.{Message, parts, wordsOf, valueBytesOf, opened, withField, withEntry, withRow, openIn, outermost, thirdOf, secondOf, partsIn, messageIn}
 use Rattle.message_rules.specs.Changes.{fieldTotal}
 use Rattle.encode_rules.specs.Encoding.{text, textUnder, isFirst, isRest, headerText, messageText, bytesOf, dropped, bodyLength, measured, sumDigits, summed, encoding, encodedMessage}
 use Rattle.encode_rules.specs.Encode.{numberOfEncoding, lacksCount, hasUncounted, isIncomplete, judging, encodeVerdict, Left, left, encoded, afterVerdict, encodingOf}

@@ -9,7 +9,7 @@ use Rattle.field_rules.specs.Decimal.{decimal}
 use Rattle.field_rules.specs.CheckSum.{sumOf, checksumDigits}
 use Rattle.field_rules.specs.Field.{fieldBytes}
 use Rattle.message_maps.specs.Map.{Map, end, field, entry, joined, holds, withoutField, stored}
-use Rattle.message_lent.specs.Meaning.{Message}
+use Rattle.message_lent_rules.specs.Meaning.{Message}
 
 -- a map as bytes, "in map order, each count followed by its entries"
 unfoldable pub text : ℕ → Map → List ℕ

@@ -9,7 +9,7 @@ use Rattle.field_rules.specs.Text.{bytes}
 use Rattle.field_rules.specs.Decimal.{decimal, decimalWithin}
 use Rattle.field_rules.specs.CheckSum.{sumOf, checksumDigits}
 use Rattle.message_maps.specs.Map.{Map, end, field, entry, joined, holds, holdsAny, replaced, withoutField, leading, pastLeading, runOn, withoutRun, stored, hungOnCount, hungAlone, hung, Looked, none, some, valueUnder, fieldCount, valuesIn}
-use Rattle.message_lent.specs.Meaning.{Message}
+use Rattle.message_lent_rules.specs.Meaning.{Message}
 use Rattle.encode_rules.specs.Encoding.{text, textUnder, isFirst, isRest, headerText, messageText, bytesOf, dropped, bodyLength, measured, sumDigits, summed, encoding, encodedMessage}
 
 -- P1 as a caller makes it: a header with 8 and 35

@@ -11,14 +11,14 @@ use borrow.Author.Tests.{eqb-true, eq-eqb, ne-eqb, lt-ltb, le-ltb}
 use Rattle.field_rules.specs.Choice.{pick}
 use Rattle.message_maps.specs.Map.{Map, end, field, entry, holds, withoutField, pastLeading}
 use Rattle.message_maps.specs.Rows.{Row, row, laid, levelOf, matches}
-use Rattle.message_lent.specs.Lent.{heldBefore}
-use Rattle.message_lent.specs.Meaning.{Message, parts}
-use Rattle.message_lent.specs.Formed.{stands, isFormed, Formed}
-use Rattle.message_lent.specs.StandLaws.{nor, field-formed, entry-formed}
-use Rattle.message_lent.specs.AllowedLaws.{passed, passed-append, held-past}
+use Rattle.message_lent_rules.specs.Lent.{heldBefore}
+use Rattle.message_lent_rules.specs.Meaning.{Message, parts}
+use Rattle.message_lent_rules.specs.Formed.{stands, isFormed, Formed}
+use Rattle.message_lent_rules.specs.StandLaws.{nor, field-formed, entry-formed}
+use Rattle.message_lent_rules.specs.AllowedLaws.{passed, passed-append, held-past}
 use Rattle.message_rules.specs.PlaceLaws.{part-rows}
 use Rattle.encode_rules.specs.Encoding.{dropped}
-use Rattle.encode_rows.specs.Writing.{isUncounted, uncounted}
+use Rattle.message_lent_rules.specs.Standing.{isUncounted, uncounted}
 use Rattle.encode_rules.specs.Encode.{lacksCount, hasUncounted}
 use Rattle.encoder.specs.FoundLaws.{hangs}
 

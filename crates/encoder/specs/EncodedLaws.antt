@@ -8,11 +8,11 @@ use lib.ListN.{length}
 use lib.Dec.{ltb}
 use Rattle.field_rules.specs.Choice.{pick}
 use Rattle.field_rules.specs.Separator.{isRefusedSeparator}
-use Rattle.message_lent.specs.Lent.{isMessage}
-use Rattle.message_lent.specs.Meaning.{Message, wordsOf, valueBytesOf, messageIn}
-use Rattle.message_lent.specs.Formed.{Formed, Within}
-use Rattle.message_lent.specs.FormedLaws.{lent-formed, Lends, IsLayout, is-layout-lends}
-use Rattle.message_lent.specs.StoredLaws.{formed-stored, formed-without}
+use Rattle.message_lent_rules.specs.Lent.{isMessage}
+use Rattle.message_lent_rules.specs.Meaning.{Message, wordsOf, valueBytesOf, messageIn}
+use Rattle.message_lent_rules.specs.Formed.{Formed, Within}
+use Rattle.message_lent_rules.specs.FormedLaws.{lent-formed, Lends, IsLayout, is-layout-lends}
+use Rattle.message_lent_rules.specs.StoredLaws.{formed-stored, formed-without}
 use Rattle.message_rules.specs.Changes.{fieldTotal, valueTotal}
 use Rattle.encode_rules.specs.Encoding.{dropped, bodyLength, measured, encoding, encodedMessage}
 use Rattle.encode_rules.specs.Encode.{isIncomplete, judging, encodeVerdict, left, encoded, encodingOf}

@@ -7,10 +7,11 @@ use lib.ListN.{length}
 use lib.Dec.{ltb}
 use Rattle.field_rules.specs.Choice.{pick}
 use Rattle.message_maps.specs.Rows.{rowAt, rowsFrom, messageWords, messageRows}
-use Rattle.message_lent.specs.Lent.{fieldsIn}
+use Rattle.message_lent_rules.specs.Lent.{fieldsIn}
 use Rattle.message_rules.specs.Changes.{fieldPlace, runPlace}
 use Rattle.message_rules.specs.declared.Span.{Span}
-use Rattle.encode_rows.specs.Writing.{rowBytes, bytesIn, uncounted}
+use Rattle.message_lent_rules.specs.Standing.{uncounted}
+use Rattle.encode_rows.specs.Writing.{rowBytes, bytesIn}
 
 -- a span of rows that are lent
 pub record SpanWithin (words : List ℕ) (span : Span) : Type 0 where

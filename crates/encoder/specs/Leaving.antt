@@ -4,8 +4,8 @@ use mathlib.Core.Path.{_≡_}
 use mathlib.Core.Bool.{true}
 use mathlib.Core.List.{List}
 use lib.ListN.{length}
-use Rattle.message_lent.specs.Lent.{isMessage}
-use Rattle.message_lent.specs.Meaning.{messageIn}
+use Rattle.message_lent_rules.specs.Lent.{isMessage}
+use Rattle.message_lent_rules.specs.Meaning.{messageIn}
 use Rattle.message_rules.specs.Changes.{fieldTotal}
 use Rattle.encode_rules.specs.Encoding.{dropped, bodyLength, encoding, encodedMessage}
 

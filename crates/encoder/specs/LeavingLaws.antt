@@ -10,10 +10,11 @@ use lib.Seq.{take-at, drop-at}
 use borrow.Author.Tests.{le-leb}
 use Rattle.field_rules.specs.Decimal.{decimal, writtenAt}
 use Rattle.field_rules.specs.DecimalLaws.{written-fits}
-use Rattle.message_maps.specs.Map.{stored}
-use Rattle.message_lent.specs.Meaning.{Message, wordsOf, valueBytesOf, messageIn}
-use Rattle.message_lent.specs.FormedLaws.{Lends}
-use Rattle.message_rules.specs.Changes.{after, partOf, withPart, fieldTotal, valueTotal, judged, storing, removing}
+use Rattle.message_maps.specs.Map.{stored, withoutField}
+use Rattle.message_lent_rules.specs.Meaning.{Message, wordsOf, valueBytesOf, messageIn}
+use Rattle.message_lent_rules.specs.FormedLaws.{Lends}
+use Rattle.message_rules.specs.Changes.{after, partOf, withPart, fieldTotal, valueTotal, judged, storing, removing, Blank}
+use Rattle.message_rules.specs.BlankLaws.{left-blank}
 use Rattle.message_rules.specs.ChangeLaws.{store-on}
 use Rattle.message_rules.specs.FormedLaws.{store-lends, remove-lends, remove-made}
 use Rattle.message_rules.specs.declared.Part.{Part}
@@ -21,10 +22,7 @@ use Rattle.message_rules.specs.declared.Part.the-variants.{Header, Trailer}
 use Rattle.message_rules.specs.declared.Change.{Change}
 use Rattle.message_rules.specs.declared.Change.the-variants.{Made}
 use Rattle.encode_rules.specs.Encoding.{messageText, dropped, measured, sumDigits, summed, encoding, encodedMessage}
-use Rattle.encode_rows.specs.Writing.{outcome, writing}
 use Rattle.encode_rows.specs.MessageLaws.{summed-length}
-use Rattle.encode_rows.specs.declared.Encoded.{Encoded}
-use Rattle.encode_rows.specs.declared.Encoded.the-variants.{Written}
 use Rattle.encode_rules.specs.Encode.{left, encoded}
 use Rattle.encoder.specs.Leaving.{Encodable}
 use Rattle.encoder.specs.SizeLaws.{sum-size, measured-values, measured-fields, encoded-values}
@@ -60,6 +58,9 @@ module _ (part : Part) (tag : ℕ) (value words values : List ℕ) (m : Message)
       let l = store-lends part tag words values value w v (sym done ∙ ap (λ (c : Change). after c w v) (e .0)) .1 in
       rw (lends .meant) at l
 
+  pub store-blank : Blank true w v
+  store-blank = left-blank true w v _ (store-meant .meant) (store-leaves .0) (store-leaves .1)
+
 -- the trailer's 10 is dropped
 module _ (words values : List ℕ) (m : Message) (lends : Lends words values m) where
   removed-made : (r : Change) (w v : List ℕ) → after r w v ≡ removing Trailer 10 words values → r ≡ Made
@@ -72,16 +73,30 @@ module _ (words values : List ℕ) (m : Message) (lends : Lends words values m) 
       let l = remove-lends Trailer 10 words values w v (sym done ∙ ap (λ (c : Change). after c w v) e) .1 in
       rw (lends .meant) at l
 
+  pub drop-blank : (r : Change) (w v : List ℕ) → after r w v ≡ removing Trailer 10 words values → Blank true w v
+  drop-blank r w v done =
+      let e = made (done ∙ remove-made Trailer 10 words values (lends .is-message)) in
+      let x = withPart Trailer (withoutField 10 (partOf Trailer (messageIn words values))) (messageIn words values) in
+      let same : messageIn w v ≡ x = drop-meant r w v done .meant ∙ (unfold dropped withPart partOf in rw (lends .meant)) in
+      left-blank true w v x same (e .1) (e .2)
+
 -- the bytes that are written, and the digits among them
 module _ (separator : ℕ) (m : Message) where
-  pub writes : (words values output : List ℕ) → Lends words values (measured (dropped m)) → length (encoding separator m) ≤ length output → (r : Encoded) (o : List ℕ)
-      → outcome r o ≡ writing separator words values output → (r ≡ Written (length (encoding separator m))) × (o ≡ encoding separator m ++ drop (length (encoding separator m)) output)
-  writes words values output lends room r o done =
-      let e : outcome r o ≡ outcome (Written (length (encoding separator m))) (writtenAt 0 (encoding separator m) output) =
-      done ∙ (unfold writing encoding in rw (lends .is-message, lends .meant, le-leb _ _ (unfold encoding in room))) in
-      let n : 0 + length (encoding separator m) ≡ length (encoding separator m) = omega arith in
-      let same : o ≡ writtenAt 0 (encoding separator m) output = cc in
-      (cc, same ∙ written-fits 0 (encoding separator m) output (omega arith) ∙ rw n)
+  -- it has room for what is written
+  module _ (words values output : List ℕ) (lends : Lends words values (measured (dropped m))) where
+    pub has-room : (n : ℕ) → length (encoding separator m) ≤ n → length (messageText separator (messageIn words values)) + 7 ≤ n
+    unfolding encoding
+    has-room n room = rw (lends .meant) (omega (arith, summed-length separator (messageText separator (measured (dropped m)))))
+
+    pub writes : length (encoding separator m) ≤ length output → (n : ℕ) (o : List ℕ)
+        → n ≡ length (messageText separator (messageIn words values)) + 7 → o ≡ writtenAt 0 (summed separator (messageText separator (messageIn words values))) output
+        → (n ≡ length (encoding separator m)) × (o ≡ encoding separator m ++ drop (length (encoding separator m)) output)
+    unfolding encoding
+    writes room n o size done =
+        let what = encoding separator m in
+        let z : 0 + length what ≡ length what = omega arith in
+        let same : o ≡ writtenAt 0 what output = rw (lends .meant) at done in
+        (rw (lends .meant) at size ∙ sym (summed-length separator (messageText separator (measured (dropped m)))), same ∙ written-fits 0 what output (omega arith) ∙ rw z)
 
   pub sum-read : (rest : List ℕ) (size first last : ℕ) → size ≡ length (encoding separator m) → first ≡ size - 4 → last ≡ size - 1
       → take (last - first) (drop first (encoding separator m ++ rest)) ≡ sumDigits (messageText separator (measured (dropped m)))
@@ -102,13 +117,26 @@ module _ (separator : ℕ) (words values output : List ℕ) (body : ℕ) (fit : 
   pub after-drop : (r : Change) (w v : List ℕ) → after r w v ≡ removing Trailer 10 words values → Lends w v (dropped (messageIn words values))
   after-drop = drop-meant words values (messageIn words values) (record { is-message = fit .message; meant = refl })
 
-  pub after-length : (w v : List ℕ) → Lends w v (dropped (messageIn words values)) → (r : Change) (x y : List ℕ) → after r x y ≡ storing Header 9 (decimal body) w v → Lends x y (measured (dropped (messageIn words values)))
-  after-length w v lends r x y done =
-      let m = messageIn words values in
-      let same : withPart Header (stored 9 (decimal body) (partOf Header (dropped m))) (dropped m) ≡ measured (dropped m) = unfold withPart partOf measured in rw (fit .measured) in
-      rw (← same)
-      (store-meant Header 9 (decimal body) w v (dropped m) lends (λ e. omega arith)
-      (rw same (omega (arith, measured-values separator m, fit .short))) (rw same (omega (arith, measured-fields separator m, fit .few))) r x y done)
+  pub blank-drop : (r : Change) (w v : List ℕ) → after r w v ≡ removing Trailer 10 words values → Blank true w v
+  blank-drop = drop-blank words values (messageIn words values) (record { is-message = fit .message; meant = refl })
+
+  module _ (w v : List ℕ) (lends : Lends w v (dropped (messageIn words values))) (r : Change) (x y : List ℕ) (done : after r x y ≡ storing Header 9 (decimal body) w v) where
+    same : withPart Header (stored 9 (decimal body) (partOf Header (dropped (messageIn words values)))) (dropped (messageIn words values)) ≡ measured (dropped (messageIn words values))
+    unfolding withPart partOf measured
+    same = rw (fit .measured)
+
+    pub after-length : Lends x y (measured (dropped (messageIn words values)))
+    after-length =
+        let m = messageIn words values in
+        rw (← same)
+        (store-meant Header 9 (decimal body) w v (dropped m) lends (λ e. omega arith)
+        (rw same (omega (arith, measured-values separator m, fit .short))) (rw same (omega (arith, measured-fields separator m, fit .few))) r x y done)
+
+    pub blank-length : Blank true x y
+    blank-length =
+        let m = messageIn words values in
+        store-blank Header 9 (decimal body) w v (dropped m) lends (λ e. omega arith)
+        (rw same (omega (arith, measured-values separator m, fit .short))) (rw same (omega (arith, measured-fields separator m, fit .few))) r x y done
 
   pub after-sum : (w v : List ℕ) → Lends w v (measured (dropped (messageIn words values))) → (digits : List ℕ) → digits ≡ sumDigits (messageText separator (measured (dropped (messageIn words values)))) → (r : Change) (x y : List ℕ)
       → after r x y ≡ storing Trailer 10 digits w v → (x ≡ wordsOf (encodedMessage separator (messageIn words values))) × (y ≡ valueBytesOf (encodedMessage separator (messageIn words values)))

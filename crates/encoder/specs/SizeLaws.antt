@@ -12,7 +12,7 @@ use Rattle.field_rules.specs.Choice.{pick}
 use Rattle.field_rules.specs.Decimal.{decimal, decimalWithin}
 use Rattle.field_rules.specs.CheckSum.{checksumDigits}
 use Rattle.message_maps.specs.Map.{Map, end, field, entry, joined, holds, replaced, withoutField, runOn, withoutRun, stored, fieldCount, valuesIn}
-use Rattle.message_lent.specs.Meaning.{Message}
+use Rattle.message_lent_rules.specs.Meaning.{Message}
 use Rattle.message_rules.specs.Changes.{fieldTotal, valueTotal}
 use Rattle.message_rules.specs.LayoutLaws.{count-joined}
 use Rattle.message_rules.specs.PlaceLaws.{part-values}

@@ -11,15 +11,15 @@ use Rattle.field_rules.specs.Choice.{pick}
 use Rattle.field_rules.specs.Decimal.{decimal}
 use Rattle.field_rules.specs.Separator.{isRefusedSeparator}
 use Rattle.message_maps.specs.Rows.{rowsFrom}
-use Rattle.message_lent.specs.Lent.{rowsOf, isMessage}
-use Rattle.message_lent.specs.Meaning.{messageIn}
-use Rattle.message_lent.specs.FormedLaws.{lent-formed}
+use Rattle.message_lent_rules.specs.Lent.{rowsOf, isMessage}
+use Rattle.message_lent_rules.specs.Meaning.{messageIn}
+use Rattle.message_lent_rules.specs.FormedLaws.{lent-formed}
 use Rattle.message_rules.specs.Changes.{partOf, spanOf, fieldTotal}
-use Rattle.message_rules.specs.StoreLaws.{lent-in, count-is, fields-now}
+use Rattle.message_rules.specs.StoreLaws.{lent-in, heads-of, count-is, fields-now}
 use Rattle.message_rules.specs.declared.Part.the-variants.{Header, Trailer}
 use Rattle.message_rules.specs.declared.Span.{Span}
 use Rattle.encode_rules.specs.Encoding.{bytesOf, dropped, bodyLength, encoding, encodedMessage}
-use Rattle.encode_rows.specs.Writing.{uncounted}
+use Rattle.message_lent_rules.specs.Standing.{uncounted}
 use Rattle.encode_rows.specs.MessageLaws.{message-length, size-is}
 use Rattle.encode_rules.specs.Encode.{hasUncounted, isIncomplete, judging, encodeVerdict, left, encoded, afterVerdict, encodingOf}
 use Rattle.encoder.specs.Judging.{SpanWithin, sizeAt, incompleteAt, allBytes, bodyAt, addedAt, fieldsAt}
@@ -125,6 +125,10 @@ pub record Parts (words values : List ℕ) (head tail : Span) : Type 0 where
 module _ (words values : List ℕ) (head tail : Span) (p : Parts words values head tail) where
   pub both-within : (SpanWithin words head) × (SpanWithin words tail)
   both-within = (rw (p .head-is) (head-within words values (p .lent)), rw (p .tail-is) (tail-within words values (p .lent)))
+
+  pub loose-at : uncounted [] (rowsOf words) ≡ uncounted [] (rowsFrom (head .count - 0) 0 words)
+  unfolding rowsOf spanOf
+  loose-at = rw (p .head-is) (ap (λ (n : ℕ). uncounted [] (rowsFrom (n - 0) 0 words)) (heads-of words values (p .lent) .count))
 
   pub taken-fits : sizeAt words head 8 + sizeAt words head 9 + sizeAt words tail 10 ≤ allBytes words head
   taken-fits = rw (p .head-is, p .tail-is) (taken-within words values (p .lent))

@@ -4,8 +4,10 @@ use field_rules::Number;
 use field_rules::Written;
 ghost use mathlib.Core.Path.{_≡_};
 ghost use mathlib.Core.List.{_++_};
-ghost use Prim.Native.Nat.{_-_, _%_};
+ghost use Prim.Native.Nat.{_-_, _%_, _≤_};
+ghost use lib.Dec.{leb};
 ghost use lib.ListN.{length, take};
+ghost use Rattle.field_rules.specs.Choice.{pick};
 ghost use Rattle.field_rules.specs.Number.{numberIn};
 ghost use Rattle.field_rules.specs.CheckSum.{sumOf, checksumOf, checksumDigits};
 ghost use Rattle.field_rules.specs.Decimal.{decimal, writtenAt, answerAt};
@@ -79,17 +81,29 @@ pub fn checksum_digits(sum: u8) -> [u8; 3]
     [48 + sum / 100, 48 + sum / 10 % 10, 48 + sum % 10]
 }
 
-// How many digits a tag or a length has.
+// 1 where a number reaches a bound, else 0.
+fn reaches(n: u32, bound: u32) -> usize
+    ensures value { λ r. ⌜ r ≡ pick (leb bound n) 1 0 ⌝ }
+    ensures small { λ r. ⌜ r ≤ 1 ⌝ }
+{
+    (bound <= n) as usize
+}
+
+// How many digits a tag or a length has: one, and one more for each power of ten that it reaches.
+// With neither loop nor division, a caller's loop over many numbers can be compiled to vector code.
 pub fn digit_count(n: u32) -> usize
     ensures { λ r. ⌜ r ≡ length (decimal n) ⌝ }
 {
-    let mut rest = n;
-    let mut count: usize = 1;
-    while 10 <= rest {
-        rest = rest / 10;
-        count += 1;
-    }
-    count
+    1
+        + reaches(n, 10)
+        + reaches(n, 100)
+        + reaches(n, 1000)
+        + reaches(n, 10000)
+        + reaches(n, 100000)
+        + reaches(n, 1000000)
+        + reaches(n, 10000000)
+        + reaches(n, 100000000)
+        + reaches(n, 1000000000)
 }
 
 // Fills the scratch bytes from their end with the digits of n, and answers where the digits begin.

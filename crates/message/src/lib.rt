@@ -9,8 +9,59 @@ ghost use mathlib.Core.Path.{_≡_};
 ghost use mathlib.Core.Bool.{true, false};
 ghost use Prim.Native.Nat.{_+_, _-_, _*_, _≤_, _<_};
 ghost use lib.ListN.{length};
+ghost use Rattle.message_maps.specs.Rows.{messageWords, messageRows};
 ghost use lib.Dec.{leb};
-ghost use Rattle.message_rules.specs.Changes.{locatedIn, heldRows, Cuttable, changedAt, Ready, putAt, after, emptying, making, storing, removing};
+ghost use Rattle.message_lent_rules.specs.Lent.{isMessage};
+ghost use Rattle.message_lent_rules.specs.Meaning.{messageIn};
+ghost use Rattle.message_rules.specs.Changes.{bodyHead, trailerHead, spanOf, locatedIn, heldRows, placeOf, Cuttable, BlankFrom, Blank, changedAt, Ready, putAt, after, countedFields, emptying, making, storing, removing};
+
+// The row of the body's head in a message that is lent: behind the rows of the header.
+fn body_head(words: &[u32], values: &[u8]) -> usize
+    requires { ⌜ isMessage (now words) (now values) ≡ true ⌝ }
+    ensures { λ r. ⌜ r ≡ bodyHead (messageIn (now (words .entry)) (now (values .entry))) ⌝ }
+{
+    message_maps::end_of(words, 0, 1, message_lent::row_count(words))
+}
+
+// The row of the trailer's head: behind the rows of the body.
+fn trailer_head(words: &[u32], values: &[u8]) -> usize
+    requires { ⌜ isMessage (now words) (now values) ≡ true ⌝ }
+    ensures { λ r. ⌜ r ≡ trailerHead (messageIn (now (words .entry)) (now (values .entry))) ⌝ }
+{
+    let body = body_head(words, values) + 1;
+    message_maps::end_of(words, 0, body, message_lent::row_count(words))
+}
+
+// Where a part of a message stands that was found to be one.
+pub fn span_of(words: &[u32], values: &[u8], part: Part) -> Span
+    requires { ⌜ isMessage (now words) (now values) ≡ true ⌝ }
+    ensures { λ r. ⌜ r ≡ spanOf part (messageIn (now (words .entry)) (now (values .entry))) ⌝ }
+{
+    let count = message_lent::row_count(words);
+    match part {
+        Part::Header => {
+            return Span {
+                from: 1,
+                to: body_head(words, values),
+                count,
+            };
+        }
+        Part::Body => {
+            return Span {
+                from: body_head(words, values) + 1,
+                to: trailer_head(words, values),
+                count,
+            };
+        }
+        Part::Trailer => {
+            return Span {
+                from: trailer_head(words, values) + 1,
+                to: count,
+                count,
+            };
+        }
+    }
+}
 
 // Where a part of the message stands that is lent, if it is one.
 pub fn locate(words: &[u32], values: &[u8], part: Part) -> Located
@@ -19,34 +70,7 @@ pub fn locate(words: &[u32], values: &[u8], part: Part) -> Located
     if !message_lent::is_message(words, values) {
         return Located::Nowhere;
     }
-    let count = message_lent::row_count(words);
-    let first = message_maps::end_of(words, 0, 1, count);
-    let body = first + 1;
-    let second = message_maps::end_of(words, 0, body, count);
-    let trailer = second + 1;
-    match part {
-        Part::Header => {
-            return Located::At(Span {
-                from: 1,
-                to: first,
-                count,
-            });
-        }
-        Part::Body => {
-            return Located::At(Span {
-                from: body,
-                to: second,
-                count,
-            });
-        }
-        Part::Trailer => {
-            return Located::At(Span {
-                from: trailer,
-                to: count,
-                count,
-            });
-        }
-    }
+    Located::At(span_of(words, values, part))
 }
 
 // Whether values of a size have room beside others.
@@ -59,7 +83,40 @@ fn fits(left: usize, more: usize) -> bool
     more <= 8192 - left
 }
 
-// Cuts, moves and inserts rows with their values, unless that is refused: 41, 42, 21.
+// Where the values of a cut's rows stand, in the order of its rows.
+pub struct Places {
+    pub from: usize,
+    pub kept: usize,
+    pub to: usize,
+    pub until: usize,
+    pub used: usize,
+}
+
+// The sizes of all rows are summed up once.
+fn places_of(words: &[u32], cut: Cut) -> Places
+    requires { ⌜ (cut .from ≤ cut .kept) × (cut .kept ≤ cut .to) × (cut .to ≤ cut .until) × (cut .until ≤ cut .count) × (cut .count ≤ messageRows) × (length (now words) ≡ messageWords) × (placeOf (now words) (cut .count) ≤ 8192) ⌝ }
+    ensures { λ r. ⌜ (r .from ≡ placeOf (now (words .entry)) (cut .from)) × (r .kept ≡ placeOf (now (words .entry)) (cut .kept)) × (r .to ≡ placeOf (now (words .entry)) (cut .to)) × (r .until ≡ placeOf (now (words .entry)) (cut .until)) × (r .used ≡ placeOf (now (words .entry)) (cut .count)) ⌝ }
+{
+    let first_row = cut.from;
+    let kept_row = cut.kept;
+    let last_row = cut.to;
+    let until_row = cut.until;
+    let from = message_maps::size_between(words, 0, first_row);
+    let kept = from + message_maps::size_between(words, first_row, kept_row);
+    let to = kept + message_maps::size_between(words, kept_row, last_row);
+    let until = to + message_maps::size_between(words, last_row, until_row);
+    let used = until + message_maps::size_between(words, until_row, cut.count);
+    Places {
+        from,
+        kept,
+        to,
+        until,
+        used,
+    }
+}
+
+// Cuts, moves and inserts rows with their values, unless that is refused: 41, 42, 21. Where zeros are known to stand behind the rows and behind
+// the values, only what was used is cleared.
 pub fn cut_rows(
     words: &mut [u32],
     values: &mut [u8],
@@ -69,8 +126,10 @@ pub fn cut_rows(
     bytes: &[u8],
     whole: bool,
     fields: usize,
+    blank: bool,
 ) -> Change
     requires { ⌜ Cuttable (now words) (now values) cut (now rows) added fields ⌝ }
+    requires { ⌜ BlankFrom blank (cut .count) (now words) (now values) ⌝ }
     ensures { λ r. ⌜ after r (now (words .exit)) (now (values .exit)) ≡ changedAt cut (now (rows .entry)) added (now (bytes .entry)) whole fields (now (words .entry)) (now (values .entry)) ⌝ }
 {
     let from = cut.from;
@@ -78,11 +137,12 @@ pub fn cut_rows(
     let kept = cut.kept;
     let until = cut.until;
     let count = cut.count;
-    let first = message_maps::size_between(words, 0, from);
-    let second = message_maps::size_between(words, 0, to);
-    let third = message_maps::size_between(words, 0, kept);
-    let fourth = message_maps::size_between(words, 0, until);
-    let used = message_maps::size_between(words, 0, count);
+    let places = places_of(words, cut);
+    let first = places.from;
+    let third = places.kept;
+    let second = places.to;
+    let fourth = places.until;
+    let used = places.used;
     if !fits(
         first + (fourth - second) + (second - third) + (used - fourth),
         bytes.len(),
@@ -104,9 +164,10 @@ pub fn cut_rows(
         4 * until + 1,
         4 * count + 1,
         rows,
+        blank,
     );
     words[0] = (left + added) as u32;
-    message_maps::splice_bytes(values, first, second, third, fourth, used, bytes);
+    message_maps::splice_bytes(values, first, second, third, fourth, used, bytes, blank);
     Change::Made
 }
 
@@ -118,8 +179,10 @@ pub fn put_field(
     tag: u32,
     value: &[u8],
     fields: usize,
+    blank: bool,
 ) -> Change
     requires { ⌜ Ready (now words) (now values) span tag (now value) fields ⌝ }
+    requires { ⌜ BlankFrom blank (span .count) (now words) (now values) ⌝ }
     ensures { λ r. ⌜ after r (now (words .exit)) (now (values .exit)) ≡ putAt span tag (now (value .entry)) fields (now (words .entry)) (now (values .entry)) ⌝ }
 {
     let from = span.from;
@@ -135,7 +198,17 @@ pub fn put_field(
             until: at + 1,
             count,
         };
-        return cut_rows(words, values, place, &row[..], 1, value, true, fields);
+        return cut_rows(
+            words,
+            values,
+            place,
+            &row[..],
+            1,
+            value,
+            true,
+            fields,
+            blank,
+        );
     }
     let first = message_maps::find_row(words, 2, 1, tag, from, to);
     let last = message_maps::run_end(words, 1, tag, first, to);
@@ -146,7 +219,17 @@ pub fn put_field(
         until: to,
         count,
     };
-    cut_rows(words, values, run, &row[..], 1, value, true, fields + 1)
+    cut_rows(
+        words,
+        values,
+        run,
+        &row[..],
+        1,
+        value,
+        true,
+        fields + 1,
+        blank,
+    )
 }
 
 // Makes what is lent an empty message.
@@ -161,28 +244,55 @@ pub fn empty(words: &mut [u32], values: &mut [u8]) -> Change
     }
     let heads = [2u32, 0, 1, 0, 2, 0, 2, 0, 2, 0, 3, 0];
     let no_bytes = [0u8; 1];
-    message_maps::splice_words(words, 1, 1, 1, 1, 1, &heads[..]);
+    message_maps::splice_words(words, 1, 1, 1, 1, 1, &heads[..], false);
     words[0] = 3;
-    message_maps::splice_bytes(values, 0, 0, 0, 0, 0, &no_bytes[..0]);
+    message_maps::splice_bytes(values, 0, 0, 0, 0, 0, &no_bytes[..0], false);
     Change::Made
 }
 
-// Stores a field in a part of a message.
-pub fn store(words: &mut [u32], values: &mut [u8], part: Part, tag: u32, value: &[u8]) -> Change
+// The number of fields that a change is judged by.
+fn counted_fields(words: &[u32], count: usize) -> usize
+    requires { ⌜ (count ≤ messageRows) × (length (now words) ≡ messageWords) ⌝ }
+    ensures { λ r. ⌜ r ≡ countedFields (now (words .entry)) count ⌝ }
+{
+    if count < 1024 {
+        return 0;
+    }
+    message_lent::fields_in(words, 1, 0, count)
+}
+
+// Stores a field in a part of a message that was found to be one.
+pub fn store_in(
+    words: &mut [u32],
+    values: &mut [u8],
+    part: Part,
+    tag: u32,
+    value: &[u8],
+    blank: bool,
+) -> Change
+    requires { ⌜ isMessage (now words) (now values) ≡ true ⌝ }
+    requires { ⌜ Blank blank (now words) (now values) ⌝ }
     ensures { λ r. ⌜ after r (now (words .exit)) (now (values .exit)) ≡ storing part tag (now (value .entry)) (now (words .entry)) (now (values .entry)) ⌝ }
 {
-    let Located::At(span) = locate(words, values, part) else {
-        return Change::NoMessage;
-    };
     if tag == 0 {
         return Change::NotStorable;
     }
     if 8192 < value.len() {
         return Change::NotStorable;
     }
-    let count = span.count;
-    let fields = message_lent::fields_in(words, 1, 0, count);
-    put_field(words, values, span, tag, value, fields)
+    let span = span_of(words, values, part);
+    let fields = counted_fields(words, span.count);
+    put_field(words, values, span, tag, value, fields, blank)
+}
+
+// Stores a field in a part of a message.
+pub fn store(words: &mut [u32], values: &mut [u8], part: Part, tag: u32, value: &[u8]) -> Change
+    ensures { λ r. ⌜ after r (now (words .exit)) (now (values .exit)) ≡ storing part tag (now (value .entry)) (now (words .entry)) (now (values .entry)) ⌝ }
+{
+    if !message_lent::is_message(words, values) {
+        return Change::NoMessage;
+    }
+    store_in(words, values, part, tag, value, false)
 }
 
 // Makes what is lent a new message, with a BeginString and a MsgType. What both don't fit is refused before anything is changed.
@@ -213,19 +323,17 @@ fn held_rows(found: usize, end: usize) -> usize
     0
 }
 
-// Removes a field from a part of a message; a run that hung on it stays. Where it is not held, what stood behind the message goes all the same.
-pub fn remove(words: &mut [u32], values: &mut [u8], part: Part, tag: u32) -> Change
+// Removes a field from a part of a message that was found to be one. No field comes to it, so none is counted.
+pub fn remove_in(words: &mut [u32], values: &mut [u8], part: Part, tag: u32) -> Change
+    requires { ⌜ isMessage (now words) (now values) ≡ true ⌝ }
     ensures { λ r. ⌜ after r (now (words .exit)) (now (values .exit)) ≡ removing part tag (now (words .entry)) (now (values .entry)) ⌝ }
 {
-    let Located::At(span) = locate(words, values, part) else {
-        return Change::NoMessage;
-    };
+    let span = span_of(words, values, part);
     let from = span.from;
     let to = span.to;
     let count = span.count;
     let at = message_maps::find_row(words, 1, 1, tag, from, to);
     let held = held_rows(at, to);
-    let fields = message_lent::fields_in(words, 1, 0, count);
     let no_words = [0u32; 1];
     let no_bytes = [0u8; 1];
     let place = Cut {
@@ -243,6 +351,17 @@ pub fn remove(words: &mut [u32], values: &mut [u8], part: Part, tag: u32) -> Cha
         0,
         &no_bytes[..0],
         true,
-        fields - held,
+        0,
+        false,
     )
+}
+
+// Removes a field from a part of a message; a run that hung on it stays. Where it is not held, what stood behind the message goes all the same.
+pub fn remove(words: &mut [u32], values: &mut [u8], part: Part, tag: u32) -> Change
+    ensures { λ r. ⌜ after r (now (words .exit)) (now (values .exit)) ≡ removing part tag (now (words .entry)) (now (values .entry)) ⌝ }
+{
+    if !message_lent::is_message(words, values) {
+        return Change::NoMessage;
+    }
+    remove_in(words, values, part, tag)
 }

@@ -14,9 +14,9 @@ use borrow.Author.Tests.{leb-true}
 use Rattle.field_rules.specs.Choice.{pick}
 use Rattle.message_maps.specs.Rows.{Row, row, flat, part, padded, spliced, levelOf, rowsFrom, messageWords, messageRows}
 use Rattle.message_maps.specs.RowsLaws.{part-length}
-use Rattle.message_lent.specs.Lent.{rowCount, rowsOf}
-use Rattle.message_lent.specs.LentLaws.{both}
-use Rattle.message_lent.specs.MeaningLaws.{flat-length, rows-flat}
+use Rattle.message_lent_rules.specs.Lent.{rowCount, rowsOf}
+use Rattle.message_lent_rules.specs.LentLaws.{both}
+use Rattle.message_lent_rules.specs.MeaningLaws.{flat-length, rows-flat}
 use Rattle.message_rules.specs.Changes.{After, after, Cuttable, cutRows, cutSize, cutWords, cutValues, changedAt}
 use Rattle.message_rules.specs.declared.Cut.{Cut}
 use Rattle.message_rules.specs.declared.Change.{Change}

@@ -10,7 +10,7 @@ use borrow.Author.Tests.{eq-eqb, ne-eqb, lt-ltb, le-ltb}
 use Rattle.field_rules.specs.Choice.{pick}
 use Rattle.message_maps.specs.Rows.{Row, row, flat, rowAt, rowsFrom, levelOf, sizes}
 use Rattle.message_maps.specs.RowsLaws.{rows-step, rows-none}
-use Rattle.message_lent.specs.Lent.{rowCount, rowsOf}
+use Rattle.message_lent_rules.specs.Lent.{rowCount, rowsOf}
 use Rattle.message_rules.specs.Changes.{after, changedAt, fieldPlace, runPlace}
 use Rattle.message_rules.specs.declared.Change.the-variants.{NoRun}
 use Rattle.message_rules.specs.declared.Span.{Span}

@@ -4,7 +4,7 @@ ghost use mathlib.Core.Path.{_≡_};
 ghost use Prim.Native.Nat.{ℕ, _+_, _-_, _*_, _≤_, _<_};
 ghost use lib.ListN.{length, getD, take};
 ghost use Rattle.message_maps.specs.Rows.{flat, rowAt, rowsFrom, sizes, messageWords, messageRows};
-ghost use Rattle.message_lent.specs.Lent.{rowCount, rowsOf};
+ghost use Rattle.message_lent_rules.specs.Lent.{rowCount, rowsOf};
 ghost use Rattle.message_rules.specs.Changes.{after, Cuttable, changedAt};
 ghost use Rattle.message_hung_rows.specs.Hanging.{raised, raisedFrom, isUntagged, untaggedIn, isOf, allOf, hungPlace, Lent, Hangable, hangAt};
 
@@ -102,6 +102,7 @@ fn insert_run(
         &run_values[..size],
         whole,
         fields,
+        false,
     );
     match change {
         message_rules::Change::Made => {

@@ -12,7 +12,7 @@ use Rattle.field_rules.specs.Choice.{pick}
 use Rattle.message_maps.specs.Map.{Map, end, field, entry, Looked, none, some, valuesIn}
 use Rattle.message_maps.specs.Rows.{Row, row, laid, levelOf, sizeOf, sizes}
 use Rattle.message_rules.specs.LayoutLaws.{sizes-append, sizes-laid}
-use Rattle.message_lent.specs.LaidLaws.{shallow}
+use Rattle.message_lent_rules.specs.LaidLaws.{shallow}
 use Rattle.message_rules.specs.LookUps.{rowsIn, Standing, standing, mapAt}
 use Rattle.message_rules.specs.LookUpLimits.{rows-in}
 use Rattle.message_look_ups.specs.Opening.{isHead}

@@ -5,7 +5,7 @@ use mathlib.Core.List.{List, [], _∷_}
 use lib.Dec.{eqb, ltb}
 use Rattle.field_rules.specs.Choice.{pick}
 use Rattle.message_maps.specs.Rows.{Row, row, rowAt, rowsFrom, levelOf, sizeOf, matches, endFrom}
-use Rattle.message_lent.specs.Lent.{rowCount, isMessage}
+use Rattle.message_lent_rules.specs.Lent.{rowCount, isMessage}
 use Rattle.message_rules.specs.declared.FoundValue.{FoundValue}
 use Rattle.message_rules.specs.declared.FoundValue.the-variants as value
 use Rattle.message_rules.specs.declared.FoundMap.{FoundMap}

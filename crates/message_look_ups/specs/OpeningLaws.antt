@@ -12,13 +12,13 @@ use Rattle.field_rules.specs.Choice.{pick, pick-same}
 use Rattle.message_maps.specs.Map.{Map, Looked, none, some, valuesIn}
 use Rattle.message_maps.specs.Rows.{Row, row, laid, rowAt, rowsFrom, levelOf, sizeOf, sizes, matches, endFrom, messageRows}
 use Rattle.message_maps.specs.RowsLaws.{rows-step, rows-none}
-use Rattle.message_lent.specs.Lent.{rowCount, rowsOf, isMessage}
-use Rattle.message_lent.specs.LentLaws.{message-held}
-use Rattle.message_lent.specs.Meaning.{Message, parts, messageIn}
-use Rattle.message_lent.specs.MeaningLaws.{means}
+use Rattle.message_lent_rules.specs.Lent.{rowCount, rowsOf, isMessage}
+use Rattle.message_lent_rules.specs.LentLaws.{message-held}
+use Rattle.message_lent_rules.specs.Meaning.{Message, parts, messageIn}
+use Rattle.message_lent_rules.specs.MeaningLaws.{means}
 use Rattle.message_rules.specs.Changes.{placeOf}
 use Rattle.message_rules.specs.LayoutLaws.{sizes-append, end-below}
-use Rattle.message_lent.specs.LaidLaws.{shallow}
+use Rattle.message_lent_rules.specs.LaidLaws.{shallow}
 use Rattle.message_rules.specs.PlaceLaws.{rows-length, rows-part}
 use Rattle.message_rules.specs.CutLaws.{Sized, laid-sized}
 use Rattle.message_rules.specs.LookUps.{Standing, standing, mapAt}

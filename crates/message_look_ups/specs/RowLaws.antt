@@ -13,7 +13,7 @@ use Rattle.message_maps.specs.Map.{Map, end, field, entry, Looked, none, some, 
 use Rattle.message_maps.specs.Rows.{Row, row, laid, rowAt, rowsFrom, levelOf, sizeOf, sizes, matches, endFrom}
 use Rattle.message_maps.specs.RowsLaws.{rows-step, rows-none}
 use Rattle.message_rules.specs.LayoutLaws.{sizes-append, sizes-laid}
-use Rattle.message_lent.specs.LaidLaws.{shallow}
+use Rattle.message_lent_rules.specs.LaidLaws.{shallow}
 use Rattle.message_rules.specs.LookUps.{rowsIn, Standing, standing, mapAt, valueIn, entryIn}
 use Rattle.message_look_ups.specs.Opening.{isHead, valueFrom, entryFrom}
 use Rattle.message_rules.specs.declared.FoundValue.{FoundValue}

@@ -5,7 +5,7 @@ ghost use mathlib.Core.Path.{_≡_};
 ghost use mathlib.Core.List.{_++_, []};
 ghost use mathlib.Core.Bool.{true, false};
 ghost use Prim.Native.Nat.{_+_, _-_, _*_, _≤_, _<_};
-ghost use lib.ListN.{length, getD, take, drop};
+ghost use lib.ListN.{length, getD, take, drop, replicate};
 ghost use Rattle.field_rules.specs.Decimal.{writtenAt};
 ghost use Rattle.message_maps.specs.Rows.{rowAt, rowsFrom, rowsBefore, levelOf, sizeOf, matches, findFrom, endFrom, inRun, runEndFrom, sizes, padded, part, spliced, messageWords, messageRows};
 
@@ -165,9 +165,122 @@ pub fn put_bytes(target: &mut [u8], at: usize, source: &[u8], from: usize, to: u
     at + (to - from)
 }
 
-// The words from `from` to `to` are taken out; what stood from there to `end` moves up, then come the new ones and those taken out from
-// `kept` on. All past the used ones is zero.
-pub fn splice_words(
+// Moves a part to a place in front of it: the first word first, so that each is read before another is written over it.
+fn move_down_words(words: &mut [u32], from: usize, to: usize, at: usize)
+    requires { ⌜ (at ≤ from) × (from ≤ to) × (to ≤ length (now words)) ⌝ }
+    ensures { λ _. ⌜ now (words .exit) ≡ writtenAt at (part from to (now (words .entry))) (now (words .entry)) ⌝ }
+{
+    let size = to - from;
+    let mut i: usize = 0;
+    while i < size {
+        words[at + i] = words[from + i];
+        i += 1;
+    }
+}
+
+// Moves a part to a place behind it: for the same reason the last word first.
+fn move_up_words(words: &mut [u32], from: usize, to: usize, at: usize)
+    requires { ⌜ (from ≤ at) × (from ≤ to) × (at + (to - from) ≤ length (now words)) ⌝ }
+    ensures { λ _. ⌜ now (words .exit) ≡ writtenAt at (part from to (now (words .entry))) (now (words .entry)) ⌝ }
+{
+    let mut left = to - from;
+    while 0 < left {
+        left -= 1;
+        words[at + left] = words[from + left];
+    }
+}
+
+// Moves a part to a place that may overlap it.
+fn move_words(words: &mut [u32], from: usize, to: usize, at: usize)
+    requires { ⌜ (from ≤ to) × (to ≤ length (now words)) × (at + (to - from) ≤ length (now words)) ⌝ }
+    ensures { λ _. ⌜ now (words .exit) ≡ writtenAt at (part from to (now (words .entry))) (now (words .entry)) ⌝ }
+{
+    if at < from {
+        move_down_words(words, from, to, at);
+        return;
+    }
+    if from < at {
+        move_up_words(words, from, to, at);
+    }
+}
+
+pub fn clear_words(words: &mut [u32], from: usize, to: usize)
+    requires { ⌜ (from ≤ to) × (to ≤ length (now words)) ⌝ }
+    ensures { λ _. ⌜ now (words .exit) ≡ writtenAt from (replicate (to - from) 0) (now (words .entry)) ⌝ }
+{
+    let size = to - from;
+    let mut i: usize = 0;
+    while i < size {
+        words[from + i] = 0;
+        i += 1;
+    }
+}
+
+// The same four for bytes.
+fn move_down_bytes(values: &mut [u8], from: usize, to: usize, at: usize)
+    requires { ⌜ (at ≤ from) × (from ≤ to) × (to ≤ length (now values)) ⌝ }
+    ensures { λ _. ⌜ now (values .exit) ≡ writtenAt at (part from to (now (values .entry))) (now (values .entry)) ⌝ }
+{
+    let size = to - from;
+    let mut i: usize = 0;
+    while i < size {
+        values[at + i] = values[from + i];
+        i += 1;
+    }
+}
+
+fn move_up_bytes(values: &mut [u8], from: usize, to: usize, at: usize)
+    requires { ⌜ (from ≤ at) × (from ≤ to) × (at + (to - from) ≤ length (now values)) ⌝ }
+    ensures { λ _. ⌜ now (values .exit) ≡ writtenAt at (part from to (now (values .entry))) (now (values .entry)) ⌝ }
+{
+    let mut left = to - from;
+    while 0 < left {
+        left -= 1;
+        values[at + left] = values[from + left];
+    }
+}
+
+fn move_bytes(values: &mut [u8], from: usize, to: usize, at: usize)
+    requires { ⌜ (from ≤ to) × (to ≤ length (now values)) × (at + (to - from) ≤ length (now values)) ⌝ }
+    ensures { λ _. ⌜ now (values .exit) ≡ writtenAt at (part from to (now (values .entry))) (now (values .entry)) ⌝ }
+{
+    if at < from {
+        move_down_bytes(values, from, to, at);
+        return;
+    }
+    if from < at {
+        move_up_bytes(values, from, to, at);
+    }
+}
+
+pub fn clear_bytes(values: &mut [u8], from: usize, to: usize)
+    requires { ⌜ (from ≤ to) × (to ≤ length (now values)) ⌝ }
+    ensures { λ _. ⌜ now (values .exit) ≡ writtenAt from (replicate (to - from) 0) (now (values .entry)) ⌝ }
+{
+    let size = to - from;
+    let mut i: usize = 0;
+    while i < size {
+        values[from + i] = 0;
+        i += 1;
+    }
+}
+
+// Up to where zeros are written behind `all`: where all behind the used ones is zero already, over no more than is left of those.
+fn clear_end(blank: bool, all: usize, used: usize, limit: usize) -> usize
+    requires { ⌜ (all ≤ limit) × (used ≤ limit) ⌝ }
+    ensures { λ r. ⌜ (all ≤ r) × (r ≤ limit) × (blank ≡ true → used ≤ r) × (blank ≡ false → r ≡ limit) ⌝ }
+{
+    if !blank {
+        return limit;
+    }
+    if all < used {
+        return used;
+    }
+    all
+}
+
+// The splice below by way of a copy: for the rare one whose words come back behind what followed them, which no move in place can do.
+fn turn_words(
     words: &mut [u32],
     from: usize,
     to: usize,
@@ -190,7 +303,7 @@ pub fn splice_words(
 }
 
 // The same for the value bytes.
-pub fn splice_bytes(
+fn turn_bytes(
     values: &mut [u8],
     from: usize,
     to: usize,
@@ -210,4 +323,64 @@ pub fn splice_bytes(
     let fourth = put_bytes(room, third, values, kept, to);
     put_bytes(room, fourth, values, end, used);
     bytes::copy(room, values);
+}
+
+// The words from `from` to `to` are taken out; what stood from there to `end` moves up, then come the new ones and those taken out from
+// `kept` on. All past the used ones is zero. `blank`: whether all behind the used words is known to be zero, and needn't be cleared again.
+pub fn splice_words(
+    words: &mut [u32],
+    from: usize,
+    to: usize,
+    kept: usize,
+    end: usize,
+    used: usize,
+    new: &[u32],
+    blank: bool,
+)
+    requires { ⌜ (from ≤ to) × (kept ≤ to) × (to ≤ end) × (end ≤ used) × (used ≤ messageWords) × (length (now words) ≡ messageWords) × (from + (end - to) + length (now new) + (to - kept) + (used - end) ≤ messageWords) ⌝ }
+    requires { ⌜ (blank ≡ true → drop used (now words) ≡ replicate (messageWords - used) 0) ⌝ }
+    ensures { λ _. ⌜ now (words .exit) ≡ padded messageWords (spliced from to kept end used (now (new .entry)) (now (words .entry))) ⌝ }
+{
+    if kept < to {
+        turn_words(words, from, to, kept, end, used, new);
+        return;
+    }
+    let next = from + (end - to);
+    let behind = next + new.len();
+    let all = behind + (used - end);
+    // Moved first, the middle is out of the way of the rest; the new ones come last, into the gap between the two.
+    move_words(words, to, end, from);
+    move_words(words, end, used, behind);
+    put_words(words, next, new, 0, new.len());
+    let stop = clear_end(blank, all, used, WORDS);
+    clear_words(words, all, stop);
+}
+
+// The same for the value bytes.
+pub fn splice_bytes(
+    values: &mut [u8],
+    from: usize,
+    to: usize,
+    kept: usize,
+    end: usize,
+    used: usize,
+    new: &[u8],
+    blank: bool,
+)
+    requires { ⌜ (from ≤ to) × (kept ≤ to) × (to ≤ end) × (end ≤ used) × (used ≤ 8192) × (length (now values) ≡ 8192) × (from + (end - to) + length (now new) + (to - kept) + (used - end) ≤ 8192) ⌝ }
+    requires { ⌜ (blank ≡ true → drop used (now values) ≡ replicate (8192 - used) 0) ⌝ }
+    ensures { λ _. ⌜ now (values .exit) ≡ padded 8192 (spliced from to kept end used (now (new .entry)) (now (values .entry))) ⌝ }
+{
+    if kept < to {
+        turn_bytes(values, from, to, kept, end, used, new);
+        return;
+    }
+    let next = from + (end - to);
+    let behind = next + new.len();
+    let all = behind + (used - end);
+    move_bytes(values, to, end, from);
+    move_bytes(values, end, used, behind);
+    put_bytes(values, next, new, 0, new.len());
+    let stop = clear_end(blank, all, used, 8192);
+    clear_bytes(values, all, stop);
 }

@@ -14,8 +14,8 @@ use Rattle.dictionary_layout_rules.specs.declared.FirstTag.the-variants.{First,
 use Rattle.build_records.specs.Records.{stored, valueAt}
 use Rattle.build_records.specs.declared.Record.{Record}
 use Rattle.message_maps.specs.Map.{Map, end, field, entry, joined}
-use Rattle.message_lent.specs.Formed.{stands, isFormed, isRun}
-use Rattle.message_lent.specs.MeantLaws.{joined-end}
+use Rattle.message_lent_rules.specs.Formed.{stands, isFormed, isRun}
+use Rattle.message_lent_rules.specs.MeantLaws.{joined-end}
 use Rattle.message_rules.specs.LayoutLaws.{joined-assoc}
 use Rattle.build_group_rules.specs.Groups.{Rules, isDelimiter, opens}
 use Rattle.build_nesting_laws.specs.Formed.{Part, entriesOf, fieldsOf, Own, Formed, no-entry, next-entry, starts, rises, hangs, user}

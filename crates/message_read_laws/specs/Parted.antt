@@ -15,8 +15,8 @@ use Rattle.dictionary_layout_rules.specs.declared.Position.the-variants.{At}
 use Rattle.build_records.specs.Records.{stored, valueAt}
 use Rattle.build_records.specs.declared.Record.{Record}
 use Rattle.message_maps.specs.Map.{Map, end, holdsAny, fieldCount}
-use Rattle.message_lent.specs.Meaning.{Message}
-use Rattle.message_lent.specs.Formed.{isFormed, Formed, Within}
+use Rattle.message_lent_rules.specs.Meaning.{Message}
+use Rattle.message_lent_rules.specs.Formed.{isFormed, Formed, Within}
 use Rattle.build_group_rules.specs.Groups.{Rules, opens}
 use Rattle.build_required_rules.specs.Required.{Demands}
 use Rattle.build_nesting_laws.specs.Entries.{all-none, all-more}

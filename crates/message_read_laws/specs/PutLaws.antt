@@ -8,11 +8,11 @@ use lib.Dec.{eqb}
 use borrow.Author.Tests.{eqb-true, eq-eqb, ne-eqb}
 use Rattle.field_rules.specs.Choice.{pick}
 use Rattle.message_maps.specs.Map.{Map, end, field, entry, joined, holds, replaced, pastLeading, hungOnCount, hung}
-use Rattle.message_lent.specs.Formed.{stands, goesOn, isFormed, isRun}
-use Rattle.message_lent.specs.LentLaws.{both}
-use Rattle.message_lent.specs.StandLaws.{nor, formed-field, formed-entry}
-use Rattle.message_lent.specs.KeptLaws.{formed-fewer, fewer-replaced, formed-joined}
-use Rattle.message_lent.specs.HungLaws.{formed-hung}
+use Rattle.message_lent_rules.specs.Formed.{stands, goesOn, isFormed, isRun}
+use Rattle.message_lent_rules.specs.LentLaws.{both}
+use Rattle.message_lent_rules.specs.StandLaws.{nor, formed-field, formed-entry}
+use Rattle.message_lent_rules.specs.KeptLaws.{formed-fewer, fewer-replaced, formed-joined}
+use Rattle.message_lent_rules.specs.HungLaws.{formed-hung}
 use Rattle.message_read_laws.specs.Shapes.{put, putRun}
 
 -- a run: entries of one start tag

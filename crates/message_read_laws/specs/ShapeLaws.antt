@@ -10,8 +10,8 @@ use Rattle.field_rules.specs.Choice.{pick}
 use Rattle.build_records.specs.Records.{stored, valueAt}
 use Rattle.build_records.specs.declared.Record.{Record}
 use Rattle.message_maps.specs.Map.{Map, field, entry, joined, holds, pastLeading}
-use Rattle.message_lent.specs.Formed.{stands}
-use Rattle.message_lent.specs.StandLaws.{nor}
+use Rattle.message_lent_rules.specs.Formed.{stands}
+use Rattle.message_lent_rules.specs.StandLaws.{nor}
 use Rattle.build_nesting_laws.specs.Formed.{Own}
 use Rattle.build_nesting_laws.specs.Entries.{All, all-none, all-more, all-append, all-map, Deep, Other}
 use Rattle.build_body_rules.specs.Body.{behindRun, storedRun}

@@ -3,13 +3,13 @@ use Prim.Native.Nat.{ℕ, zero, suc, _+_, _-_, _*_, _≤_, _<_}
 use mathlib.Core.Path.{_≡_}
 use mathlib.Core.Bool.{Bool, true, false}
 use mathlib.Core.List.{List, [], _∷_, _++_}
-use lib.ListN.{length, set}
+use lib.ListN.{length, drop, set, replicate}
 use lib.Dec.{eqb, leb, ltb}
 use Rattle.field_rules.specs.Choice.{pick}
 use Rattle.message_maps.specs.Map.{Map, end, field, entry, withoutField, stored, hung, fieldCount, valuesIn}
 use Rattle.message_maps.specs.Rows.{laid, flat, rowsFrom, findFrom, runEndFrom, sizes, padded, spliced, messageWords, messageRows}
-use Rattle.message_lent.specs.Lent.{isMessage}
-use Rattle.message_lent.specs.Meaning.{Message, parts, wordsOf, valueBytesOf, messageIn}
+use Rattle.message_lent_rules.specs.Lent.{fieldsIn, isMessage}
+use Rattle.message_lent_rules.specs.Meaning.{Message, parts, wordsOf, valueBytesOf, messageIn}
 use Rattle.message_rules.specs.declared.Part.{Part}
 use Rattle.message_rules.specs.declared.Part.the-variants.{Header, Body, Trailer}
 use Rattle.message_rules.specs.declared.Change.{Change}
@@ -112,6 +112,13 @@ unfoldable pub removing : Part → ℕ → List ℕ → List ℕ → After
 removing part tag words values =
     ofMessage words values (λ m. judged words values true (withPart part (withoutField tag (partOf part m)) m))
 
+-- the rows of the heads of body and trailer
+unfoldable pub bodyHead : Message → ℕ
+bodyHead m = 1 + length (laid 1 (m .header))
+
+unfoldable pub trailerHead : Message → ℕ
+trailerHead m = 1 + length (laid 1 (m .header)) + 1 + length (laid 1 (m .body))
+
 -- where a part's rows stand
 unfoldable pub spanOf : Part → Message → Span
 spanOf Header m =
@@ -147,6 +154,17 @@ pub record Cuttable (words values : List ℕ) (cut : Cut) (rows : List ℕ) (add
   pub four : length rows ≡ 4 * added
   pub room : fields ≤ 1024 → (cut .from + (cut .until - cut .to) + (cut .to - cut .kept) + (cut .count - cut .until)) + added ≤ messageRows
   pub within : placeOf words (cut .count) ≤ 8192
+
+-- zeros behind the rows and behind the values, where they are known to stand there
+unfoldable pub BlankFrom : Bool → ℕ → List ℕ → List ℕ → Type 0
+BlankFrom blank count words values =
+    blank ≡ true
+    → (drop (4 * count + 1) words ≡ replicate (messageWords - (4 * count + 1)) 0)
+    × (drop (placeOf words count) values ≡ replicate (8192 - placeOf words count) 0)
+
+unfoldable pub Blank : Bool → List ℕ → List ℕ → Type 0
+Blank blank words values =
+    blank ≡ true → (words ≡ wordsOf (messageIn words values)) × (values ≡ valueBytesOf (messageIn words values))
 
 unfoldable pub cutRows : Cut → ℕ
 cutRows cut = cut .from + (cut .until - cut .to) + (cut .to - cut .kept) + (cut .count - cut .until)
@@ -202,6 +220,10 @@ putAt span tag value fields words values =
     pick (ltb (fieldPlace span tag words) (span .to))
     (changedAt (oneRow (fieldPlace span tag words) (span .count)) (fieldRow tag value) 1 value true fields words values)
     (changedAt (runLast (runPlace span tag words) (runStop span tag words) span) (fieldRow tag value) 1 value true (fields + 1) words values)
+
+-- the number of fields that a change is judged by: no row stores more than one, so of few rows none is counted
+unfoldable pub countedFields : List ℕ → ℕ → ℕ
+countedFields words count = pick (ltb count 1024) 0 (fieldsIn 1 (rowsFrom (count - 0) 0 words))
 
 pub record Ready (words values : List ℕ) (span : Span) (tag : ℕ) (value : List ℕ) (fields : ℕ) : Type 0 where
   pub whole : length words ≡ messageWords

@@ -12,10 +12,10 @@ use lib.Dec.{leb, ltb, eqb}
 use Rattle.field_rules.specs.Choice.{pick, pick-same}
 use Rattle.message_maps.specs.Map.{Map, end, field, entry, valuesIn}
 use Rattle.message_maps.specs.Rows.{Row, row, laid, flat, part, padded, rowAt, rowsFrom, levelOf, sizes, endFrom, spliced, messageWords, messageRows}
-use Rattle.message_lent.specs.Lent.{rowCount, rowsOf, isMessage}
-use Rattle.message_lent.specs.LentLaws.{Laid, Held, message-held}
-use Rattle.message_lent.specs.Meaning.{Message, parts, wordsOf, valueBytesOf, messageIn}
-use Rattle.message_lent.specs.MeaningLaws.{Means, means, flat-length, flat-append, words-hold}
+use Rattle.message_lent_rules.specs.Lent.{rowCount, rowsOf, isMessage}
+use Rattle.message_lent_rules.specs.LentLaws.{Laid, Held, message-held}
+use Rattle.message_lent_rules.specs.Meaning.{Message, parts, wordsOf, valueBytesOf, messageIn}
+use Rattle.message_lent_rules.specs.MeaningLaws.{Means, means, flat-length, flat-append, words-hold}
 use Rattle.message_rules.specs.Changes.{After, after, placeOf, Cuttable, cutRows, cutSize, cutWords, cutValues, changedAt, mapWords, mapValues, judgedMap}
 use Rattle.message_rules.specs.LayoutLaws.{sizes-append, sizes-laid}
 use Rattle.message_rules.specs.PlaceLaws.{rows-length, rows-part, part-rows, part-values, spliced-parts}

@@ -11,14 +11,14 @@ use lib.Dec.{eqb}
 use borrow.Author.Tests.{eqb-true, eqb-false, eq-eqb}
 use Rattle.field_rules.specs.Choice.{pick}
 use Rattle.message_maps.specs.Map.{Map, end, field, entry, joined, pastLeading, stored, fieldCount, valuesIn}
-use Rattle.message_lent.specs.Lent.{isMessage}
-use Rattle.message_lent.specs.LentLaws.{both}
-use Rattle.message_lent.specs.Meaning.{messageIn}
-use Rattle.message_lent.specs.Formed.{stands, goesOn, isFormed, entriesFormed, isRun}
-use Rattle.message_lent.specs.StandLaws.{never, nor, formed-entry}
-use Rattle.message_lent.specs.StoredLaws.{formed-stored}
-use Rattle.message_lent.specs.HungLaws.{formed-hung}
-use Rattle.message_lent.specs.FormedLaws.{lent-formed, Lends, IsLayout, is-layout-lends}
+use Rattle.message_lent_rules.specs.Lent.{isMessage}
+use Rattle.message_lent_rules.specs.LentLaws.{both}
+use Rattle.message_lent_rules.specs.Meaning.{messageIn}
+use Rattle.message_lent_rules.specs.Formed.{stands, goesOn, isFormed, entriesFormed, isRun}
+use Rattle.message_lent_rules.specs.StandLaws.{never, nor, formed-entry}
+use Rattle.message_lent_rules.specs.StoredLaws.{formed-stored}
+use Rattle.message_lent_rules.specs.HungLaws.{formed-hung}
+use Rattle.message_lent_rules.specs.FormedLaws.{lent-formed, Lends, IsLayout, is-layout-lends}
 use Rattle.message_rules.specs.Changes.{after, partOf, withPart, mapWords, mapValues, judgedMap, ofMessage}
 use Rattle.message_rules.specs.Runs.{isDraft, runIn, judgedRun, ofDraft, starting, entering, isEmpty, inLast, storingLast, hasUntagged, isWhole, hungRun, hangingLast, hanging}
 use Rattle.message_rules.specs.Drafts.{lent-run, LendsDraft, IsRunLayout, run-layout-lends}

@@ -12,14 +12,14 @@ use borrow.Author.Tests.{leb-true, le-leb}
 use Rattle.field_rules.specs.Choice.{pick}
 use Rattle.message_maps.specs.Map.{Map, holdsAny, fieldCount, valuesIn}
 use Rattle.message_maps.specs.Rows.{laid, sizes, messageRows}
-use Rattle.message_lent.specs.Lent.{rowsAllowed, rowsOf, fieldsIn, isLaid}
-use Rattle.message_lent.specs.LentLaws.{both, laid-out}
-use Rattle.message_lent.specs.LaidLaws.{sizes-laid, fields-laid, rows-few, shallow}
-use Rattle.message_lent.specs.Meaning.{LaysOut}
-use Rattle.message_lent.specs.MeaningLaws.{laid-means, lent-laid}
-use Rattle.message_lent.specs.MeantLaws.{rows-laid, map-meant}
-use Rattle.message_lent.specs.Formed.{entriesFormed}
-use Rattle.message_lent.specs.FormedLaws.{entries-formed, lays-laid, padded-lays}
+use Rattle.message_lent_rules.specs.Lent.{rowsAllowed, rowsOf, fieldsIn, isLaid}
+use Rattle.message_lent_rules.specs.LentLaws.{both, laid-out}
+use Rattle.message_lent_rules.specs.LaidLaws.{sizes-laid, fields-laid, rows-few, shallow}
+use Rattle.message_lent_rules.specs.Meaning.{LaysOut}
+use Rattle.message_lent_rules.specs.MeaningLaws.{laid-means, lent-laid}
+use Rattle.message_lent_rules.specs.MeantLaws.{rows-laid, map-meant}
+use Rattle.message_lent_rules.specs.Formed.{entriesFormed}
+use Rattle.message_lent_rules.specs.FormedLaws.{entries-formed, lays-laid, padded-lays}
 use Rattle.message_rules.specs.Changes.{mapWords, mapValues}
 use Rattle.message_rules.specs.Runs.{isDraft, runIn}
 

@@ -9,9 +9,9 @@ use native.Mathlib.Omega.{arith}
 use Rattle.message_maps.specs.Rows.{messageWords}
 use Rattle.field_rules.specs.Text.{bytes}
 use Rattle.message_maps.specs.Map.{Map, end, field, entry, joined, holds, holdsAny, replaced, withoutField, leading, pastLeading, runOn, withoutRun, stored, fieldCount, valuesIn}
-use Rattle.message_lent.specs.Meaning.{Message, parts, wordsOf, valueBytesOf}
-use Rattle.message_lent.specs.Formed.{stands, goesOn, isFormed, Within}
-use Rattle.message_lent.specs.FormedLaws.{Lends, layout-lends}
+use Rattle.message_lent_rules.specs.Meaning.{Message, parts, wordsOf, valueBytesOf}
+use Rattle.message_lent_rules.specs.Formed.{stands, goesOn, isFormed, Within}
+use Rattle.message_lent_rules.specs.FormedLaws.{Lends, layout-lends}
 use Rattle.message_rules.specs.Changes.{After, after, numberOfChange, partOf, withPart, fieldTotal, valueTotal, judged, ofMessage, ofStore, noFields, emptying, newMessage, storing, removing}
 use Rattle.message_rules.specs.declared.Part.{Part}
 use Rattle.message_rules.specs.declared.Part.the-variants.{Header, Body, Trailer}

@@ -9,11 +9,11 @@ use lib.ListN.{length, length-append}
 use lib.Dec.{eqb}
 use borrow.Author.Tests.{eqb-false, le-leb}
 use Rattle.message_maps.specs.Map.{Map, end, withoutField, stored, fieldCount, valuesIn}
-use Rattle.message_lent.specs.Lent.{isMessage}
-use Rattle.message_lent.specs.Meaning.{Message, parts, wordsOf, valueBytesOf, messageIn}
-use Rattle.message_lent.specs.Formed.{isFormed, Formed, Within}
-use Rattle.message_lent.specs.FormedLaws.{lent-formed, Lends, IsLayout, is-layout-lends}
-use Rattle.message_lent.specs.StoredLaws.{formed-stored, formed-without}
+use Rattle.message_lent_rules.specs.Lent.{isMessage}
+use Rattle.message_lent_rules.specs.Meaning.{Message, parts, wordsOf, valueBytesOf, messageIn}
+use Rattle.message_lent_rules.specs.Formed.{isFormed, Formed, Within}
+use Rattle.message_lent_rules.specs.FormedLaws.{lent-formed, Lends, IsLayout, is-layout-lends}
+use Rattle.message_lent_rules.specs.StoredLaws.{formed-stored, formed-without}
 use Rattle.message_rules.specs.Changes.{after, partOf, withPart, fieldTotal, valueTotal, judged, ofMessage, noFields, emptying, newMessage, making, storing, removing}
 use Rattle.message_rules.specs.ChangeLaws.{remove-on}
 use Rattle.message_rules.specs.Answered.{Answered, made-with, none-lent, said-of-made, answered-by, not-storable, answered-judged, NotLent, answered-store}

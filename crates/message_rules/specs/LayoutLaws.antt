@@ -11,8 +11,8 @@ use borrow.Author.Tests.{ne-eqb, lt-leb, lt-ltb}
 use Rattle.field_rules.specs.Choice.{pick-same}
 use Rattle.message_maps.specs.Map.{Map, end, field, entry, joined, fieldCount, valuesIn}
 use Rattle.message_maps.specs.Rows.{Row, row, laid, levelOf, matches, findFrom, endFrom, inRun, runEndFrom}
-pub use Rattle.message_lent.specs.MeantLaws.{joined-end}
-pub use Rattle.message_lent.specs.LaidLaws.{sizes-append, sizes-laid}
+pub use Rattle.message_lent_rules.specs.MeantLaws.{joined-end}
+pub use Rattle.message_lent_rules.specs.LaidLaws.{sizes-append, sizes-laid}
 
 pub joined-assoc : (a b c : Map) → joined (joined a b) c ≡ joined a (joined b c)
 unfolding joined

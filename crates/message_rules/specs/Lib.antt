@@ -21,3 +21,5 @@ pub mod Runs
 pub mod Drafts
 pub mod DraftLaws
 pub mod RunExamples
+pub mod BlankLaws
+pub mod FewLaws

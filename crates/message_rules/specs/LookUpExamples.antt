@@ -7,7 +7,7 @@ use Prim.Native.Nat.{ℕ}
 use lib.ListN.{length}
 use Rattle.field_rules.specs.Text.{bytes}
 use Rattle.message_maps.specs.Map.{Map, end, field, entry, Looked, none, some, valuesIn}
-use Rattle.message_lent.specs.Meaning.{Message, parts}
+use Rattle.message_lent_rules.specs.Meaning.{Message, parts}
 use Rattle.message_rules.specs.declared.Part.the-variants.{Header, Body, Trailer}
 use Rattle.message_rules.specs.LookUps.{rowsIn, standing, mapAt, valueIn, entryIn, partRow, valueOfMap, entryOf}
 use Rattle.message_rules.specs.declared.FoundValue.the-variants as value

@@ -10,8 +10,8 @@ use lib.Dec.{eqb}
 use borrow.Author.Tests.{eqb-true}
 use Rattle.field_rules.specs.Choice.{pick}
 use Rattle.message_maps.specs.Map.{Map, end, field, entry, leading, pastLeading, runOn, Looked, none, some, valueUnder, valuesIn}
-use Rattle.message_lent.specs.Formed.{stands, isFormed}
-use Rattle.message_lent.specs.StandLaws.{nor, field-formed, entry-formed, behind-field, past-same}
+use Rattle.message_lent_rules.specs.Formed.{stands, isFormed}
+use Rattle.message_lent_rules.specs.StandLaws.{nor, field-formed, entry-formed, behind-field, past-same}
 use Rattle.message_rules.specs.LookUps.{rowsIn, valueIn, entryIn}
 use Rattle.message_rules.specs.LookUpNames.{NamedIn, at-head, past-entry, past-field}
 use Rattle.message_rules.specs.declared.Value.{Value}

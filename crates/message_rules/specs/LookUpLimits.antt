@@ -7,10 +7,10 @@ use mathlib.Core.List.{List}
 use lib.ListN.{length, length-append}
 use Rattle.message_maps.specs.Map.{Map, end, field, entry}
 use Rattle.message_maps.specs.Rows.{laid, messageRows}
-use Rattle.message_lent.specs.Lent.{isMessage}
-use Rattle.message_lent.specs.LentLaws.{message-held}
-use Rattle.message_lent.specs.Meaning.{parts, messageIn}
-use Rattle.message_lent.specs.MeaningLaws.{means}
+use Rattle.message_lent_rules.specs.Lent.{isMessage}
+use Rattle.message_lent_rules.specs.LentLaws.{message-held}
+use Rattle.message_lent_rules.specs.Meaning.{parts, messageIn}
+use Rattle.message_lent_rules.specs.MeaningLaws.{means}
 use Rattle.message_rules.specs.LookUps.{rowsIn, partFound, fieldFound, entryFound}
 use Rattle.message_rules.specs.LookUpNames.{named-row}
 use Rattle.message_rules.specs.LookUpMeaning.{Names, RowNames, names-map, names-nothing, row-names, field-no-message, field-no-map, field-looked-up, part-no-message, part-looked-up, entry-no-message, entry-no-map, entry-looked-up}

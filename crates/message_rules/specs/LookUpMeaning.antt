@@ -11,12 +11,12 @@ use lib.Seq.{take-at, drop-at}
 use Rattle.field_rules.specs.Choice.{pick}
 use Rattle.message_maps.specs.Map.{Map, runOn, Looked, none, some, valueUnder, valuesIn}
 use Rattle.message_maps.specs.Rows.{sizes}
-use Rattle.message_lent.specs.Lent.{rowsOf, isMessage}
-use Rattle.message_lent.specs.LentLaws.{message-held}
-use Rattle.message_lent.specs.Meaning.{Message, parts, messageIn}
-use Rattle.message_lent.specs.MeaningLaws.{means}
-use Rattle.message_lent.specs.FormedLaws.{lent-formed}
-use Rattle.message_lent.specs.StandLaws.{never}
+use Rattle.message_lent_rules.specs.Lent.{rowsOf, isMessage}
+use Rattle.message_lent_rules.specs.LentLaws.{message-held}
+use Rattle.message_lent_rules.specs.Meaning.{Message, parts, messageIn}
+use Rattle.message_lent_rules.specs.MeaningLaws.{means}
+use Rattle.message_lent_rules.specs.FormedLaws.{lent-formed}
+use Rattle.message_lent_rules.specs.StandLaws.{never}
 use Rattle.message_rules.specs.Changes.{partOf}
 use Rattle.message_rules.specs.LookUps.{rowsIn, Standing, standing, mapAt, valueIn, entryIn, partRow, valueOfMap, entryOf, partFound, fieldFound, entryFound}
 use Rattle.message_rules.specs.LookUpNames.{NamedIn, at-head, past-entry, NamedAt, named-at, named-within, found-named, named-nowhere, named-once, named-parts-formed}

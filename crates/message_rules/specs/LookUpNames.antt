@@ -10,9 +10,9 @@ use lib.Dec.{eqb, leb}
 use borrow.Author.Tests.{eqb-true, eqb-false, eq-eqb, ne-eqb, le-leb, lt-leb, leb-false}
 use Rattle.field_rules.specs.Choice.{pick}
 use Rattle.message_maps.specs.Map.{Map, end, field, entry, Looked, none, some, valuesIn}
-use Rattle.message_lent.specs.Meaning.{Message, parts}
-use Rattle.message_lent.specs.Formed.{isFormed, Formed}
-use Rattle.message_lent.specs.StandLaws.{field-formed, entry-formed}
+use Rattle.message_lent_rules.specs.Meaning.{Message, parts}
+use Rattle.message_lent_rules.specs.Formed.{isFormed, Formed}
+use Rattle.message_lent_rules.specs.StandLaws.{field-formed, entry-formed}
 use Rattle.message_rules.specs.LookUps.{rowsIn, Standing, standing, mapAt}
 
 -- the row names the map, counted in another map: the row of a head names the entry's own map, and counting goes on within it and past it

@@ -12,8 +12,8 @@ use Rattle.field_rules.specs.Choice.{pick}
 use Rattle.message_maps.specs.Map.{Map, end, field, entry, joined, holds, replaced, withoutRun, runOn, stored, fieldCount, holdsAny, valuesIn}
 use Rattle.message_maps.specs.Rows.{Row, row, laid, flat, padded, rowAt, rowsFrom, sizes, sizeOf, levelOf, matches, messageWords, messageRows}
 use Rattle.message_maps.specs.RowsLaws.{padded-length}
-use Rattle.message_lent.specs.Lent.{heldBefore, deepest, fieldAllowed, headAllowed, rowAllowed, rowsAllowed, delimiterIs, isPart, nextPart, partsFrom, isOwn, ownBelow, weight, fieldsIn, rowCount, rowsOf, isLaid, isMessage}
-use Rattle.message_lent.specs.Meaning.{Message, parts, wordsOf, valueBytesOf, opened, withField, withEntry, withRow, openIn, outermost, thirdOf, secondOf, partsIn, messageIn}
+use Rattle.message_lent_rules.specs.Lent.{heldBefore, deepest, fieldAllowed, headAllowed, rowAllowed, rowsAllowed, delimiterIs, isPart, nextPart, partsFrom, isOwn, ownBelow, weight, fieldsIn, rowCount, rowsOf, isLaid, isMessage}
+use Rattle.message_lent_rules.specs.Meaning.{Message, parts, wordsOf, valueBytesOf, opened, withField, withEntry, withRow, openIn, outermost, thirdOf, secondOf, partsIn, messageIn}
 use Rattle.message_rules.specs.Changes.{After, after, ofMessage, ofStore, partOf, withPart, fieldTotal, valueTotal, judged, noFields, newMessage, emptying, making, storing}
 use Rattle.message_rules.specs.ChangeLaws.{store-on, empty-made}
 use Rattle.message_rules.specs.declared.Change.{Change}

@@ -6,9 +6,9 @@ use native.Mathlib.Omega.{arith}
 use lib.ListN.{length, length-append}
 use Rattle.message_maps.specs.Map.{Map, valuesIn, fieldCount}
 use Rattle.message_maps.specs.Rows.{Row, row, laid, sizes, sizeOf}
-use Rattle.message_lent.specs.Lent.{fieldsIn}
-use Rattle.message_lent.specs.Meaning.{Message, parts}
-use Rattle.message_lent.specs.LaidLaws.{fields-parts}
+use Rattle.message_lent_rules.specs.Lent.{fieldsIn}
+use Rattle.message_lent_rules.specs.Meaning.{Message, parts}
+use Rattle.message_lent_rules.specs.LaidLaws.{fields-parts}
 use Rattle.message_rules.specs.Changes.{partOf, withPart, fieldTotal, spanOf}
 use Rattle.message_rules.specs.LayoutLaws.{sizes-append, sizes-laid}
 use Rattle.message_rules.specs.declared.Part.{Part}

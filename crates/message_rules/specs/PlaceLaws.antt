@@ -13,11 +13,11 @@ use borrow.Author.Tests.{le-leb, lt-leb}
 use Rattle.field_rules.specs.Choice.{pick, pick-same}
 use Rattle.message_maps.specs.Map.{Map, end, field, entry, valuesIn}
 use Rattle.message_maps.specs.Rows.{Row, row, laid, flat, part, padded, rowAt, rowsFrom, levelOf, sizes, endFrom, spliced}
-use Rattle.message_lent.specs.Lent.{rowCount, rowsOf, isMessage}
-use Rattle.message_lent.specs.LentLaws.{Laid, Held, message-held}
-use Rattle.message_lent.specs.Meaning.{Message, parts, wordsOf, valueBytesOf, messageIn}
-use Rattle.message_lent.specs.MeaningLaws.{Means, means, flat-length, flat-append, rows-flat}
-pub use Rattle.message_lent.specs.MeaningLaws.{rows-length}
+use Rattle.message_lent_rules.specs.Lent.{rowCount, rowsOf, isMessage}
+use Rattle.message_lent_rules.specs.LentLaws.{Laid, Held, message-held}
+use Rattle.message_lent_rules.specs.Meaning.{Message, parts, wordsOf, valueBytesOf, messageIn}
+use Rattle.message_lent_rules.specs.MeaningLaws.{Means, means, flat-length, flat-append, rows-flat}
+pub use Rattle.message_lent_rules.specs.MeaningLaws.{rows-length}
 use Rattle.message_rules.specs.Changes.{After, after, placeOf, Cuttable, cutRows, cutSize, cutWords, cutValues, changedAt, locatedIn, spanOf}
 use Rattle.message_rules.specs.LayoutLaws.{sizes-append, sizes-laid, end-below}
 use Rattle.message_rules.specs.declared.Cut.{Cut}
@@ -43,12 +43,17 @@ rows-part words n i j p q r e f g =
     sym (drop-at (rowsFrom i 0 words) _ i (rows-length i 0 words)) ∙ ap (drop i) whole ∙ drop-at p (q ++ r) i (sym f) in
     sym (take-at (rowsFrom (j - i) i words) _ (j - i) (rows-length (j - i) i words)) ∙ ap (take (j - i)) behind ∙ take-at q r (j - i) (omega arith)
 
-pub place-grows : (words : List ℕ) (i j : ℕ) → i ≤ j → placeOf words i ≤ placeOf words j
+-- from place to place by the values between
+pub place-on : (words : List ℕ) (i j : ℕ) → i ≤ j → placeOf words j ≡ placeOf words i + sizes (rowsFrom (j - i) i words)
 unfolding placeOf
-place-grows words i j h =
+place-on words i j h =
     let e : j - 0 ≡ i + (j - i) = omega arith in
     let f : i - 0 ≡ i = omega arith in
-    omega (arith, sizes-append (rowsFrom i 0 words) (rowsFrom (j - i) (0 + i) words), ap sizes (rows-split i (j - i) 0 words), ap (λ (k : ℕ). sizes (rowsFrom k 0 words)) e, ap (λ (k : ℕ). sizes (rowsFrom k 0 words)) f)
+    let z : 0 + i ≡ i = omega arith in
+    rw (e, f) (ap sizes (rows-split i (j - i) 0 words) ∙ sizes-append (rowsFrom i 0 words) (rowsFrom (j - i) (0 + i) words) ∙ rw z)
+
+pub place-grows : (words : List ℕ) (i j : ℕ) → i ≤ j → placeOf words i ≤ placeOf words j
+place-grows words i j h = omega (arith, place-on words i j h)
 
 -- where the parts of a message stand
 pub record Standing (words : List ℕ) (m : Message) : Type 0 where

@@ -6,7 +6,7 @@ use mathlib.Core.Bool.{Bool, true, false}
 use Prim.Native.Nat.{ℕ}
 use Rattle.field_rules.specs.Text.{bytes}
 use Rattle.message_maps.specs.Map.{Map, end, field, entry, joined, holds, holdsAny, replaced, leading, pastLeading, runOn, withoutRun, stored, hungOnCount, hungAlone, hung, fieldCount}
-use Rattle.message_lent.specs.Formed.{isRun}
+use Rattle.message_lent_rules.specs.Formed.{isRun}
 use Rattle.message_rules.specs.Runs.{isEmpty, inLast, hasUntagged, isWhole, hungRun}
 
 -- two entries, made one after the other: 78 79=A 80=5, 79=B with a nested run 539 524=p

@@ -8,9 +8,9 @@ use lib.Dec.{eqb, leb}
 use Rattle.field_rules.specs.Choice.{pick}
 use Rattle.message_maps.specs.Rows.{Row, levelOf}
 use Rattle.message_maps.specs.Map.{Map, end, field, entry, joined, stored, hung, fieldCount}
-use Rattle.message_lent.specs.Lent.{rowsOf, fieldsIn, isLaid}
-use Rattle.message_lent.specs.Meaning.{Message, openIn, outermost}
-use Rattle.message_lent.specs.Formed.{isRun}
+use Rattle.message_lent_rules.specs.Lent.{rowsOf, fieldsIn, isLaid}
+use Rattle.message_lent_rules.specs.Meaning.{Message, openIn, outermost}
+use Rattle.message_lent_rules.specs.Formed.{isRun}
 use Rattle.message_rules.specs.Changes.{After, after, ofStore, ofMessage, partOf, withPart, mapWords, mapValues, judgedMap, judged}
 use Rattle.message_rules.specs.declared.Part.{Part}
 use Rattle.message_rules.specs.declared.Change.the-variants.{Made, NoMessage, NotStorable, NoRun, TooManyFields}

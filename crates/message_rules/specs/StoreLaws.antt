@@ -10,18 +10,19 @@ use lib.Dec.{leb, ltb, eqb}
 use borrow.Author.Tests.{lt-leb, ltb-true, ltb-false}
 use Rattle.field_rules.specs.Choice.{pick}
 use Rattle.message_maps.specs.Map.{Map, end, field, entry, joined, holds, replaced, withoutField, runOn, withoutRun, stored, fieldCount, valuesIn}
-use Rattle.message_maps.specs.Rows.{Row, laid, rowsFrom, sizes, findFrom, messageRows}
-use Rattle.message_lent.specs.Lent.{rowCount, rowsOf, isMessage, fieldsIn}
-use Rattle.message_lent.specs.LaidLaws.{rows-parts}
-use Rattle.message_lent.specs.LentLaws.{message-held}
-use Rattle.message_lent.specs.Meaning.{Message, parts, wordsOf, valueBytesOf, messageIn}
-use Rattle.message_lent.specs.MeaningLaws.{means}
-use Rattle.message_rules.specs.Changes.{after, Cuttable, changedAt, partOf, withPart, fieldTotal, valueTotal, mapWords, mapValues, judgedMap, judged, spanOf, heldRows, putAt, Ready}
+use Rattle.message_maps.specs.Rows.{Row, laid, rowsFrom, sizes, findFrom, endFrom, messageWords, messageRows}
+use Rattle.message_lent_rules.specs.Lent.{rowCount, rowsOf, isMessage, fieldsIn}
+use Rattle.message_lent_rules.specs.LaidLaws.{rows-parts}
+use Rattle.message_lent_rules.specs.LentLaws.{message-held}
+use Rattle.message_lent_rules.specs.Meaning.{Message, parts, wordsOf, valueBytesOf, messageIn}
+use Rattle.message_lent_rules.specs.MeaningLaws.{means}
+use Rattle.message_rules.specs.Changes.{after, Cuttable, changedAt, partOf, withPart, fieldTotal, valueTotal, mapWords, mapValues, judgedMap, judged, bodyHead, trailerHead, spanOf, heldRows, putAt, Ready}
 use Rattle.message_rules.specs.LayoutLaws.{values-joined, count-joined}
 use Rattle.message_rules.specs.SplitLaws.{field-split, field-gone, run-split}
 use Rattle.message_rules.specs.CutLaws.{Sized, laid-sized}
 use Rattle.message_rules.specs.FrameLaws.{Frame, Leaves}
 use Rattle.message_rules.specs.FrameLaws as frame
+use Rattle.message_rules.specs.PlaceLaws.{standing}
 use Rattle.message_rules.specs.PartLaws.{PartSplit, part-split, total-laid}
 use Rattle.message_rules.specs.declared.Part.{Part}
 use Rattle.message_rules.specs.declared.Change.the-variants.{NotStorable}
@@ -52,6 +53,33 @@ lent-in words values part h =
     let held = message-held words values h in
     let same = means words values held in
     part-in words values part (messageIn words values) (laid-sized words values (held .laid)) (same .rows) (same .texts)
+
+-- where the heads of its parts stand
+pub record Heads (words : List ℕ) (m : Message) : Type 0 where
+  pub whole : length words ≡ messageWords
+  pub few : rowCount words ≤ messageRows
+  pub count : rowCount words ≡ length (laid 0 (parts m))
+  pub past-header : 1 ≤ bodyHead m
+  pub past-body : bodyHead m + 1 ≤ trailerHead m
+  pub last : trailerHead m + 1 ≤ rowCount words
+  pub body : endFrom 0 1 (rowsFrom (rowCount words - 1) 1 words) ≡ bodyHead m
+  pub trailer : endFrom 0 (bodyHead m + 1) (rowsFrom (rowCount words - (bodyHead m + 1)) (bodyHead m + 1) words) ≡ trailerHead m
+
+pub heads-of : (words values : List ℕ) → isMessage words values ≡ true → Heads words (messageIn words values)
+unfolding bodyHead trailerHead
+heads-of words values h =
+    let held = message-held words values h in
+    let s = standing words (messageIn words values) (means words values held .rows) in
+    record {
+      whole = held .laid .whole;
+      few = held .laid .counted;
+      count = s .count;
+      past-header = omega arith;
+      past-body = omega arith;
+      last = omega (arith, s .total);
+      body = s .first;
+      trailer = s .second;
+    }
 
 -- a message that is lent has at most 1,024 fields
 pub few-fields : (words values : List ℕ) → isMessage words values ≡ true → fieldTotal (messageIn words values) ≤ 1024

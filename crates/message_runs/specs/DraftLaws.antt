@@ -11,10 +11,10 @@ use borrow.Author.Tests.{leb-true, eq-eqb, ne-eqb, lt-leb}
 use Rattle.field_rules.specs.Choice.{pick}
 use Rattle.message_maps.specs.Map.{Map, end, field, entry, joined, holds, holdsAny, replaced, withoutRun, runOn, stored, fieldCount, valuesIn}
 use Rattle.message_maps.specs.Rows.{Row, row, laid, flat, part, padded, spliced, rowsFrom, sizes, sizeOf, messageWords, messageRows}
-use Rattle.message_lent.specs.Lent.{rowCount, rowsOf, fieldsIn, isLaid}
-use Rattle.message_lent.specs.LentLaws.{both, Laid, laid-out}
-use Rattle.message_lent.specs.Meaning.{openIn, outermost}
-use Rattle.message_lent.specs.MeaningLaws.{laid-means}
+use Rattle.message_lent_rules.specs.Lent.{rowCount, rowsOf, fieldsIn, isLaid}
+use Rattle.message_lent_rules.specs.LentLaws.{both, Laid, laid-out}
+use Rattle.message_lent_rules.specs.Meaning.{openIn, outermost}
+use Rattle.message_lent_rules.specs.MeaningLaws.{laid-means}
 use Rattle.message_rules.specs.Changes.{After, after, ofStore, Cuttable, changedAt, mapWords, mapValues, judgedMap, putAt, Ready}
 use Rattle.message_rules.specs.LayoutLaws.{laid-joined, values-joined, count-joined, sizes-append, sizes-laid}
 use Rattle.message_rules.specs.PlaceLaws.{rows-length, rows-part}

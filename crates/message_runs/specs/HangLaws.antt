@@ -11,8 +11,8 @@ use borrow.Author.Tests.{eq-eqb, ne-eqb, eqb-true}
 use Rattle.field_rules.specs.Choice.{pick}
 use Rattle.message_maps.specs.Map.{Map, end, field, entry, joined, holds, holdsAny, pastLeading, hungOnCount, hungAlone, hung, fieldCount, valuesIn}
 use Rattle.message_maps.specs.Rows.{Row, row, laid, flat, rowAt, rowsFrom, sizes, messageRows}
-use Rattle.message_lent.specs.Lent.{rowCount, rowsOf, fieldsIn}
-use Rattle.message_lent.specs.Formed.{isRun}
+use Rattle.message_lent_rules.specs.Lent.{rowCount, rowsOf, fieldsIn}
+use Rattle.message_lent_rules.specs.Formed.{isRun}
 use Rattle.message_rules.specs.Changes.{After, after, Cuttable, changedAt, judgedMap}
 use Rattle.message_rules.specs.LayoutLaws.{joined-end, laid-joined, count-joined}
 use Rattle.message_rules.specs.FrameLaws.{Frame, Leaves}

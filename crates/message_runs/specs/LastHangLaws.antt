@@ -10,7 +10,7 @@ use borrow.Author.Tests.{le-leb}
 use Rattle.field_rules.specs.Choice.{pick}
 use Rattle.message_maps.specs.Map.{Map, end, entry, joined, holdsAny, fieldCount, valuesIn}
 use Rattle.message_maps.specs.Rows.{laid, sizes}
-use Rattle.message_lent.specs.Lent.{rowCount, rowsOf}
+use Rattle.message_lent_rules.specs.Lent.{rowCount, rowsOf}
 use Rattle.message_rules.specs.Changes.{After, after, judgedMap}
 use Rattle.message_rules.specs.LayoutLaws.{sizes-laid}
 use Rattle.message_rules.specs.declared.Change.the-variants.{NoMessage, NotStorable, NoRun}

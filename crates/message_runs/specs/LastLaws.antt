@@ -11,8 +11,8 @@ use borrow.Author.Tests.{eq-eqb, ne-eqb, lt-leb}
 use Rattle.field_rules.specs.Choice.{pick}
 use Rattle.message_maps.specs.Map.{Map, end, field, entry, joined, holds, holdsAny, replaced, withoutRun, runOn, stored, fieldCount, valuesIn}
 use Rattle.message_maps.specs.Rows.{Row, row, laid, rowsFrom}
-use Rattle.message_lent.specs.Lent.{rowCount, rowsOf, fieldsIn}
-use Rattle.message_lent.specs.LaidLaws.{fields-laid, shallow}
+use Rattle.message_lent_rules.specs.Lent.{rowCount, rowsOf, fieldsIn}
+use Rattle.message_lent_rules.specs.LaidLaws.{fields-laid, shallow}
 use Rattle.message_rules.specs.Changes.{After, after, judgedMap, putAt, Ready}
 use Rattle.message_rules.specs.LayoutLaws.{laid-joined, values-joined, count-joined}
 use Rattle.message_rules.specs.SplitLaws.{field-split}

@@ -8,8 +8,8 @@ use lib.ListN.{length}
 use borrow.Author.Tests.{le-leb}
 use Rattle.message_maps.specs.Map.{Map, end, field, entry, holdsAny, fieldCount}
 use Rattle.message_maps.specs.Rows.{laid, rowsFrom, sizes}
-use Rattle.message_lent.specs.Lent.{rowCount, rowsOf, isMessage}
-use Rattle.message_lent.specs.Meaning.{Message, parts, messageIn}
+use Rattle.message_lent_rules.specs.Lent.{rowCount, rowsOf, isMessage}
+use Rattle.message_lent_rules.specs.Meaning.{Message, parts, messageIn}
 use Rattle.message_rules.specs.Changes.{after, partOf, withPart, fieldTotal, valueTotal, judged, spanOf}
 use Rattle.message_rules.specs.ChangeLaws.{of-message}
 use Rattle.message_rules.specs.LayoutLaws.{sizes-laid}

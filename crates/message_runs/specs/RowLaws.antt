@@ -10,7 +10,7 @@ use borrow.Author.Tests.{eq-eqb, ne-eqb, le-leb, lt-leb}
 use Rattle.field_rules.specs.Choice.{pick}
 use Rattle.message_maps.specs.Rows.{Row, row, rowAt, rowsFrom, levelOf}
 use Rattle.message_maps.specs.RowsLaws.{rows-step, rows-none}
-use Rattle.message_lent.specs.Lent.{rowsOf, fieldsIn, isLaid}
+use Rattle.message_lent_rules.specs.Lent.{rowsOf, fieldsIn, isLaid}
 use Rattle.message_rules.specs.Runs.{isDraft, lastFrom}
 
 module _ (words : List ℕ) (i to : ℕ) (more : i < to) where

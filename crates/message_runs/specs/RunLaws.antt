@@ -10,8 +10,8 @@ use borrow.Author.Tests.{eq-eqb, ne-eqb, le-leb}
 use Rattle.field_rules.specs.Choice.{pick}
 use Rattle.message_maps.specs.Map.{Map, end, field, entry, joined}
 use Rattle.message_maps.specs.Rows.{Row, row, laid, levelOf}
-use Rattle.message_lent.specs.LentLaws.{both}
-use Rattle.message_lent.specs.Formed.{isFormed, entriesFormed, isRun}
+use Rattle.message_lent_rules.specs.LentLaws.{both}
+use Rattle.message_lent_rules.specs.Formed.{isFormed, entriesFormed, isRun}
 use Rattle.message_rules.specs.LayoutLaws.{laid-joined}
 use Rattle.message_hung_rows.specs.Hanging.{raised, within, isUntagged, untaggedIn, isOf, allOf}
 use Rattle.message_rules.specs.Runs.{isEmpty, inLast, lastFrom, hasUntagged}

@@ -45,9 +45,9 @@ pub fn empty(words: &mut [u32], values: &mut [u8]) -> message_rules::Change
     }
     let no_words = [0u32; 1];
     let no_bytes = [0u8; 1];
-    message_maps::splice_words(words, 1, 1, 1, 1, 1, &no_words[..0]);
+    message_maps::splice_words(words, 1, 1, 1, 1, 1, &no_words[..0], false);
     words[0] = 0;
-    message_maps::splice_bytes(values, 0, 0, 0, 0, 0, &no_bytes[..0]);
+    message_maps::splice_bytes(values, 0, 0, 0, 0, 0, &no_bytes[..0], false);
     message_rules::Change::Made
 }
 
@@ -83,6 +83,7 @@ pub fn add_entry(
         &no_bytes[..0],
         true,
         fields + 1,
+        false,
     )
 }
 
@@ -116,7 +117,7 @@ pub fn store_last(
         to: count,
         count,
     };
-    message::put_field(words, values, span, tag, value, others + own)
+    message::put_field(words, values, span, tag, value, others + own, false)
 }
 
 // Hangs a run in the last entry of another; it takes the place of the run that hung on its start tag.

@@ -17,7 +17,7 @@ use Rattle.message_take_over.specs.Taking.{nearestIn, onCount, joinsOf, 
 use Rattle.message_take_over.specs.JoinLaws.{run-same, run-skips, run-next, joins-own, joins-numbered, joins-run, joins-late, joins-count}
 use Rattle.message_take_over.specs.StepLaws.{next-is}
 use Rattle.message_take_over.specs.StandLaws.{Context}
-use Rattle.message_lent.specs.LentLaws.{both}
+use Rattle.message_lent_rules.specs.LentLaws.{both}
 
 pub decided : (a b : ℕ) → (a ≡ b) ⊎ (a ≡ b → ⊥)
 decided a b = by-test (eqb a b) refl

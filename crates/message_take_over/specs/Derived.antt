@@ -8,7 +8,7 @@ use Rattle.build_records.specs.Records.{valueAt}
 use Rattle.field_rules.specs.Choice.{pick}
 use Rattle.build_records.specs.declared.Record.{Record}
 use Rattle.message_maps.specs.Map.{Map, end, field, entry}
-use Rattle.message_lent.specs.Meaning.{Message}
+use Rattle.message_lent_rules.specs.Meaning.{Message}
 
 -- part, depth, entry number, tag and value
 pub data Valued : Type 0 where

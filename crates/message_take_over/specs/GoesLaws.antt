@@ -10,7 +10,7 @@ use Rattle.build_records.specs.Records.{valueAt}
 use Rattle.build_records.specs.declared.Record.{Record}
 use Rattle.message_maps.specs.Map.{Map, field, entry, valuesIn}
 use Rattle.message_maps.specs.Rows.{Row, row, laid}
-use Rattle.message_lent.specs.Formed.{isFormed}
+use Rattle.message_lent_rules.specs.Formed.{isFormed}
 use Rattle.message_take_over.specs.declared.Joins.{Joins}
 use Rattle.message_take_over.specs.declared.Joins.the-variants.{Open, Entry}
 use Rattle.message_take_over.specs.Taking.{joinsOf, isJoined, hasRoom, isNext, areNext, partHeads, ownRows, recordRows, rowsBehind, valuesAt}

@@ -18,18 +18,22 @@ before-step rs i h = let e : i ≡ suc (i - 1) = omega arith in ap (λ (n : ℕ)
 pub before-next : (rs : List Record) (i : ℕ) → recordsBefore (i + 1) rs ≡ recordAt i rs ∷ recordsBefore i rs
 before-next rs i = let e : i + 1 - 1 ≡ i = omega arith in rw e at (before-step rs (i + 1) (omega arith))
 
+module _ (depth : ℕ) (r : Record) (before : List Record) where
+  pub nearest-first : r .depth ≤ depth → nearestIn depth (r ∷ before) ≡ Is r
+  unfolding nearestIn
+  nearest-first h = rw (le-leb _ _ h)
+
+  pub nearest-past : depth < r .depth → nearestIn depth (r ∷ before) ≡ nearestIn depth before
+  unfolding nearestIn
+  nearest-past h = rw (lt-leb _ _ h)
+
 module _ (depth : ℕ) (rs : List Record) where
   pub nearest-here : (i : ℕ) → 0 < i → recordAt (i - 1) rs .depth ≤ depth → nearestIn depth (recordsBefore i rs) ≡ Is (recordAt (i - 1) rs)
-  unfolding nearestIn
-  nearest-here i more h = rw (before-step rs i more, le-leb _ _ h)
+  nearest-here i more h = rw (before-step rs i more) (nearest-first _ _ _ h)
 
-  pub nearest-on : (i : ℕ) → 0 < i → depth < recordAt (i - 1) rs .depth → nearestIn depth (recordsBefore i rs) ≡ nearestIn depth (recordsBefore (i - 1) rs)
-  unfolding nearestIn
-  nearest-on i more h = rw (before-step rs i more, lt-leb _ _ h)
-
-  pub nearest-none : (i : ℕ) → i ≤ 0 → nearestIn depth (recordsBefore i rs) ≡ Nothing
+  pub nearest-none : (i : ℕ) → i ≡ 0 → nearestIn depth (recordsBefore i rs) ≡ Nothing
   unfolding nearestIn recordsBefore
-  nearest-none i h = let e : i ≡ 0 = omega arith in rw e
+  nearest-none i e = rw e
 
 module _ (before : List Record) (r : Record) where
   -- behind a record of the same depth

@@ -10,8 +10,8 @@ use Rattle.field_rules.specs.Choice.{pick}
 use Rattle.build_records.specs.declared.Record.{Record}
 use Rattle.message_maps.specs.Map.{Map, valuesIn}
 use Rattle.message_maps.specs.Rows.{Row, row, laid}
-use Rattle.message_lent.specs.LentLaws.{both}
-use Rattle.message_lent.specs.Meaning.{Message, parts}
+use Rattle.message_lent_rules.specs.LentLaws.{both}
+use Rattle.message_lent_rules.specs.Meaning.{Message, parts}
 use Rattle.message_take_over.specs.declared.Nearest.the-variants.{Is}
 use Rattle.message_take_over.specs.declared.Joins.{Joins}
 use Rattle.message_take_over.specs.declared.Joins.the-variants.{Open, Entry, Nowhere}

@@ -9,7 +9,7 @@ use Rattle.field_rules.specs.DecimalLaws.{written-length}
 use Rattle.message_maps.specs.Rows.{Row, row, flat, padded, messageWords, messageRows}
 use Rattle.message_maps.specs.Rows.{part as partOf}
 use Rattle.message_maps.specs.RowsLaws.{written-next, part-all}
-use Rattle.message_lent.specs.MeaningLaws.{flat-length, flat-append}
+use Rattle.message_lent_rules.specs.MeaningLaws.{flat-length, flat-append}
 use Rattle.message_take_over.specs.Taking.{partHeads}
 use Rattle.message_take_over.specs.Laying.{rowed, Adds}
 

@@ -1,9 +1,12 @@
 pub mod Taking
 pub mod Laying
 pub mod JoinLaws
+pub mod Newest
 pub mod LayingLaws
 pub mod StepLaws
 pub mod GoingLaws
+pub mod Written
+pub mod Storing
 pub mod TakeLaws
 pub mod Derived
 pub mod StandLaws

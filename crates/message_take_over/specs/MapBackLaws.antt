@@ -11,7 +11,7 @@ use Rattle.field_rules.specs.Choice.{pick}
 use Rattle.build_records.specs.declared.Record.{Record}
 use Rattle.message_maps.specs.Map.{Map, end, field, entry, valuesIn}
 use Rattle.message_maps.specs.Rows.{Row, row, laid}
-use Rattle.message_lent.specs.LentLaws.{both}
+use Rattle.message_lent_rules.specs.LentLaws.{both}
 use Rattle.message_take_over.specs.declared.Nearest.{Nearest}
 use Rattle.message_take_over.specs.declared.Nearest.the-variants.{Is, Nothing}
 use Rattle.message_take_over.specs.declared.Joins.{Joins}

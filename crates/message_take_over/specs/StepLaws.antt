@@ -4,23 +4,20 @@ use mathlib.Core.Bool.{Bool, true, false}
 use mathlib.Core.List.{List, [], _∷_, append-nil}
 use Prim.Native.Nat.{ℕ, _+_, _-_, _≤_, _<_}
 use native.Mathlib.Omega.{arith}
-use lib.ListN.{length, length-append, length-take, length-drop}
+use lib.ListN.{length, length-append}
 use lib.Dec.{eqb, leb}
 use borrow.Author.Tests.{le-leb, lt-leb, leb-true, leb-false, eqb-true}
-use Rattle.build_records.specs.Records.{valueAt}
 use Rattle.field_rules.specs.Choice.{pick, pick-same}
-use Rattle.field_rules.specs.Decimal.{writtenAt}
 use Rattle.build_records.specs.declared.Record.{Record}
-use Rattle.message_maps.specs.Rows.{row, part}
-use Rattle.message_maps.specs.RowsLaws.{written-next}
-use Rattle.message_lent.specs.LentLaws.{both}
+use Rattle.message_maps.specs.Rows.{row}
+use Rattle.message_lent_rules.specs.LentLaws.{both}
 use Rattle.message_take_over.specs.declared.Nearest.the-variants.{Is}
 use Rattle.message_take_over.specs.declared.Joins.{Joins}
 use Rattle.message_take_over.specs.declared.Joins.the-variants.{Open, Entry, Nowhere}
 use Rattle.message_take_over.specs.declared.Laying.{Laying}
 use Rattle.message_take_over.specs.declared.Step.the-variants.{On, Refused}
 use Rattle.message_take_over.specs.Taking.{nearestIn, joinsInRun, joinsOnCount, joinsBehind, joinsOf, isJoined, hasRoom, isNext, partHeads, ownRows, recordRows}
-use Rattle.message_take_over.specs.Laying.{Adds, reach, steppedBy, Steps}
+use Rattle.message_take_over.specs.Laying.{Adds, reach, steppedBy, addsRows}
 use Rattle.message_take_over.specs.LayingLaws.{adds-then, heads-length}
 
 module _ (size used : ℕ) (r : Record) where
@@ -105,55 +102,30 @@ pub rows-few : (part : ℕ) (joined : Joins) (r : Record) → length (recordRows
 unfolding recordRows
 rows-few part joined r = omega (arith, length-append (partHeads (r .part - part) part) (ownRows joined r), heads-length (r .part - part) part, own-few joined r)
 
-module _ (bytes : List ℕ) (before : List Record) (laying : Laying) where
+module _ (size : ℕ) (before : List Record) (laying : Laying) where
   -- a record that may not come next leaves nothing to be told
-  pub step-refused : (taken r : Record) (words values : List ℕ) → taken ≡ r → isNext (length bytes) (laying .part) (laying .used) before taken ≡ false
-      → (Refused ≡ steppedBy (length bytes) before laying r) × Steps bytes before laying r Refused words words values values
-  unfolding steppedBy
-  step-refused taken r words values t h =
-      let e : isNext (length bytes) (laying .part) (laying .used) before r ≡ false = ap (isNext (length bytes) (laying .part) (laying .used) before) (sym t) ∙ h in (
-        rw e,
-        record {
-          rows = λ next n. let z : _≡_ {A = ℕ} 0 1 = cc in absurd (omega arith);
-          stores = λ next n. let z : _≡_ {A = ℕ} 0 1 = cc in absurd (omega arith);
-        },
-      )
+  pub step-refused : (taken r : Record) (words : List ℕ) → taken ≡ r → isNext size (laying .part) (laying .used) before taken ≡ false
+      → (Refused ≡ steppedBy size before laying r) × addsRows before laying r Refused words words
+  unfolding steppedBy addsRows
+  step-refused taken r words t h =
+      let e : isNext size (laying .part) (laying .used) before r ≡ false = ap (isNext size (laying .part) (laying .used) before) (sym t) ∙ h in
+      (rw e, λ next n. let z : _≡_ {A = ℕ} 0 1 = cc in absurd (omega arith))
 
-  value-part : (r : Record) → part (r .place) (r .place + r .length) bytes ≡ valueAt bytes r
-  unfolding part valueAt
-  value-part r = let e : r .place + r .length - r .place ≡ r .length = omega arith in rw e
-
-  pub value-length : (r : Record) → r .place + r .length ≤ length bytes → length (valueAt bytes r) ≡ r .length
-  unfolding valueAt
-  value-length r h = simp (length-take, length-drop) (omega arith)
-
-  -- one that may adds its rows and its value
-  pub step-on : (r : Record) (words wordsAfter values valuesAfter : List ℕ) (rows used : ℕ) → isNext (length bytes) (laying .part) (laying .used) before r ≡ true
+  -- one that may adds its rows
+  step-on : (r : Record) (words wordsAfter : List ℕ) (rows : ℕ) → isNext size (laying .part) (laying .used) before r ≡ true
       → Adds words wordsAfter (laying .rows) rows (recordRows (laying .part) (joinsOf before r) r)
-      → used ≡ laying .used + (r .place + r .length - r .place) → valuesAfter ≡ writtenAt (laying .used) (part (r .place) (r .place + r .length) bytes) values
-      → (On (record { part = r .part; rows = rows; used = used }) ≡ steppedBy (length bytes) before laying r)
-      × Steps bytes before laying r (On (record { part = r .part; rows = rows; used = used })) words wordsAfter values valuesAfter
-  unfolding steppedBy
-  step-on r words wordsAfter values valuesAfter rows used h a u v =
-      let n = next-is (length bytes) (laying .part) (laying .used) before r h in
-      let w : used ≡ laying .used + r .length = omega arith in (
-        rw (h, a .counts, w),
-        record {
-          rows = λ next e. let q : rows ≡ next .rows = cc in rw (← q) a;
-          stores = λ next e stored l p.
-              v ∙ rw (p, value-part r) (written-next 8192 (laying .used) stored (valueAt bytes r) (sym l) (omega (arith, value-length r (n .inside), n .room)));
-        },
-      )
+      → (On (record { part = r .part; rows = rows; used = laying .used + r .length }) ≡ steppedBy size before laying r)
+      × addsRows before laying r (On (record { part = r .part; rows = rows; used = laying .used + r .length })) words wordsAfter
+  unfolding steppedBy addsRows
+  step-on r words wordsAfter rows h a = (rw (h, a .counts), λ next e. let q : rows ≡ next .rows = cc in rw (← q) a)
 
-  -- as the code has it, with its own names for the record, for what it joins, and for its place and length
-  pub step-laid : (taken r : Record) (joined : Joins) (place size : ℕ) (words wordsAfter values valuesAfter : List ℕ) (rows used : ℕ) → taken ≡ r → joined ≡ joinsOf before taken → place ≡ taken .place → size ≡ taken .length
-      → isNext (length bytes) (laying .part) (laying .used) before taken ≡ true
+  -- as the code has it, with its own names for the record, for what it joins, and for its length
+  pub step-laid : (taken r : Record) (joined : Joins) (more : ℕ) (words wordsAfter : List ℕ) (rows : ℕ) → taken ≡ r → joined ≡ joinsOf before taken → more ≡ taken .length
+      → isNext size (laying .part) (laying .used) before taken ≡ true
       → Adds words wordsAfter (laying .rows) rows (recordRows (laying .part) joined taken)
-      → used ≡ laying .used + (place + size - place) → valuesAfter ≡ writtenAt (laying .used) (part place (place + size) bytes) values
-      → (On (record { part = taken .part; rows = rows; used = used }) ≡ steppedBy (length bytes) before laying r)
-      × Steps bytes before laying r (On (record { part = taken .part; rows = rows; used = used })) words wordsAfter values valuesAfter
-  step-laid taken r joined place size words wordsAfter values valuesAfter rows used t j p s h a u v =
-      rw t (step-on r words wordsAfter values valuesAfter rows used (rw t at h) (rw (j, t) at a) (rw (p, s, t) at u) (rw (p, s, t) at v))
+      → (On (record { part = taken .part; rows = rows; used = laying .used + more }) ≡ steppedBy size before laying r)
+      × addsRows before laying r (On (record { part = taken .part; rows = rows; used = laying .used + more })) words wordsAfter
+  step-laid taken r joined more words wordsAfter rows t j m h a = rw (m, t) (step-on r words wordsAfter rows (rw t at h) (rw (j, t) at a))
 
 -- the rows that are laid for a record, by where it belongs
 module _ (part : ℕ) (joined : Joins) (r : Record) {a b : List ℕ} {rows opened : ℕ} where

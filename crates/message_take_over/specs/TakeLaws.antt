@@ -1,24 +1,34 @@
 -- One law for each way that taking over goes.
-use mathlib.Core.Path.{_≡_, refl, sym, ap, _∙_}
+use mathlib.Core.Path.{_≡_, sym, _∙_}
 use mathlib.Core.Bool.{Bool, true, false}
-use mathlib.Core.List.{List, append-nil}
-use Prim.Native.Nat.{ℕ, _+_, _/_, _≤_, _<_}
+use mathlib.Core.List.{List, []}
+use Prim.Native.Nat.{ℕ, _/_, _≤_, _<_}
 use native.Mathlib.Omega.{arith}
-use lib.ListN.{length, drop-of-length-le}
+use lib.ListN.{length}
 use lib.Dec.{eqb, leb}
 use borrow.Author.Tests.{le-leb, lt-leb, eq-eqb, ne-eqb}
 use Rattle.field_rules.specs.Choice.{pick, pick-same}
-use Rattle.field_rules.specs.Decimal.{writtenAt}
-use Rattle.field_rules.specs.DecimalLaws.{written-fits}
 use Rattle.build_records.specs.Records.{recordsOf, between, stride}
 use Rattle.build_records.specs.WordLaws.{records-length}
-use Rattle.message_maps.specs.Rows.{part, messageWords}
-use Rattle.message_maps.specs.RowsLaws.{part-all}
-use Rattle.message_lent.specs.Lent.{isMessage}
-use Rattle.message_lent.specs.LentLaws.{message-held}
+use Rattle.build_records.specs.declared.Record.{Record}
+use Rattle.message_maps.specs.Rows.{padded, messageWords}
+use Rattle.message_maps.specs.RowsLaws.{padded-length}
+use Rattle.message_lent_rules.specs.Lent.{rowCount, isLaid, isMessage}
+use Rattle.message_lent_rules.specs.LentLaws.{message-held}
 use Rattle.message_take_over.specs.declared.Taken.the-variants.{Made, NoMessage}
-use Rattle.message_take_over.specs.Taking.{layoutFrom, after, judged, takingOver}
-use Rattle.message_take_over.specs.Laying.{layoutTold}
+use Rattle.message_take_over.specs.Taking.{rowsOf, valuesAt, layoutFrom, after, judged, takingOver}
+use Rattle.message_take_over.specs.Laying.{RowsLaid}
+use Rattle.message_take_over.specs.Written.{BlankBehind, laid-blank}
+use Rattle.message_take_over.specs.Storing.{values-fit}
+
+-- a message's values may be any bytes
+message-any : (words values others : List ℕ) → length values ≡ length others → isMessage words values ≡ isMessage words others
+unfolding isMessage isLaid
+message-any words values others e = rw e
+
+-- the words of a message have nothing behind their rows
+pub take-blank : {size : ℕ} {rs : List Record} {done : Bool} {words : List ℕ} → RowsLaid size rs done words → done ≡ true → (values : List ℕ) → isMessage words values ≡ true → BlankBehind words
+take-blank {rs = rs} {words = words} laid d values m = laid-blank (rowsOf rs) words (laid .laid d) (unfold rowCount in message-held words values m .laid .counted)
 
 module _ (records : List ℕ) (count : ℕ) (bytes words values : List ℕ) where
   pub take-short : (length words ≡ messageWords → ⊥) → takingOver records count bytes words values ≡ after NoMessage words values
@@ -45,27 +55,30 @@ module _ (records : List ℕ) (count : ℕ) (bytes words values : List ℕ) wher
     unfolding takingOver
     take-judged = rw (eq-eqb _ _ whole, eq-eqb _ _ store, le-leb count (length (recordsOf records)) (omega (arith, records-length records)), le-leb _ _ few)
 
-    module _ (done : Bool) (newWords newValues : List ℕ) (told : layoutTold done newWords newValues ≡ layoutFrom bytes (between 0 count (recordsOf records))) where
+    module _ (done : Bool) (newWords : List ℕ) (laid : RowsLaid (length bytes) (between 0 count (recordsOf records)) done newWords) where
       pub take-refused : done ≡ false → takingOver records count bytes words values ≡ after NoMessage words values
-      take-refused d =
-          take-judged ∙ ap (judged words values) (sym told ∙ ap (λ (b : Bool). layoutTold b newWords newValues) d) ∙ (unfold judged layoutTold in refl)
+      unfolding layoutFrom judged
+      take-refused d = take-judged ∙ rw (← laid .told, d)
 
-      laid : done ≡ true → takingOver records count bytes words values ≡ pick (isMessage newWords newValues) (after Made newWords newValues) (after NoMessage words values)
-      laid d = take-judged ∙ ap (judged words values) (sym told ∙ ap (λ (b : Bool). layoutTold b newWords newValues) d) ∙ (unfold judged layoutTold in refl)
+      texts : List ℕ
+      texts = valuesAt bytes (between 0 count (recordsOf records))
 
-      pub take-no-message : done ≡ true → isMessage newWords newValues ≡ false → takingOver records count bytes words values ≡ after NoMessage words values
-      take-no-message d m = laid d ∙ ap (λ (b : Bool). pick b (after Made newWords newValues) (after NoMessage words values)) m
+      judged-laid : done ≡ true → takingOver records count bytes words values ≡ pick (isMessage newWords (padded 8192 texts)) (after Made newWords (padded 8192 texts)) (after NoMessage words values)
+      unfolding layoutFrom judged texts
+      judged-laid d = take-judged ∙ rw (← laid .told, d, ← laid .laid d)
 
-      -- all words and all values are written over
-      written-whole : (n : ℕ) (new old : List ℕ) → length new ≡ n → length old ≡ n → writtenAt 0 (part 0 n new) old ≡ new
-      written-whole n new old e f =
-          let all : part 0 n new ≡ new = ap (λ (m : ℕ). part 0 m new) (sym e) ∙ part-all new in
-          rw all (written-fits 0 new old (omega arith) ∙ rw (drop-of-length-le old {i = 0 + length new} (omega arith)) (append-nil new))
+      -- whether it is a message shows before the values are written: only how many bytes there is room for is asked
+      same-message : done ≡ true → isMessage newWords (padded 8192 texts) ≡ isMessage newWords values
+      same-message d =
+          message-any newWords (padded 8192 texts) values
+          (padded-length 8192 texts (unfold texts in omega (arith, values-fit bytes 1 0 [] (between 0 count (recordsOf records)) (omega arith) (sym (laid .told) ∙ d))) ∙ sym store)
 
-      pub take-made : done ≡ true → isMessage newWords newValues ≡ true → (wordsAfter valuesAfter : List ℕ)
-          → wordsAfter ≡ writtenAt 0 (part 0 messageWords newWords) words → valuesAfter ≡ writtenAt 0 (part 0 8192 newValues) values
+      pub take-no-message : done ≡ true → isMessage newWords values ≡ false → takingOver records count bytes words values ≡ after NoMessage words values
+      take-no-message d m = judged-laid d ∙ rw (same-message d, m)
+
+      pub take-made : done ≡ true → isMessage newWords values ≡ true → (wordsAfter valuesAfter : List ℕ)
+          → wordsAfter ≡ newWords → valuesAfter ≡ padded 8192 (valuesAt bytes (between 0 count (recordsOf records)))
           → takingOver records count bytes words values ≡ after Made wordsAfter valuesAfter
+      unfolding texts
       take-made d m wordsAfter valuesAfter w v =
-          let l = message-held newWords newValues m .laid in
-          laid d ∙ ap (λ (b : Bool). pick b (after Made newWords newValues) (after NoMessage words values)) m
-          ∙ rw (w, v, written-whole messageWords newWords words (l .whole) whole, written-whole 8192 newValues values (l .store) store)
+          judged-laid d ∙ rw (same-message d, m, w, v)

@@ -10,9 +10,9 @@ use Rattle.build_records.specs.Records.{recordsOf, between, stride, valueAt}
 use Rattle.build_records.specs.declared.Record.{Record}
 use Rattle.message_maps.specs.Map.{Map, field, entry, valuesIn}
 use Rattle.message_maps.specs.Rows.{Row, row, laid, messageWords}
-use Rattle.message_lent.specs.Meaning.{Message, parts, wordsOf, valueBytesOf}
-use Rattle.message_lent.specs.Formed.{Formed, Within}
-use Rattle.message_lent.specs.FormedLaws.{layout-lends}
+use Rattle.message_lent_rules.specs.Meaning.{Message, parts, wordsOf, valueBytesOf}
+use Rattle.message_lent_rules.specs.Formed.{Formed, Within}
+use Rattle.message_lent_rules.specs.FormedLaws.{layout-lends}
 use Rattle.message_take_over.specs.declared.Taken.the-variants.{Made}
 use Rattle.message_take_over.specs.Taking.{isNext, areNext, partHeads, recordRows, rowsBehind, rowsOf, valuesAt, laidOut, layoutFrom, after, judged, takingOver}
 use Rattle.message_take_over.specs.TakeLaws.{take-judged}

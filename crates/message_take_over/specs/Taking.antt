@@ -10,7 +10,7 @@ use Rattle.field_rules.specs.Choice.{pick}
 use Rattle.build_records.specs.Records.{recordsOf, recordAt, between, valueAt}
 use Rattle.build_records.specs.declared.Record.{Record}
 use Rattle.message_maps.specs.Rows.{Row, row, flat, padded, messageWords}
-use Rattle.message_lent.specs.Lent.{isMessage}
+use Rattle.message_lent_rules.specs.Lent.{isMessage}
 use Rattle.message_take_over.specs.declared.Taken.{Taken}
 use Rattle.message_take_over.specs.declared.Taken.the-variants.{Made, NoMessage}
 use Rattle.message_take_over.specs.declared.Nearest.{Nearest}

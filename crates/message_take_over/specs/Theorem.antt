@@ -13,15 +13,15 @@ use Rattle.field_rules.specs.Choice.{pick}
 use Rattle.build_records.specs.Records.{recordsOf, between, valueAt}
 use Rattle.build_records.specs.declared.Record.{Record}
 use Rattle.message_maps.specs.Rows.{Row, flat, padded, sizeOf, sizes, messageWords}
-use Rattle.message_lent.specs.Lent.{isMessage, rowCount}
-use Rattle.message_lent.specs.Lent.{rowsOf as rowsIn}
-use Rattle.message_lent.specs.LentLaws.{both, message-held}
-use Rattle.message_lent.specs.LaidLaws.{sizes-append}
-use Rattle.message_lent.specs.Meaning.{messageIn}
-use Rattle.message_lent.specs.MeaningLaws.{means}
-use Rattle.message_lent.specs.MeantLaws.{rows-back}
-use Rattle.message_lent.specs.Formed.{Within}
-use Rattle.message_lent.specs.FormedLaws.{lent-formed}
+use Rattle.message_lent_rules.specs.Lent.{isMessage, rowCount}
+use Rattle.message_lent_rules.specs.Lent.{rowsOf as rowsIn}
+use Rattle.message_lent_rules.specs.LentLaws.{both, message-held}
+use Rattle.message_lent_rules.specs.LaidLaws.{sizes-append}
+use Rattle.message_lent_rules.specs.Meaning.{messageIn}
+use Rattle.message_lent_rules.specs.MeaningLaws.{means}
+use Rattle.message_lent_rules.specs.MeantLaws.{rows-back}
+use Rattle.message_lent_rules.specs.Formed.{Within}
+use Rattle.message_lent_rules.specs.FormedLaws.{lent-formed}
 use Rattle.message_take_over.specs.declared.Joins.{Joins}
 use Rattle.message_take_over.specs.declared.Joins.the-variants.{Open, Entry, Nowhere}
 use Rattle.message_take_over.specs.declared.Taken.the-variants.{Made, NoMessage}

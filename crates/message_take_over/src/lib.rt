@@ -6,11 +6,14 @@ ghost use mathlib.Core.Path.{_≡_};
 ghost use mathlib.Core.Bool.{true, false};
 ghost use mathlib.Core.List.{[], _∷_};
 ghost use Prim.Native.Nat.{_+_, _-_, _*_, _/_, _≤_, _<_};
-ghost use lib.ListN.{length, replicate};
-ghost use Rattle.message_maps.specs.Rows.{row, messageWords, messageRows};
+ghost use lib.ListN.{length, replicate, set};
+ghost use Rattle.message_maps.specs.Rows.{row, padded, messageWords, messageRows};
+ghost use Rattle.field_rules.specs.Decimal.{writtenAt};
 ghost use Rattle.build_records.specs.Records.{recordsOf, recordAt, between, stride};
-ghost use Rattle.message_take_over.specs.Taking.{recordsBefore, nearestIn, joinsInRun, joinsOf, isJoined, hasRoom, partHeads, recordRows, layoutFrom, after, takingOver};
-ghost use Rattle.message_take_over.specs.Laying.{Adds, Ready, steppedBy, Steps, layoutTold};
+ghost use Rattle.message_take_over.specs.Taking.{recordsBefore, nearestIn, joinsInRun, joinsOf, isJoined, hasRoom, areNext, partHeads, recordRows, valuesAt, after, takingOver};
+ghost use Rattle.message_take_over.specs.Laying.{Adds, Ready, steppedBy, addsRows, RowsLaid};
+ghost use Rattle.message_take_over.specs.Newest.{Newest};
+ghost use Rattle.message_take_over.specs.Written.{BlankBehind};
 
 // What taking over answers: 0 or 27.
 pub enum Taken {
@@ -31,7 +34,7 @@ pub enum Joins {
     Nowhere,
 }
 
-// The part that is open, and how many rows and how many bytes of values are laid.
+// The part that is open, how many rows are laid, and how many bytes their values take.
 pub struct Laying {
     pub part: u32,
     pub rows: usize,
@@ -43,23 +46,40 @@ pub enum Step {
     Refused,
 }
 
-fn nearest_before(records: &[u32], to: usize, depth: u32) -> Nearest
+// An entry of `last` as an index.
+fn place(n: u16) -> usize
+    ensures { λ r. ⌜ r ≡ n ⌝ }
+{
+    n as usize
+}
+
+// The nearest record before another that stands no deeper than a depth. `last` has the newest for each depth down to the record before.
+fn nearest_before(records: &[u32], last: &[u16], to: usize, depth: u32) -> Nearest
+    requires { ⌜ Newest (recordsOf (now records)) to (now last) ⌝ }
     ensures { λ r. ⌜ r ≡ nearestIn depth (recordsBefore to (recordsOf (now (records .entry)))) ⌝ }
 {
-    let mut i = to;
-    while 0 < i {
-        let before = build_records::record_at(records, i - 1);
-        if before.depth <= depth {
-            return Nearest::Is(before);
-        }
-        i = i - 1;
+    if to == 0 {
+        return Nearest::Nothing;
     }
-    Nearest::Nothing
+    let before = build_records::record_at(records, to - 1);
+    if before.depth <= depth {
+        return Nearest::Is(before);
+    }
+    Nearest::Is(build_records::record_at(records, place(last[wide(depth)])))
+}
+
+// Enters a record as the newest of its depth. What `last` has of deeper ones stays, and is written over before it is asked again.
+fn enter(records: &[u32], last: &mut [u16], at: usize)
+    requires { ⌜ (at < 1024) × (recordAt at (recordsOf (now records)) .depth < length (now last)) ⌝ }
+    ensures { λ _. ⌜ now (last .exit) ≡ set (now (last .entry)) (recordAt at (recordsOf (now (records .entry))) .depth) at ⌝ }
+{
+    let entered = build_records::record_at(records, at);
+    last[wide(entered.depth)] = at as u16;
 }
 
 // A record behind one of the same run: in the same entry, or first in the next.
-fn joins_run(records: &[u32], to: usize, number: u32, taken: Record) -> Joins
-    requires { ⌜ 0 < taken .depth ⌝ }
+fn joins_run(records: &[u32], last: &[u16], to: usize, number: u32, taken: Record) -> Joins
+    requires { ⌜ (0 < taken .depth) × Newest (recordsOf (now records)) to (now last) ⌝ }
     ensures { λ r. ⌜ r ≡ joinsInRun (recordsBefore to (recordsOf (now (records .entry)))) number taken ⌝ }
 {
     if taken.number == number {
@@ -68,13 +88,14 @@ fn joins_run(records: &[u32], to: usize, number: u32, taken: Record) -> Joins
     if wide(taken.number) != wide(number) + 1 {
         return Joins::Nowhere;
     }
-    let Nearest::Is(count) = nearest_before(records, to, taken.depth - 1) else {
+    let Nearest::Is(count) = nearest_before(records, last, to, taken.depth - 1) else {
         return Joins::Nowhere;
     };
     Joins::Entry(count.tag)
 }
 
-fn joins_of(records: &[u32], to: usize, taken: Record) -> Joins
+fn joins_of(records: &[u32], last: &[u16], to: usize, taken: Record) -> Joins
+    requires { ⌜ Newest (recordsOf (now records)) to (now last) ⌝ }
     ensures { λ r. ⌜ r ≡ joinsOf (recordsBefore to (recordsOf (now (records .entry)))) taken ⌝ }
 {
     if taken.depth == 0 {
@@ -83,14 +104,14 @@ fn joins_of(records: &[u32], to: usize, taken: Record) -> Joins
         }
         return Joins::Nowhere;
     }
-    let Nearest::Is(before) = nearest_before(records, to, taken.depth) else {
+    let Nearest::Is(before) = nearest_before(records, last, to, taken.depth) else {
         return Joins::Nowhere;
     };
     if before.part != taken.part {
         return Joins::Nowhere;
     }
     if before.depth == taken.depth {
-        return joins_run(records, to, before.number, taken);
+        return joins_run(records, last, to, before.number, taken);
     }
     if wide(taken.depth) != wide(before.depth) + 1 {
         return Joins::Nowhere;
@@ -167,18 +188,18 @@ fn is_joined(joined: Joins) -> bool
     }
 }
 
-// One record with its value behind those that are laid.
+// One record behind those that are laid. `size`: how many bytes there are for the values to lie in.
 fn lay_record(
     records: &[u32],
+    last: &[u16],
     at: usize,
-    bytes: &[u8],
+    size: usize,
     words: &mut [u32],
-    values: &mut [u8],
     laying: Laying,
 ) -> Step
-    requires { ⌜ Ready (recordsBefore at (recordsOf (now records))) (now words) (now values) laying ⌝ }
-    ensures { λ s. ⌜ s ≡ steppedBy (length (now (bytes .entry))) (recordsBefore at (recordsOf (now (records .entry)))) laying (recordAt at (recordsOf (now (records .entry)))) ⌝ }
-    ensures { λ s. ⌜ Steps (now (bytes .entry)) (recordsBefore at (recordsOf (now (records .entry)))) laying (recordAt at (recordsOf (now (records .entry)))) s (now (words .entry)) (now (words .exit)) (now (values .entry)) (now (values .exit)) ⌝ }
+    requires { ⌜ Ready (recordsBefore at (recordsOf (now records))) (now words) laying × Newest (recordsOf (now records)) at (now last) ⌝ }
+    ensures { λ s. ⌜ s ≡ steppedBy size (recordsBefore at (recordsOf (now (records .entry)))) laying (recordAt at (recordsOf (now (records .entry)))) ⌝ }
+    ensures { λ s. ⌜ addsRows (recordsBefore at (recordsOf (now (records .entry)))) laying (recordAt at (recordsOf (now (records .entry)))) s (now (words .entry)) (now (words .exit)) ⌝ }
 {
     let taken = build_records::record_at(records, at);
     if taken.part < laying.part {
@@ -187,39 +208,26 @@ fn lay_record(
     if 3 < taken.part {
         return Step::Refused;
     }
-    if !has_room(bytes.len(), laying.used, taken) {
+    if !has_room(size, laying.used, taken) {
         return Step::Refused;
     }
-    let joined = joins_of(records, at, taken);
+    let joined = joins_of(records, last, at, taken);
     if !is_joined(joined) {
         return Step::Refused;
     }
     let rows = lay_rows(words, laying.rows, laying.part, joined, taken);
-    let place = wide(taken.place);
-    let used = message_maps::put_bytes(
-        values,
-        laying.used,
-        bytes,
-        place,
-        place + wide(taken.length),
-    );
     Step::On(Laying {
         part: taken.part,
         rows,
-        used,
+        used: laying.used + wide(taken.length),
     })
 }
 
-// Lays records out in words and values that are zero; whether each of them has its place.
-fn lay_records(
-    records: &[u32],
-    count: usize,
-    bytes: &[u8],
-    words: &mut [u32],
-    values: &mut [u8],
-) -> bool
-    requires { ⌜ (count ≤ length (now records) / stride) × (count ≤ 1024) × (now words ≡ replicate messageWords 0) × (now values ≡ replicate 8192 0) ⌝ }
-    ensures { λ r. ⌜ layoutTold r (now (words .exit)) (now (values .exit)) ≡ layoutFrom (now (bytes .entry)) (between 0 count (recordsOf (now (records .entry)))) ⌝ }
+// Lays the rows of records out in words that are zero; whether each record has its place, and its value room. The newest record of each depth
+// is kept on the way: looking back over all the deeper ones would cost the square of their number.
+fn lay_records(records: &[u32], count: usize, size: usize, words: &mut [u32]) -> bool
+    requires { ⌜ (count ≤ length (now records) / stride) × (count ≤ 1024) × (now words ≡ replicate messageWords 0) ⌝ }
+    ensures { λ r. ⌜ RowsLaid size (between 0 count (recordsOf (now (records .entry)))) r (now (words .exit)) ⌝ }
 {
     let rows = put_row(words, 0, 2, 0, build_records::HEADER, 0);
     let mut laying = Laying {
@@ -227,11 +235,14 @@ fn lay_records(
         rows,
         used: 0,
     };
+    let mut newest = [0u16; 1024];
+    let last = &mut newest[..];
     let mut i: usize = 0;
     while i < count {
-        let Step::On(next) = lay_record(records, i, bytes, words, values, laying) else {
+        let Step::On(next) = lay_record(records, last, i, size, words, laying) else {
             return false;
         };
+        enter(records, last, i);
         laying = next;
         i += 1;
     }
@@ -240,7 +251,34 @@ fn lay_records(
     true
 }
 
-// Takes a build's records and the bytes that they point into over into a lent message.
+// Copies laid words: as many as their rows take, for those behind them are zero.
+fn put_rows(words: &mut [u32], laid: &[u32])
+    requires { ⌜ BlankBehind (now laid) × (length (now words) ≡ messageWords) ⌝ }
+    ensures { λ _. ⌜ now (words .exit) ≡ now (laid .entry) ⌝ }
+{
+    let used = 4 * wide(laid[0]) + 1;
+    message_maps::put_words(words, 0, laid, 0, used);
+    message_maps::clear_words(words, used, message_maps::WORDS);
+}
+
+// Writes the values of records one behind the other, and zeros behind them. That they lie in the bytes and have room was tested with the rows.
+fn put_values(records: &[u32], count: usize, bytes: &[u8], values: &mut [u8])
+    requires { ⌜ (count ≤ length (now records) / stride) × (areNext (length (now bytes)) 1 0 [] (between 0 count (recordsOf (now records))) ≡ true) × (length (now values) ≡ 8192) ⌝ }
+    ensures { λ _. ⌜ now (values .exit) ≡ padded 8192 (valuesAt (now (bytes .entry)) (between 0 count (recordsOf (now (records .entry))))) ⌝ }
+{
+    let mut used: usize = 0;
+    let mut i: usize = 0;
+    while i < count {
+        let taken = build_records::record_at(records, i);
+        let place = wide(taken.place);
+        used = message_maps::put_bytes(values, used, bytes, place, place + wide(taken.length));
+        i += 1;
+    }
+    message_maps::clear_bytes(values, used, 8192);
+}
+
+// Takes a build's records and the bytes that they point into over into a lent message. Only the rows tell whether they are one, so they are laid
+// apart, and what is lent is written once they are known to be.
 pub fn take_over(
     records: &[u32],
     count: usize,
@@ -263,16 +301,14 @@ pub fn take_over(
         return Taken::NoMessage;
     }
     let mut laid_words = [0u32; message_maps::WORDS];
-    let mut laid_values = [0u8; 8192];
     let new_words = &mut laid_words[..];
-    let new_values = &mut laid_values[..];
-    if !lay_records(records, count, bytes, new_words, new_values) {
+    if !lay_records(records, count, bytes.len(), new_words) {
         return Taken::NoMessage;
     }
-    if !message_lent::is_message(new_words, new_values) {
+    if !message_lent::is_message(new_words, values) {
         return Taken::NoMessage;
     }
-    message_maps::put_words(words, 0, new_words, 0, message_maps::WORDS);
-    message_maps::put_bytes(values, 0, new_values, 0, 8192);
+    put_rows(words, new_words);
+    put_values(records, count, bytes, values);
     Taken::Made
 }

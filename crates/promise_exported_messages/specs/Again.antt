@@ -13,7 +13,7 @@ use Rattle.message_maps.specs.Rows.{messageWords}
 use Rattle.build_config.specs.Settings.{configOf}
 use Rattle.dictionary_meaning_rules.specs.Meaning.{dictionaryOf}
 use Rattle.build_records.specs.Records.{recordWords}
-use Rattle.message_lent.specs.Meaning.{wordsOf, valueBytesOf}
+use Rattle.message_lent_rules.specs.Meaning.{wordsOf, valueBytesOf}
 use Rattle.build_answers.specs.Answer.{numberOf}
 use Rattle.build_answers.specs.declared.Answer.the-variants.{Valid}
 use Rattle.build_rules.specs.Message.{Outcome, messageRead}

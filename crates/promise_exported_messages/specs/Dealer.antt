@@ -13,7 +13,7 @@ use Rattle.message_maps.specs.Rows.{messageWords}
 use Rattle.build_config.specs.Settings.{configOf}
 use Rattle.dictionary_meaning_rules.specs.Meaning.{dictionaryOf}
 use Rattle.build_records.specs.Records.{recordWords}
-use Rattle.message_lent.specs.Meaning.{Message, wordsOf, valueBytesOf, messageIn}
+use Rattle.message_lent_rules.specs.Meaning.{Message, wordsOf, valueBytesOf, messageIn}
 use Rattle.message_rules.specs.Changes.{fieldTotal}
 use Rattle.build_rules.specs.Message.{Outcome, messageRead}
 use Rattle.encode_rules.specs.Encoding.{encoding}

@@ -6,8 +6,8 @@ use mathlib.Core.Bool.{Bool, true, false}
 use mathlib.Core.List.{List, [], _∷_}
 use lib.ListN.{length}
 use Rattle.build_records.specs.Records.{recordsOf, between, stride}
-use Rattle.message_lent.specs.Meaning.{Message}
-use Rattle.message_lent.specs.Formed.{Within}
+use Rattle.message_lent_rules.specs.Meaning.{Message}
+use Rattle.message_lent_rules.specs.Formed.{Within}
 use Rattle.message_take_over.specs.Derived.{StandFor}
 use Rattle.message_take_over.specs.Taking.{AfterTaking, after as after-taking, numberOfTaken, takingOver}
 use Rattle.message_rules.specs.Changes.{After, after, numberOfChange, emptying, making, storing, removing}

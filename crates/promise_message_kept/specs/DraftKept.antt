@@ -6,7 +6,7 @@ use mathlib.Core.Bool.{true}
 use mathlib.Core.List.{List, [], _∷_}
 use Prim.Native.Nat.{ℕ}
 use Rattle.message_maps.specs.Map.{Map}
-use Rattle.message_lent.specs.StandLaws.{never}
+use Rattle.message_lent_rules.specs.StandLaws.{never}
 use Rattle.message_rules.specs.Runs.{isDraft, runIn}
 use Rattle.message_rules.specs.Drafts.{IsRunLayout, run-layout-lends, run-layout}
 use Rattle.message_rules.specs.Answered.{NotLent}

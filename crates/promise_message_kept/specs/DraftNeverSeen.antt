@@ -10,7 +10,7 @@ use lib.Dec.{eqb}
 use borrow.Author.Tests.{eq-eqb}
 use Rattle.message_maps.specs.Map.{Map, end, entry, joined, stored, fieldCount, valuesIn}
 use Rattle.message_maps.specs.Rows.{messageWords}
-use Rattle.message_lent.specs.Meaning.{LaysOut}
+use Rattle.message_lent_rules.specs.Meaning.{LaysOut}
 use Rattle.message_rules.specs.Changes.{after, ofStore, judgedMap, mapWords, mapValues}
 use Rattle.message_rules.specs.Runs.{isDraft, runIn, judgedRun, ofDraft, starting, entering, isEmpty, inLast, storingLast, hasUntagged, isWhole, hungRun, hangingLast, hanging}
 use Rattle.message_rules.specs.Drafts.{RunWithin, lent-run, lays-draft, run-meant}

@@ -5,9 +5,9 @@ use mathlib.Core.List.{List, _++_}
 use Prim.Native.Nat.{ℕ}
 use native.Mathlib.Omega.{arith}
 use lib.ListN.{length, drop}
-use Rattle.message_lent.specs.Lent.{isMessage}
-use Rattle.message_lent.specs.Meaning.{Message, wordsOf, valueBytesOf, messageIn}
-use Rattle.message_lent.specs.FormedLaws.{IsLayout, is-layout-lends}
+use Rattle.message_lent_rules.specs.Lent.{isMessage}
+use Rattle.message_lent_rules.specs.Meaning.{Message, wordsOf, valueBytesOf, messageIn}
+use Rattle.message_lent_rules.specs.FormedLaws.{IsLayout, is-layout-lends}
 use Rattle.encode_rules.specs.Encoding.{encoding, encodedMessage}
 use Rattle.encode_rules.specs.Encode.{encodeVerdict, left, encoded, encodingOf, numberOfEncoding}
 use Rattle.encode_rules.specs.declared.Encoding.{Encoding}

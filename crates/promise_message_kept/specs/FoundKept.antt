@@ -8,9 +8,9 @@ use lib.ListN.{length}
 use lib.Dec.{eqb}
 use Rattle.field_rules.specs.Choice.{pick}
 use Rattle.message_maps.specs.Map.{Map, end, field, entry, Looked, none, some, valuesIn}
-use Rattle.message_lent.specs.Lent.{isMessage}
-use Rattle.message_lent.specs.StandLaws.{never}
-use Rattle.message_lent.specs.Meaning.{parts, messageIn}
+use Rattle.message_lent_rules.specs.Lent.{isMessage}
+use Rattle.message_lent_rules.specs.StandLaws.{never}
+use Rattle.message_lent_rules.specs.Meaning.{parts, messageIn}
 use Rattle.message_rules.specs.LookUps.{numberOfValue, numberOfMap, Standing, standing, mapAt, valueIn, entryIn, valueOfMap, entryOf, rowsIn, partFound, fieldFound, entryFound}
 use Rattle.message_rules.specs.declared.Part.{Part}
 use Rattle.message_rules.specs.declared.FoundValue.the-variants as value

@@ -5,11 +5,11 @@ use mathlib.Core.Logic.{⊎-elim}
 use mathlib.Core.Bool.{true, false}
 use mathlib.Core.List.{List, [], _∷_}
 use Prim.Native.Nat.{ℕ}
-use Rattle.message_lent.specs.Lent.{isMessage}
-use Rattle.message_lent.specs.LentLaws.{message-held}
-use Rattle.message_lent.specs.StandLaws.{never}
-use Rattle.message_lent.specs.Meaning.{Message, messageIn}
-use Rattle.message_lent.specs.FormedLaws.{IsLayout, is-layout-lends}
+use Rattle.message_lent_rules.specs.Lent.{isMessage}
+use Rattle.message_lent_rules.specs.LentLaws.{message-held}
+use Rattle.message_lent_rules.specs.StandLaws.{never}
+use Rattle.message_lent_rules.specs.Meaning.{Message, messageIn}
+use Rattle.message_lent_rules.specs.FormedLaws.{IsLayout, is-layout-lends}
 use Rattle.message_rules.specs.Answered.{NotLent}
 use Rattle.message_rules.specs.FormedLaws.{empty-answered, new-answered, store-answered, remove-answered}
 use Rattle.message_rules.specs.DraftLaws.{hang-answered}

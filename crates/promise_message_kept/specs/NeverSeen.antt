@@ -12,12 +12,12 @@ use Rattle.field_rules.specs.Choice.{pick}
 use Rattle.build_records.specs.Records.{recordsOf, between}
 use Rattle.message_maps.specs.Map.{withoutField, stored}
 use Rattle.message_maps.specs.Rows.{messageWords}
-use Rattle.message_lent.specs.Lent.{isMessage}
-use Rattle.message_lent.specs.StandLaws.{never}
-use Rattle.message_lent.specs.Meaning.{Message, parts, LaysOut, wordsOf, valueBytesOf, messageIn}
-use Rattle.message_lent.specs.MeantLaws.{message-meant}
-use Rattle.message_lent.specs.Formed.{Within}
-use Rattle.message_lent.specs.FormedLaws.{lent-formed, lays-message}
+use Rattle.message_lent_rules.specs.Lent.{isMessage}
+use Rattle.message_lent_rules.specs.StandLaws.{never}
+use Rattle.message_lent_rules.specs.Meaning.{Message, parts, LaysOut, wordsOf, valueBytesOf, messageIn}
+use Rattle.message_lent_rules.specs.MeantLaws.{message-meant}
+use Rattle.message_lent_rules.specs.Formed.{Within}
+use Rattle.message_lent_rules.specs.FormedLaws.{lent-formed, lays-message}
 use Rattle.message_take_over.specs.Taking.{Layout, laidOut, noRecords, layoutFrom, AfterTaking, judged as judgedTaking, takingOver, numberOfTaken}
 use Rattle.message_take_over.specs.Taking as taking
 use Rattle.message_take_over.specs.declared.Taken.the-variants as was-taken

@@ -9,10 +9,10 @@ use lib.Dec.{eqb, leb}
 use Rattle.field_rules.specs.Choice.{pick}
 use Rattle.build_records.specs.Records.{recordsOf, between}
 use Rattle.message_maps.specs.Rows.{messageWords}
-use Rattle.message_lent.specs.Lent.{isMessage}
-use Rattle.message_lent.specs.LentLaws.{message-held}
-use Rattle.message_lent.specs.Meaning.{wordsOf, valueBytesOf, messageIn}
-use Rattle.message_lent.specs.FormedLaws.{IsLayout, layout-lends}
+use Rattle.message_lent_rules.specs.Lent.{isMessage}
+use Rattle.message_lent_rules.specs.LentLaws.{message-held}
+use Rattle.message_lent_rules.specs.Meaning.{wordsOf, valueBytesOf, messageIn}
+use Rattle.message_lent_rules.specs.FormedLaws.{IsLayout, layout-lends}
 use Rattle.message_take_over.specs.Taking.{Layout, laidOut, noRecords, layoutFrom, AfterTaking, after, judged, takingOver, numberOfTaken}
 use Rattle.message_take_over.specs.TakenLaws.{stand-layout, stand-taken}
 use Rattle.message_take_over.specs.Theorem.{taken-keeps}

@@ -26,8 +26,8 @@ use Rattle.dictionary_layout_rules.specs.Tree.{Dictionary, knows, headerTags, t
 use Rattle.build_records.specs.Records.{laid, recordsOf, between, recordWords, stride, valueAt}
 use Rattle.build_records.specs.WordLaws.{records-laid, laid-length}
 use Rattle.build_records.specs.declared.Record.{Record}
-use Rattle.message_lent.specs.Meaning.{wordsOf, valueBytesOf}
-use Rattle.message_lent.specs.FormedLaws.{Lends, layout-lends}
+use Rattle.message_lent_rules.specs.Meaning.{wordsOf, valueBytesOf}
+use Rattle.message_lent_rules.specs.FormedLaws.{Lends, layout-lends}
 use Rattle.build_group_rules.specs.Reading.{accepted, layoutRules}
 use Rattle.build_required_rules.specs.Checking.{layoutDemands}
 use Rattle.build_nesting_laws.specs.Entries.{layout-first}

@@ -11,7 +11,7 @@ use lib.ListN.{length, drop}
 use Rattle.message_maps.specs.Rows.{messageWords}
 use Rattle.build_config.specs.declared.Config.{Config}
 use Rattle.dictionary_meaning_rules.specs.Meaning.{dictionaryOf}
-use Rattle.message_lent.specs.Meaning.{Message, wordsOf, valueBytesOf}
+use Rattle.message_lent_rules.specs.Meaning.{Message, wordsOf, valueBytesOf}
 use Rattle.build_answers.specs.declared.Answer.the-variants.{Valid}
 use Rattle.build_rules.specs.Message.{Outcome, messageRead}
 use Rattle.builder.specs.Build.{BuildOutcome, wordsWith, shown, buildOf}

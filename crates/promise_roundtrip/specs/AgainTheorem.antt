@@ -8,7 +8,7 @@ use lib.ListN.{length, drop}
 use Rattle.build_config.specs.declared.Config.{Config}
 use Rattle.dictionary_layout_rules.specs.Tree.{Dictionary}
 use Rattle.build_records.specs.declared.Record.{Record}
-use Rattle.message_lent.specs.Meaning.{Message, wordsOf, valueBytesOf}
+use Rattle.message_lent_rules.specs.Meaning.{Message, wordsOf, valueBytesOf}
 use Rattle.build_nesting_laws.specs.Formed.{Own}
 use Rattle.build_nesting_laws.specs.Entries.{All, all-more}
 use Rattle.build_parts.specs.Parts.{partRecord}

@@ -28,8 +28,8 @@ use Rattle.promise_records.specs.TakenOver.{TakenOver, build-of-taken}
 use Rattle.message_take_over.specs.Taking.{takingOver, after}
 use Rattle.message_take_over.specs.declared.Taken.the-variants.{Made}
 use Rattle.message_maps.specs.Rows.{messageWords}
-use Rattle.message_lent.specs.Meaning.{Message, wordsOf, valueBytesOf, messageIn}
-use Rattle.message_lent.specs.MeantLaws.{layout-meant}
+use Rattle.message_lent_rules.specs.Meaning.{Message, wordsOf, valueBytesOf, messageIn}
+use Rattle.message_lent_rules.specs.MeantLaws.{layout-meant}
 use Rattle.build_order_laws.specs.Follows.{no-field, one-field}
 use Rattle.build_order_laws.specs.InOrder.{InOrder}
 use Rattle.encode_rewriting_laws.specs.EncodedBuilt.{encoding-rewritten}

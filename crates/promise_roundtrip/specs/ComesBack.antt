@@ -16,7 +16,7 @@ use Rattle.build_parts.specs.Parts.{partRecord}
 use Rattle.build_rules.specs.Message.{messageRead}
 use Rattle.build_rules.specs.declared.Stop.{Stop}
 use Rattle.build_rules.specs.declared.Stop.the-variants.{At}
-use Rattle.message_lent.specs.Meaning.{Message, wordsOf, valueBytesOf}
+use Rattle.message_lent_rules.specs.Meaning.{Message, wordsOf, valueBytesOf}
 use Rattle.encode_rules.specs.Encoding.{encodedMessage}
 use Rattle.field_rules.specs.Separator.{isRefusedSeparator}
 use Rattle.encode_rules.specs.Encode.{left, encodingOf}

@@ -13,7 +13,7 @@ use Rattle.dictionary_layout_rules.specs.Tree.{Dictionary}
 use Rattle.build_answers.specs.declared.Answer.the-variants.{Valid}
 use Rattle.build_rules.specs.Message.{messageRead}
 use Rattle.builder.specs.Build.{BuildOutcome, buildOf}
-use Rattle.message_lent.specs.Meaning.{Message, wordsOf, valueBytesOf, messageIn}
+use Rattle.message_lent_rules.specs.Meaning.{Message, wordsOf, valueBytesOf, messageIn}
 use Rattle.message_rules.specs.Changes.{fieldTotal}
 use Rattle.encode_rules.specs.Encoding.{encodedMessage}
 use Rattle.encode_rules.specs.Encode.{left, encodingOf}

@@ -29,8 +29,8 @@ use Rattle.build_body_rules.specs.Body.{bodyFrom}
 use Rattle.build_rules.specs.Beginning.{headerOf, verifiedRecords}
 use Rattle.build_rules.specs.Message.{Outcome, messageRead}
 use Rattle.build_rules.specs.declared.Stop.{Stop}
-use Rattle.message_lent.specs.Meaning.{Message, wordsOf, valueBytesOf}
-use Rattle.message_lent.specs.FormedLaws.{layout-lends}
+use Rattle.message_lent_rules.specs.Meaning.{Message, wordsOf, valueBytesOf}
+use Rattle.message_lent_rules.specs.FormedLaws.{layout-lends}
 use Rattle.message_rules.specs.Changes.{fieldTotal}
 use Rattle.message_read_laws.specs.Parted.{Takes}
 use Rattle.message_read_laws.specs.PartReading.{of-field, own-field}

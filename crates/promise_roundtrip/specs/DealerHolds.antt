@@ -24,7 +24,7 @@ use Rattle.build_rules.specs.Beginning.{headerOf, verifiedRecords}
 use Rattle.build_rules.specs.Message.{Outcome}
 use Rattle.build_rules.specs.declared.Stop.{Stop}
 use Rattle.message_maps.specs.Map.{Map, holds}
-use Rattle.message_lent.specs.Meaning.{Message}
+use Rattle.message_lent_rules.specs.Meaning.{Message}
 use Rattle.message_rules.specs.Changes.{fieldTotal}
 use Rattle.message_take_over.specs.Derived.{Stands, StandFor, own as stands-own, in-entry as stands-entry}
 use Rattle.message_read_laws.specs.Parted.{Takes}

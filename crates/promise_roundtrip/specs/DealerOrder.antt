@@ -38,7 +38,7 @@ use Rattle.build_answers.specs.declared.Answer.the-variants.{Valid}
 use Rattle.build_rules.specs.Message.{Outcome}
 use Rattle.build_rules.specs.Examples.{dictionary, order, header, shows}
 use Rattle.build_nesting_laws.specs.Entries.{all-none, all-more}
-use Rattle.message_lent.specs.Meaning.{wordsOf, valueBytesOf}
+use Rattle.message_lent_rules.specs.Meaning.{wordsOf, valueBytesOf}
 use Rattle.message_read_laws.specs.Parted.{Takes}
 use Rattle.encode_rules.specs.Encoding.{sumDigits, summed as withSum, encoding, encodedMessage}
 use Rattle.field_rules.specs.Separator.{isRefusedSeparator}

@@ -12,9 +12,9 @@ use Rattle.field_rules.specs.Number.{isDigit}
 use Rattle.standard_rules.specs.Standard as standard
 use Rattle.standard_rules.specs.Standard.{Tables, Value}
 use Rattle.message_maps.specs.Map.{holds}
-use Rattle.message_lent.specs.Meaning.{Message, messageIn}
-use Rattle.message_lent.specs.FormedLaws.{lent-formed}
-use Rattle.message_lent.specs.StandLaws.{never, not-so}
+use Rattle.message_lent_rules.specs.Meaning.{Message, messageIn}
+use Rattle.message_lent_rules.specs.FormedLaws.{lent-formed}
+use Rattle.message_lent_rules.specs.StandLaws.{never, not-so}
 use Rattle.encode_rules.specs.Encoding.{dropped, encoding}
 use Rattle.field_rules.specs.Separator.{isRefusedSeparator}
 use Rattle.encode_rules.specs.Encode.{hasUncounted, isIncomplete, encodeVerdict, left, encoded, encodingOf}

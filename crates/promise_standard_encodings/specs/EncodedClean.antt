@@ -14,7 +14,7 @@ use Rattle.standard_rules.specs.Standard.{Tables, NotDelimiter, Value}
 use Rattle.build_records.specs.Records.{valueAt}
 use Rattle.build_records.specs.declared.Record.{Record}
 use Rattle.message_maps.specs.Map.{Map, end, field, entry, holds, withoutField, some, valueUnder}
-use Rattle.message_lent.specs.Meaning.{Message}
+use Rattle.message_lent_rules.specs.Meaning.{Message}
 use Rattle.build_nesting_laws.specs.Entries.{All}
 use Rattle.message_read_laws.specs.ShapeLaws.{all-first, all-rest, all-left, all-right}
 use Rattle.message_take_over.specs.Derived.{Stands, no-more as stands-none, own as stands-own, in-entry as stands-entry}

@@ -16,8 +16,8 @@ use Rattle.standard_rules.specs.Standard.{Body, All, placed, Value}
 use Rattle.standard_rules.specs.StandardLaws.{one-of}
 use Rattle.standard_rules.specs.Samples.{Sample, no-data, no-count, in-body, of-group, int, value, outside}
 use Rattle.message_maps.specs.Map.{Map, end, field, entry, joined, holds, replaced, withoutField, pastLeading, runOn, withoutRun, stored, some, valueUnder}
-use Rattle.message_lent.specs.Meaning.{Message}
-use Rattle.message_lent.specs.Formed.{stands, goesOn, isFormed}
+use Rattle.message_lent_rules.specs.Meaning.{Message}
+use Rattle.message_lent_rules.specs.Formed.{stands, goesOn, isFormed}
 use Rattle.encode_rules.specs.Encoding.{text, textUnder, isFirst, isRest, headerText, messageText, bytesOf, dropped, bodyLength, measured, sumDigits, summed, encoding}
 use Rattle.encoder.specs.FoundLaws.{hangs}
 use Rattle.promise_standard_encodings.specs.EncodedMaps.{fields, Conforms, no-more, alone, with-data, counted, no-entry, one-entry, tagsOf}

@@ -12,9 +12,9 @@ use Rattle.field_rules.specs.Choice.{pick}
 use Rattle.field_rules.specs.Decimal.{decimal}
 use Rattle.field_rules.specs.Field.{fieldBytes}
 use Rattle.message_maps.specs.Map.{Map, end, field, entry, joined, holds, replaced, withoutField, pastLeading, runOn, withoutRun, stored, some, valueUnder}
-use Rattle.message_lent.specs.Formed.{stands, isFormed}
-use Rattle.message_lent.specs.StandLaws.{never, nor, field-formed, entry-formed}
-use Rattle.message_lent.specs.StoredLaws.{formed-stored, formed-without}
+use Rattle.message_lent_rules.specs.Formed.{stands, isFormed}
+use Rattle.message_lent_rules.specs.StandLaws.{never, nor, field-formed, entry-formed}
+use Rattle.message_lent_rules.specs.StoredLaws.{formed-stored, formed-without}
 use Rattle.message_rules.specs.SplitLaws.{field-gone}
 use Rattle.encode_rules.specs.Encoding.{text, textUnder, isFirst, isRest, headerText}
 use Rattle.encoder.specs.CountLaws.{gone-once}

@@ -18,8 +18,8 @@ use Rattle.standard_rules.specs.Standard.{Tables, NoData, NoCount, All, NotDeli
 use Rattle.standard_rules.specs.Reading.{fields-append}
 use Rattle.standard_rules.specs.StandardLaws.{one-of, once-of}
 use Rattle.message_maps.specs.Map.{Map, end, field, entry, holds, withoutField}
-use Rattle.message_lent.specs.Formed.{isFormed}
-use Rattle.message_lent.specs.StandLaws.{nor, field-formed, entry-formed}
+use Rattle.message_lent_rules.specs.Formed.{isFormed}
+use Rattle.message_lent_rules.specs.StandLaws.{nor, field-formed, entry-formed}
 use Rattle.encode_rules.specs.Encoding.{text}
 use Rattle.encoder.specs.CountLaws.{gone-once}
 use Rattle.promise_standard.specs.Texts.{digits-int, int-value}

@@ -21,10 +21,10 @@ use Rattle.standard_rules.specs.Standard.{Tables, Body, NoData, All, Int, Value
 use Rattle.standard_rules.specs.Reading.{fields-append}
 use Rattle.standard_rules.specs.StandardLaws.{all-map, numbers-append, one-of, distinct-append, once-of}
 use Rattle.message_maps.specs.Map.{Map, end, field, entry, holds, withoutField, some, valueUnder}
-use Rattle.message_lent.specs.Meaning.{Message}
-use Rattle.message_lent.specs.Formed.{Formed}
-use Rattle.message_lent.specs.StandLaws.{never, not-so}
-use Rattle.message_lent.specs.StoredLaws.{formed-without}
+use Rattle.message_lent_rules.specs.Meaning.{Message}
+use Rattle.message_lent_rules.specs.Formed.{Formed}
+use Rattle.message_lent_rules.specs.StandLaws.{never, not-so}
+use Rattle.message_lent_rules.specs.StoredLaws.{formed-without}
 use Rattle.message_rules.specs.SplitLaws.{field-split}
 use Rattle.encode_rules.specs.Encoding.{text, messageText, dropped, bodyLength, measured, sumDigits, summed, encoding}
 use Rattle.encoder.specs.FoundLaws.{hangs}

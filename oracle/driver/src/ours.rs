@@ -1,5 +1,7 @@
 //! Our own side: a program that speaks the line protocol, or the static library that ships.
 #[cfg(feature = "library")]
+mod exports;
+#[cfg(feature = "library")]
 pub mod library;
 
 use std::io::{BufRead, BufReader, BufWriter, Write};

@@ -20,10 +20,9 @@ returns-3 c = rw (sym (c .before .before .before .before .before .holds .ensures
 
 returns-4 : tie.Need-returns-4
 unfolding incompleteAt
-returns-4 c = rw (sym (c .before .before .before .before .before .before .holds .ensures) ∙ not-false _ (c .before .before .before .before .before .if1 .left), sym (c .before .before .before .before .holds2 .ensures) ∙ not-false _ (c .before .before .before .if2 .left), sym (c .before .before .has-run .ensures) ∙ c .before .if3 .left) (c .has-uncounted .ensures)
+returns-4 c = rw (sym (c .before .before .before .before .before .holds .ensures) ∙ not-false _ (c .before .before .before .before .if1 .left), sym (c .before .before .before .holds2 .ensures) ∙ not-false _ (c .before .before .if2 .left), sym (c .before .has-run .ensures) ∙ c .if3 .left) (c .before .before .before .before .before .before .before .pre .1)
 
 pub is-incomplete-spec : {M : Type 1} → statement M
 is-incomplete-spec =
     tie.close
-    (tie.spec (λ c κs. search needs) returns (λ c κs. search needs) returns-2 (λ c κs. search needs) returns-3
-    (λ c κs. search needs) returns-4)
+    (tie.spec (λ c κs. search needs) returns (λ c κs. search needs) returns-2 (λ c κs. search needs) returns-3 returns-4)

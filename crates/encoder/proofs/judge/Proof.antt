@@ -1,120 +1,28 @@
--- `judge` meets its contract, by its tests in their order: each asks of the rows what the definition asks of the message.
-use mathlib.Core.Path.{_≡_, sym, ap, _∙_}
-use mathlib.Core.Bool.{false}
-use Prim.Native.Nat.{_+_, _≤_}
-use native.Mathlib.Omega.{arith}
+-- `judge` meets its contract: what the rows' standing tells is what the message is judged by.
+use mathlib.Core.Path.{_≡_, sym, _∙_}
 use borrow.Author.Needs.{needs}
-use lib.ListN.{length}
-use Rattle.field_rules.specs.DecimalLaws.{decimal-length}
-use Rattle.field_rules.specs.Separator.{isRefusedSeparator}
-use Rattle.message_lent.specs.Meaning.{messageIn}
-use Rattle.message_rules.specs.Changes.{fieldTotal}
-use Rattle.message_rules.specs.ChangeLaws.{located-no, located-at}
-use Rattle.message_rules.specs.declared.Part.the-variants.{Header, Trailer}
-use Rattle.encode_rules.specs.Encoding.{dropped, bodyLength, encoding, encodedMessage}
-use Rattle.encode_rules.specs.Encode.{isIncomplete}
-use Rattle.encoder.specs.VerdictLaws.{Parts, both-within, taken-fits, judged-incomplete, judged-body, judged-length, judged-fields, refused-message, refused-separator, refused-incomplete, refused-long, refused-many, refused-room, found-fit}
-use Rattle.encode_rules.specs.declared.Verdict.the-variants.{Measured}
+use Rattle.message_lent_rules.specs.StandingLaws.{refused-none, uncounted-held, counted-held}
+use Rattle.encoder.specs.VerdictLaws.{refused-message}
 use Rattle.encoder.proofs.judge.Statement.{statement}
 use Rattle.encoder.proofs.judge.Tie as tie
 
 returns : tie.Need-returns
-returns c = sym (refused-message _ _ _ _ (located-no _ _ _ (sym (c .before .before .locate .ensures) ∙ c .enum-told .given .1)))
+returns c = sym (refused-message _ _ _ _ (refused-none _ _ (sym (c .before .before .message-standing .ensures) ∙ c .enum-told .given .1)))
+
+measure-requires : tie.Need-measure-requires
+measure-requires c κs = uncounted-held _ _ (sym (c .before .before .message-standing .ensures) ∙ c .enum-told2 .given .1)
 
 returns-2 : tie.Need-returns-2
-returns-2 c = sym (refused-message _ _ _ _ (located-no _ _ _ (sym (c .before .before .locate2 .ensures) ∙ c .enum-told2 .given .1)))
+returns-2 c = c .measure .ensures
 
-known : (c : tie.After-known-told2) → Parts (c .before .before .before .before .before .before .before .before .before .before .args .words .now) (c .before .before .before .before .before .before .before .before .before .before .args .values .now) (c .before .before .before .before .before .head .given .0 .0) (c .before .tail .given .0 .0)
-known c =
-    let head = located-at Header _ _ _ (sym (c .before .before .before .before .before .before .before .locate .ensures) ∙ c .before .before .before .before .before .head .given .1) in
-    let tail = located-at Trailer _ _ _ (sym (c .before .before .before .locate2 .ensures) ∙ c .before .tail .given .1) in
-    record { lent = head .0; head-is = head .1; tail-is = tail .1 }
+measure-requires-2 : tie.Need-measure-requires-2
+measure-requires-2 c κs = counted-held _ _ (sym (c .before .before .message-standing .ensures) ∙ c .enum-told3 .given .1)
 
 returns-3 : tie.Need-returns-3
-returns-3 c = sym (refused-separator _ _ ((known (c .before .before)) .lent) _ _ (sym (c .before .is-refused-separator .ensures) ∙ c .if1 .taken))
-
-separates : (c : tie.Else1) → isRefusedSeparator (c .before .before .before .before .before .before .before .before .before .before .before .before .args .separator) ≡ false
-separates c = sym (c .before .is-refused-separator .ensures) ∙ c .if1 .left
-
-is-incomplete-requires : tie.Need-is-incomplete-requires
-is-incomplete-requires c κs = both-within _ _ _ _ (known (c .before .before))
-
-returns-4 : tie.Need-returns-4
-returns-4 c =
-    sym (refused-incomplete _ _ ((known (c .before .before .before .before)) .lent) _ _ (separates (c .before .before))
-    (sym (judged-incomplete _ _ _ _ (known (c .before .before .before .before))) ∙ sym (c .before .is-incomplete .ensures) ∙ c .if2 .taken))
-
-complete : (c : tie.Else2) → isIncomplete (dropped (messageIn (c .before .before .before .before .before .before .before .before .before .before .before .before .before .before .args .words .now) (c .before .before .before .before .before .before .before .before .before .before .before .before .before .before .args .values .now))) ≡ false
-complete c = sym (judged-incomplete _ _ _ _ (known (c .before .before .before .before))) ∙ sym (c .before .is-incomplete .ensures) ∙ c .if2 .left
-
-body-length-requires : tie.Need-body-length-requires
-body-length-requires c κs = (both-within _ _ _ _ (known (c .before .before .before .before)), taken-fits _ _ _ _ (known (c .before .before .before .before)))
-
-body-is : (c : tie.After-body-length) → c .body-length .result ≡ bodyLength (dropped (messageIn (c .before .before .before .before .before .before .before .before .before .before .before .before .before .before .before .args .words .now) (c .before .before .before .before .before .before .before .before .before .before .before .before .before .before .before .args .values .now)))
-body-is c = c .body-length .ensures ∙ judged-body _ _ _ _ (known (c .before .before .before .before .before))
-
-returns-5 : tie.Need-returns-5
-returns-5 c =
-    sym (refused-long _ _ ((known (c .before .before .before .before .before .before)) .lent) _ _ (separates (c .before .before .before .before)) (complete (c .before .before))
-    (omega (arith, judged-length _ _ _ _ (known (c .before .before .before .before .before .before)) (c .before .before .before .before .before .before .before .before .before .before .before .before .before .before .before .before .args .separator), body-is (c .before), c .if3 .taken)))
-
-field-bytes-requires : tie.Need-field-bytes-requires
-field-bytes-requires c κs = both-within _ _ _ _ (known (c .before .before .before .before .before .before)) .0
-
-length-is : (c : tie.After-digit-count) → c .before .field-bytes .result + c .digit-count .result + c .before .before .before .body-length .result + 10 ≡ length (encoding (c .before .before .before .before .before .before .before .before .before .before .before .before .before .before .before .before .before .before .args .separator) (messageIn (c .before .before .before .before .before .before .before .before .before .before .before .before .before .before .before .before .before .before .args .words .now) (c .before .before .before .before .before .before .before .before .before .before .before .before .before .before .before .before .before .before .args .values .now)))
-length-is c =
-    rw (c .before .field-bytes .ensures .0, c .digit-count .ensures, body-is (c .before .before .before))
-    (sym (judged-length _ _ _ _ (known (c .before .before .before .before .before .before .before .before)) (c .before .before .before .before .before .before .before .before .before .before .before .before .before .before .before .before .before .before .args .separator)))
-
-small : (c : tie.After-digit-count) → c .digit-count .result ≤ 10
-small c = omega (arith, c .digit-count .ensures, decimal-length (c .before .before .before .body-length .result) (omega (arith, c .before .before .if3 .left)) .1)
-
-add-length : tie.Need-add-length
-add-length c = omega (arith, small c, c .before .field-bytes .ensures .1)
-
-add-length-2 : tie.Need-add-length-2
-add-length-2 c = omega (arith, small c, c .before .field-bytes .ensures .1, c .before .before .if3 .left)
-
-add-length-3 : tie.Need-add-length-3
-add-length-3 c = omega (arith, small c, c .before .field-bytes .ensures .1, c .before .before .if3 .left)
-
-returns-6 : tie.Need-returns-6
-returns-6 c =
-    sym (refused-long _ _ ((known (c .before .before .before .before .before .before .before .before .before)) .lent) _ _ (separates (c .before .before .before .before .before .before .before)) (complete (c .before .before .before .before .before))
-    (omega (arith, length-is (c .before), c .if4 .taken)))
-
-short : (c : tie.Else4) → length (encoding (c .before .before .before .before .before .before .before .before .before .before .before .before .before .before .before .before .before .before .before .args .separator) (messageIn (c .before .before .before .before .before .before .before .before .before .before .before .before .before .before .before .before .before .before .before .args .words .now) (c .before .before .before .before .before .before .before .before .before .before .before .before .before .before .before .before .before .before .before .args .values .now))) ≤ 8192
-short c = omega (arith, length-is (c .before), c .if4 .left)
-
-fields-with-requires : tie.Need-fields-with-requires
-fields-with-requires c κs = both-within _ _ _ _ (known (c .before .before .before .before .before .before .before .before .before))
-
-fields-are : (c : tie.After-fields-with) → c .fields-with .result ≡ fieldTotal (encodedMessage (c .before .before .before .before .before .before .before .before .before .before .before .before .before .before .before .before .before .before .before .before .args .separator) (messageIn (c .before .before .before .before .before .before .before .before .before .before .before .before .before .before .before .before .before .before .before .before .args .words .now) (c .before .before .before .before .before .before .before .before .before .before .before .before .before .before .before .before .before .before .before .before .args .values .now)))
-fields-are c = c .fields-with .ensures ∙ judged-fields _ _ _ _ (known (c .before .before .before .before .before .before .before .before .before .before)) (c .before .before .before .before .before .before .before .before .before .before .before .before .before .before .before .before .before .before .before .before .args .separator)
-
-returns-7 : tie.Need-returns-7
-returns-7 c =
-    sym (refused-many _ _ ((known (c .before .before .before .before .before .before .before .before .before .before .before)) .lent) _ _ (separates (c .before .before .before .before .before .before .before .before .before)) (complete (c .before .before .before .before .before .before .before)) (short (c .before .before))
-    (omega (arith, fields-are (c .before), c .if5 .taken)))
-
-few : (c : tie.Else5) → fieldTotal (encodedMessage (c .before .before .before .before .before .before .before .before .before .before .before .before .before .before .before .before .before .before .before .before .before .args .separator) (messageIn (c .before .before .before .before .before .before .before .before .before .before .before .before .before .before .before .before .before .before .before .before .before .args .words .now) (c .before .before .before .before .before .before .before .before .before .before .before .before .before .before .before .before .before .before .before .before .before .args .values .now))) ≤ 1024
-few c = omega (arith, fields-are (c .before), c .if5 .left)
-
-returns-8 : tie.Need-returns-8
-returns-8 c =
-    sym (refused-room _ _ ((known (c .before .before .before .before .before .before .before .before .before .before .before .before)) .lent) _ _ (separates (c .before .before .before .before .before .before .before .before .before .before)) (complete (c .before .before .before .before .before .before .before .before)) (short (c .before .before .before)) (few (c .before))
-    (omega (arith, length-is (c .before .before .before .before), c .if6 .taken)))
-
-returns-9 : tie.Need-returns-9
-returns-9 c =
-    ap Measured (body-is (c .before .before .before .before .before .before .before))
-    ∙ sym (found-fit _ _ ((known (c .before .before .before .before .before .before .before .before .before .before .before .before)) .lent) _ _ (separates (c .before .before .before .before .before .before .before .before .before .before)) (complete (c .before .before .before .before .before .before .before .before)) (short (c .before .before .before)) (few (c .before))
-    (omega (arith, length-is (c .before .before .before .before), c .if6 .left)))
+returns-3 c = c .measure2 .ensures
 
 pub judge-spec : {M : Type 1} → statement M
 judge-spec =
     tie.close
-    (tie.spec (λ c κs. search needs) (λ c. search needs) (λ c. search needs) returns (λ c κs. search needs)
-    (λ c. search needs) (λ c. search needs) returns-2 (λ c κs. search needs) returns-3 is-incomplete-requires returns-4
-    body-length-requires returns-5 field-bytes-requires (λ c. search needs) (λ c κs. search needs) add-length
-    add-length-2 add-length-3 returns-6 fields-with-requires returns-7 returns-8 (λ c. search needs) returns-9)
+    (tie.spec (λ c κs. search needs) (λ c. search needs) returns (λ c. search needs) measure-requires returns-2
+    (λ c. search needs) measure-requires-2 returns-3)

@@ -31,14 +31,17 @@ ten c = ap length (c .before .before .before .before .write-number .ensures .1) 
 array-share-prefix-digits : tie.Need-array-share-prefix-digits
 array-share-prefix-digits c = omega (arith, ends (c .before .before), ten (c .before .before), decimal-length (c .before .before .before .before .before .before .before .before .before .before .args .body) (omega arith) .1)
 
-slice-aggregate-store : tie.Need-slice-aggregate-store
-slice-aggregate-store c = sym (length-take-le _ _ (omega (arith, ends (c .before .before .before), ten (c .before .before .before), decimal-length (c .before .before .before .before .before .before .before .before .before .before .before .args .body) (omega arith) .1)))
+slice-aggregate-store-in : tie.Need-slice-aggregate-store-in
+slice-aggregate-store-in c = sym (length-take-le _ _ (omega (arith, ends (c .before .before .before), ten (c .before .before .before), decimal-length (c .before .before .before .before .before .before .before .before .before .before .before .args .body) (omega arith) .1)))
+
+store-in-requires : tie.Need-store-in-requires
+store-in-requires c κs = (c .before .before .before .before .before .before .before .before .before .before .before .pre .0, c .before .before .before .before .before .before .before .before .before .before .before .pre .1)
 
 returns-2 : tie.Need-returns-2
 returns-2 c =
     let k = c .before .before .before .before .before .before .before .before in
     let n = c .before .before .before .before .before .before .before .before .before .before .before .before .before .before .before .before .args .body in
-    c .before .before .before .before .store .ensures
+    c .before .before .before .before .store-in .ensures
     ∙ ap (λ (value : List ℕ). storing Header 9 value (c .before .before .before .before .before .before .before .before .before .before .before .before .before .before .before .before .args .words .now) (c .before .before .before .before .before .before .before .before .before .before .before .before .before .before .before .before .args .values .now))
     (digits-back (decimal n) _ _ _ (omega (arith, decimal-length n (omega arith) .1)) (ends k) (k .before .before .before .before .write-number .ensures .1))
 
@@ -46,5 +49,5 @@ pub set-body-length-spec : {M : Type 1} → statement M
 set-body-length-spec =
     tie.close
     (tie.spec (λ c. search needs) (λ c κs. search needs) (λ c. search needs) (λ c. search needs) returns
-    array-share-prefix-digits slice-aggregate-store (λ c κs. search needs) (λ c. search needs) (λ c. search needs)
+    array-share-prefix-digits slice-aggregate-store-in store-in-requires (λ c. search needs) (λ c. search needs)
     returns-2)

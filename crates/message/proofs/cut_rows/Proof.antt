@@ -1,38 +1,22 @@
 -- `cut_rows` meets its contract: the sizes of rows are places of values, and both splices are the cut.
 use mathlib.Core.Path.{_≡_, refl, sym, ap, _∙_}
-use mathlib.Core.Logic.{⊎-elim}
 use mathlib.Core.Bool.{Bool, true, false}
-use mathlib.Core.List.{List, [], _∷_, _++_, append-assoc, append-nil}
-use Prim.Native.Nat.{ℕ, zero, suc, _+_, _-_, _*_, _^_, _≤_, _<_}
+use Prim.Native.Nat.{ℕ, _+_, _-_, _≤_}
 use native.Mathlib.Omega.{arith}
 use borrow.Author.Needs.{needs}
-use lib.ListN.{length, getD, take, drop, set, length-set}
+use lib.ListN.{length}
 use lib.Dec.{leb}
 use borrow.Author.Tests.{not-true, not-false, leb-true}
-use Rattle.message_maps.specs.Rows.{rowsFrom, sizes}
-use Rattle.message_rules.specs.Changes.{after, placeOf, Cuttable, cutRows, cutSize, cutWords, cutValues, changedAt}
+use Rattle.message_rules.specs.Changes.{placeOf, BlankFrom, cutRows, cutSize, cutWords, cutValues}
 use Rattle.message_rules.specs.ChangeLaws.{change-large, change-run, change-many, change-made, Places, places-of}
 use Rattle.message.proofs.cut_rows.Statement.{statement}
 use Rattle.message.proofs.cut_rows.Tie as tie
 
-size-between-requires : tie.Need-size-between-requires
-size-between-requires c κs = let pre = c .before .before .before .before .before .pre in (omega arith, omega (arith, pre .forwards, pre .back, pre .on, pre .last, pre .few), pre .whole)
+places-of-requires : tie.Need-places-of-requires
+places-of-requires c κs = let pre = c .before .before .before .before .before .pre .0 in (pre .forwards, pre .back, pre .on, pre .last, pre .few, pre .whole, pre .within)
 
-size-between-requires-2 : tie.Need-size-between-requires-2
-size-between-requires-2 c κs = let pre = c .before .before .before .before .before .before .before .pre in (omega arith, omega (arith, pre .forwards, pre .back, pre .on, pre .last, pre .few), pre .whole)
-
-size-between-requires-3 : tie.Need-size-between-requires-3
-size-between-requires-3 c κs = let pre = c .before .before .before .before .before .before .before .before .before .pre in (omega arith, omega (arith, pre .forwards, pre .back, pre .on, pre .last, pre .few), pre .whole)
-
-size-between-requires-4 : tie.Need-size-between-requires-4
-size-between-requires-4 c κs = let pre = c .before .before .before .before .before .before .before .before .before .before .before .pre in (omega arith, omega (arith, pre .forwards, pre .back, pre .on, pre .last, pre .few), pre .whole)
-
-size-between-requires-5 : tie.Need-size-between-requires-5
-size-between-requires-5 c κs = let pre = c .before .before .before .before .before .before .before .before .before .before .before .before .before .pre in (omega arith, omega (arith, pre .forwards, pre .back, pre .on, pre .last, pre .few), pre .whole)
-
-places-at : (c : tie.After-size-between5) → Places (c .before .before .before .before .before .before .before .before .before .before .before .before .before .before .args .words .now) (c .before .before .before .before .before .before .before .before .before .before .before .before .before .before .args .cut) (c .before .before .before .before .before .before .before .before .size-between .result) (c .before .before .before .before .before .before .size-between2 .result) (c .before .before .before .before .size-between3 .result) (c .before .before .size-between4 .result) (c .size-between5 .result)
-unfolding placeOf
-places-at c = places-of _ _ _ _ _ _ _ _ _ _ _ (c .before .before .before .before .before .before .before .before .before .before .before .before .before .before .pre) (c .before .before .before .before .before .before .before .before .size-between .ensures) (c .before .before .before .before .before .before .size-between2 .ensures) (c .before .before .before .before .size-between3 .ensures) (c .before .before .size-between4 .ensures) (c .size-between5 .ensures)
+places-at : (c : tie.After-places-of) → let s = c .before .before .before .before .before .before .args in Places (s .words .now) (s .cut) (c .places-of .result .from) (c .places-of .result .to) (c .places-of .result .kept) (c .places-of .result .until) (c .places-of .result .used)
+places-at c = let e = c .places-of .ensures in places-of _ _ _ _ _ _ _ _ _ _ _ (c .before .before .before .before .before .before .pre .0) (e .0) (e .2) (e .1) (e .3) (e .4)
 
 sub-fits : tie.Need-sub-fits
 sub-fits c = let p = places-at c in omega (arith, p .forwards, p .back, p .on, p .last, p .within)
@@ -52,14 +36,14 @@ sub-fits-3 c = let p = places-at c in omega (arith, p .forwards, p .back, p .on,
 add-fits-3 : tie.Need-add-fits-3
 add-fits-3 c = let p = places-at c in omega (arith, p .forwards, p .back, p .on, p .last, p .within)
 
-room-at : (c : tie.After-fits2) → c .fits2 .result ≡ true → let z = c .before in z .before .before .before .before .before .before .before .before .size-between .result + (z .before .before .size-between4 .result - z .before .before .before .before .before .before .size-between2 .result) + (z .before .before .before .before .before .before .size-between2 .result - z .before .before .before .before .size-between3 .result) + (z .size-between5 .result - z .before .before .size-between4 .result) + length (c .before .before .before .before .before .before .before .before .before .before .before .before .before .before .before .args .bytes .now) ≤ 8192
+room-at : (c : tie.After-fits2) → c .fits2 .result ≡ true → let p = c .before .places-of .result in p .from + (p .until - p .to) + (p .to - p .kept) + (p .used - p .until) + length (c .before .before .before .before .before .before .before .args .bytes .now) ≤ 8192
 room-at c h = leb-true _ _ (sym (c .fits2 .ensures) ∙ h)
 
-size-at : (c : tie.After-fits2) → leb (cutSize (c .before .before .before .before .before .before .before .before .before .before .before .before .before .before .before .args .words .now) (c .before .before .before .before .before .before .before .before .before .before .before .before .before .before .before .args .cut) + length (c .before .before .before .before .before .before .before .before .before .before .before .before .before .before .before .args .bytes .now)) 8192 ≡ c .fits2 .result
-unfolding cutSize placeOf
+size-at : (c : tie.After-fits2) → let s = c .before .before .before .before .before .before .before .args in leb (cutSize (s .words .now) (s .cut) + length (s .bytes .now)) 8192 ≡ c .fits2 .result
+unfolding cutSize
 size-at c =
-    let z = c .before in
-    sym (rw (z .before .before .before .before .before .before .before .before .size-between .ensures, z .before .before .before .before .before .before .size-between2 .ensures, z .before .before .before .before .size-between3 .ensures, z .before .before .size-between4 .ensures, z .size-between5 .ensures) at (c .fits2 .ensures))
+    let e = c .before .places-of .ensures in
+    sym (rw (e .0, e .1, e .2, e .3, e .4) at (c .fits2 .ensures))
 
 returns : tie.Need-returns
 returns c = sym (change-large _ _ _ _ _ _ _ _ (size-at (c .before) ∙ not-true _ (c .if1 .taken)))
@@ -71,77 +55,89 @@ returns-3 : tie.Need-returns-3
 returns-3 c = sym (change-many _ _ _ _ _ _ _ _ (size-at (c .before .before .before) ∙ not-false _ (c .before .before .if1 .left)) (not-false _ (c .before .if2 .left)) (c .if3 .taken))
 
 sub-left : tie.Need-sub-left
-sub-left c = let pre = c .before .before .before .before .before .before .before .before .before .before .before .before .before .before .before .before .before .before .pre in omega (arith, pre .forwards, pre .back, pre .on, pre .last, pre .few)
+sub-left c = let pre = c .before .before .before .before .before .before .before .before .before .before .pre .0 in omega (arith, pre .forwards, pre .back, pre .on, pre .last, pre .few)
 
 add-left : tie.Need-add-left
-add-left c = let pre = c .before .before .before .before .before .before .before .before .before .before .before .before .before .before .before .before .before .before .pre in omega (arith, pre .forwards, pre .back, pre .on, pre .last, pre .few)
+add-left c = let pre = c .before .before .before .before .before .before .before .before .before .before .pre .0 in omega (arith, pre .forwards, pre .back, pre .on, pre .last, pre .few)
 
 sub-left-2 : tie.Need-sub-left-2
-sub-left-2 c = let pre = c .before .before .before .before .before .before .before .before .before .before .before .before .before .before .before .before .before .before .pre in omega (arith, pre .forwards, pre .back, pre .on, pre .last, pre .few)
+sub-left-2 c = let pre = c .before .before .before .before .before .before .before .before .before .before .pre .0 in omega (arith, pre .forwards, pre .back, pre .on, pre .last, pre .few)
 
 add-left-2 : tie.Need-add-left-2
-add-left-2 c = let pre = c .before .before .before .before .before .before .before .before .before .before .before .before .before .before .before .before .before .before .pre in omega (arith, pre .forwards, pre .back, pre .on, pre .last, pre .few)
+add-left-2 c = let pre = c .before .before .before .before .before .before .before .before .before .before .pre .0 in omega (arith, pre .forwards, pre .back, pre .on, pre .last, pre .few)
 
 sub-left-3 : tie.Need-sub-left-3
-sub-left-3 c = let pre = c .before .before .before .before .before .before .before .before .before .before .before .before .before .before .before .before .before .before .pre in omega (arith, pre .forwards, pre .back, pre .on, pre .last, pre .few)
+sub-left-3 c = let pre = c .before .before .before .before .before .before .before .before .before .before .pre .0 in omega (arith, pre .forwards, pre .back, pre .on, pre .last, pre .few)
 
 add-left-3 : tie.Need-add-left-3
-add-left-3 c = let pre = c .before .before .before .before .before .before .before .before .before .before .before .before .before .before .before .before .before .before .pre in omega (arith, pre .forwards, pre .back, pre .on, pre .last, pre .few)
+add-left-3 c = let pre = c .before .before .before .before .before .before .before .before .before .before .pre .0 in omega (arith, pre .forwards, pre .back, pre .on, pre .last, pre .few)
 
 mul-splice-words : tie.Need-mul-splice-words
-mul-splice-words c = let pre = c .before .before .before .before .before .before .before .before .before .before .before .before .before .before .before .before .before .before .before .pre in omega (arith, pre .forwards, pre .back, pre .on, pre .last, pre .few)
+mul-splice-words c = let pre = c .before .before .before .before .before .before .before .before .before .before .before .pre .0 in omega (arith, pre .forwards, pre .back, pre .on, pre .last, pre .few)
 
 add-splice-words : tie.Need-add-splice-words
-add-splice-words c = let pre = c .before .before .before .before .before .before .before .before .before .before .before .before .before .before .before .before .before .before .before .pre in omega (arith, pre .forwards, pre .back, pre .on, pre .last, pre .few)
+add-splice-words c = let pre = c .before .before .before .before .before .before .before .before .before .before .before .pre .0 in omega (arith, pre .forwards, pre .back, pre .on, pre .last, pre .few)
 
 mul-splice-words-2 : tie.Need-mul-splice-words-2
-mul-splice-words-2 c = let pre = c .before .before .before .before .before .before .before .before .before .before .before .before .before .before .before .before .before .before .before .pre in omega (arith, pre .forwards, pre .back, pre .on, pre .last, pre .few)
+mul-splice-words-2 c = let pre = c .before .before .before .before .before .before .before .before .before .before .before .pre .0 in omega (arith, pre .forwards, pre .back, pre .on, pre .last, pre .few)
 
 add-splice-words-2 : tie.Need-add-splice-words-2
-add-splice-words-2 c = let pre = c .before .before .before .before .before .before .before .before .before .before .before .before .before .before .before .before .before .before .before .pre in omega (arith, pre .forwards, pre .back, pre .on, pre .last, pre .few)
+add-splice-words-2 c = let pre = c .before .before .before .before .before .before .before .before .before .before .before .pre .0 in omega (arith, pre .forwards, pre .back, pre .on, pre .last, pre .few)
 
 mul-splice-words-3 : tie.Need-mul-splice-words-3
-mul-splice-words-3 c = let pre = c .before .before .before .before .before .before .before .before .before .before .before .before .before .before .before .before .before .before .before .pre in omega (arith, pre .forwards, pre .back, pre .on, pre .last, pre .few)
+mul-splice-words-3 c = let pre = c .before .before .before .before .before .before .before .before .before .before .before .pre .0 in omega (arith, pre .forwards, pre .back, pre .on, pre .last, pre .few)
 
 add-splice-words-3 : tie.Need-add-splice-words-3
-add-splice-words-3 c = let pre = c .before .before .before .before .before .before .before .before .before .before .before .before .before .before .before .before .before .before .before .pre in omega (arith, pre .forwards, pre .back, pre .on, pre .last, pre .few)
+add-splice-words-3 c = let pre = c .before .before .before .before .before .before .before .before .before .before .before .pre .0 in omega (arith, pre .forwards, pre .back, pre .on, pre .last, pre .few)
 
 mul-splice-words-4 : tie.Need-mul-splice-words-4
-mul-splice-words-4 c = let pre = c .before .before .before .before .before .before .before .before .before .before .before .before .before .before .before .before .before .before .before .pre in omega (arith, pre .forwards, pre .back, pre .on, pre .last, pre .few)
+mul-splice-words-4 c = let pre = c .before .before .before .before .before .before .before .before .before .before .before .pre .0 in omega (arith, pre .forwards, pre .back, pre .on, pre .last, pre .few)
 
 add-splice-words-4 : tie.Need-add-splice-words-4
-add-splice-words-4 c = let pre = c .before .before .before .before .before .before .before .before .before .before .before .before .before .before .before .before .before .before .before .pre in omega (arith, pre .forwards, pre .back, pre .on, pre .last, pre .few)
+add-splice-words-4 c = let pre = c .before .before .before .before .before .before .before .before .before .before .before .pre .0 in omega (arith, pre .forwards, pre .back, pre .on, pre .last, pre .few)
 
 mul-splice-words-5 : tie.Need-mul-splice-words-5
-mul-splice-words-5 c = let pre = c .before .before .before .before .before .before .before .before .before .before .before .before .before .before .before .before .before .before .before .pre in omega (arith, pre .forwards, pre .back, pre .on, pre .last, pre .few)
+mul-splice-words-5 c = let pre = c .before .before .before .before .before .before .before .before .before .before .before .pre .0 in omega (arith, pre .forwards, pre .back, pre .on, pre .last, pre .few)
 
 add-splice-words-5 : tie.Need-add-splice-words-5
-add-splice-words-5 c = let pre = c .before .before .before .before .before .before .before .before .before .before .before .before .before .before .before .before .before .before .before .pre in omega (arith, pre .forwards, pre .back, pre .on, pre .last, pre .few)
+add-splice-words-5 c = let pre = c .before .before .before .before .before .before .before .before .before .before .before .pre .0 in omega (arith, pre .forwards, pre .back, pre .on, pre .last, pre .few)
 
 splice-words-requires : tie.Need-splice-words-requires
-splice-words-requires c κs = let pre = c .before .before .before .before .before .before .before .before .before .before .before .before .before .before .before .before .before .before .before .pre in let room = pre .room (c .before .if3 .left) in (omega (arith, pre .forwards, pre .back), omega (arith, pre .back), omega (arith, pre .on), omega (arith, pre .last), omega (arith, pre .few), pre .whole, omega (arith, room, pre .four, pre .forwards, pre .back, pre .on, pre .last, pre .few))
+unfolding BlankFrom
+splice-words-requires c κs =
+    let start = c .before .before .before .before .before .before .before .before .before .before .before in
+    let pre = start .pre .0 in
+    let room = pre .room (c .before .if3 .left) in
+    ((omega (arith, pre .forwards, pre .back), omega (arith, pre .back), omega (arith, pre .on), omega (arith, pre .last), omega (arith, pre .few), pre .whole, omega (arith, room, pre .four, pre .forwards, pre .back, pre .on, pre .last, pre .few)),
+    λ e. start .pre .1 e .0)
 
 add-words : tie.Need-add-words
-add-words c = let pre = c .before .before .before .before .before .before .before .before .before .before .before .before .before .before .before .before .before .before .before .before .before .before .pre in let room = pre .room (c .before .before .before .before .if3 .left) in omega (arith, room, pre .forwards, pre .back, pre .on, pre .last, pre .few)
+add-words c = let pre = c .before .before .before .before .before .before .before .before .before .before .before .before .before .before .pre .0 in let room = pre .room (c .before .before .before .before .if3 .left) in omega (arith, room, pre .forwards, pre .back, pre .on, pre .last, pre .few)
 
 cast-words : tie.Need-cast-words
-cast-words c = let pre = c .before .before .before .before .before .before .before .before .before .before .before .before .before .before .before .before .before .before .before .before .before .before .pre in let room = pre .room (c .before .before .before .before .if3 .left) in omega (arith, room, pre .forwards, pre .back, pre .on, pre .last, pre .few)
+cast-words c = let pre = c .before .before .before .before .before .before .before .before .before .before .before .before .before .before .pre .0 in let room = pre .room (c .before .before .before .before .if3 .left) in omega (arith, room, pre .forwards, pre .back, pre .on, pre .last, pre .few)
 
 splice-bytes-requires : tie.Need-splice-bytes-requires
-splice-bytes-requires c κs = let pre = c .before .before .before .before .before .before .before .before .before .before .before .before .before .before .before .before .before .before .before .before .before .before .before .pre in let p = places-at (c .before .before .before .before .before .before .before .before .before) in let s = room-at (c .before .before .before .before .before .before .before .before) (not-false _ (c .before .before .before .before .before .before .before .if1 .left)) in (omega (arith, p .forwards, p .back), p .back, p .on, p .last, p .within, pre .store, omega (arith, s, p .forwards, p .back, p .on, p .last))
+unfolding BlankFrom
+splice-bytes-requires c κs =
+    let start = c .before .before .before .before .before .before .before .before .before .before .before .before .before .before .before in
+    let p = places-at (c .before .before .before .before .before .before .before .before .before) in
+    let s = room-at (c .before .before .before .before .before .before .before .before) (not-false _ (c .before .before .before .before .before .before .before .if1 .left)) in
+    ((omega (arith, p .forwards, p .back), p .back, p .on, p .last, p .within, start .pre .0 .store, omega (arith, s, p .forwards, p .back, p .on, p .last)),
+    λ e. rw (c .before .before .before .before .before .before .before .before .before .places-of .ensures .4) (start .pre .1 e .1))
 
 returns-4 : tie.Need-returns-4
-returns-4 c = let f = c .before .before .before .before .before .before .before .before .before .before .before in
-    let z = f .before in
+returns-4 c =
+    let f = c .before .before .before .before .before .before .before .before .before .before .before in
+    let e = f .before .places-of .ensures in
     sym
     (change-made _ _ _ _ _ _ _ _ (size-at f ∙ not-false _ (c .before .before .before .before .before .before .before .before .before .before .if1 .left)) (not-false _ (c .before .before .before .before .before .before .before .before .before .if2 .left)) (c .before .before .before .before .before .before .before .before .if3 .left)
-    ∙ (unfold cutWords cutValues cutRows placeOf in rw (← z .size-between5 .ensures, ← z .before .before .size-between4 .ensures, ← z .before .before .before .before .size-between3 .ensures, ← z .before .before .before .before .before .before .size-between2 .ensures, ← z .before .before .before .before .before .before .before .before .size-between .ensures, ← c .before .before .before .before .before .before .splice-words .ensures, ← c .before .before .splice-bytes .ensures)))
+    ∙ (unfold cutWords cutValues cutRows in rw (← e .0, ← e .1, ← e .2, ← e .3, ← e .4, ← c .before .before .before .before .before .before .splice-words .ensures, ← c .before .before .splice-bytes .ensures)))
 
 pub cut-rows-spec : {M : Type 1} → statement M
 cut-rows-spec =
     tie.close
-    (tie.spec size-between-requires size-between-requires-2 size-between-requires-3 size-between-requires-4
-    size-between-requires-5 sub-fits add-fits sub-fits-2 add-fits-2 sub-fits-3 add-fits-3 (λ c κs. search needs)
+    (tie.spec places-of-requires sub-fits add-fits sub-fits-2 add-fits-2 sub-fits-3 add-fits-3 (λ c κs. search needs)
     (λ c. search needs) returns (λ c. search needs) returns-2 (λ c. search needs) returns-3 sub-left add-left sub-left-2
     add-left-2 sub-left-3 add-left-3 mul-splice-words add-splice-words mul-splice-words-2 add-splice-words-2
     mul-splice-words-3 add-splice-words-3 mul-splice-words-4 add-splice-words-4 mul-splice-words-5 add-splice-words-5

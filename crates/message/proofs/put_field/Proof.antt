@@ -14,42 +14,45 @@ use Rattle.message_rules.specs.FrameLaws.{find-within}
 use Rattle.message.proofs.put_field.Statement.{statement}
 use Rattle.message.proofs.put_field.Tie as tie
 
-cast-t17 : tie.Need-cast-t17
-cast-t17 c = let pre = c .before .before .before .pre in omega (arith, pre .small)
+cast-t18 : tie.Need-cast-t18
+cast-t18 c = let pre = c .before .before .before .pre .0 in omega (arith, pre .small)
 
 find-row-requires : tie.Need-find-row-requires
-find-row-requires c κs = let pre = c .before .before .before .before .pre in (pre .forwards, omega (arith, pre .last, pre .few), pre .whole)
+find-row-requires c κs = let pre = c .before .before .before .before .pre .0 in (pre .forwards, omega (arith, pre .last, pre .few), pre .whole)
 
 at-is : (c : tie.After-find-row) → c .find-row .result ≡ fieldPlace (c .before .before .before .before .before .args .span) (c .before .before .before .before .before .args .tag) (c .before .before .before .before .before .args .words .now)
 unfolding fieldPlace
 at-is c = c .find-row .ensures
 
-add-t21 : tie.Need-add-t21
-add-t21 c = let pre = c .before .before .before .before .before .before .pre in omega (arith, pre .last, pre .few)
-
 add-t22 : tie.Need-add-t22
-add-t22 c = let pre = c .before .before .before .before .before .before .pre in omega (arith, pre .last, pre .few)
+add-t22 c = let pre = c .before .before .before .before .before .before .pre .0 in omega (arith, pre .last, pre .few)
 
 add-t23 : tie.Need-add-t23
-add-t23 c = let pre = c .before .before .before .before .before .before .pre in omega (arith, pre .last, pre .few)
+add-t23 c = let pre = c .before .before .before .before .before .before .pre .0 in omega (arith, pre .last, pre .few)
+
+add-t24 : tie.Need-add-t24
+add-t24 c = let pre = c .before .before .before .before .before .before .pre .0 in omega (arith, pre .last, pre .few)
 
 cut-rows-requires : tie.Need-cut-rows-requires
-cut-rows-requires c κs = able-place _ _ _ _ _ _ (c .before .before .before .before .before .before .before .before .before .pre) _ (at-is (c .before .before .before .before)) (c .before .before .before .if1 .taken)
+cut-rows-requires c κs =
+    let pre = c .before .before .before .before .before .before .before .before .before .pre in
+    (able-place _ _ _ _ _ _ (pre .0) _ (at-is (c .before .before .before .before)) (c .before .before .before .if1 .taken), pre .1)
 
 returns : tie.Need-returns
 returns c = c .before .before .before .before .cut-rows .ensures ∙ put-place _ _ _ _ _ _ _ (at-is (c .before .before .before .before .before .before .before .before .before)) (c .before .before .before .before .before .before .before .before .if1 .taken)
 
 find-row-requires-2 : tie.Need-find-row-requires-2
-find-row-requires-2 c κs = let pre = c .before .before .before .before .before .before .before .pre in (pre .forwards, omega (arith, pre .last, pre .few), pre .whole)
+find-row-requires-2 c κs = let pre = c .before .before .before .before .before .before .before .pre .0 in (pre .forwards, omega (arith, pre .last, pre .few), pre .whole)
 
 run-end-requires : tie.Need-run-end-requires
-run-end-requires c κs = let s = c .before .before .before .before .before .before .before .before .before in (omega (arith, find-within 2 1 (s .args .tag) (s .args .span .from) (s .args .span .to) (s .args .words .now) (s .pre .forwards), c .before .find-row2 .ensures), omega (arith, s .pre .last, s .pre .few), s .pre .whole)
+run-end-requires c κs = let s = c .before .before .before .before .before .before .before .before .before in (omega (arith, find-within 2 1 (s .args .tag) (s .args .span .from) (s .args .span .to) (s .args .words .now) (s .pre .0 .forwards), c .before .find-row2 .ensures), omega (arith, s .pre .0 .last, s .pre .0 .few), s .pre .0 .whole)
 
 add-cut-rows : tie.Need-add-cut-rows
-add-cut-rows c = let pre = c .before .before .before .before .before .before .before .before .before .before .before .before .before .pre in omega (arith, pre .counted)
+add-cut-rows c = let pre = c .before .before .before .before .before .before .before .before .before .before .before .before .before .pre .0 in omega (arith, pre .counted)
 
 cut-rows-requires-2 : tie.Need-cut-rows-requires-2
-cut-rows-requires-2 c κs = able-last _ _ _ _ _ _ _ _ _ (at-is (c .before .before .before .before .before .before .before .before)) (c .before .before .before .before .before .before .before .if1 .left) (c .before .before .before .before .before .find-row2 .ensures) (c .before .before .before .run-end .ensures) (c .before .before .before .before .before .before .before .before .before .before .before .before .before .pre)
+cut-rows-requires-2 c κs = (able-last _ _ _ _ _ _ _ _ _ (at-is (c .before .before .before .before .before .before .before .before)) (c .before .before .before .before .before .before .before .if1 .left) (c .before .before .before .before .before .find-row2 .ensures) (c .before .before .before .run-end .ensures) (c .before .before .before .before .before .before .before .before .before .before .before .before .before .pre .0),
+    c .before .before .before .before .before .before .before .before .before .before .before .before .before .pre .1)
 
 returns-2 : tie.Need-returns-2
 returns-2 c = c .before .before .before .before .cut-rows2 .ensures ∙ put-last _ _ _ _ _ _ _ _ _ (at-is (c .before .before .before .before .before .before .before .before .before .before .before .before .before)) (c .before .before .before .before .before .before .before .before .before .before .before .before .if1 .left) (c .before .before .before .before .before .before .before .before .before .before .find-row2 .ensures) (c .before .before .before .before .before .before .before .before .run-end .ensures)
@@ -57,6 +60,6 @@ returns-2 c = c .before .before .before .before .cut-rows2 .ensures ∙ put-last
 pub put-field-spec : {M : Type 1} → statement M
 put-field-spec =
     tie.close
-    (tie.spec cast-t17 find-row-requires add-t21 add-t22 add-t23 (λ c. search needs) cut-rows-requires
+    (tie.spec cast-t18 find-row-requires add-t22 add-t23 add-t24 (λ c. search needs) cut-rows-requires
     (λ c. search needs) (λ c. search needs) returns find-row-requires-2 run-end-requires (λ c. search needs)
     add-cut-rows cut-rows-requires-2 (λ c. search needs) (λ c. search needs) returns-2)

@@ -8,7 +8,7 @@ use native.Mathlib.Omega.{arith}
 use borrow.Author.Needs.{needs}
 use lib.ListN.{length, getD, take, drop, set, length-set}
 use Rattle.message_maps.specs.Rows.{flat, rowsFrom, runEndFrom, sizes}
-use Rattle.message_lent.specs.Lent.{rowCount, rowsOf, fieldsIn}
+use Rattle.message_lent_rules.specs.Lent.{rowCount, rowsOf, fieldsIn}
 use Rattle.message_rules.specs.Changes.{after, Cuttable, changedAt}
 use Rattle.message_hung_rows.specs.Hanging.{raised, allOf, hungPlace, hungStop, hungCut, replacedFields, hungFields, startOf, delimiterOf, Hangable, hangAt}
 use Rattle.message_hung_rows.specs.RowLaws.{hang-none, hang-some}

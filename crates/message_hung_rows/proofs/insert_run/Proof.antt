@@ -9,13 +9,14 @@ use borrow.Author.Needs.{needs}
 use lib.ListN.{length, getD, take, drop, set, length-set}
 use lib.Seq.{length-take-le}
 use Rattle.message_maps.specs.Rows.{flat, rowsFrom, sizes, messageRows}
-use Rattle.message_lent.specs.Lent.{rowCount, rowsOf}
-use Rattle.message_lent.specs.MeaningLaws.{flat-length}
+use Rattle.message_lent_rules.specs.Lent.{rowCount, rowsOf}
+use Rattle.message_lent_rules.specs.MeaningLaws.{flat-length}
 use Rattle.message_rules.specs.Changes.{after, Cuttable, cutWords, cutValues, changedAt}
 use Rattle.message_rules.specs.PlaceLaws.{rows-length}
 use Rattle.message_rules.specs.declared.Change.the-variants.{Made, NoMessage, NotStorable, NoRun, TooManyFields}
 use Rattle.message_hung_rows.specs.Hanging.{raised, raisedFrom, Lent}
 use Rattle.message_hung_rows.specs.RaiseLaws.{raise-cut, low-cut, cut-others, refused-same, made-others, run-rows}
+use Rattle.message_rules.specs.BlankLaws.{not-blank}
 use Rattle.message_hung_rows.proofs.insert_run.Statement.{statement}
 use Rattle.message_hung_rows.proofs.insert_run.Tie as tie
 
@@ -59,7 +60,8 @@ able-at : (c : tie.After-row-count) → Cuttable (c .before .before .before .bef
 able-at c = rw (c .row-count .ensures) (c .before .before .before .before .before .pre .3)
 
 cut-rows-requires : tie.Need-cut-rows-requires
-cut-rows-requires c κs = cut-others _ _ _ _ _ _ _ (ap length (rows-at (c .before .before .before .before)) ∙ flat-rows (c .before .before .before .before)) (able-at (c .before .before .before .before .before))
+cut-rows-requires c κs =
+    (cut-others _ _ _ _ _ _ _ (ap length (rows-at (c .before .before .before .before)) ∙ flat-rows (c .before .before .before .before)) (able-at (c .before .before .before .before .before)), not-blank _ _ _)
 
 cut-at : (c : tie.After-cut-rows) → after (c .cut-rows .result) (c .cut-rows .last .0) (c .cut-rows .last .1 .0) ≡ changedAt (c .before .before .before .before .before .before .before .before .before .before .before .args .cut) (flat (rowsOf (c .before .before .before .before .before .before .before .before .before .before .before .args .run-words .now))) (rowCount (c .before .before .before .before .before .before .before .before .before .before .before .args .run-words .now)) (take (sizes (rowsOf (c .before .before .before .before .before .before .before .before .before .before .before .args .run-words .now))) (c .before .before .before .before .before .before .before .before .before .before .before .args .run-values .now)) (c .before .before .before .before .before .before .before .before .before .before .before .args .whole) (c .before .before .before .before .before .before .before .before .before .before .before .args .fields) (c .before .before .before .before .before .before .before .before .before .before .before .args .words .now) (c .before .before .before .before .before .before .before .before .before .before .before .args .values .now)
 cut-at c = rw (rows-at (c .before .before .before .before .before), size-at (c .before .before .before .before .before), c .before .before .before .before .before .before .row-count .ensures) at (c .cut-rows .ensures)

@@ -1,15 +1,10 @@
 -- `fields_in` meets its contract. The invariant: what is counted and the fields of the rows that are left are all.
-use mathlib.Core.Path.{_≡_, refl, sym, ap, _∙_}
-use mathlib.Core.Logic.{⊎-elim}
-use mathlib.Core.Bool.{Bool, true, false}
-use mathlib.Core.List.{List, [], _∷_, _++_, append-assoc, append-nil}
-use Prim.Native.Nat.{ℕ, zero, suc, _+_, _-_, _*_, _^_, _≤_, _<_}
+use mathlib.Core.Path.{_≡_}
+use Prim.Native.Nat.{_+_, _-_, _≤_}
 use native.Mathlib.Omega.{arith}
-use borrow.Author.Needs.{needs}
-use lib.ListN.{length, getD, take, drop, set, length-set}
-use Rattle.message_maps.specs.Rows.{rowAt, rowsFrom}
-use Rattle.message_lent.specs.Lent.{weight, fieldsIn}
-use Rattle.message_lent.specs.LentLaws.{fields-on, fields-end}
+use Rattle.message_maps.specs.Rows.{rowsFrom}
+use Rattle.message_lent_rules.specs.Lent.{fieldsIn}
+use Rattle.message_lent_rules.specs.LentLaws.{fields-on, fields-end}
 use Rattle.message_lent.proofs.fields_in.Statement.{statement}
 use Rattle.message_lent.proofs.fields_in.Tie as tie
 
@@ -19,17 +14,24 @@ Inv-loop words floor from to fields₀ i₀ fields i = (from ≤ i) × (i ≤ to
 abbrev μ-loop : tie.MeasureT-loop
 μ-loop words floor from to fields₀ i₀ fields i = to - i
 
+-- a weight that the next row tells
+known : (c : tie.Else1 Inv-loop μ-loop) → c .before .quick-weight .result ≤ 1
+known c = omega (arith, c .before .quick-weight .ensures .few, c .if1 .left)
+
 loop-holds : tie.Need-loop-holds Inv-loop μ-loop
 loop-holds c = (omega arith, omega arith, omega arith, omega arith)
 
-loop-again : tie.Need-loop-again Inv-loop μ-loop
-loop-again c = let l = c .before .before in (omega arith, omega arith, omega (arith, l .loop .inv .2, c .weight-of .ensures .0, fields-on (l .before .before .args .words .now) (l .loop .i) (l .before .before .args .to) (c .before .loop-test .taken) (l .before .before .args .floor)), omega (arith, l .loop .inv .3, c .weight-of .ensures .1))
+add-fields : tie.Need-add-fields Inv-loop μ-loop
+add-fields c = omega (arith, known c)
 
-returns : tie.Need-returns Inv-loop μ-loop
-returns c = let l = c .before in omega (arith, l .loop .inv .2, fields-end (l .before .before .args .words .now) (l .loop .i) (l .before .before .args .to) (c .loop-test .left) (l .before .before .args .floor))
+loop-again : tie.Need-loop-again Inv-loop μ-loop
+loop-again c = let l = c .before .before .before in let s = l .before .before in (omega arith, omega arith, omega (arith, l .loop .inv .2, c .before .quick-weight .ensures .told (known c), fields-on (s .args .words .now) (l .loop .i) (s .args .to) (c .before .before .loop-test .taken) (s .args .floor)), omega (arith, l .loop .inv .3, known c))
+
+returns-2 : tie.Need-returns-2 Inv-loop μ-loop
+returns-2 c = let l = c .before in let s = l .before .before in omega (arith, l .loop .inv .2, fields-end (s .args .words .now) (l .loop .i) (s .args .to) (c .loop-test .left) (s .args .floor))
 
 pub fields-in-spec : {M : Type 1} → statement M
 fields-in-spec =
     tie.close
-    (tie.spec Inv-loop μ-loop loop-holds (λ c κs. omega arith) (λ c. omega arith) (λ c. omega arith) (λ c. omega arith)
-    loop-again returns)
+    (tie.spec Inv-loop μ-loop loop-holds (λ c κs. omega arith) (λ c κs. omega arith) (λ c. c .fields-from-behind .ensures)
+    add-fields (λ c. omega arith) (λ c. omega arith) loop-again returns-2)

@@ -8,8 +8,8 @@ use native.Mathlib.Omega.{arith}
 use borrow.Author.Needs.{needs}
 use lib.ListN.{length, getD, take, drop, set, length-set}
 use Rattle.message_maps.specs.Rows.{rowAt, rowsFrom}
-use Rattle.message_lent.specs.Lent.{nextPart, partsFrom}
-use Rattle.message_lent.specs.LentLaws.{parts-not, parts-on, parts-end}
+use Rattle.message_lent_rules.specs.Lent.{nextPart, partsFrom}
+use Rattle.message_lent_rules.specs.LentLaws.{parts-not, parts-on, parts-end}
 use Rattle.message_lent.proofs.has_parts.Statement.{statement}
 use Rattle.message_lent.proofs.has_parts.Tie as tie
 

@@ -9,7 +9,7 @@ use borrow.Author.Needs.{needs}
 use lib.ListN.{length, getD, take, drop, set, length-set}
 use borrow.Author.Tests.{eq-eqb, ne-eqb}
 use Rattle.message_maps.specs.Rows.{rowAt, levelOf}
-use Rattle.message_lent.specs.Lent.{isOwn}
+use Rattle.message_lent_rules.specs.Lent.{isOwn}
 use Rattle.message_lent.proofs.is_own.Statement.{statement}
 use Rattle.message_lent.proofs.is_own.Tie as tie
 

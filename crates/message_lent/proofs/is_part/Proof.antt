@@ -8,7 +8,7 @@ use native.Mathlib.Omega.{arith}
 use borrow.Author.Needs.{needs}
 use lib.ListN.{length, getD, take, drop, set, length-set}
 use Rattle.message_maps.specs.Rows.{rowAt, matches}
-use Rattle.message_lent.specs.Lent.{isPart, delimiterIs}
+use Rattle.message_lent_rules.specs.Lent.{isPart, delimiterIs}
 use Rattle.message_lent.proofs.is_part.Statement.{statement}
 use Rattle.message_lent.proofs.is_part.Tie as tie
 

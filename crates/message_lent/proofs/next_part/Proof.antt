@@ -9,7 +9,7 @@ use borrow.Author.Needs.{needs}
 use lib.ListN.{length, getD, take, drop, set, length-set}
 use borrow.Author.Tests.{eq-eqb, ne-eqb}
 use Rattle.message_maps.specs.Rows.{rowAt, levelOf}
-use Rattle.message_lent.specs.Lent.{nextPart, isPart}
+use Rattle.message_lent_rules.specs.Lent.{nextPart, isPart}
 use Rattle.message_lent.proofs.next_part.Statement.{statement}
 use Rattle.message_lent.proofs.next_part.Tie as tie
 

@@ -7,7 +7,7 @@ use Prim.Native.Nat.{ℕ, zero, suc, _+_, _-_, _*_, _^_, _≤_, _<_}
 use native.Mathlib.Omega.{arith}
 use borrow.Author.Needs.{needs}
 use lib.ListN.{length, getD, take, drop, set, length-set}
-use Rattle.message_lent.specs.Lent.{rowCount}
+use Rattle.message_lent_rules.specs.Lent.{rowCount}
 use Rattle.message_lent.proofs.row_count.Statement.{statement}
 use Rattle.message_lent.proofs.row_count.Tie as tie
 

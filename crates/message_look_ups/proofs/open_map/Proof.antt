@@ -9,8 +9,8 @@ use borrow.Author.Needs.{needs}
 use lib.ListN.{length, getD, take, drop, set, length-set}
 use borrow.Author.Tests.{not-true, not-false, eq-eqb, ne-eqb}
 use Rattle.message_maps.specs.Rows.{rowAt, rowsFrom, levelOf, endFrom, messageRows}
-use Rattle.message_lent.specs.Lent.{isMessage, rowCount}
-use Rattle.message_lent.specs.Meaning.{parts, messageIn}
+use Rattle.message_lent_rules.specs.Lent.{isMessage, rowCount}
+use Rattle.message_lent_rules.specs.Meaning.{parts, messageIn}
 use Rattle.message_look_ups.specs.Opening.{isHead, rowsBelow, openedAt}
 use Rattle.message_look_ups.specs.OpeningLaws.{Inside, sized-here, opened-no, opened-past, opened-other, opened-head, level-near}
 use Rattle.message_look_ups.proofs.open_map.Statement.{statement}

@@ -7,7 +7,7 @@ use Prim.Native.Nat.{ℕ, zero, suc, _+_, _-_, _*_, _^_, _≤_, _<_}
 use native.Mathlib.Omega.{arith}
 use borrow.Author.Needs.{needs}
 use lib.ListN.{length, getD, take, drop, set, length-set}
-use Rattle.message_lent.specs.Meaning.{messageIn}
+use Rattle.message_lent_rules.specs.Meaning.{messageIn}
 use Rattle.message_rules.specs.Changes.{spanOf}
 use Rattle.message_rules.specs.ChangeLaws.{located-no, located-at}
 use Rattle.message_rules.specs.LookUps.{partRow}

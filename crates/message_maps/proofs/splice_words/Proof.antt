@@ -1,27 +1,18 @@
--- `splice_words` meets its contract: the five parts stand one behind the other in front of zeros, and all is copied back.
-use mathlib.Core.Path.{_≡_, refl, sym, ap, _∙_}
-use mathlib.Core.Logic.{⊎-elim}
-use mathlib.Core.Bool.{Bool, true, false}
-use mathlib.Core.List.{List, [], _∷_, _++_, append-assoc, append-nil}
-use Prim.Native.Nat.{ℕ, zero, suc, _+_, _-_, _*_, _^_, _≤_, _<_}
-use native.Mathlib.Omega.{arith}
+-- `splice_words` meets its contract: what `turn_words` leaves is the splice, and so is what the moves in place leave.
+use mathlib.Core.Path.{refl}
 use borrow.Author.Needs.{needs}
-use lib.ListN.{length, getD, take, drop, set, length-set}
-use lib.ListN.{length-replicate}
 use Rattle.message_maps.specs.Rows.{messageWords}
-use Rattle.field_rules.specs.DecimalLaws.{written-length}
-use Rattle.message_maps.specs.RowsLaws.{splice-done}
+use Rattle.message_maps.specs.SpliceLaws.{shift-done}
 use Rattle.message_maps.proofs.splice_words.Statement.{statement}
 use Rattle.message_maps.proofs.splice_words.Tie as tie
 
-copy-words-requires : tie.Need-copy-words-requires
-copy-words-requires c κs = let x = c in let a5 = x .before .before .before .before in let a4 = a5 .before .before .before .before .before in let a3 = a4 .before .before .before .before .before in let a2 = a3 .before .before .before .before in let a1 = a2 .before .before .before .before .before in let start = a1 .before .before .before .before .before .before in let s = start .args in let pre = start .pre in let e = ap length (a5 .put-words5 .ensures .1) ∙ written-length _ _ _ ∙ ap length (a4 .put-words4 .ensures .1) ∙ written-length _ _ _ ∙ ap length (a3 .put-words3 .ensures .1) ∙ written-length _ _ _ ∙ ap length (a2 .put-words2 .ensures .1) ∙ written-length _ _ _ ∙ ap length (a1 .put-words .ensures .1) ∙ written-length _ _ _ ∙ length-replicate {A = ℕ} messageWords 0 in omega (arith, e, pre .5)
-
-returns : tie.Need-returns
-returns c = let x = c .before .before .before in let a5 = x .before .before .before .before .before in let a4 = a5 .before .before .before .before .before in let a3 = a4 .before .before .before .before .before in let a2 = a3 .before .before .before .before in let a1 = a2 .before .before .before .before .before in let start = a1 .before .before .before .before .before .before in let s = start .args in let pre = start .pre in splice-done messageWords (s .from) (s .to) (s .kept) (s .end) (s .used) (s .new .now) (s .words .now) (pre .0) (pre .1) (pre .2) (pre .3) (pre .4) (pre .5) (pre .6) _ _ _ _ _ _ _ _ _ _ _ refl (a1 .put-words .ensures .0) (a1 .put-words .ensures .1) (a2 .put-words2 .ensures .0) (a2 .put-words2 .ensures .1) (a3 .put-words3 .ensures .0) (a3 .put-words3 .ensures .1) (a4 .put-words4 .ensures .0) (a4 .put-words4 .ensures .1) (a5 .put-words5 .ensures .1) (x .copy-words .ensures)
+returns-2 : tie.Need-returns-2
+returns-2 c = let last = c .before .before in let stop = last .before .before in let three = stop .before .before .before in let two = three .before .before .before .before in let one = two .before .before .before .before in let place = one .before .before in let start = place .before .before .before in let s = start .args in
+    shift-done messageWords (s .from) (s .to) (s .kept) (s .end) (s .used) _ _ _ (stop .clear-end .result) (s .blank) (s .new .now) (s .words .now) (start .pre .0) (start .pre .1) (place .if1 .left) refl refl refl (stop .clear-end .ensures)
+    _ _ _ _ (one .move-words .ensures) (two .move-words2 .ensures) (three .put-words .ensures .1) (last .clear-words .ensures)
 
 pub splice-words-spec : {M : Type 1} → statement M
 splice-words-spec =
     tie.close
-    (tie.spec (λ c. search needs) (λ c κs. search needs) (λ c κs. search needs) (λ c κs. search needs)
-    (λ c κs. search needs) (λ c κs. search needs) copy-words-requires (λ c. search needs) returns)
+    (tie.spec (λ c κs. search needs) (λ c. search needs) (λ c. search needs) (λ c. search needs) (λ c. search needs) (λ c. search needs) (λ c. search needs) (λ c. search needs)
+    (λ c κs. search needs) (λ c κs. search needs) (λ c κs. search needs) (λ c κs. search needs) (λ c κs. search needs) (λ c. search needs) returns-2)

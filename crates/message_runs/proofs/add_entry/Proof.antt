@@ -12,6 +12,7 @@ use Rattle.message_maps.specs.Map.{end, entry, joined, fieldCount}
 use Rattle.message_rules.specs.Runs.{isDraft, runIn, judgedRun, entering}
 use Rattle.message_runs.specs.DraftLaws.{Draft, draft-of, draft-no, draft-yes}
 use Rattle.message_runs.specs.EnterLaws.{fields-now, enter-able, enter-done}
+use Rattle.message_rules.specs.BlankLaws.{not-blank}
 use Rattle.message_runs.proofs.add_entry.Statement.{statement}
 use Rattle.message_runs.proofs.add_entry.Tie as tie
 
@@ -41,7 +42,8 @@ add-cut-rows : tie.Need-add-cut-rows
 add-cut-rows c = let d = draft-at (c .before .before .before .before .before .before .before .before) in omega (arith, fields-at (c .before .before .before .before), d .few)
 
 cut-rows-requires : tie.Need-cut-rows-requires
-cut-rows-requires c κs = enter-able _ _ _ (draft-at (c .before .before .before .before .before .before .before .before)) _ _ _ _ (c .before .before .before .before .before .before .row-count .ensures) (ap (λ (n : ℕ). n + 1) (fields-at (c .before .before .before .before)))
+cut-rows-requires c κs =
+    (enter-able _ _ _ (draft-at (c .before .before .before .before .before .before .before .before)) _ _ _ _ (c .before .before .before .before .before .before .row-count .ensures) (ap (λ (n : ℕ). n + 1) (fields-at (c .before .before .before .before))), not-blank _ _ _)
 
 returns-2 : tie.Need-returns-2
 returns-2 c = c .before .before .before .before .cut-rows .ensures

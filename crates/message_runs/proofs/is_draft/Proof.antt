@@ -8,8 +8,8 @@ use native.Mathlib.Omega.{arith}
 use borrow.Author.Needs.{needs}
 use lib.ListN.{length, getD, take, drop, set, length-set}
 use borrow.Author.Tests.{not-true, not-false}
-use Rattle.message_lent.specs.Lent.{isLaid, rowCount, rowsOf, fieldsIn}
-use Rattle.message_lent.specs.LentLaws.{Laid, laid-out}
+use Rattle.message_lent_rules.specs.Lent.{isLaid, rowCount, rowsOf, fieldsIn}
+use Rattle.message_lent_rules.specs.LentLaws.{Laid, laid-out}
 use Rattle.message_rules.specs.Runs.{isDraft}
 use Rattle.message_runs.specs.RowLaws.{draft-not, draft-on}
 use Rattle.message_runs.proofs.is_draft.Statement.{statement}

@@ -16,6 +16,7 @@ use Rattle.message_runs.specs.DraftLaws.{Draft, draft-of, draft-no}
 use Rattle.message_runs.specs.EnterLaws.{count-rows}
 use Rattle.message_runs.specs.LastLaws.{LastAt, last-at, HasEntry, some-entry, none-entry, entry-frame, last-fields, front-fields, own-fields, last-ready, last-judged, last-large, store-untagged, store-nowhere, store-last}
 use Rattle.message_rules.specs.FrameLaws as frame
+use Rattle.message_rules.specs.BlankLaws.{not-blank}
 use Rattle.message_runs.proofs.store_last.Statement.{statement}
 use Rattle.message_runs.proofs.store_last.Tie as tie
 
@@ -74,7 +75,10 @@ add-put-field : tie.Need-add-put-field
 add-put-field c = omega (arith, base-at (c .before .before))
 
 put-field-requires : tie.Need-put-field-requires
-put-field-requires c κs = let e = entry-at (c .before .before .before .before .before .before .before) in let b = base-at (c .before .before) in last-ready _ _ _ (draft-at (c .before .before .before .before .before .before .before .before .before .before .before .before .before)) (e .split) _ _ (c .before .before .before .before .before .before .before .before .before .before .row-count .ensures) (e .starts) _ _ _ (b .0) (c .before .before .before .before .before .before .if4 .left) (omega (arith, b .1))
+put-field-requires c κs =
+    let e = entry-at (c .before .before .before .before .before .before .before) in
+    let b = base-at (c .before .before) in
+    (last-ready _ _ _ (draft-at (c .before .before .before .before .before .before .before .before .before .before .before .before .before)) (e .split) _ _ (c .before .before .before .before .before .before .before .before .before .before .row-count .ensures) (e .starts) _ _ _ (b .0) (c .before .before .before .before .before .before .if4 .left) (omega (arith, b .1)), not-blank _ _ _)
 
 returns-5 : tie.Need-returns-5
 returns-5 c = let e = entry-at (c .before .before .before .before .before .before .before .before .before .before .before .before) in let b = base-at (c .before .before .before .before .before .before .before) in c .before .before .before .before .put-field .ensures ∙ last-judged _ _ _ (draft-at (c .before .before .before .before .before .before .before .before .before .before .before .before .before .before .before .before .before .before)) (e .split) _ _ (c .before .before .before .before .before .before .before .before .before .before .before .before .before .before .before .row-count .ensures) (e .starts) _ _ _ (b .0) ∙ sym (store-last _ _ _ _ (is-at (c .before .before .before .before .before .before .before .before .before .before .before .before .before .before .before .before .before .before)) (c .before .before .before .before .before .before .before .before .before .before .before .before .before .before .before .before .before .if2 .left) (e .split .some))

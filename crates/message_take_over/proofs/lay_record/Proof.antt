@@ -9,38 +9,41 @@ use Rattle.message_take_over.proofs.lay_record.Statement.{statement}
 use Rattle.message_take_over.proofs.lay_record.Tie as tie
 
 returns : tie.Need-returns
-returns c = step-refused _ _ _ _ _ _ _ (c .before .before .before .record-at .ensures) (next-back _ _ _ _ _ (c .if1 .taken))
+returns c = step-refused _ _ _ _ _ _ (c .before .before .before .record-at .ensures) (next-back _ _ _ _ _ (c .if1 .taken))
 
 returns-2 : tie.Need-returns-2
-returns-2 c = step-refused _ _ _ _ _ _ _ (c .before .before .before .before .before .record-at .ensures) (next-fourth _ _ _ _ _ (c .if2 .taken))
+returns-2 c = step-refused _ _ _ _ _ _ (c .before .before .before .before .before .record-at .ensures) (next-fourth _ _ _ _ _ (c .if2 .taken))
 
 has-room-requires : tie.Need-has-room-requires
-has-room-requires c κs = c .before .before .before .before .before .before .before .before .before .before .pre .within
+has-room-requires c κs = c .before .before .before .before .before .before .before .before .before .pre .0 .within
 
 returns-3 : tie.Need-returns-3
-returns-3 c = step-refused _ _ _ _ _ _ _ (c .before .before .before .before .before .before .before .record-at .ensures) (next-crowded _ _ _ _ _ (c .before .before .before .before .if1 .left) (c .before .before .if2 .left) (sym (c .before .has-room .ensures) ∙ not-true _ (c .if3 .taken)))
+returns-3 c = step-refused _ _ _ _ _ _ (c .before .before .before .before .before .before .before .record-at .ensures) (next-crowded _ _ _ _ _ (c .before .before .before .before .if1 .left) (c .before .before .if2 .left) (sym (c .before .has-room .ensures) ∙ not-true _ (c .if3 .taken)))
 
 returns-4 : tie.Need-returns-4
-returns-4 c = let j = c .before .before in step-refused _ _ _ _ _ _ _ (c .before .before .before .before .before .before .before .before .before .before .record-at .ensures) (next-joined _ _ _ _ _ (c .before .before .before .before .before .before .before .if1 .left) (c .before .before .before .before .before .if2 .left) (sym (c .before .before .before .before .has-room .ensures) ∙ not-false _ (c .before .before .before .if3 .left)) ∙ ap isJoined (sym (j .joins-of .ensures)) ∙ sym (c .before .is-joined .ensures) ∙ not-true _ (c .if4 .taken))
+returns-4 c = step-refused _ _ _ _ _ _ (c .before .before .before .before .before .before .before .before .before .before .record-at .ensures) (next-joined _ _ _ _ _ (c .before .before .before .before .before .before .before .if1 .left) (c .before .before .before .before .before .if2 .left) (sym (c .before .before .before .before .has-room .ensures) ∙ not-false _ (c .before .before .before .if3 .left)) ∙ ap isJoined (sym (c .before .before .joins-of .ensures)) ∙ sym (c .before .is-joined .ensures) ∙ not-true _ (c .if4 .taken))
 
 lay-rows-requires : tie.Need-lay-rows-requires
-lay-rows-requires c κs = let start = c .before .before .before .before .before .before .before .before .before .before .before .before .before .before .before .before in let reached = joined-reach _ _ (ap isJoined (sym (c .before .before .before .joins-of .ensures)) ∙ sym (c .before .before .is-joined .ensures) ∙ not-false _ (c .before .if4 .left)) in (omega arith, omega arith, omega (arith, start .pre .few), omega (arith, reached, start .pre .shallow), start .pre .whole)
+lay-rows-requires c κs =
+    let ready = c .before .before .before .before .before .before .before .before .before .before .before .before .before .before .before .pre .0 in
+    let reached = joined-reach _ _ (ap isJoined (sym (c .before .before .before .joins-of .ensures)) ∙ sym (c .before .before .is-joined .ensures) ∙ not-false _ (c .before .if4 .left)) in
+    (omega arith, omega arith, omega (arith, ready .few), omega (arith, reached, ready .shallow), ready .whole)
 
-put-bytes-requires : tie.Need-put-bytes-requires
-put-bytes-requires c κs = let start = c .before .before .before .before .before .before .before .before .before .before .before .before .before .before .before .before .before .before .before .before .before .before in let room = room-both _ _ _ (sym (c .before .before .before .before .before .before .before .before .before .before .before .has-room .ensures) ∙ not-false _ (c .before .before .before .before .before .before .before .before .before .before .if3 .left)) in (omega arith, omega (arith, room .0, c .wide2 .ensures, c .before .before .wide .ensures), omega (arith, room .1, c .wide2 .ensures, start .pre .store))
+add-used : tie.Need-add-t15
+add-used c =
+    let room = room-both _ _ _ (sym (c .before .before .before .before .before .before .before .before .before .before .has-room .ensures) ∙ not-false _ (c .before .before .before .before .before .before .before .before .before .if3 .left)) in
+    omega (arith, room .1, c .before .wide .ensures)
 
 same-length : tie.Need-same-length
-same-length c = c .before .before .before .before .before .before .before .before .lay-rows .ensures .whole
-
-same-length-2 : tie.Need-same-length-2
-same-length-2 c = c .before .before .put-bytes .kept .0
+same-length c = c .before .before .before .before .lay-rows .ensures .whole
 
 returns-5 : tie.Need-returns-5
-returns-5 c = let next = next-joined _ _ _ _ _ (c .before .before .before .before .before .before .before .before .before .before .before .before .before .before .before .before .before .if1 .left) (c .before .before .before .before .before .before .before .before .before .before .before .before .before .before .before .if2 .left) (sym (c .before .before .before .before .before .before .before .before .before .before .before .before .before .before .has-room .ensures) ∙ not-false _ (c .before .before .before .before .before .before .before .before .before .before .before .before .before .if3 .left)) ∙ ap isJoined (sym (c .before .before .before .before .before .before .before .before .before .before .before .before .joins-of .ensures)) ∙ sym (c .before .before .before .before .before .before .before .before .before .before .before .is-joined .ensures) ∙ not-false _ (c .before .before .before .before .before .before .before .before .before .before .if4 .left) in step-laid _ _ _ _ _ _ _ _ _ _ _ _ _ _ (c .before .before .before .before .before .before .before .before .before .before .before .before .before .before .before .before .before .before .before .before .record-at .ensures) (c .before .before .before .before .before .before .before .before .before .before .before .before .joins-of .ensures) (c .before .before .before .before .before .wide .ensures) (c .before .before .before .wide2 .ensures) next (c .before .before .before .before .before .before .before .before .lay-rows .ensures) (c .before .before .put-bytes .ensures .0) (c .before .before .put-bytes .ensures .1)
+returns-5 c =
+    let next = next-joined _ _ _ _ _ (c .before .before .before .before .before .before .before .before .before .before .before .before .before .if1 .left) (c .before .before .before .before .before .before .before .before .before .before .before .if2 .left) (sym (c .before .before .before .before .before .before .before .before .before .before .has-room .ensures) ∙ not-false _ (c .before .before .before .before .before .before .before .before .before .if3 .left)) ∙ ap isJoined (sym (c .before .before .before .before .before .before .before .before .joins-of .ensures)) ∙ sym (c .before .before .before .before .before .before .before .is-joined .ensures) ∙ not-false _ (c .before .before .before .before .before .before .if4 .left) in
+    step-laid _ _ _ _ _ _ _ _ _ _ (c .before .before .before .before .before .before .before .before .before .before .before .before .before .before .before .before .record-at .ensures) (c .before .before .before .before .before .before .before .before .joins-of .ensures) (c .before .wide .ensures) next (c .before .before .before .before .lay-rows .ensures)
 
 pub lay-record-spec : {M : Type 1} → statement M
 lay-record-spec =
     tie.close
     (tie.spec (λ c κs. search needs) returns returns-2 has-room-requires returns-3 (λ c κs. search needs)
-    (λ c κs. search needs) returns-4 lay-rows-requires (λ c κs. search needs) (λ c κs. search needs) (λ c. omega arith)
-    put-bytes-requires same-length same-length-2 returns-5)
+    (λ c κs. search needs) returns-4 lay-rows-requires (λ c κs. search needs) add-used same-length returns-5)

@@ -1,42 +1,36 @@
--- `nearest_before` meets its contract. The invariant: the records that are left have the outcome of all.
-use mathlib.Core.Path.{_≡_, refl, sym, ap, _∙_}
-use Prim.Native.Nat.{_≤_}
+-- `nearest_before` meets its contract: the record before, or where that is too deep what is kept of the depth.
+use mathlib.Core.Path.{sym, ap, _∙_}
 use native.Mathlib.Omega.{arith}
 use borrow.Author.Needs.{needs}
-use Rattle.build_records.specs.Records.{recordsOf}
 use Rattle.build_records.specs.declared.Record.{Record}
 use Rattle.message_take_over.specs.declared.Nearest.the-variants.{Is}
-use Rattle.message_take_over.specs.Taking.{recordsBefore, nearestIn}
-use Rattle.message_take_over.specs.JoinLaws.{nearest-here, nearest-on, nearest-none}
+use Rattle.message_take_over.specs.JoinLaws.{nearest-here, nearest-none}
+use Rattle.message_take_over.specs.Newest.{newest-told}
 use Rattle.message_take_over.proofs.nearest_before.Statement.{statement}
 use Rattle.message_take_over.proofs.nearest_before.Tie as tie
 
-abbrev Inv-loop : tie.InvT-loop
-Inv-loop records to depth i₀ i = (i ≤ to) × (nearestIn depth (recordsBefore to (recordsOf records)) ≡ nearestIn depth (recordsBefore i (recordsOf records)))
+returns : tie.Need-returns
+returns c = sym (nearest-none _ _ _ (c .if1 .taken))
 
-abbrev μ-loop : tie.MeasureT-loop
-μ-loop records to depth i₀ i = i
+returns-2 : tie.Need-returns-2
+returns-2 c =
+    let e = c .before .before .record-at .ensures in
+    ap Is e ∙ sym (nearest-here _ _ _ (omega arith) (omega (arith, ap (λ (q : Record). q .depth) e)))
 
-loop-holds : tie.Need-loop-holds Inv-loop μ-loop
-loop-holds c = (omega arith, refl)
+shared-slice-read-place : tie.Need-shared-slice-read-place
+shared-slice-read-place c =
+    let start = c .before .before .before .before .before .before .before .before in
+    let e = ap (λ (q : Record). q .depth) (c .before .before .before .before .record-at .ensures) in
+    omega (arith, newest-told (start .pre) (start .args .depth) (omega arith) (omega (arith, e)) .0, start .pre .room, c .before .wide .ensures)
 
-returns : tie.Need-returns Inv-loop μ-loop
-returns c = let r = c .before .before in
-    let l = r .before .before in
-    let e = r .record-at .ensures in
-    ap Is e ∙ sym (l .loop .inv .1 ∙ nearest-here _ _ _ (r .before .loop-test .taken) (omega (arith, ap (λ (q : Record). q .depth) e)))
-
-loop-again : tie.Need-loop-again Inv-loop μ-loop
-loop-again c = let r = c .before .before in
-    let l = r .before .before in
-    let e = r .record-at .ensures in
-    (omega arith, l .loop .inv .1 ∙ nearest-on _ _ _ (r .before .loop-test .taken) (omega (arith, ap (λ (q : Record). q .depth) e)))
-
-returns-2 : tie.Need-returns-2 Inv-loop μ-loop
-returns-2 c = sym (c .before .loop .inv .1 ∙ nearest-none _ _ _ (c .loop-test .left))
+returns-3 : tie.Need-returns-3
+returns-3 c =
+    let start = c .before .before .before .before .before .before .before .before .before .before in
+    let e = ap (λ (q : Record). q .depth) (c .before .before .before .before .before .before .record-at .ensures) in
+    ap Is (c .record-at2 .ensures) ∙ rw (c .before .place .ensures, c .before .before .before .wide .ensures) (sym (newest-told (start .pre) (start .args .depth) (omega arith) (omega (arith, e)) .1))
 
 pub nearest-before-spec : {M : Type 1} → statement M
 nearest-before-spec =
     tie.close
-    (tie.spec Inv-loop μ-loop loop-holds (λ c. omega arith) (λ c κs. search needs) returns (λ c. omega arith)
-    (λ c. omega arith) loop-again returns-2)
+    (tie.spec returns (λ c. search needs) (λ c κs. search needs) returns-2 (λ c κs. search needs) (λ c. search needs)
+    shared-slice-read-place (λ c κs. search needs) (λ c κs. search needs) returns-3)

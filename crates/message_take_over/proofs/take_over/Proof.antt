@@ -1,8 +1,8 @@
--- `take_over` meets its contract: what is refused is refused before anything lent is touched, and a message is copied whole.
+-- `take_over` meets its contract: what is refused is refused before anything lent is touched, and a message is written whole.
 use mathlib.Core.Path.{sym, _∙_}
 use borrow.Author.Needs.{needs}
 use borrow.Author.Tests.{not-true, not-false}
-use Rattle.message_take_over.specs.TakeLaws.{take-short, take-store, take-past, take-many, take-refused, take-no-message, take-made}
+use Rattle.message_take_over.specs.TakeLaws.{take-short, take-store, take-past, take-many, take-refused, take-no-message, take-blank, take-made}
 use Rattle.message_take_over.proofs.take_over.Statement.{statement}
 use Rattle.message_take_over.proofs.take_over.Tie as tie
 
@@ -19,17 +19,23 @@ returns-4 : tie.Need-returns-4
 returns-4 c = sym (take-many _ _ _ _ _ (c .if4 .taken))
 
 returns-5 : tie.Need-returns-5
-returns-5 c = sym (take-refused _ _ _ _ _ (c .before .before .before .before .before .before .before .before .before .before .before .before .before .before .before .if1 .left) (c .before .before .before .before .before .before .before .before .before .before .before .before .before .before .if2 .left) (c .before .before .before .before .before .before .before .before .before .before .before .before .before .if3 .left) (c .before .before .before .before .before .before .before .before .before .before .before .before .if4 .left) _ _ _ (c .before .before .before .before .before .before .before .lay-records .ensures) (not-true _ (c .before .before .if5 .taken)))
+returns-5 c = sym (take-refused _ _ _ _ _ (c .before .before .before .before .before .before .before .before .before .before .if1 .left) (c .before .before .before .before .before .before .before .before .before .if2 .left) (c .before .before .before .before .before .before .before .before .if3 .left) (c .before .before .before .before .before .before .before .if4 .left) _ _ (c .before .before .before .before .lay-records .ensures) (not-true _ (c .before .if5 .taken)))
 
 returns-6 : tie.Need-returns-6
-returns-6 c = sym (take-no-message _ _ _ _ _ (c .before .before .before .before .before .before .before .before .before .before .before .before .before .before .before .before .before .before .before .if1 .left) (c .before .before .before .before .before .before .before .before .before .before .before .before .before .before .before .before .before .before .if2 .left) (c .before .before .before .before .before .before .before .before .before .before .before .before .before .before .before .before .before .if3 .left) (c .before .before .before .before .before .before .before .before .before .before .before .before .before .before .before .before .if4 .left) _ _ _ (c .before .before .before .before .before .before .before .before .before .before .before .lay-records .ensures) (not-false _ (c .before .before .before .before .before .before .if5 .left)) (sym (c .before .before .before .is-message .ensures) ∙ not-true _ (c .before .before .if6 .taken)))
+returns-6 c = sym (take-no-message _ _ _ _ _ (c .before .before .before .before .before .before .before .before .before .before .before .before .before .before .if1 .left) (c .before .before .before .before .before .before .before .before .before .before .before .before .before .if2 .left) (c .before .before .before .before .before .before .before .before .before .before .before .before .if3 .left) (c .before .before .before .before .before .before .before .before .before .before .before .if4 .left) _ _ (c .before .before .before .before .before .before .before .before .lay-records .ensures) (not-false _ (c .before .before .before .before .before .if5 .left)) (sym (c .before .before .is-message .ensures) ∙ not-true _ (c .before .if6 .taken)))
+
+put-rows-requires : tie.Need-put-rows-requires
+put-rows-requires c κs = (take-blank (c .before .before .before .before .before .before .before .before .before .lay-records .ensures) (not-false _ (c .before .before .before .before .before .before .if5 .left)) _ (sym (c .before .before .before .is-message .ensures) ∙ not-false _ (c .before .before .if6 .left)), c .before .before .before .before .before .before .before .before .before .before .before .before .before .before .before .if1 .left)
+
+put-values-requires : tie.Need-put-values-requires
+put-values-requires c κs = (c .before .before .before .before .before .before .before .before .before .before .before .before .before .before .before .before .before .before .if3 .left, sym (c .before .before .before .before .before .before .before .before .before .before .before .before .before .before .lay-records .ensures .told) ∙ not-false _ (c .before .before .before .before .before .before .before .before .before .before .before .if5 .left), c .before .before .before .before .before .before .before .before .before .before .before .before .before .before .before .before .before .before .before .if2 .left)
 
 returns-7 : tie.Need-returns-7
-returns-7 c = sym (take-made _ _ _ _ _ (c .before .before .before .before .before .before .before .before .before .before .before .before .before .before .before .before .before .before .before .before .before .before .before .before .before .before .before .before .before .if1 .left) (c .before .before .before .before .before .before .before .before .before .before .before .before .before .before .before .before .before .before .before .before .before .before .before .before .before .before .before .before .if2 .left) (c .before .before .before .before .before .before .before .before .before .before .before .before .before .before .before .before .before .before .before .before .before .before .before .before .before .before .before .if3 .left) (c .before .before .before .before .before .before .before .before .before .before .before .before .before .before .before .before .before .before .before .before .before .before .before .before .before .before .if4 .left) _ _ _ (c .before .before .before .before .before .before .before .before .before .before .before .before .before .before .before .before .before .before .before .before .before .lay-records .ensures) (not-false _ (c .before .before .before .before .before .before .before .before .before .before .before .before .before .before .before .before .if5 .left)) (sym (c .before .before .before .before .before .before .before .before .before .before .before .before .before .is-message .ensures) ∙ not-false _ (c .before .before .before .before .before .before .before .before .before .before .before .before .if6 .left)) _ _ (c .before .before .before .before .before .before .before .before .before .put-words .ensures .1) (c .before .before .before .put-bytes .ensures .1))
+returns-7 c = sym (take-made _ _ _ _ _ (c .before .before .before .before .before .before .before .before .before .before .before .before .before .before .before .before .before .before .before .before .before .before .before .if1 .left) (c .before .before .before .before .before .before .before .before .before .before .before .before .before .before .before .before .before .before .before .before .before .before .if2 .left) (c .before .before .before .before .before .before .before .before .before .before .before .before .before .before .before .before .before .before .before .before .before .if3 .left) (c .before .before .before .before .before .before .before .before .before .before .before .before .before .before .before .before .before .before .before .before .if4 .left) _ _ (c .before .before .before .before .before .before .before .before .before .before .before .before .before .before .before .before .before .lay-records .ensures) (not-false _ (c .before .before .before .before .before .before .before .before .before .before .before .before .before .before .if5 .left)) (sym (c .before .before .before .before .before .before .before .before .before .before .before .is-message .ensures) ∙ not-false _ (c .before .before .before .before .before .before .before .before .before .before .if6 .left)) _ _ (c .before .before .before .before .before .before .before .put-rows .ensures) (c .before .before .put-values .ensures))
 
 pub take-over-spec : {M : Type 1} → statement M
 take-over-spec =
     tie.close
-    (tie.spec returns returns-2 returns-3 returns-4 (λ c. search needs) (λ c. search needs) (λ c κs. search needs)
-    returns-5 (λ c κs. search needs) returns-6 (λ c κs. search needs) (λ c κs. search needs) (λ c. search needs)
+    (tie.spec returns returns-2 returns-3 returns-4 (λ c. search needs) (λ c κs. search needs) returns-5
+    (λ c κs. search needs) (λ c. search needs) returns-6 put-rows-requires put-values-requires (λ c. search needs)
     (λ c. search needs) returns-7)

@@ -1,136 +1,9 @@
-//! Our static library behind C functions with plain slices (a pointer, then a length) and lent arrays (a pointer). Every export that the driver
-//! calls is declared in this file and nowhere else; README.md says what each must do. The answers are made into lines here, so that all sides are
-//! compared alike.
+//! Our static library, called through its exports. The answers are made into lines here, so that all sides are compared alike.
 use super::Ours;
+use super::exports::*;
 use crate::maps::Row;
 use crate::protocol::{KEPT, Reading, Request, Step, hex, rows_text};
 
-type Out = [u32; 4];
-
-/// A record as it is lent.
-#[repr(C)]
-#[derive(Clone, Copy, PartialEq)]
-pub struct FieldRecord {
-    part: u8,
-    depth: u8,
-    entry: u16,
-    tag: u32,
-    place: u16,
-    length: u16,
-}
-
-/// The ported framer's state; a fresh one is all 0.
-#[repr(C)]
-#[derive(Default)]
-struct PortedState {
-    used: usize,
-    ended: u8,
-    over: u8,
-}
-
-unsafe extern "C" {
-    fn gateway_check(dictionary: *const u8, length: usize, out: *mut Out) -> u32;
-    fn gateway_build(
-        message: *const u8,
-        message_length: usize,
-        separator: u8,
-        settings: u32,
-        dictionary: *const u8,
-        dictionary_length: usize,
-        records: *mut FieldRecord,
-        record_count: usize,
-        out: *mut Out,
-    ) -> u32;
-    fn gateway_empty(words: *mut u32, word_count: usize, values: *mut u8, value_count: usize, out: *mut Out) -> u32;
-    fn gateway_new(
-        words: *mut u32,
-        word_count: usize,
-        values: *mut u8,
-        value_count: usize,
-        begin_string: *const u8,
-        begin_string_length: usize,
-        message_type: *const u8,
-        message_type_length: usize,
-        out: *mut Out,
-    ) -> u32;
-    fn gateway_store(
-        words: *mut u32,
-        word_count: usize,
-        values: *mut u8,
-        value_count: usize,
-        part: u8,
-        tag: u32,
-        value: *const u8,
-        value_length: usize,
-        out: *mut Out,
-    ) -> u32;
-    fn gateway_draft(words: *mut u32, word_count: usize, values: *mut u8, value_count: usize, out: *mut Out) -> u32;
-    fn gateway_add_entry(words: *mut u32, word_count: usize, values: *mut u8, value_count: usize, start: u32, delimiter: u32, out: *mut Out) -> u32;
-    fn gateway_store_last(
-        words: *mut u32,
-        word_count: usize,
-        values: *mut u8,
-        value_count: usize,
-        tag: u32,
-        value: *const u8,
-        value_length: usize,
-        out: *mut Out,
-    ) -> u32;
-    fn gateway_hang_last(
-        words: *mut u32,
-        word_count: usize,
-        values: *mut u8,
-        value_count: usize,
-        run_words: *const u32,
-        run_word_count: usize,
-        run_values: *const u8,
-        run_value_count: usize,
-        out: *mut Out,
-    ) -> u32;
-    fn gateway_hang(
-        words: *mut u32,
-        word_count: usize,
-        values: *mut u8,
-        value_count: usize,
-        part: u8,
-        run_words: *const u32,
-        run_word_count: usize,
-        run_values: *const u8,
-        run_value_count: usize,
-        out: *mut Out,
-    ) -> u32;
-    fn gateway_remove(words: *mut u32, word_count: usize, values: *mut u8, value_count: usize, part: u8, tag: u32, out: *mut Out) -> u32;
-    fn gateway_take_over(
-        records: *const FieldRecord,
-        record_count: usize,
-        count: usize,
-        message: *const u8,
-        message_length: usize,
-        words: *mut u32,
-        word_count: usize,
-        values: *mut u8,
-        value_count: usize,
-        out: *mut Out,
-    ) -> u32;
-    fn gateway_encode(
-        words: *mut u32,
-        word_count: usize,
-        values: *mut u8,
-        value_count: usize,
-        output: *mut u8,
-        output_length: usize,
-        separator: u8,
-        out: *mut Out,
-    ) -> u32;
-    fn gateway_ported_push(state: *mut PortedState, store: *mut u8, store_length: usize, chunk: *const u8, chunk_length: usize, out: *mut Out) -> u32;
-    fn gateway_ported_take(state: *mut PortedState, store: *mut u8, store_length: usize, output: *mut u8, output_length: usize, out: *mut Out) -> u32;
-}
-
-const RECORDS: usize = 1_024;
-const WORDS: usize = 8_205;
-const VALUES: usize = 8_192;
-const OUTPUT: usize = 8_192;
-const STORE: usize = 16_384;
 /// A number that stands everywhere before a call: what isn't written shows.
 const UNTOUCHED: u32 = 9;
 const UNTOUCHED_RECORD: FieldRecord = FieldRecord { part: 9, depth: 9, entry: 9, tag: 9, place: 9, length: 9 };
@@ -210,27 +83,25 @@ pub fn check(dictionary: &[u8]) -> (u32, Out) {
     (number, out)
 }
 
-/// A message made by calls, as it is lent.
-struct Lent {
+/// A message made by calls, as it is lent, or a draft.
+pub struct Lent {
     words: Vec<u32>,
     values: Vec<u8>,
 }
 
 /// A run made by calls: each entry is added, its fields are stored, and heads of one start tag that follow each other are a run of their own, hung in it.
 fn draft(rows: &[Row], level: u32) -> Result<Lent, u32> {
-    let mut lent = Lent { words: vec![0; WORDS], values: vec![0; VALUES] };
-    // SAFETY: see `build`; so in every call of this function.
-    let mut number = changed(|out| unsafe { gateway_draft(lent.words.as_mut_ptr(), WORDS, lent.values.as_mut_ptr(), VALUES, out) });
+    let mut lent = Lent::draft();
+    let mut number = 0;
     let mut at = 0;
     while at < rows.len() && number == 0 {
-        let (words, values) = (lent.words.as_mut_ptr(), lent.values.as_mut_ptr());
         match &rows[at] {
             Row::Head(here, start, delimiter) if *here == level => {
-                number = changed(|out| unsafe { gateway_add_entry(words, WORDS, values, VALUES, *start, *delimiter, out) });
+                number = lent.add_entry(*start, *delimiter);
                 at += 1;
             }
             Row::Field(_, tag, value) => {
-                number = changed(|out| unsafe { gateway_store_last(words, WORDS, values, VALUES, *tag, value.as_ptr(), value.len(), out) });
+                number = lent.store_last(*tag, value);
                 at += 1;
             }
             Row::Head(_, first, _) => {
@@ -240,6 +111,8 @@ fn draft(rows: &[Row], level: u32) -> Result<Lent, u32> {
                 };
                 let end = at + rows[at..].iter().take_while(|row| behind(row)).count();
                 let run = draft(&rows[at..end], level + 1)?;
+                let (words, values) = (lent.words.as_mut_ptr(), lent.values.as_mut_ptr());
+                // SAFETY: see `build`.
                 number = changed(|out| unsafe { gateway_hang_last(words, WORDS, values, VALUES, run.words.as_ptr(), WORDS, run.values.as_ptr(), VALUES, out) });
                 at = end;
             }
@@ -249,10 +122,31 @@ fn draft(rows: &[Row], level: u32) -> Result<Lent, u32> {
 }
 
 impl Lent {
-    fn new() -> Self {
+    /// An empty message.
+    #[allow(clippy::new_without_default)]
+    pub fn new() -> Self {
         let mut lent = Self { words: vec![UNTOUCHED; WORDS], values: vec![UNTOUCHED as u8; VALUES] };
         lent.empty();
         lent
+    }
+
+    /// A draft without any entry.
+    pub fn draft() -> Self {
+        let mut lent = Self { words: vec![0; WORDS], values: vec![0; VALUES] };
+        // SAFETY: see `build`.
+        let number = changed(|out| unsafe { gateway_draft(lent.words.as_mut_ptr(), WORDS, lent.values.as_mut_ptr(), VALUES, out) });
+        assert_eq!(number, 0, "a draft");
+        lent
+    }
+
+    pub fn add_entry(&mut self, start: u32, delimiter: u32) -> u32 {
+        // SAFETY: see `build`.
+        changed(|out| unsafe { gateway_add_entry(self.words.as_mut_ptr(), WORDS, self.values.as_mut_ptr(), VALUES, start, delimiter, out) })
+    }
+
+    pub fn store_last(&mut self, tag: u32, value: &[u8]) -> u32 {
+        // SAFETY: see `build`.
+        changed(|out| unsafe { gateway_store_last(self.words.as_mut_ptr(), WORDS, self.values.as_mut_ptr(), VALUES, tag, value.as_ptr(), value.len(), out) })
     }
 
     fn empty(&mut self) -> u32 {
@@ -266,12 +160,33 @@ impl Lent {
         changed(|out| unsafe { gateway_new(words, WORDS, values, VALUES, begin.as_ptr(), begin.len(), kind.as_ptr(), kind.len(), out) })
     }
 
-    fn store(&mut self, part: u8, tag: u32, value: &[u8]) -> u32 {
+    pub fn store(&mut self, part: u8, tag: u32, value: &[u8]) -> u32 {
         // SAFETY: see `build`.
         changed(|out| unsafe { gateway_store(self.words.as_mut_ptr(), WORDS, self.values.as_mut_ptr(), VALUES, part, tag, value.as_ptr(), value.len(), out) })
     }
 
-    fn take_over(&mut self, built: &Built, message: &[u8]) -> u32 {
+    pub fn remove(&mut self, part: u8, tag: u32) -> u32 {
+        // SAFETY: see `build`.
+        changed(|out| unsafe { gateway_remove(self.words.as_mut_ptr(), WORDS, self.values.as_mut_ptr(), VALUES, part, tag, out) })
+    }
+
+    /// The row of a part's map.
+    pub fn find_part(&self, part: u8) -> Option<usize> {
+        let mut out = [UNTOUCHED; 4];
+        // SAFETY: see `build`.
+        let number = unsafe { gateway_find_part(self.words.as_ptr(), WORDS, self.values.as_ptr(), VALUES, part, &mut out) };
+        (number == 0 && out[0] == 1).then_some(out[1] as usize)
+    }
+
+    /// The place and length of a field's value in a map.
+    pub fn find_field(&self, map: usize, tag: u32) -> Option<(u32, u32)> {
+        let mut out = [UNTOUCHED; 4];
+        // SAFETY: see `build`.
+        let number = unsafe { gateway_find_field(self.words.as_ptr(), WORDS, self.values.as_ptr(), VALUES, map, tag, &mut out) };
+        (number == 0 && out[0] == 1).then_some((out[1], out[2]))
+    }
+
+    pub fn take_over(&mut self, built: &Built, message: &[u8]) -> u32 {
         let (words, values) = (self.words.as_mut_ptr(), self.values.as_mut_ptr());
         // SAFETY: see `build`.
         changed(|out| unsafe {
@@ -292,10 +207,13 @@ impl Lent {
 
     /// Makes a run and hangs it; a refusal on the way is the call's.
     fn hang(&mut self, part: u8, rows: &[Row]) -> u32 {
-        let run = match draft(rows, 0) {
-            Ok(run) => run,
-            Err(number) => return number,
-        };
+        match draft(rows, 0) {
+            Ok(run) => self.hang_draft(part, &run),
+            Err(number) => number,
+        }
+    }
+
+    pub fn hang_draft(&mut self, part: u8, run: &Lent) -> u32 {
         // SAFETY: see `build`.
         changed(|out| unsafe {
             gateway_hang(self.words.as_mut_ptr(), WORDS, self.values.as_mut_ptr(), VALUES, part, run.words.as_ptr(), WORDS, run.values.as_ptr(), VALUES, out)
@@ -318,11 +236,26 @@ impl Lent {
             .collect()
     }
 
-    fn encode(&mut self, separator: u8) -> String {
-        let (mut output, mut out) = (vec![UNTOUCHED as u8; OUTPUT], [UNTOUCHED; 4]);
+    /// The number and the four words.
+    pub fn encode_into(&mut self, output: &mut [u8], separator: u8) -> (u32, Out) {
+        let mut out = [UNTOUCHED; 4];
         let (words, values) = (self.words.as_mut_ptr(), self.values.as_mut_ptr());
         // SAFETY: see `build`.
-        let number = unsafe { gateway_encode(words, WORDS, values, VALUES, output.as_mut_ptr(), OUTPUT, separator, &mut out) };
+        let number = unsafe { gateway_encode(words, WORDS, values, VALUES, output.as_mut_ptr(), output.len(), separator, &mut out) };
+        (number, out)
+    }
+
+    /// The encoding, or the number that refuses it.
+    pub fn encoded(&mut self, separator: u8) -> Result<Vec<u8>, u32> {
+        let mut output = vec![0; OUTPUT];
+        let (number, out) = self.encode_into(&mut output, separator);
+        output.truncate(out[1] as usize);
+        if number == 0 { Ok(output) } else { Err(number) }
+    }
+
+    fn encode(&mut self, separator: u8) -> String {
+        let mut output = vec![UNTOUCHED as u8; OUTPUT];
+        let (number, out) = self.encode_into(&mut output, separator);
         let length = (out[1] as usize).min(OUTPUT);
         let others = if [out[0], out[2], out[3]] == [0; 3] { "" } else { " other words" };
         let rest = if output[length..].iter().all(|byte| *byte == UNTOUCHED as u8) { "" } else { " bytes past the length" };
@@ -338,8 +271,7 @@ impl Lent {
             Step::Empty => self.empty(),
             Step::New(begin, kind) => self.renew(begin, kind),
             Step::Store(part, tag, value) => self.store(*part, *tag, value),
-            // SAFETY: see `build`.
-            Step::Remove(part, tag) => changed(|out| unsafe { gateway_remove(self.words.as_mut_ptr(), WORDS, self.values.as_mut_ptr(), VALUES, *part, *tag, out) }),
+            Step::Remove(part, tag) => self.remove(*part, *tag),
             Step::Run(part, rows) => self.hang(*part, rows),
             Step::Encode(separator) => return Some(self.encode(*separator)),
         };
