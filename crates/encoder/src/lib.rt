@@ -188,14 +188,7 @@ fn write_encoding(
     let length = encode_rows::write_message(words, values, output, separator);
     let first = length - 4;
     let last = length - 1;
-    message::store_in(
-        words,
-        values,
-        Part::Trailer,
-        10,
-        &output[first..last],
-        true,
-    );
+    message::store_in(words, values, Part::Trailer, 10, &output[first..last], true);
     Encoding::Written(length)
 }
 

@@ -15,7 +15,7 @@ use Rattle.message_lent_rules.specs.LentLaws.{message-held}
 use Rattle.message_lent_rules.specs.Meaning.{Message, parts, wordsOf, valueBytesOf, messageIn}
 use Rattle.message_lent_rules.specs.MeaningLaws.{means, flat-length}
 use Rattle.message_rules.specs.Changes.{placeOf, spanOf, BlankFrom, Blank}
-use Rattle.message_rules.specs.PlaceLaws.{Standing, standing}
+use Rattle.message_rules.specs.PlaceLaws.{PartsAt, parts-at}
 use Rattle.message_rules.specs.declared.Part.{Part}
 use Rattle.message_rules.specs.declared.Part.the-variants.{Header, Body, Trailer}
 
@@ -52,10 +52,11 @@ unfolding Blank BlankFrom wordsOf valueBytesOf
 blank-behind b words values part lent blank e =
     let m = messageIn words values in
     let same = means words values (message-held words values lent) in
-    let count = standing words m (same .rows) .count in
+    let count = parts-at words m (same .rows) .count in
     let n : ℕ = length (laid 0 (parts m)) in
     let place = ap (placeOf words) (sym count) ∙ place-all words (parts m) (same .rows) in
     let long : length (n ∷ flat (laid 0 (parts m))) ≡ 4 * n + 1 = omega (arith, flat-length (laid 0 (parts m))) in
-    rw (span-count part m, place)
-    (ap (drop (4 * n + 1)) (blank e .0) ∙ behind messageWords (n ∷ flat (laid 0 (parts m))) (4 * n + 1) long,
-    ap (drop (length (valuesIn (parts m)))) (blank e .1) ∙ behind 8192 (valuesIn (parts m)) (length (valuesIn (parts m))) refl)
+    rw (span-count part m, place) (
+      ap (drop (4 * n + 1)) (blank e .0) ∙ behind messageWords (n ∷ flat (laid 0 (parts m))) (4 * n + 1) long,
+      ap (drop (length (valuesIn (parts m)))) (blank e .1) ∙ behind 8192 (valuesIn (parts m)) (length (valuesIn (parts m))) refl,
+    )

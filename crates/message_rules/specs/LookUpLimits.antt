@@ -14,7 +14,7 @@ use Rattle.message_lent_rules.specs.MeaningLaws.{means}
 use Rattle.message_rules.specs.LookUps.{rowsIn, partFound, fieldFound, entryFound}
 use Rattle.message_rules.specs.LookUpNames.{named-row}
 use Rattle.message_rules.specs.LookUpMeaning.{Names, RowNames, names-map, names-nothing, row-names, field-no-message, field-no-map, field-looked-up, part-no-message, part-looked-up, entry-no-message, entry-no-map, entry-looked-up}
-use Rattle.message_rules.specs.PlaceLaws.{standing}
+use Rattle.message_rules.specs.PlaceLaws.{parts-at}
 use Rattle.message_rules.specs.declared.Part.{Part}
 use Rattle.message_rules.specs.declared.Value.{Value}
 use Rattle.message_rules.specs.declared.FoundValue.the-variants as value
@@ -34,7 +34,7 @@ module _ (words values : List ℕ) where
   names-few row own lent names =
       let held = message-held words values lent in
       let m = messageIn words values in
-      let count = standing words m (means words values held .rows) .count in
+      let count = parts-at words m (means words values held .rows) .count in
       omega (arith, named-row names, rows-in 0 (parts m), count, held .laid .counted)
 
   pub part-few : (part : Part) (row : ℕ) → partFound part words values ≡ map.At row → row < messageRows

@@ -56,7 +56,7 @@ pub place-grows : (words : List ℕ) (i j : ℕ) → i ≤ j → placeOf words i
 place-grows words i j h = omega (arith, place-on words i j h)
 
 -- where the parts of a message stand
-pub record Standing (words : List ℕ) (m : Message) : Type 0 where
+pub record PartsAt (words : List ℕ) (m : Message) : Type 0 where
   pub count : rowCount words ≡ length (laid 0 (parts m))
   pub total : rowCount words ≡ 1 + length (laid 1 (m .header)) + 1 + length (laid 1 (m .body)) + 1 + length (laid 1 (m .trailer))
   pub first : endFrom 0 1 (rowsFrom (rowCount words - 1) 1 words) ≡ 1 + length (laid 1 (m .header))
@@ -72,9 +72,9 @@ pub part-values : (m : Message) → valuesIn (parts m) ≡ valuesIn (m .header) 
 unfolding parts valuesIn
 part-values m = refl
 
-pub standing : (words : List ℕ) (m : Message) → rowsOf words ≡ laid 0 (parts m) → Standing words m
+pub parts-at : (words : List ℕ) (m : Message) → rowsOf words ≡ laid 0 (parts m) → PartsAt words m
 unfolding rowsOf
-standing words m e =
+parts-at words m e =
     let n = rowCount words in
     let h = laid 1 (m .header) in
     let b = laid 1 (m .body) in

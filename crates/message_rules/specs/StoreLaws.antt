@@ -22,7 +22,7 @@ use Rattle.message_rules.specs.SplitLaws.{field-split, field-gone, run-s
 use Rattle.message_rules.specs.CutLaws.{Sized, laid-sized}
 use Rattle.message_rules.specs.FrameLaws.{Frame, Leaves}
 use Rattle.message_rules.specs.FrameLaws as frame
-use Rattle.message_rules.specs.PlaceLaws.{standing}
+use Rattle.message_rules.specs.PlaceLaws.{parts-at}
 use Rattle.message_rules.specs.PartLaws.{PartSplit, part-split, total-laid}
 use Rattle.message_rules.specs.declared.Part.{Part}
 use Rattle.message_rules.specs.declared.Change.the-variants.{NotStorable}
@@ -69,7 +69,7 @@ pub heads-of : (words values : List ℕ) → isMessage words values ≡ true →
 unfolding bodyHead trailerHead
 heads-of words values h =
     let held = message-held words values h in
-    let s = standing words (messageIn words values) (means words values held .rows) in
+    let s = parts-at words (messageIn words values) (means words values held .rows) in
     record {
       whole = held .laid .whole;
       few = held .laid .counted;

@@ -107,9 +107,10 @@ unfolding BlankFrom
 splice-words-requires c κs =
     let start = c .before .before .before .before .before .before .before .before .before .before .before in
     let pre = start .pre .0 in
-    let room = pre .room (c .before .if3 .left) in
-    ((omega (arith, pre .forwards, pre .back), omega (arith, pre .back), omega (arith, pre .on), omega (arith, pre .last), omega (arith, pre .few), pre .whole, omega (arith, room, pre .four, pre .forwards, pre .back, pre .on, pre .last, pre .few)),
-    λ e. start .pre .1 e .0)
+    let room = pre .room (c .before .if3 .left) in (
+      (omega (arith, pre .forwards, pre .back), omega (arith, pre .back), omega (arith, pre .on), omega (arith, pre .last), omega (arith, pre .few), pre .whole, omega (arith, room, pre .four, pre .forwards, pre .back, pre .on, pre .last, pre .few)),
+      λ e. start .pre .1 e .0,
+    )
 
 add-words : tie.Need-add-words
 add-words c = let pre = c .before .before .before .before .before .before .before .before .before .before .before .before .before .before .pre .0 in let room = pre .room (c .before .before .before .before .if3 .left) in omega (arith, room, pre .forwards, pre .back, pre .on, pre .last, pre .few)
@@ -122,9 +123,10 @@ unfolding BlankFrom
 splice-bytes-requires c κs =
     let start = c .before .before .before .before .before .before .before .before .before .before .before .before .before .before .before in
     let p = places-at (c .before .before .before .before .before .before .before .before .before) in
-    let s = room-at (c .before .before .before .before .before .before .before .before) (not-false _ (c .before .before .before .before .before .before .before .if1 .left)) in
-    ((omega (arith, p .forwards, p .back), p .back, p .on, p .last, p .within, start .pre .0 .store, omega (arith, s, p .forwards, p .back, p .on, p .last)),
-    λ e. rw (c .before .before .before .before .before .before .before .before .before .places-of .ensures .4) (start .pre .1 e .1))
+    let s = room-at (c .before .before .before .before .before .before .before .before) (not-false _ (c .before .before .before .before .before .before .before .if1 .left)) in (
+      (omega (arith, p .forwards, p .back), p .back, p .on, p .last, p .within, start .pre .0 .store, omega (arith, s, p .forwards, p .back, p .on, p .last)),
+      λ e. rw (c .before .before .before .before .before .before .before .before .before .places-of .ensures .4) (start .pre .1 e .1),
+    )
 
 returns-4 : tie.Need-returns-4
 returns-4 c =

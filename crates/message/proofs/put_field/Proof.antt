@@ -51,8 +51,10 @@ add-cut-rows : tie.Need-add-cut-rows
 add-cut-rows c = let pre = c .before .before .before .before .before .before .before .before .before .before .before .before .before .pre .0 in omega (arith, pre .counted)
 
 cut-rows-requires-2 : tie.Need-cut-rows-requires-2
-cut-rows-requires-2 c κs = (able-last _ _ _ _ _ _ _ _ _ (at-is (c .before .before .before .before .before .before .before .before)) (c .before .before .before .before .before .before .before .if1 .left) (c .before .before .before .before .before .find-row2 .ensures) (c .before .before .before .run-end .ensures) (c .before .before .before .before .before .before .before .before .before .before .before .before .before .pre .0),
-    c .before .before .before .before .before .before .before .before .before .before .before .before .before .pre .1)
+cut-rows-requires-2 c κs = (
+  able-last _ _ _ _ _ _ _ _ _ (at-is (c .before .before .before .before .before .before .before .before)) (c .before .before .before .before .before .before .before .if1 .left) (c .before .before .before .before .before .find-row2 .ensures) (c .before .before .before .run-end .ensures) (c .before .before .before .before .before .before .before .before .before .before .before .before .before .pre .0),
+  c .before .before .before .before .before .before .before .before .before .before .before .before .before .pre .1,
+)
 
 returns-2 : tie.Need-returns-2
 returns-2 c = c .before .before .before .before .cut-rows2 .ensures ∙ put-last _ _ _ _ _ _ _ _ _ (at-is (c .before .before .before .before .before .before .before .before .before .before .before .before .before)) (c .before .before .before .before .before .before .before .before .before .before .before .before .if1 .left) (c .before .before .before .before .before .before .before .before .before .before .find-row2 .ensures) (c .before .before .before .before .before .before .before .before .run-end .ensures)
