@@ -116,7 +116,10 @@ impl Both {
         let (lent, given) = (std::cell::RefCell::new(&mut self.lent), std::cell::RefCell::new(&mut self.given));
         [
             timed_alone(|| assert_eq!(lent.borrow_mut().remove(BODY, number), 0), || assert_eq!(lent.borrow_mut().store(BODY, number, b"7"), 0)),
-            timed_alone(|| open::remove(&mut given.borrow_mut(), BODY, tag(number)), || open::store(&mut given.borrow_mut(), BODY, tag(number), b"7")),
+            timed_alone(
+                || open::remove(&mut given.borrow_mut(), BODY, tag(number)),
+                || open::store(&mut given.borrow_mut(), BODY, tag(number), b"7"),
+            ),
         ]
     }
 
@@ -132,7 +135,11 @@ impl Both {
         [
             timed(|| assert_eq!(self.lent.hang_draft(BODY, &draft), 0)),
             timed_alone(
-                || if let Some(run) = cell.borrow_mut().take() { assert!(open::hang(given, BODY, run)) },
+                || {
+                    if let Some(run) = cell.borrow_mut().take() {
+                        assert!(open::hang(given, BODY, run))
+                    }
+                },
                 || **cell.borrow_mut() = Some(entries.clone()),
             ),
         ]
@@ -167,11 +174,12 @@ fn last_field(map: &FieldMap) -> Option<u32> {
 
 fn by_kind(dictionaries: &Dictionaries, kinds: &[Sent], flow: &[Sent]) {
     println!("by message, ns a call: ours, the Rust, ours / the Rust; take-over is held against the Rust's build");
-    println!("{:20} {:>6} {:^25} {:^25} {:^25} {:^25} {:^25}", "", "fields", "encode", "take-over", "store", "find", "remove");
+    println!("{:20} {:>6} {:^25} {:^25} {:^25} {:^25} {:^25} {:^25}", "", "fields", "encode", "take-over", "hang", "store", "find", "remove");
     for sent in kinds {
         let mut both = dictionaries.both(&sent.bytes);
-        let columns = [both.encode(), dictionaries.take_over(&mut both)];
-        let body = last_field(open::part(&both.given, BODY)).map(|last| [both.store(last), both.find(last), both.remove(last)]);
+        let last = last_field(open::part(&both.given, BODY));
+        let columns = [both.encode(), dictionaries.take_over(&mut both), both.hang()];
+        let body = last.map(|last| [both.store(last), both.find(last), both.remove(last)]);
         let columns: Vec<String> = columns.into_iter().chain(body.into_iter().flatten()).map(shown).collect();
         println!("{:20} {:>6} {}", sent.name, both.built.out[0], columns.join(" "));
     }
@@ -205,7 +213,9 @@ fn by_size() {
 fn against() {
     println!("\n900 fields made by calls, ns a call: store, find, remove, hang, and each as a multiple of the first row's");
     let mut usual: Option<[f64; 4]> = None;
-    for (name, first, step) in [("one after the other", 1_000, 1), ("all in one chain", 2_048, 2_048), ("the low bits all alike", 4_194_304, 4_194_304)] {
+    for (name, first, step) in
+        [("one after the other", 1_000, 1), ("all in one chain", 2_048, 2_048), ("the low bits all alike", 4_194_304, 4_194_304)]
+    {
         let mut lent = Lent::new();
         let mut given = open::empty();
         for i in 0..900 {
@@ -232,7 +242,7 @@ fn main() {
         let words: Vec<String> = std::env::args().skip(1).collect();
         match &words[..] {
             [flat, kinds, flow] => by_kind(&Dictionaries::new(std::fs::read(flat).expect("a dictionary")), &lines(kinds), &lines(flow)),
-            _ => by_kind(&Dictionaries::new(sent::dictionary(1_000, 1, 1)), &sent::kinds(), &sent::flow(if std::env::var("QUICK").is_ok() { 64 } else { 2_000 })),
+            _ => by_kind(&Dictionaries::new(sent::dictionary(1_000, 1, 1)), &sent::kinds(), &sent::flow(2_000)),
         }
         by_size();
         against();

@@ -76,7 +76,13 @@ fn heartbeat(number: usize) -> Vec<u8> {
 }
 
 fn order(number: usize) -> Vec<u8> {
-    let body = format!("11=ORD{number:06}|1=ACC{}|21=1|55=VOD.L|54={}|60=20261116-09:30:00.123|38={}|40=2|44=72.{:02}|59=0|", number % 90, 1 + number % 2, 100 * (1 + number % 40), number % 100);
+    let body = format!(
+        "11=ORD{number:06}|1=ACC{}|21=1|55=VOD.L|54={}|60=20261116-09:30:00.123|38={}|40=2|44=72.{:02}|59=0|",
+        number % 90,
+        1 + number % 2,
+        100 * (1 + number % 40),
+        number % 100
+    );
     whole("D", number, &body)
 }
 
@@ -91,16 +97,22 @@ fn report(number: usize) -> Vec<u8> {
 }
 
 fn snapshot(number: usize, levels: usize) -> Vec<u8> {
-    let entries: String =
-        (0..levels).map(|i| format!("269={}|270=72.{:02}|15=GBP|271={}00|272=20261116|273=09:30:00.123|", i % 2, (number + i) % 100, 1 + i)).collect();
+    let entries: String = (0..levels)
+        .map(|i| format!("269={}|270=72.{:02}|15=GBP|271={}00|272=20261116|273=09:30:00.123|", i % 2, (number + i) % 100, 1 + i))
+        .collect();
     whole("W", number, &format!("262=R{number}|55=VOD.L|48=GB00BH4HKS39|22=4|268={levels}|{entries}"))
 }
 
 fn block(number: usize, orders: usize) -> Vec<u8> {
     let entries: String = (0..orders)
         .map(|i| {
-            let shares: String = (0..3).map(|j| format!("79=ALLOC{j}|661=99|539=2|524=FUND{j}|525=D|538=1|524=CUST{j}|525=D|538=3|80={}|", 100 + j)).collect();
-            format!("11=L{number}-{i}|67={}|{}1=BLOCK|78=3|{shares}21=1|55=VOD.L|54=1|60=20261116-09:30:00.123|38=60000|40=2|44=72.45|59=0|", i + 1, parties(&["DEALER"]))
+            let shares: String =
+                (0..3).map(|j| format!("79=ALLOC{j}|661=99|539=2|524=FUND{j}|525=D|538=1|524=CUST{j}|525=D|538=3|80={}|", 100 + j)).collect();
+            format!(
+                "11=L{number}-{i}|67={}|{}1=BLOCK|78=3|{shares}21=1|55=VOD.L|54=1|60=20261116-09:30:00.123|38=60000|40=2|44=72.45|59=0|",
+                i + 1,
+                parties(&["DEALER"])
+            )
         })
         .collect();
     whole("E", number, &format!("66=LIST{number}|394=3|68={orders}|73={orders}|{entries}"))

@@ -61,7 +61,15 @@ unsafe extern "C" {
         out: *mut Out,
     ) -> u32;
     pub fn gateway_draft(words: *mut u32, word_count: usize, values: *mut u8, value_count: usize, out: *mut Out) -> u32;
-    pub fn gateway_add_entry(words: *mut u32, word_count: usize, values: *mut u8, value_count: usize, start: u32, delimiter: u32, out: *mut Out) -> u32;
+    pub fn gateway_add_entry(
+        words: *mut u32,
+        word_count: usize,
+        values: *mut u8,
+        value_count: usize,
+        start: u32,
+        delimiter: u32,
+        out: *mut Out,
+    ) -> u32;
     pub fn gateway_store_last(
         words: *mut u32,
         word_count: usize,
@@ -109,7 +117,15 @@ unsafe extern "C" {
         out: *mut Out,
     ) -> u32;
     pub fn gateway_find_part(words: *const u32, word_count: usize, values: *const u8, value_count: usize, part: u8, out: *mut Out) -> u32;
-    pub fn gateway_find_field(words: *const u32, word_count: usize, values: *const u8, value_count: usize, map: usize, tag: u32, out: *mut Out) -> u32;
+    pub fn gateway_find_field(
+        words: *const u32,
+        word_count: usize,
+        values: *const u8,
+        value_count: usize,
+        map: usize,
+        tag: u32,
+        out: *mut Out,
+    ) -> u32;
     pub fn gateway_encode(
         words: *mut u32,
         word_count: usize,
@@ -120,8 +136,22 @@ unsafe extern "C" {
         separator: u8,
         out: *mut Out,
     ) -> u32;
-    pub fn gateway_ported_push(state: *mut PortedState, store: *mut u8, store_length: usize, chunk: *const u8, chunk_length: usize, out: *mut Out) -> u32;
-    pub fn gateway_ported_take(state: *mut PortedState, store: *mut u8, store_length: usize, output: *mut u8, output_length: usize, out: *mut Out) -> u32;
+    pub fn gateway_ported_push(
+        state: *mut PortedState,
+        store: *mut u8,
+        store_length: usize,
+        chunk: *const u8,
+        chunk_length: usize,
+        out: *mut Out,
+    ) -> u32;
+    pub fn gateway_ported_take(
+        state: *mut PortedState,
+        store: *mut u8,
+        store_length: usize,
+        output: *mut u8,
+        output_length: usize,
+        out: *mut Out,
+    ) -> u32;
 }
 
 pub const RECORDS: usize = 1_024;

@@ -113,7 +113,9 @@ fn draft(rows: &[Row], level: u32) -> Result<Lent, u32> {
                 let run = draft(&rows[at..end], level + 1)?;
                 let (words, values) = (lent.words.as_mut_ptr(), lent.values.as_mut_ptr());
                 // SAFETY: see `build`.
-                number = changed(|out| unsafe { gateway_hang_last(words, WORDS, values, VALUES, run.words.as_ptr(), WORDS, run.values.as_ptr(), VALUES, out) });
+                number = changed(|out| unsafe {
+                    gateway_hang_last(words, WORDS, values, VALUES, run.words.as_ptr(), WORDS, run.values.as_ptr(), VALUES, out)
+                });
                 at = end;
             }
         }
@@ -146,7 +148,9 @@ impl Lent {
 
     pub fn store_last(&mut self, tag: u32, value: &[u8]) -> u32 {
         // SAFETY: see `build`.
-        changed(|out| unsafe { gateway_store_last(self.words.as_mut_ptr(), WORDS, self.values.as_mut_ptr(), VALUES, tag, value.as_ptr(), value.len(), out) })
+        changed(|out| unsafe {
+            gateway_store_last(self.words.as_mut_ptr(), WORDS, self.values.as_mut_ptr(), VALUES, tag, value.as_ptr(), value.len(), out)
+        })
     }
 
     fn empty(&mut self) -> u32 {
@@ -162,7 +166,9 @@ impl Lent {
 
     pub fn store(&mut self, part: u8, tag: u32, value: &[u8]) -> u32 {
         // SAFETY: see `build`.
-        changed(|out| unsafe { gateway_store(self.words.as_mut_ptr(), WORDS, self.values.as_mut_ptr(), VALUES, part, tag, value.as_ptr(), value.len(), out) })
+        changed(|out| unsafe {
+            gateway_store(self.words.as_mut_ptr(), WORDS, self.values.as_mut_ptr(), VALUES, part, tag, value.as_ptr(), value.len(), out)
+        })
     }
 
     pub fn remove(&mut self, part: u8, tag: u32) -> u32 {
@@ -216,7 +222,18 @@ impl Lent {
     pub fn hang_draft(&mut self, part: u8, run: &Lent) -> u32 {
         // SAFETY: see `build`.
         changed(|out| unsafe {
-            gateway_hang(self.words.as_mut_ptr(), WORDS, self.values.as_mut_ptr(), VALUES, part, run.words.as_ptr(), WORDS, run.values.as_ptr(), VALUES, out)
+            gateway_hang(
+                self.words.as_mut_ptr(),
+                WORDS,
+                self.values.as_mut_ptr(),
+                VALUES,
+                part,
+                run.words.as_ptr(),
+                WORDS,
+                run.values.as_ptr(),
+                VALUES,
+                out,
+            )
         })
     }
 
