@@ -56,14 +56,17 @@ pub fn dictionary(first: u32, step: u32, fields: u32) -> Vec<u8> {
     flat
 }
 
-/// A whole message of what stands behind MsgType and in front of CheckSum; `|` stands for 0x01.
-fn whole(kind: &str, number: usize, body: &str) -> Vec<u8> {
-    let body = format!("35={kind}|49=BUYSIDE|56=SELLSIDE|34={number}|52=20261116-09:30:00.123|{body}");
-    let text = format!("8=FIX.4.4|9={}|{body}", body.len());
-    let mut bytes = text.replace('|', "\x01").into_bytes();
+/// A message of its fields from MsgType on, with BeginString, BodyLength and CheckSum; `|` stands for 0x01.
+fn framed(fields: &str) -> Vec<u8> {
+    let mut bytes = format!("8=FIX.4.4|9={}|{fields}", fields.len()).replace('|', "\x01").into_bytes();
     let sum = bytes.iter().fold(0u8, |sum, byte| sum.wrapping_add(*byte));
     bytes.extend_from_slice(format!("10={sum:03}\x01").as_bytes());
     bytes
+}
+
+/// A message with a usual header in front of its body.
+fn whole(kind: &str, number: usize, body: &str) -> Vec<u8> {
+    framed(&format!("35={kind}|49=BUYSIDE|56=SELLSIDE|34={number}|52=20261116-09:30:00.123|{body}"))
 }
 
 fn parties(names: &[&str]) -> String {
@@ -145,10 +148,5 @@ pub fn flow(count: usize) -> Vec<Sent> {
 /// A message with so many plain fields in its body, each of one byte.
 pub fn plain(first: u32, step: u32, fields: u32) -> Vec<u8> {
     let body: String = (0..fields).map(|i| format!("{}={}|", first + step * i, i % 10)).collect();
-    let text = format!("35=N|{body}");
-    let text = format!("8=FIX.4.4|9={}|{text}", text.len());
-    let mut bytes = text.replace('|', "\x01").into_bytes();
-    let sum = bytes.iter().fold(0u8, |sum, byte| sum.wrapping_add(*byte));
-    bytes.extend_from_slice(format!("10={sum:03}\x01").as_bytes());
-    bytes
+    framed(&format!("35=N|{body}"))
 }
