@@ -32,7 +32,7 @@ static const uint8_t x[] = "x";
 #define MESSAGE words, WORDS, values, VALUES
 #define DRAFT run_words, WORDS, run_values, VALUES
 
-// a body of 700 fields and a run without its count, so that storing the count moves it; a draft whose entries start with a nested run
+// a body of 700 fields and a run without its count, so that storing the count moves it; a draft of one entry; records that are all taken over
 static void prepare(void) {
     gateway_new(MESSAGE, (const uint8_t *)"FIX.4.4", 7, (const uint8_t *)"D", 1, out);
     for (uint32_t i = 0; i < 700; i++) gateway_store(MESSAGE, 2, 1000 + i, x, 1, out);
