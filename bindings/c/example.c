@@ -1,5 +1,6 @@
-/* One sample on its whole way: a damaged stream, the hunting framer, a build, an encoding, a change, an encoding again; and what the settings word
- * decides. Each line that is printed is held against what must come; the exit code is 1 where one differs. */
+/* One sample on its whole way: a damaged stream, the hunting framer, a build over a prepared dictionary, an encoding, a change, an encoding again; and
+ * what a plain build answers, and what the settings word decides. Each line that is printed is held against what must come; the exit code is 1 where
+ * one differs. */
 #include "tinkoraba.h"
 
 #include <stdio.h>
@@ -21,6 +22,10 @@ static const uint8_t DICTIONARY[] = {
     2, 1,  0, 4, 10, 0, 0, 0, 0, 7,
     3, 'D', 0, 0, 0, 0, 0, 0, 0, 4, 38, 0, 0, 0, 0, 4, 58, 0, 0, 0, 0, 7,
 };
+
+/* What the dictionary is prepared in. It is only read by the builds. */
+static uint8_t copy[sizeof DICTIONARY];
+static uint16_t memory[TINKORABA_PREPARED_WORDS];
 
 static int failures = 0;
 
@@ -63,6 +68,28 @@ static void sizes(void) {
     number("store bytes", gateway_store_bytes(), TINKORABA_STORE_BYTES);
     number("dictionary bytes", gateway_most_dictionary_bytes(), TINKORABA_DICTIONARY_BYTES);
     number("words", gateway_message_words(), TINKORABA_WORDS);
+    number("prepared words", gateway_prepared_words(), TINKORABA_PREPARED_WORDS);
+}
+
+static uint32_t prepare(size_t dictionary_length, size_t memory_count) {
+    uint32_t out[4];
+    return gateway_prepare(DICTIONARY, dictionary_length, copy, sizeof copy, memory, memory_count, out);
+}
+
+/* A build over what is prepared. */
+static uint32_t build(const uint8_t *message, size_t length, FieldRecord *records, uint32_t out[4]) {
+    return gateway_build_prepared(message, length, TINKORABA_SOH, TINKORABA_VALIDATE, copy, sizeof copy, memory, TINKORABA_PREPARED_WORDS, records,
+                                  TINKORABA_RECORDS, out);
+}
+
+/* Once for all builds; what is refused prepares nothing. */
+static void prepared(void) {
+    static FieldRecord records[TINKORABA_RECORDS];
+    uint32_t out[4];
+    number("prepare in a word too few answers", prepare(sizeof DICTIONARY, TINKORABA_PREPARED_WORDS - 1), TINKORABA_NO_ROOM);
+    number("prepare of a cut dictionary answers", prepare(sizeof DICTIONARY - 1, TINKORABA_PREPARED_WORDS), TINKORABA_DICTIONARY_BAD_RECORD);
+    number("build with nothing prepared answers", build((const uint8_t *)WITH_5001, sizeof WITH_5001 - 1, records, out), TINKORABA_NO_MESSAGE);
+    number("prepare answers", prepare(sizeof DICTIONARY, TINKORABA_PREPARED_WORDS), TINKORABA_VALID);
 }
 
 static size_t hunted(uint8_t *frame) {
@@ -79,13 +106,22 @@ static size_t hunted(uint8_t *frame) {
 static size_t built(const uint8_t *frame, size_t length, FieldRecord *records) {
     static const char *const expected[] = {"header 8=FIX.4.4", "header 9=24", "header 35=D", "body 38=800", "body 58=x", "trailer 10=139"};
     uint32_t out[4];
-    uint32_t answer = gateway_build(frame, length, TINKORABA_SOH, TINKORABA_VALIDATE, DICTIONARY, sizeof DICTIONARY, records, TINKORABA_RECORDS, out);
-    number("build answers", answer, TINKORABA_VALID);
+    number("build answers", build(frame, length, records, out), TINKORABA_VALID);
     number("records", out[0], 6);
     for (size_t i = 0; i < out[0] && i < 6; i++) {
         record(&records[i], frame, expected[i]);
     }
     return out[0];
+}
+
+/* A plain build is given the dictionary and checks it each time; it fills the same records. */
+static void built_plainly(const uint8_t *frame, size_t length, const FieldRecord *records, size_t count) {
+    static FieldRecord others[TINKORABA_RECORDS];
+    uint32_t out[4];
+    uint32_t answer = gateway_build(frame, length, TINKORABA_SOH, TINKORABA_VALIDATE, DICTIONARY, sizeof DICTIONARY, others, TINKORABA_RECORDS, out);
+    number("plain build answers", answer, TINKORABA_VALID);
+    number("plain build's records", out[0], (uint32_t)count);
+    line(memcmp(others, records, sizeof others) == 0 ? "records alike" : "records not alike", "records alike");
 }
 
 static uint32_t built_with(uint32_t settings) {
@@ -134,7 +170,9 @@ int main(void) {
     static FieldRecord records[TINKORABA_RECORDS];
     sizes();
     size_t length = hunted(frame);
+    prepared();
     size_t count = built(frame, length, records);
+    built_plainly(frame, length, records, count);
     changed(records, count, frame, length);
     settings();
     puts(failures ? "something differs" : "all as expected");

@@ -5,7 +5,8 @@
  * answer doesn't have is 0 there.
  *
  * All state is lent by the caller. The library has no variable of its own and takes no memory, so calls over different memory may run at the
- * same time in any number of threads; two calls over the same memory must not.
+ * same time in any number of threads; so may calls that only read the same memory, as builds read what a dictionary was prepared in. Memory that a
+ * call writes to must not be lent to another call at the same time.
  *
  * Every content of what is lent is allowed and answered. What the caller owes is what C itself asks for: each pointer points to as many elements as
  * the number behind it says (it is not NULL even where that is 0), it is aligned for its type, and what a call writes to overlaps nothing else that
@@ -25,6 +26,7 @@ extern "C" {
 #define TINKORABA_MESSAGE_BYTES 8192     /* the longest message or encoding; the output of a take, at least */
 #define TINKORABA_STORE_BYTES 16384      /* a framer's store, exactly */
 #define TINKORABA_DICTIONARY_BYTES 60000 /* the longest flat dictionary */
+#define TINKORABA_PREPARED_WORDS 96153   /* the words of memory that a dictionary is prepared in, at least */
 #define TINKORABA_WORDS 8205             /* the words of a lent message or draft, exactly */
 #define TINKORABA_VALUES 8192            /* the value bytes of a lent message or draft, exactly */
 
@@ -56,7 +58,7 @@ enum {
     TINKORABA_NO_ROOM = 23,
     TINKORABA_STORE_FULL = 25,
     TINKORABA_AFTER_END = 26,
-    TINKORABA_NO_MESSAGE = 27,
+    TINKORABA_NO_MESSAGE = 27, /* also memory in which no dictionary was prepared */
     TINKORABA_DICTIONARY_TOO_LONG = 30,
     TINKORABA_DICTIONARY_BAD_RECORD = 31,
     TINKORABA_DICTIONARY_NO_COMPONENT = 32,
@@ -108,16 +110,31 @@ uint32_t gateway_most_message_bytes(void);
 uint32_t gateway_store_bytes(void);
 uint32_t gateway_most_dictionary_bytes(void);
 uint32_t gateway_message_words(void);
+uint32_t gateway_prepared_words(void);
 
 /* ---- Dictionary and build ---- */
 
 /* Checks a flat dictionary: 0, or 30 to 37 with out[1] saying where. */
 uint32_t gateway_check(const uint8_t *dictionary, size_t dictionary_length, uint32_t out[4]);
 
+/* Checks a flat dictionary and prepares it, once for many builds: its records in the copy, of at least as many bytes as it has, and what they name in
+ * the memory, of at least TINKORABA_PREPARED_WORDS words. 0; 23, looked for first, where one of these is too short; or 30 to 37 as gateway_check
+ * answers them. On a refusal both are as they were. The dictionary isn't needed afterwards: what was prepared has no pointer to it. */
+uint32_t gateway_prepare(const uint8_t *dictionary, size_t dictionary_length, uint8_t *copy, size_t copy_length, uint16_t *memory,
+                         size_t memory_count, uint32_t out[4]);
+
 /* Builds a message from its bytes. out[0] is how many records were filled; out[1] and out[2] are the values of 1 to 4 and of 30 to 37. Records
  * past those filled are zero; with 20, 22 and 23 all are as they were. `settings` is TINKORABA_VALIDATE or 0. */
 uint32_t gateway_build(const uint8_t *message, size_t message_length, uint8_t separator, uint32_t settings, const uint8_t *dictionary,
                        size_t dictionary_length, FieldRecord *records, size_t record_count, uint32_t out[4]);
+
+/* Builds a message as gateway_build does, over the copy and the memory that gateway_prepare left: it takes no dictionary and checks none, so it never
+ * answers 30 to 37, and else answers as gateway_build with that dictionary. 27, looked for before 22, where the memory tells that nothing was prepared
+ * in what is lent; all records are then as they were. Copy and memory are only read: any number of threads may build over them at the same time, each
+ * with records of its own, while nobody prepares in them. */
+uint32_t gateway_build_prepared(const uint8_t *message, size_t message_length, uint8_t separator, uint32_t settings, const uint8_t *copy,
+                                size_t copy_length, const uint16_t *memory, size_t memory_count, FieldRecord *records, size_t record_count,
+                                uint32_t out[4]);
 
 /* ---- A message to change: TINKORABA_WORDS words and TINKORABA_VALUES value bytes ---- */
 

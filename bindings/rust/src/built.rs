@@ -1,6 +1,6 @@
 //! Building a message from its bytes, and reading what was built.
 use crate::error::answered;
-use crate::{raw, Config, Dictionary, Error, Part, RECORDS};
+use crate::{Config, Dictionary, Error, Part, RECORDS};
 use std::fmt;
 
 /// One field of a built message, as the library fills it in. Depth and entry are 0 outside groups, else they count from 1; place and length are
@@ -42,7 +42,7 @@ impl Default for Records {
     }
 }
 
-/// Builds a message from its bytes.
+/// Builds a message from its bytes, over what the dictionary prepared when it was made.
 ///
 /// ```
 /// # fn main() -> Result<(), tinkoraba::Error> {
@@ -62,21 +62,7 @@ impl Default for Records {
 /// ```
 pub fn build<'a>(bytes: &'a [u8], dictionary: &Dictionary, config: Config, records: &'a mut Records) -> Result<Built<'a>, NotBuilt<'a>> {
     let mut out = [0; 4];
-    let (lent, flat) = (&mut records.lent, dictionary.as_bytes());
-    // SAFETY: each pointer goes with the length of what it comes from, `build_records` is borrowed for writing alone, and `out` has its size.
-    let number = unsafe {
-        raw::gateway_build(
-            bytes.as_ptr(),
-            bytes.len(),
-            config.separator,
-            config.settings.word(),
-            flat.as_ptr(),
-            flat.len(),
-            lent.as_mut_ptr(),
-            lent.len(),
-            &mut out,
-        )
-    };
+    let number = dictionary.build(bytes, config, &mut records.lent, &mut out);
     let built = Built { bytes, separator: config.separator, records: &records.lent[..out[0] as usize] };
     answered(number, &out).map(|()| built).map_err(|error| NotBuilt { error, header: built })
 }

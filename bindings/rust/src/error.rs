@@ -28,7 +28,7 @@ pub enum Error {
     StoreFull,
     /// 26: the stream had ended.
     AfterEnd,
-    /// 27: what was lent is no message.
+    /// 27: what was lent is no message, or memory in which no dictionary was prepared; in a [`Dictionary`](crate::Dictionary) one always was.
     NoMessage,
     /// 30 to 37: the dictionary has a flaw.
     Dictionary(Flaw),

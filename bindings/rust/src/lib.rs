@@ -40,7 +40,7 @@
 //! Every refusal is an [`Error`] that says in words what happened and carries its number in docs/ANSWERS.md.
 //!
 //! The library has no variable of its own: all state is lent by these values, which own their memory. They may be sent to other threads, and
-//! values of different threads never meet.
+//! values of different threads never meet. A [`Dictionary`] is only read by builds: any number of threads share one.
 mod built;
 mod config;
 mod dictionary;

@@ -1,5 +1,5 @@
-//! The exports of libgateway.a, each declared here and called in this crate only. A slice goes as pointer and length, and `out`, the last parameter,
-//! has `[records, first value, second value, 0]` after every call.
+//! The exports of libgateway.a that this crate calls, declared here and nowhere else. A slice goes as pointer and length, and `out`, the last
+//! parameter, has `[records, first value, second value, 0]` after every call.
 use crate::FieldRecord;
 
 pub type Out = [u32; 4];
@@ -23,14 +23,25 @@ pub struct HunterState {
 }
 
 extern "C" {
-    pub fn gateway_check(dictionary: *const u8, length: usize, out: *mut Out) -> u32;
-    pub fn gateway_build(
+    pub fn gateway_prepared_words() -> u32;
+    pub fn gateway_prepare(
+        dictionary: *const u8,
+        dictionary_length: usize,
+        copy: *mut u8,
+        copy_length: usize,
+        memory: *mut u16,
+        memory_count: usize,
+        out: *mut Out,
+    ) -> u32;
+    pub fn gateway_build_prepared(
         message: *const u8,
         message_length: usize,
         separator: u8,
         settings: u32,
-        dictionary: *const u8,
-        dictionary_length: usize,
+        copy: *const u8,
+        copy_length: usize,
+        memory: *const u16,
+        memory_count: usize,
         records: *mut FieldRecord,
         record_count: usize,
         out: *mut Out,

@@ -7,7 +7,7 @@ use Rattle.field_rules.specs.Choice.{pick}
 use Rattle.dictionary_rules.specs.Check.{numberOfCheck, valuesOfCheck}
 use Rattle.build_integrity_rules.specs.Integrity.{numberOfReason}
 use Rattle.build_answers.specs.declared.Answer.{Answer}
-use Rattle.build_answers.specs.declared.Answer.the-variants.{Valid, InvalidField, InvalidOrderInGroup, InvalidMsgType, RequiredFieldMissing, Malformed, Garbled, TooLong, TooManyFields, InvalidSeparator, TooFewRecords, BadDictionary}
+use Rattle.build_answers.specs.declared.Answer.the-variants.{Valid, InvalidField, InvalidOrderInGroup, InvalidMsgType, RequiredFieldMissing, Malformed, Garbled, TooLong, TooManyFields, InvalidSeparator, TooFewRecords, NotPrepared, BadDictionary}
 
 unfoldable pub numberOf : Answer → ℕ
 numberOf Valid = 0
@@ -21,6 +21,7 @@ numberOf TooLong = 20
 numberOf TooManyFields = 21
 numberOf InvalidSeparator = 22
 numberOf TooFewRecords = 23
+numberOf NotPrepared = 27
 numberOf (BadDictionary checked) = numberOfCheck checked
 
 -- "tag"; "tag, group tag"; "place, length of its value"; what the dictionary's check returns; 0 where there is none
@@ -36,6 +37,7 @@ valuesOf TooLong = (0, 0)
 valuesOf TooManyFields = (0, 0)
 valuesOf InvalidSeparator = (0, 0)
 valuesOf TooFewRecords = (0, 0)
+valuesOf NotPrepared = (0, 0)
 valuesOf (BadDictionary checked) = (getD (valuesOfCheck checked) 0 0, 0)
 
 -- for worked examples: the values where there are any

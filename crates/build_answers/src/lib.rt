@@ -20,6 +20,7 @@ pub enum Answer {
     TooManyFields,
     InvalidSeparator,
     TooFewRecords,
+    NotPrepared,
     BadDictionary(Checked),
 }
 
@@ -58,6 +59,7 @@ pub fn number_of(answer: Answer) -> u32
         Answer::TooManyFields => 21,
         Answer::InvalidSeparator => 22,
         Answer::TooFewRecords => 23,
+        Answer::NotPrepared => 27,
         Answer::BadDictionary(checked) => dictionary_check::number_of(checked),
     }
 }
@@ -84,6 +86,7 @@ pub fn values_of(answer: Answer) -> Values
         Answer::TooManyFields => returned(0, 0),
         Answer::InvalidSeparator => returned(0, 0),
         Answer::TooFewRecords => returned(0, 0),
+        Answer::NotPrepared => returned(0, 0),
         Answer::BadDictionary(checked) => returned(dictionary_check::value_of(checked) as usize, 0),
     }
 }

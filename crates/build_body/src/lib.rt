@@ -21,6 +21,7 @@ ghost use mathlib.Core.Path.{_≡_};
 ghost use Rattle.dictionary_rules.specs.Index.{tagAt};
 ghost use Prim.Native.Nat.{suc, _+_, _≤_, _<_, _/_, _^_};
 ghost use lib.ListN.{length};
+ghost use Rattle.dictionary_chains.specs.Chain.{indexWords};
 ghost use Rattle.field_rules.specs.Fields.{field, fieldsFrom, Inside};
 ghost use Rattle.build_records.specs.Records.{stored, stride};
 ghost use Rattle.build_group_rules.specs.Reading.{tableRules, answerOf};
@@ -30,13 +31,8 @@ ghost use Rattle.build_body_rules.specs.Kinds.{meantBy, bodyKind, runFrom, body
 ghost use Rattle.build_body_rules.specs.Body.{nextFrom, withRun, bodyFrom, RunEnd, Dropped, Opened};
 
 // With validation off, unknown user-defined tags are the body's too.
-fn kind_of(
-    config: Config,
-    table: &[u32],
-    index: &[u16; dictionary_chains::WORDS],
-    level: Level,
-    tag: u32,
-) -> BodyKind
+fn kind_of(config: Config, table: &[u32], index: &[u16], level: Level, tag: u32) -> BodyKind
+    requires { ⌜ length (now index) ≡ indexWords ⌝ }
     ensures { λ r. ⌜ meantBy r ≡ bodyKind (tableRules config (now (table .entry)) (tagAt (now (index .entry)))) level tag ⌝ }
 {
     let Position::At(_) = dictionary_layout::position_of(table, level, tag) else {
@@ -144,7 +140,7 @@ fn read_group(
     message: &[u8],
     config: Config,
     table: &[u32],
-    index: &[u16; dictionary_chains::WORDS],
+    index: &[u16],
     inner: Level,
     count: Field,
     words: &mut [u32],
@@ -152,6 +148,7 @@ fn read_group(
     progress: Progress,
 ) -> PartRead
     requires { ⌜ (length (now message) < 2 ^ 32) × (Inside (now message) count) × (from ≤ progress .records) × (progress .records + progress .room < length (now words) / stride) × (length (now words) < 2 ^ 32) ⌝ }
+    requires { ⌜ length (now index) ≡ indexWords ⌝ }
     ensures { λ r. ⌜ partTold (config .mode) (now (message .entry)) from r (now (words .exit)) ≡ withRun (partRecord 2 count) (partOf from (progress .records) (now (words .entry))) (runFrom (tableRules config (now (table .entry)) (tagAt (now (index .entry)))) (tableDemands (now (table .entry))) inner (count .tag) (fieldsFrom (config .mode) (now (message .entry)) (count .next)) (progress .room)) ⌝ }
     ensures { λ r. ⌜ Stays (now (message .entry)) (now (words .entry)) (now (words .exit)) from (progress .room) r ⌝ }
 {
@@ -205,7 +202,7 @@ pub fn read_body(
     message: &[u8],
     config: Config,
     table: &[u32],
-    index: &[u16; dictionary_chains::WORDS],
+    index: &[u16],
     trailer_tags: &[u32],
     level: Level,
     first: Field,
@@ -214,6 +211,7 @@ pub fn read_body(
     progress: Progress,
 ) -> PartRead
     requires { ⌜ (length (now message) < 2 ^ 32) × (Inside (now message) first) × (from ≤ progress .records) × (progress .records + progress .room < length (now words) / stride) × (length (now words) < 2 ^ 32) ⌝ }
+    requires { ⌜ length (now index) ≡ indexWords ⌝ }
     ensures { λ r. ⌜ partTold (config .mode) (now (message .entry)) from r (now (words .exit)) ≡ bodyFrom (bodyOf (tableRules config (now (table .entry)) (tagAt (now (index .entry)))) (tableDemands (now (table .entry))) (now («trailer_tags» .entry)) level) (field first (fieldsFrom (config .mode) (now (message .entry)) (first .next))) (suc (progress .room)) (partOf from (progress .records) (now (words .entry))) ⌝ }
     ensures { λ r. ⌜ Stays (now (message .entry)) (now (words .entry)) (now (words .exit)) from (suc (progress .room)) r ⌝ }
 {

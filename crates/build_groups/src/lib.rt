@@ -18,6 +18,8 @@ use field_rules::FieldRead;
 ghost use mathlib.Core.Path.{_≡_};
 ghost use Rattle.dictionary_rules.specs.Index.{tagAt};
 ghost use Prim.Native.Nat.{_<_, _^_};
+ghost use lib.ListN.{length};
+ghost use Rattle.dictionary_chains.specs.Chain.{indexWords};
 ghost use Rattle.field_rules.specs.Field.{fieldAt};
 ghost use Rattle.build_group_rules.specs.Groups.{entryRecord};
 ghost use Rattle.build_records.specs.Records.{onRecords, inserted, storedBetween};
@@ -27,7 +29,8 @@ ghost use Rattle.build_group_rules.specs.Reading.{accepted, opensAt, kindAt, me
 const USER_DEFINED: u32 = 5000;
 
 // With validation off, a user-defined tag that the dictionary lacks.
-pub fn accepted(config: Config, index: &[u16; dictionary_chains::WORDS], tag: u32) -> bool
+pub fn accepted(config: Config, index: &[u16], tag: u32) -> bool
+    requires { ⌜ length (now index) ≡ indexWords ⌝ }
     ensures { λ r. ⌜ r ≡ accepted config (tagAt (now (index .entry))) tag ⌝ }
 {
     if config.validate {
@@ -36,9 +39,7 @@ pub fn accepted(config: Config, index: &[u16; dictionary_chains::WORDS], tag: u3
     if tag < USER_DEFINED {
         return false;
     }
-    // Only where the array is made a slice does the proof learn its length.
-    let entries = &index[..];
-    !dictionary_names::tag_known(entries, tag)
+    !dictionary_names::tag_known(index, tag)
 }
 
 // The tag is the level's delimiter.
@@ -54,11 +55,12 @@ pub fn opens(table: &[u32], level: Level, tag: u32) -> bool
 fn kind_of(
     config: Config,
     table: &[u32],
-    index: &[u16; dictionary_chains::WORDS],
+    index: &[u16],
     group: Group,
     last: usize,
     tag: u32,
 ) -> Kind
+    requires { ⌜ length (now index) ≡ indexWords ⌝ }
     ensures { λ r. ⌜ meant r ≡ kindAt config (now (table .entry)) (tagAt (now (index .entry))) group last tag ⌝ }
 {
     let level = group.level;
@@ -155,13 +157,14 @@ pub fn read_run(
     message: &[u8],
     config: Config,
     table: &[u32],
-    index: &[u16; dictionary_chains::WORDS],
+    index: &[u16],
     group: Group,
     cursor: Cursor,
     words: &mut [u32],
     progress: Progress,
 ) -> Reading
     requires { ⌜ Fits (now message) progress ⌝ }
+    requires { ⌜ length (now index) ≡ indexWords ⌝ }
     ensures { λ r. ⌜ toldBy (config .mode) (now (message .entry)) r (now (words .exit)) ≡ runOf (now (message .entry)) config (now (table .entry)) (tagAt (now (index .entry))) group cursor progress (now (words .entry)) ⌝ }
 {
     let mut reading = next_field(message, config, cursor, progress);
@@ -196,7 +199,7 @@ pub fn read_entry(
     message: &[u8],
     config: Config,
     table: &[u32],
-    index: &[u16; dictionary_chains::WORDS],
+    index: &[u16],
     group: Group,
     number: u32,
     delimiter: Field,
@@ -204,6 +207,7 @@ pub fn read_entry(
     progress: Progress,
 ) -> Reading
     requires { ⌜ FitsAt (now message) delimiter progress ⌝ }
+    requires { ⌜ length (now index) ≡ indexWords ⌝ }
     ensures { λ r. ⌜ toldBy (config .mode) (now (message .entry)) r (now (words .exit)) ≡ entryOf (now (message .entry)) config (now (table .entry)) (tagAt (now (index .entry))) group number delimiter progress (now (words .entry)) ⌝ }
 {
     let start = progress.place;

@@ -13,7 +13,7 @@ use Rattle.dictionary_meaning_rules.specs.Meaning.{dictionaryOf}
 use Rattle.build_records.specs.Records.{laid, recordWords}
 use Rattle.build_records.specs.declared.Record.{Record}
 use Rattle.build_answers.specs.declared.Answer.{Answer}
-use Rattle.build_answers.specs.declared.Answer.the-variants.{TooLong as MessageTooLong, InvalidSeparator, TooFewRecords, BadDictionary}
+use Rattle.build_answers.specs.declared.Answer.the-variants.{Valid, TooLong as MessageTooLong, InvalidSeparator, TooFewRecords, BadDictionary}
 use Rattle.build_rules.specs.declared.Stop.{Stop}
 use Rattle.build_rules.specs.declared.Stop.the-variants.{Nowhere}
 use Rattle.builder.specs.declared.Built.{Built}
@@ -44,13 +44,21 @@ unfoldable pub checkedRead : List ℕ → Config → List ℕ → Checked → Ou
 checkedRead message config dictionary checked =
     pick (eqb (numberOfCheck checked) 0) (messageRead (dictionaryOf dictionary) config message) (refusal (BadDictionary checked) [])
 
--- "Build checks 22, 23, 20, 30 to 37 of its dictionary (no records), then reads"
-unfoldable pub buildOf : List ℕ → Config → List ℕ → ℕ → List ℕ → BuildOutcome
-buildOf message config dictionary lent words =
+-- 22, 23 and 20 leave the records as they were; what is read then is shown
+abbrev pub judged : List ℕ → Config → ℕ → List ℕ → Outcome → BuildOutcome
+judged message config lent words outcome =
     pick (isRefusedSeparator (config .mode .separator)) (untouched InvalidSeparator words)
     (pick (ltb lent 1024) (untouched TooFewRecords words)
-    (pick (ltb 8192 (length message)) (untouched MessageTooLong words)
-    (shown lent (checkedRead message config dictionary (checkOf dictionary)))))
+    (pick (ltb 8192 (length message)) (untouched MessageTooLong words) (shown lent outcome)))
+
+-- "Build checks 22, 23, 20, 30 to 37 of its dictionary (no records), then reads"
+unfoldable pub buildOf : List ℕ → Config → List ℕ → ℕ → List ℕ → BuildOutcome
+buildOf message config dictionary lent words = judged message config lent words (checkedRead message config dictionary (checkOf dictionary))
+
+-- what is refused before anything is read
+unfoldable pub firstRefusal : List ℕ → Config → ℕ → Answer
+firstRefusal message config lent =
+    pick (isRefusedSeparator (config .mode .separator)) InvalidSeparator (pick (ltb lent 1024) TooFewRecords (pick (ltb 8192 (length message)) MessageTooLong Valid))
 
 -- what the code answers, with the words that it leaves
 unfoldable pub builtTold : Built → List ℕ → BuildOutcome

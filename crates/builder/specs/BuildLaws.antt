@@ -9,10 +9,9 @@ use borrow.Author.Tests.{eq-eqb, ne-eqb, le-leb, lt-leb}
 use Rattle.build_config.specs.declared.Config.{Config}
 use Rattle.dictionary_rules.specs.Check.{numberOfCheck}
 use Rattle.dictionary_rules.specs.declared.Checked.{Checked}
-use Rattle.dictionary_rules.specs.declared.Checked.the-variants.{Passes, TooLong, BadRecord, NoComponent, UnknownTag, EmptyGroup, TooDeep, Twice, TooManyItems}
 use Rattle.dictionary_meaning_rules.specs.Meaning.{dictionaryOf}
 use Rattle.dictionary_meaning_rules.specs.PlainTags.{listing, plainTags}
-use Rattle.dictionary_meaning_rules.specs.TagsMeant.{header-listed, trailer-listed}
+use Rattle.dictionary_meaning_rules.specs.Kept.{tags-kept}
 use Rattle.dictionary_meaning_rules.specs.declared.TagList.{TagList}
 use Rattle.dictionary_meaning_rules.specs.declared.TagList.the-variants.{Listed, Unlisted}
 use Rattle.build_records.specs.Records.{recordsOf, leftover, laid, between, recordWords, recordRoom, stride}
@@ -24,8 +23,9 @@ use Rattle.build_answers.specs.Answer.{numberOf}
 use Rattle.build_parts.specs.Parts.{partOf}
 use Rattle.build_parts.specs.PartLaws.{parted, part-length}
 use Rattle.build_rules.specs.Message.{refusal, messageRead}
-use Rattle.builder.specs.Reading.{Prepared, standardTags, shownCount}
+use Rattle.builder.specs.Reading.{shownCount}
 use Rattle.builder.specs.Build.{wordsWith, checkedRead}
+use Rattle.builder.specs.Through.{listedTags}
 
 module _ (answer : Answer) (header n : ℕ) (e : n ≡ numberOf answer) where
   pub shows-none : n < 1 → shownCount answer header ≡ 0
@@ -76,40 +76,17 @@ pub part-count : (words : List ℕ) (n : ℕ) → length words ≡ recordWords �
 unfolding partOf
 part-count words n size few = part-length (recordsOf words) 0 n (omega arith) (omega (arith, records-length words)) ∙ omega arith
 
-module _ (d index : List ℕ) (p : Prepared d index) (list : List ℕ) (room : length list ≡ 1024) where
-  -- what is listed of component 0 or 1
-  tags-listed : (number : ℕ) → number ≤ 1 → plainTags d index number list ≡ listing (Listed (length (standardTags number (dictionaryOf d)))) (standardTags number (dictionaryOf d) ++ drop (length (standardTags number (dictionaryOf d))) list)
-  unfolding standardTags
-  tags-listed zero h = rw (p .made) (header-listed d (p .passes) (p .before) (p .size) list (omega arith))
-  tags-listed (suc zero) h = rw (p .made) (trailer-listed d (p .passes) (p .before) (p .size) list (omega arith))
-  tags-listed (suc (suc n)) h = absurd (omega arith)
+-- the tags that were listed, or none
+module _ (d index list : List ℕ) (number : ℕ) (room : length list ≡ 1024) (exit : List ℕ) where
+  pub tags-taken : (r : TagList) → listing r exit ≡ plainTags d index number list → (count : ℕ) → r ≡ Listed count → (take count exit ≡ listedTags (plainTags d index number list)) × (count ≤ length exit)
+  unfolding listedTags
+  tags-taken r e count is =
+      let told : listing (Listed count) exit ≡ plainTags d index number list = ap (λ (t : TagList). listing t exit) (sym is) ∙ e in
+      (ap listedTags told, tags-kept d index number list (omega arith) count exit told)
 
-  module _ (number : ℕ) (h : number ≤ 1) (exit : List ℕ) where
-    pub tags-taken : (r : TagList) → listing r exit ≡ plainTags d index number list → (count : ℕ) → r ≡ Listed count → (take count exit ≡ standardTags number (dictionaryOf d)) × (count ≤ length exit)
-    tags-taken r e count is =
-        let tags : List ℕ = standardTags number (dictionaryOf d) in
-        let same : listing (Listed count) exit ≡ listing (Listed (length tags)) (tags ++ drop (length tags) list) = ap (λ (t : TagList). listing t exit) (sym is) ∙ e ∙ tags-listed number h in
-        let n : count ≡ length tags = cc in
-        let left : exit ≡ tags ++ drop (length tags) list = cc in
-        (ap (take count) left ∙ take-at tags (drop (length tags) list) count (sym n), omega (arith, ap length left, length-append tags (drop (length tags) list)))
-
-    pub tags-there : (r : TagList) → listing r exit ≡ plainTags d index number list → r ≡ Unlisted → ⊥
-    tags-there r e is =
-        let same : listing Unlisted exit ≡ listing (Listed (length (standardTags number (dictionaryOf d)))) (standardTags number (dictionaryOf d) ++ drop (length (standardTags number (dictionaryOf d))) list) = ap (λ (t : TagList). listing t exit) (sym is) ∙ e ∙ tags-listed number h in
-        let z : _≡_ {A = ℕ} 0 1 = cc in absurd (omega arith)
-
--- a check that answers 0 passed
-pub zero-passes : (checked : Checked) → numberOfCheck checked ≡ 0 → checked ≡ Passes
-unfolding numberOfCheck
-zero-passes Passes e = refl
-zero-passes TooLong e = absurd (omega arith)
-zero-passes (BadRecord place) e = absurd (omega arith)
-zero-passes (NoComponent number) e = absurd (omega arith)
-zero-passes (UnknownTag tag) e = absurd (omega arith)
-zero-passes (EmptyGroup tag) e = absurd (omega arith)
-zero-passes (TooDeep place) e = absurd (omega arith)
-zero-passes (Twice place) e = absurd (omega arith)
-zero-passes (TooManyItems place) e = absurd (omega arith)
+  pub tags-none : (r : TagList) → listing r exit ≡ plainTags d index number list → r ≡ Unlisted → (take 0 exit ≡ listedTags (plainTags d index number list)) × (0 ≤ length exit)
+  unfolding listedTags
+  tags-none r e is = (ap listedTags (ap (λ (t : TagList). listing t exit) (sym is) ∙ e), omega arith)
 
 module _ (message : List ℕ) (config : Config) (d : List ℕ) (checked : Checked) where
   pub check-refuses : (numberOfCheck checked ≡ 0 → ⊥) → checkedRead message config d checked ≡ refusal (BadDictionary checked) []

@@ -1,4 +1,5 @@
 pub mod Build
+pub mod Through
 pub mod Reading
 pub mod BuildLaws
 pub mod Finishing
@@ -6,4 +7,5 @@ pub mod ReadingLaws
 pub mod BeginningLaws
 pub mod MsgTypeLaws
 pub mod HeadedLaws
+pub mod ThroughLaws
 pub mod Examples

@@ -13,7 +13,6 @@ use Rattle.field_rules.specs.declared.Mode.{Mode}
 use Rattle.build_integrity_rules.specs.declared.Verified.{Verified}
 use Rattle.dictionary_rules.specs.Check.{checkOf, storeOf, preparedOf}
 use Rattle.dictionary_rules.specs.declared.Checked.the-variants.{Passes}
-use Rattle.dictionary_layout_rules.specs.Tree.{Dictionary, headerTags, trailerTags}
 use Rattle.build_answers.specs.declared.Answer.{Answer}
 use Rattle.build_answers.specs.declared.Answer.the-variants.{Valid}
 use Rattle.build_answers.specs.Answer.{numberOf}
@@ -64,11 +63,6 @@ pub record Prepared (dictionary index : List ℕ) : Type 0 where
   pub before : List ℕ
   pub size : length before ≡ indexWords
   pub made : index ≡ storeOf (preparedOf dictionary before)
-
--- the header's tags are those of component 0, the trailer's those of component 1
-unfoldable pub standardTags : ℕ → Dictionary → List ℕ
-standardTags zero dictionary = headerTags dictionary
-standardTags (suc n) dictionary = trailerTags dictionary
 
 -- "1 to 4 also header records"
 unfoldable pub shownCount : Answer → ℕ → ℕ

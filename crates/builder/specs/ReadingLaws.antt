@@ -7,7 +7,7 @@ use Prim.Native.Nat.{ℕ, suc, _+_, _-_, _*_, _≤_, _<_}
 use native.Mathlib.Omega.{arith}
 use lib.ListN.{length, take, replicate}
 use lib.Dec.{eqb, leb, ltb}
-use borrow.Author.Tests.{le-ltb, lt-ltb}
+use borrow.Author.Tests.{eq-eqb, ne-eqb, le-ltb, lt-ltb, ltb-false}
 use Rattle.dictionary_chains.specs.Chain.{indexWords}
 use Rattle.build_records.specs.Records.{recordWords, recordRoom, stride, valueAt}
 use Rattle.field_rules.specs.Choice.{pick}
@@ -17,7 +17,7 @@ use Rattle.build_config.specs.declared.Config.{Config}
 use Rattle.dictionary_rules.specs.Check.{outcome, checkOf, preparedOf, storeOf, numberOfCheck}
 use Rattle.dictionary_rules.specs.declared.Checked.{Checked}
 use Rattle.dictionary_meaning_rules.specs.Meaning.{dictionaryOf}
-use Rattle.dictionary_layout_rules.specs.Tree.{Dictionary, headerTags, layoutOf}
+use Rattle.dictionary_meaning_rules.specs.MessageTable.{messageTable}
 use Rattle.build_answers.specs.declared.Answer.{Answer}
 use Rattle.build_answers.specs.declared.Answer.the-variants.{Valid, TooLong, InvalidSeparator, TooFewRecords, BadDictionary}
 use Rattle.build_answers.specs.Answer.{numberOf}
@@ -30,11 +30,13 @@ use Rattle.build_rules.specs.declared.Stop.the-variants.{Nowhere}
 use Rattle.builder.specs.declared.Finished.{Finished}
 use Rattle.builder.specs.declared.Finished.the-variants.{Whole, Refused as Stopped}
 use Rattle.build_rules.specs.Beginning.{startOf, msgTypeRecord}
-use Rattle.build_rules.specs.Message.{Outcome, shownWith, refusal, afterType, afterHeader, messageRead}
+use Rattle.build_rules.specs.Message.{Outcome, shownWith, refusal, messageRead}
 use Rattle.builder.specs.Reading.{finishTold, finishCounts}
 use Rattle.builder.specs.Reading.{startTold, Prepared, shownCount, readTold}
-use Rattle.builder.specs.Build.{untouched, shown, checkedRead, buildOf, builtTold}
-use Rattle.builder.specs.BuildLaws.{blanked, part-count, check-refuses, check-reads, zero-passes}
+use Rattle.builder.specs.Build.{untouched, shown, judged, checkedRead, firstRefusal, buildOf, builtTold}
+use Rattle.builder.specs.Through.{tagsThrough, afterTable, afterStart, messageThrough}
+use Rattle.dictionary_prepared.specs.MemoryLaws.{zero-passes}
+use Rattle.builder.specs.BuildLaws.{blanked, part-count, check-refuses, check-reads}
 use Rattle.builder.specs.Finishing.{part-empty}
 
 -- what is shown with a refusal, as a list and as a count
@@ -70,35 +72,35 @@ pub whole-counts : (r : Finished) (stop : Stop) (count : ℕ) → r ≡ Whole st
 unfolding finishCounts
 whole-counts r stop count e = rw e
 
-module _ (dictionary : Dictionary) (config : Config) (message tags words : List ℕ) (is : tags ≡ headerTags dictionary) (begun : Begun) (told : startTold (config .mode) message begun words ≡ startOf tags config message) where
-  begins : messageRead dictionary config message ≡ afterHeader dictionary config message (startTold (config .mode) message begun words)
-  unfolding messageRead
+module _ (records index : List ℕ) (config : Config) (message tags words : List ℕ) (is : tags ≡ tagsThrough records index 0) (begun : Begun) (told : startTold (config .mode) message begun words ≡ startOf tags config message) where
+  begins : messageThrough records index config message ≡ afterStart records index config message (startTold (config .mode) message begun words)
+  unfolding messageThrough
   begins = rw (told, is)
 
   -- integrity or the header was refused
-  pub read-refused : (answer : Answer) → begun ≡ Refused answer → (after : List ℕ) → readTold (record { answer = answer; stop = Nowhere; records = 0 }) after ≡ messageRead dictionary config message
+  pub read-refused : (answer : Answer) → begun ≡ Refused answer → (after : List ℕ) → readTold (record { answer = answer; stop = Nowhere; records = 0 }) after ≡ messageThrough records index config message
   read-refused answer e after = none-shown answer after ∙ sym (begins ∙ refuses)
     where
-      refuses : afterHeader dictionary config message (startTold (config .mode) message begun words) ≡ refusal answer []
-      refuses = unfold startTold afterHeader in rw e
+      refuses : afterStart records index config message (startTold (config .mode) message begun words) ≡ refusal answer []
+      refuses = unfold startTold afterStart in rw e
 
   module _ (h : Headed) (e : begun ≡ Header h) (r : Finished) (after : List ℕ)
-      (finished : finishTold (h .progress .records) r after ≡ afterType dictionary config (h .stop) (fieldsFrom (config .mode) message (h .stop .next)) (h .progress .room) (partOf 0 (h .progress .records) words) (h .checksum) (layoutOf dictionary (valueAt message (msgTypeRecord (partOf 0 (h .progress .records) words))))) where
-    goes-on : messageRead dictionary config message ≡ finishTold (h .progress .records) r after
+      (finished : finishTold (h .progress .records) r after ≡ afterTable records index config (h .stop) (fieldsFrom (config .mode) message (h .stop .next)) (h .progress .room) (partOf 0 (h .progress .records) words) (h .checksum) (messageTable records index (valueAt message (msgTypeRecord (partOf 0 (h .progress .records) words))) (replicate 4096 0))) where
+    goes-on : messageThrough records index config message ≡ finishTold (h .progress .records) r after
     goes-on = begins ∙ headed ∙ sym finished
       where
-        headed : afterHeader dictionary config message (startTold (config .mode) message begun words) ≡ afterType dictionary config (h .stop) (fieldsFrom (config .mode) message (h .stop .next)) (h .progress .room) (partOf 0 (h .progress .records) words) (h .checksum) (layoutOf dictionary (valueAt message (msgTypeRecord (partOf 0 (h .progress .records) words))))
-        headed = unfold startTold afterHeader in rw e
+        headed : afterStart records index config message (startTold (config .mode) message begun words) ≡ afterTable records index config (h .stop) (fieldsFrom (config .mode) message (h .stop .next)) (h .progress .room) (partOf 0 (h .progress .records) words) (h .checksum) (messageTable records index (valueAt message (msgTypeRecord (partOf 0 (h .progress .records) words))) (replicate 4096 0))
+        headed = unfold startTold afterStart in rw e
 
     -- all was read
-    pub read-whole : (stop : Stop) (count : ℕ) → r ≡ Whole stop count → readTold (record { answer = Valid; stop = stop; records = count }) after ≡ messageRead dictionary config message
+    pub read-whole : (stop : Stop) (count : ℕ) → r ≡ Whole stop count → readTold (record { answer = Valid; stop = stop; records = count }) after ≡ messageThrough records index config message
     read-whole stop count w = sym (goes-on ∙ told-whole)
       where
         told-whole : finishTold (h .progress .records) r after ≡ readTold (record { answer = Valid; stop = stop; records = count }) after
         told-whole = unfold finishTold readTold in rw w
 
     -- MsgType, body or trailer was refused
-    pub read-stopped : (answer : Answer) → r ≡ Stopped answer → (n : ℕ) → n ≡ shownCount answer (h .progress .records) → readTold (record { answer = answer; stop = Nowhere; records = n }) after ≡ messageRead dictionary config message
+    pub read-stopped : (answer : Answer) → r ≡ Stopped answer → (n : ℕ) → n ≡ shownCount answer (h .progress .records) → readTold (record { answer = answer; stop = Nowhere; records = n }) after ≡ messageThrough records index config message
     read-stopped answer s n shows = sym (goes-on ∙ told-stopped)
       where
         told-stopped : finishTold (h .progress .records) r after ≡ readTold (record { answer = answer; stop = Nowhere; records = n }) after
@@ -116,24 +118,60 @@ pub prepared-by : (d : List ℕ) (checked : Checked) → checked ≡ checkOf d �
 unfolding storeOf
 prepared-by d checked is z before index size left = record { passes = sym is ∙ zero-passes checked z; before = before; size = size; made = ap storeOf left }
 
-module _ (message : List ℕ) (config : Config) (d : List ℕ) (lent : ℕ) (words : List ℕ) where
-  pub build-separator : isRefusedSeparator (config .mode .separator) ≡ true → buildOf message config d lent words ≡ untouched InvalidSeparator words
-  unfolding buildOf
-  build-separator e = rw e
+module _ (message : List ℕ) (config : Config) (lent : ℕ) (words : List ℕ) (outcome : Outcome) where
+  by-tests : (x y z : Bool) → pick x InvalidSeparator (pick y TooFewRecords (pick z TooLong Valid)) ≡ firstRefusal message config lent →
+      pick x (untouched InvalidSeparator words) (pick y (untouched TooFewRecords words) (pick z (untouched TooLong words) (shown lent outcome))) ≡ pick (eqb (numberOf (pick x InvalidSeparator (pick y TooFewRecords (pick z TooLong Valid)))) 0) (shown lent outcome) (untouched (pick x InvalidSeparator (pick y TooFewRecords (pick z TooLong Valid))) words)
+  unfolding numberOf
+  by-tests true y z e = refl
+  by-tests false true z e = refl
+  by-tests false false true e = refl
+  by-tests false false false e = refl
+
+  judged-by : judged message config lent words outcome ≡ pick (eqb (numberOf (firstRefusal message config lent)) 0) (shown lent outcome) (untouched (firstRefusal message config lent) words)
+  judged-by = unfold firstRefusal in by-tests (isRefusedSeparator (config .mode .separator)) (ltb lent 1024) (ltb 8192 (length message)) (unfold firstRefusal in refl)
+
+  module _ (first : Answer) (is : first ≡ firstRefusal message config lent) (n : ℕ) (number : n ≡ numberOf first) where
+    pub judged-refuses : (n ≡ 0 → ⊥) → judged message config lent words outcome ≡ untouched first words
+    judged-refuses h = judged-by ∙ rw (← is, ne-eqb (numberOf first) 0 (λ z. h (number ∙ z)))
+
+    pub judged-reads : n ≡ 0 → judged message config lent words outcome ≡ shown lent outcome
+    judged-reads h = judged-by ∙ rw (← is, eq-eqb (numberOf first) 0 (sym number ∙ h))
+
+-- what is refused first, test by test
+module _ (message : List ℕ) (config : Config) (lent : ℕ) where
+  pub first-separator : isRefusedSeparator (config .mode .separator) ≡ true → InvalidSeparator ≡ firstRefusal message config lent
+  unfolding firstRefusal
+  first-separator e = rw e
 
   module _ (good : isRefusedSeparator (config .mode .separator) ≡ false) where
-    pub build-few : lent < 1024 → buildOf message config d lent words ≡ untouched TooFewRecords words
-    unfolding buildOf
-    build-few h = rw (good, lt-ltb lent 1024 h)
+    pub first-few : lent < 1024 → TooFewRecords ≡ firstRefusal message config lent
+    unfolding firstRefusal
+    first-few h = rw (good, lt-ltb lent 1024 h)
 
     module _ (enough : 1024 ≤ lent) where
-      pub build-long : 8192 < length message → buildOf message config d lent words ≡ untouched TooLong words
-      unfolding buildOf
-      build-long h = rw (good, le-ltb lent 1024 enough, lt-ltb 8192 (length message) h)
+      pub first-long : 8192 < length message → TooLong ≡ firstRefusal message config lent
+      unfolding firstRefusal
+      first-long h = rw (good, le-ltb lent 1024 enough, lt-ltb 8192 (length message) h)
 
-      pub build-reads : length message ≤ 8192 → buildOf message config d lent words ≡ shown lent (checkedRead message config d (checkOf d))
-      unfolding buildOf
-      build-reads h = rw (good, le-ltb lent 1024 enough, le-ltb 8192 (length message) h)
+      pub first-none : length message ≤ 8192 → Valid ≡ firstRefusal message config lent
+      unfolding firstRefusal
+      first-none h = rw (good, le-ltb lent 1024 enough, le-ltb 8192 (length message) h)
+
+pub build-reads : (message : List ℕ) (config : Config) (d : List ℕ) (lent : ℕ) (words : List ℕ) → isRefusedSeparator (config .mode .separator) ≡ false → 1024 ≤ lent → length message ≤ 8192 → buildOf message config d lent words ≡ shown lent (checkedRead message config d (checkOf d))
+unfolding buildOf numberOf
+build-reads message config d lent words good enough h =
+    judged-reads message config lent words (checkedRead message config d (checkOf d)) Valid (first-none message config lent good enough h) 0 refl refl
+
+-- what is read is not longer than a message may be
+pub reads-short : (message : List ℕ) (config : Config) (lent : ℕ) (first : Answer) → first ≡ firstRefusal message config lent → numberOf first ≡ 0 → length message ≤ 8192
+unfolding firstRefusal numberOf
+reads-short message config lent first is z = go (isRefusedSeparator (config .mode .separator)) (ltb lent 1024) (ltb 8192 (length message)) refl (sym (ap numberOf is) ∙ z)
+  where
+    go : (x y long : Bool) → ltb 8192 (length message) ≡ long → numberOf (pick x InvalidSeparator (pick y TooFewRecords (pick long TooLong Valid))) ≡ 0 → length message ≤ 8192
+    go true y long e q = absurd (omega arith)
+    go false true long e q = absurd (omega arith)
+    go false false true e q = absurd (omega arith)
+    go false false false e q = ltb-false 8192 (length message) e
 
 -- the records that were read, and blank ones behind them
 pub shows-read : (lent : ℕ) (answer : Answer) (stop : Stop) (n : ℕ) (words : List ℕ) → length words ≡ recordWords → n ≤ recordRoom → (out : Outcome) → readTold (record { answer = answer; stop = stop; records = n }) words ≡ out → builtTold (record { answer = answer; stop = stop; records = n; written = lent }) (take (stride * n) words ++ replicate (recordWords - stride * n) 0) ≡ shown lent out

@@ -1,5 +1,8 @@
 // builder: from a message's bytes to its answer and its records: integrity, header, MsgType's layout, body and trailer in turn.
-// It reads a dictionary through the index and the tables that are made of it, and keeps records through `build_records` only.
+// It reads a dictionary through its records and the index, whatever they hold, and keeps records through `build_records` only. A build checks its
+// dictionary and then reads; a build over memory that a dictionary was prepared in reads at once. There is one path of reading.
+mod showing;
+
 use build_answers::Answer;
 use build_config::Config;
 use build_integrity_rules::Integrity;
@@ -15,26 +18,26 @@ use dictionary_meaning_rules::MessageTable;
 use dictionary_meaning_rules::TagList;
 use field_rules::Field;
 ghost use mathlib.Core.Path.{_≡_};
-ghost use mathlib.Core.List.{[], _++_};
-ghost use Prim.Native.Nat.{suc, _+_, _-_, _*_, _≤_, _<_, _/_, _^_};
+ghost use mathlib.Core.List.{[]};
+ghost use Prim.Native.Nat.{suc, _+_, _≤_, _<_, _/_, _^_};
 ghost use lib.ListN.{length, take, replicate};
 ghost use Rattle.build_records.specs.Records.{recordWords, recordRoom, stride, valueAt};
 ghost use Rattle.dictionary_rules.specs.Index.{tagAt};
 ghost use Rattle.field_rules.specs.Fields.{field, fieldsFrom, Inside};
 ghost use Rattle.build_group_rules.specs.Reading.{tableRules};
 ghost use Rattle.build_required_rules.specs.Checking.{tableDemands};
-ghost use Rattle.dictionary_meaning_rules.specs.Meaning.{dictionaryOf};
-ghost use Rattle.dictionary_layout_rules.specs.Tree.{layoutOf, trailerTags};
+ghost use Rattle.dictionary_meaning_rules.specs.MessageTable.{messageTable};
+ghost use Rattle.dictionary_meaning_rules.specs.PlainTags.{plainTags};
+ghost use Rattle.dictionary_chains.specs.Chain.{indexWords};
 ghost use Rattle.build_parts.specs.Parts.{partOf};
 ghost use Rattle.build_body_rules.specs.Kinds.{bodyOf};
 ghost use Rattle.build_body_rules.specs.Body.{bodyFrom};
 ghost use Rattle.build_rules.specs.Beginning.{verifiedRecords, startOf, msgTypeRecord};
-ghost use Rattle.build_rules.specs.Message.{afterBody, afterType, messageRead};
-ghost use Rattle.builder.specs.Reading.{finishTold, finishCounts};
-ghost use Rattle.builder.specs.Reading.{VerifiedInside, startTold, HeaderEnds, Begins, Prepared, standardTags, readTold, shownCount};
-ghost use Rattle.builder.specs.Build.{checkedRead, buildOf, builtTold};
+ghost use Rattle.build_rules.specs.Message.{afterBody};
+ghost use Rattle.builder.specs.Reading.{finishTold, finishCounts, VerifiedInside, startTold, HeaderEnds, Begins, readTold};
+ghost use Rattle.builder.specs.Build.{shown, checkedRead, firstRefusal, buildOf, builtTold};
+ghost use Rattle.builder.specs.Through.{listedTags, tagsThrough, afterTable, messageThrough, buildOver};
 ghost use Rattle.dictionary_rules.specs.Check.{checkOf};
-ghost use mathlib.Core.Bool.{true, false};
 
 const MSG_TYPE: u32 = 35;
 
@@ -67,8 +70,7 @@ pub struct Read {
     pub records: usize,
 }
 
-// What a build answers. So many records are shown, and over so many of the lent ones is written, with blank ones behind those that are
-// shown: over all of them, or over none.
+// What a build answers: so many records are shown, and over so many of the lent ones is written, all of them or none.
 pub struct Built {
     pub answer: Answer,
     pub stop: Stop,
@@ -81,13 +83,14 @@ fn finish(
     message: &[u8],
     config: Config,
     table: &[u32],
-    index: &[u16; dictionary_chains::WORDS],
+    index: &[u16],
     trailer_tags: &[u32],
     level: Level,
     headed: Headed,
     words: &mut [u32],
 ) -> Finished
     requires { ⌜ (length (now message) < 2 ^ 32) × (Inside (now message) (headed .stop)) × (Inside (now message) (headed .checksum)) × (headed .progress .records + headed .progress .room < length (now words) / stride) × (length (now words) < 2 ^ 32) ⌝ }
+    requires { ⌜ length (now index) ≡ indexWords ⌝ }
     ensures { λ r. ⌜ finishTold (headed .progress .records) r (now (words .exit)) ≡ afterBody (partOf 0 (headed .progress .records) (now (words .entry))) (headed .checksum) (bodyFrom (bodyOf (tableRules config (now (table .entry)) (tagAt (now (index .entry)))) (tableDemands (now (table .entry))) (now («trailer_tags» .entry)) level) (field (headed .stop) (fieldsFrom (config .mode) (now (message .entry)) (headed .stop .next))) (suc (headed .progress .room)) []) ⌝ }
     ensures { λ r. ⌜ finishCounts r ≤ length (now (words .entry)) / stride ⌝ }
 {
@@ -186,18 +189,18 @@ fn msg_type_of(words: &[u32], count: usize) -> Record
     build_records::record_at(words, words.len())
 }
 
-// Body and trailer by the layout of MsgType, which must be in the dictionary. The dictionary passed its check, which left the index.
+// Body and trailer by the table that is laid for MsgType; where none can be laid, the dictionary has no such message.
 fn read_headed(
     message: &[u8],
     config: Config,
     dictionary: &[u8],
-    index: &[u16; dictionary_chains::WORDS],
+    index: &[u16],
     trailer_tags: &[u32],
     headed: Headed,
     words: &mut [u32],
 ) -> Finished
-    requires { ⌜ (length (now message) < 2 ^ 32) × (length (now words) ≡ recordWords) × HeaderEnds (now message) (now words) headed × Prepared (now dictionary) (now index) × (now «trailer_tags» ≡ trailerTags (dictionaryOf (now dictionary))) ⌝ }
-    ensures { λ r. ⌜ finishTold (headed .progress .records) r (now (words .exit)) ≡ afterType (dictionaryOf (now (dictionary .entry))) config (headed .stop) (fieldsFrom (config .mode) (now (message .entry)) (headed .stop .next)) (headed .progress .room) (partOf 0 (headed .progress .records) (now (words .entry))) (headed .checksum) (layoutOf (dictionaryOf (now (dictionary .entry))) (valueAt (now (message .entry)) (msgTypeRecord (partOf 0 (headed .progress .records) (now (words .entry)))))) ⌝ }
+    requires { ⌜ (length (now message) < 2 ^ 32) × (length (now words) ≡ recordWords) × HeaderEnds (now message) (now words) headed × (length (now index) ≡ indexWords) × (now «trailer_tags» ≡ tagsThrough (now dictionary) (now index) 1) ⌝ }
+    ensures { λ r. ⌜ finishTold (headed .progress .records) r (now (words .exit)) ≡ afterTable (now (dictionary .entry)) (now (index .entry)) config (headed .stop) (fieldsFrom (config .mode) (now (message .entry)) (headed .stop .next)) (headed .progress .room) (partOf 0 (headed .progress .records) (now (words .entry))) (headed .checksum) (messageTable (now (dictionary .entry)) (now (index .entry)) (valueAt (now (message .entry)) (msgTypeRecord (partOf 0 (headed .progress .records) (now (words .entry))))) (replicate 4096 0)) ⌝ }
     ensures { λ r. ⌜ finishCounts r ≤ recordRoom ⌝ }
 {
     let progress = headed.progress;
@@ -228,29 +231,10 @@ fn read_headed(
     }
 }
 
-// "1 to 4 also header records": how many of them are shown with a refusal.
-fn shown_with(answer: Answer, header: usize) -> usize
-    ensures { λ r. ⌜ r ≡ shownCount answer header ⌝ }
-{
-    let number = build_answers::number_of(answer);
-    if number < 1 {
-        return 0;
-    }
-    if 4 < number {
-        return 0;
-    }
-    header
-}
-
-// The header's tags (0) or the trailer's (1), from a dictionary that passed its check, which left the index; answers how many there are.
-fn tags_of(
-    dictionary: &[u8],
-    index: &[u16; dictionary_chains::WORDS],
-    number: u16,
-    list: &mut [u32; 1024],
-) -> usize
-    requires { ⌜ Prepared (now dictionary) (now index) × (number ≤ 1) × (length (now list) ≡ 1024) ⌝ }
-    ensures { λ r. ⌜ (take r (now (list .exit)) ≡ standardTags number (dictionaryOf (now (dictionary .entry)))) × (r ≤ length (now (list .exit))) ⌝ }
+// The header's tags (0) or the trailer's (1), listed from the records; answers how many there are.
+fn tags_of(dictionary: &[u8], index: &[u16], number: u16, list: &mut [u32; 1024]) -> usize
+    requires { ⌜ (length (now index) ≡ indexWords) × (length (now list) ≡ 1024) ⌝ }
+    ensures { λ r. ⌜ (take r (now (list .exit)) ≡ listedTags (plainTags (now (dictionary .entry)) (now (index .entry)) number (now (list .entry)))) × (r ≤ length (now (list .exit))) ⌝ }
 {
     match tags::plain_tags(dictionary, index, number, list) {
         TagList::Listed(count) => count,
@@ -258,16 +242,16 @@ fn tags_of(
     }
 }
 
-// Reads a message by a dictionary that passed its check, which left the index.
+// Reads a message through a dictionary's records and the index that its check left, whatever they hold.
 fn read_message(
     message: &[u8],
     config: Config,
     dictionary: &[u8],
-    index: &[u16; dictionary_chains::WORDS],
+    index: &[u16],
     words: &mut [u32],
 ) -> Read
-    requires { ⌜ (length (now message) < 2 ^ 32) × (length (now words) ≡ recordWords) × Prepared (now dictionary) (now index) ⌝ }
-    ensures { λ r. ⌜ readTold r (now (words .exit)) ≡ messageRead (dictionaryOf (now (dictionary .entry))) config (now (message .entry)) ⌝ }
+    requires { ⌜ (length (now message) < 2 ^ 32) × (length (now words) ≡ recordWords) × (length (now index) ≡ indexWords) ⌝ }
+    ensures { λ r. ⌜ readTold r (now (words .exit)) ≡ messageThrough (now (dictionary .entry)) (now (index .entry)) config (now (message .entry)) ⌝ }
     ensures { λ r. ⌜ r .records ≤ recordRoom ⌝ }
 {
     let mut header_tags = [0u32; 1024];
@@ -299,7 +283,7 @@ fn read_message(
                 Finished::Refused(answer) => Read {
                     answer,
                     stop: Stop::Nowhere,
-                    records: shown_with(answer, header.records),
+                    records: showing::shown_with(answer, header.records),
                 },
             }
         }
@@ -321,19 +305,7 @@ fn read_checked(message: &[u8], config: Config, dictionary: &[u8], words: &mut [
             records: 0,
         };
     }
-    read_message(message, config, dictionary, &index, words)
-}
-
-// "all lent past them are zero"
-fn blank(words: &mut [u32], records: usize)
-    requires { ⌜ (length (now words) ≡ recordWords) × (records ≤ recordRoom) ⌝ }
-    ensures { λ _. ⌜ now (words .exit) ≡ take (stride * records) (now (words .entry)) ++ replicate (recordWords - stride * records) 0 ⌝ }
-{
-    let mut i = build_records::STRIDE * records;
-    while i < words.len() {
-        words[i] = 0;
-        i += 1;
-    }
+    read_message(message, config, dictionary, &index[..], words)
 }
 
 // Nothing was written over the lent records.
@@ -348,6 +320,39 @@ fn untouched(answer: Answer) -> Built
     }
 }
 
+// What was read, shown: blank records behind its own, over all that are lent.
+fn show(read: Read, lent: usize, words: &mut [u32]) -> Built
+    requires { ⌜ (length (now words) ≡ recordWords) × (read .records ≤ recordRoom) ⌝ }
+    ensures { λ r. ⌜ builtTold r (now (words .exit)) ≡ shown lent (readTold read (now (words .entry))) ⌝ }
+{
+    let answer = read.answer;
+    let stop = read.stop;
+    let count = read.records;
+    showing::blank(words, count);
+    Built {
+        answer,
+        stop,
+        records: count,
+        written: lent,
+    }
+}
+
+// What is refused before anything is read: 22, 23, 20. Valid: nothing is.
+fn refused_first(message: &[u8], config: Config, lent: usize) -> Answer
+    ensures { λ r. ⌜ r ≡ firstRefusal (now (message .entry)) config lent ⌝ }
+{
+    if field_tagvalue::is_refused_separator(config.mode.separator) {
+        return Answer::InvalidSeparator;
+    }
+    if lent < 1024 {
+        return Answer::TooFewRecords;
+    }
+    if 8192 < message.len() {
+        return Answer::TooLong;
+    }
+    Answer::Valid
+}
+
 // Builds a message from its bytes: its answer, and its records in the words. So many records are lent to be filled from them.
 pub fn build(
     message: &[u8],
@@ -360,24 +365,35 @@ pub fn build(
 {
     // Only where the array is made a slice does the proof learn its length.
     let records = &mut words[..];
-    if field_tagvalue::is_refused_separator(config.mode.separator) {
-        return untouched(Answer::InvalidSeparator);
-    }
-    if lent < 1024 {
-        return untouched(Answer::TooFewRecords);
-    }
-    if 8192 < message.len() {
-        return untouched(Answer::TooLong);
+    let first = refused_first(message, config, lent);
+    if build_answers::number_of(first) != 0 {
+        return untouched(first);
     }
     let read = read_checked(message, config, dictionary, records);
-    let answer = read.answer;
-    let stop = read.stop;
-    let count = read.records;
-    blank(records, count);
-    Built {
-        answer,
-        stop,
-        records: count,
-        written: lent,
+    show(read, lent, records)
+}
+
+// Builds a message as `build` does, over memory that a dictionary was prepared in. It takes no dictionary and checks none.
+pub fn build_prepared(
+    message: &[u8],
+    config: Config,
+    copy: &[u8],
+    memory: &[u16],
+    lent: usize,
+    words: &mut [u32; build_records::WORDS],
+) -> Built
+    ensures { λ r. ⌜ builtTold r (now (words .exit)) ≡ buildOver (now (message .entry)) config (now (copy .entry)) (now (memory .entry)) lent (now (words .entry)) ⌝ }
+{
+    let records = &mut words[..];
+    if !dictionary_prepared::is_prepared(copy, memory) {
+        return untouched(Answer::NotPrepared);
     }
+    let first = refused_first(message, config, lent);
+    if build_answers::number_of(first) != 0 {
+        return untouched(first);
+    }
+    let size = dictionary_chains::wide(memory[2]) as usize;
+    let index = &memory[dictionary_prepared::FRONT..dictionary_prepared::HEAD];
+    let read = read_message(message, config, &copy[..size], index, records);
+    show(read, lent, records)
 }

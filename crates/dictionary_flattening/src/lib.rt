@@ -157,23 +157,23 @@ pub fn name_of(msgtype: &[u8]) -> MsgTypeName
 // The layout of a message as a table, from a dictionary that passed its check and the index that the check left.
 pub fn message_table(
     dictionary: &[u8],
-    index: &[u16; dictionary_chains::WORDS],
+    index: &[u16],
     msgtype: &[u8],
     table: &mut [u32; 4096],
 ) -> MessageTable
+    requires { ⌜ length (now index) ≡ indexWords ⌝ }
     ensures { λ r. ⌜ tabling r (now (table .exit)) ≡ messageTable (now (dictionary .entry)) (now (index .entry)) (now (msgtype .entry)) (now (table .entry)) ⌝ }
 {
-    // Only where the arrays are made slices does the proof learn their lengths.
-    let entries = &index[..];
+    // Only where the array is made a slice does the proof learn its length.
     let rows = &mut table[..];
     let MsgTypeName::Named(number) = name_of(msgtype) else {
         return MessageTable::NoMessage;
     };
-    let Placed::At(opening) = dictionary_names::message_of(entries, number) else {
+    let Placed::At(opening) = dictionary_names::message_of(index, number) else {
         return MessageTable::NoMessage;
     };
     let items = dictionary_chains::wide(opening) as usize + 9;
-    let Laid::Upto(_, count) = lay_items(dictionary, entries, rows, items, 0, 2050) else {
+    let Laid::Upto(_, count) = lay_items(dictionary, index, rows, items, 0, 2050) else {
         return MessageTable::Unprepared;
     };
     MessageTable::Rows(count)

@@ -7,6 +7,7 @@ ghost use mathlib.Core.Path.{_≡_};
 ghost use Prim.Native.Nat.{_≤_};
 ghost use lib.ListN.{length};
 ghost use Rattle.dictionary_meaning_rules.specs.PlainTags.{listing, tagsFrom, plainTags};
+ghost use Rattle.dictionary_chains.specs.Chain.{indexWords};
 
 // Lists from a place on, up to the close. What lies in a group is passed over, up to its own close.
 fn list_tags(dictionary: &[u8], from: usize, tags: &mut [u32]) -> TagList
@@ -53,17 +54,12 @@ fn list_tags(dictionary: &[u8], from: usize, tags: &mut [u32]) -> TagList
 }
 
 // The tags of a component, from a dictionary that passed its check and the index that the check left: 0 is the header, 1 the trailer.
-pub fn plain_tags(
-    dictionary: &[u8],
-    index: &[u16; dictionary_chains::WORDS],
-    number: u16,
-    tags: &mut [u32; 1024],
-) -> TagList
+pub fn plain_tags(dictionary: &[u8], index: &[u16], number: u16, tags: &mut [u32; 1024]) -> TagList
+    requires { ⌜ length (now index) ≡ indexWords ⌝ }
     ensures { λ r. ⌜ listing r (now (tags .exit)) ≡ plainTags (now (dictionary .entry)) (now (index .entry)) number (now (tags .entry)) ⌝ }
 {
-    let entries = &index[..];
     let list = &mut tags[..];
-    let Looked::Closed(component) = dictionary_names::component_of(entries, number) else {
+    let Looked::Closed(component) = dictionary_names::component_of(index, number) else {
         return TagList::Unlisted;
     };
     list_tags(

@@ -44,7 +44,7 @@ pub record Tabled (table : List ℕ) (level : Level) (layout : Layout) : Type 0 
   pub stands : RowsStand table (level .first) layout
   pub ends : level .end ≡ level .first + items layout
 
-mark-read : (b : Bool) → eqb (mark b) 1 ≡ b
+pub mark-read : (b : Bool) → eqb (mark b) 1 ≡ b
 unfolding mark
 mark-read true = refl
 mark-read false = refl
@@ -68,19 +68,19 @@ row-read before more at tag required isGroup link stop start rises =
     read table t r g l = unfold rowAt in rw (sibling-link table at stop (omega (arith, l)), t, r, g, l, mark-read required, mark-read isGroup)
 
 -- what follows an item stands where it ends, and a group's entries right after its row
-field-rest : {table : List ℕ} {at tag : ℕ} {required : Bool} {rest : Layout} → RowsStand table at (field tag required rest) → RowsStand table (at + 1) rest
+pub field-rest : {table : List ℕ} {at tag : ℕ} {required : Bool} {rest : Layout} → RowsStand table at (field tag required rest) → RowsStand table (at + 1) rest
 unfolding rowsFrom
 field-rest {table} {at} {tag} {required} {rest} s =
     let words : List ℕ = tag ∷ mark required ∷ 0 ∷ (at + 1) ∷ [] in
     record { before = s .before ++ words; after = s .after; whole = s .whole ∙ sym (append-assoc (s .before) words _); start = length-append (s .before) words ∙ omega (arith, s .start) }
 
-group-inner : {table : List ℕ} {at tag : ℕ} {required : Bool} {inner rest : Layout} → RowsStand table at (group tag required inner rest) → RowsStand table (at + 1) inner
+pub group-inner : {table : List ℕ} {at tag : ℕ} {required : Bool} {inner rest : Layout} → RowsStand table at (group tag required inner rest) → RowsStand table (at + 1) inner
 unfolding rowsFrom
 group-inner {table} {at} {tag} {required} {inner} {rest} s =
     let words : List ℕ = tag ∷ mark required ∷ 1 ∷ (at + 1 + items inner) ∷ [] in
     record { before = s .before ++ words; after = rowsFrom (at + 1 + items inner) rest ++ s .after; whole = s .whole ∙ ap (λ (l : List ℕ). s .before ++ (words ++ l)) (append-assoc (rowsFrom (at + 1) inner) _ _) ∙ sym (append-assoc (s .before) words _); start = length-append (s .before) words ∙ omega (arith, s .start) }
 
-group-rest : {table : List ℕ} {at tag : ℕ} {required : Bool} {inner rest : Layout} → RowsStand table at (group tag required inner rest) → RowsStand table (at + 1 + items inner) rest
+pub group-rest : {table : List ℕ} {at tag : ℕ} {required : Bool} {inner rest : Layout} → RowsStand table at (group tag required inner rest) → RowsStand table (at + 1 + items inner) rest
 unfolding group-inner rowsFrom
 group-rest {table} {at} {tag} {required} {inner} {rest} s =
     let i = group-inner s in
@@ -110,7 +110,7 @@ own-rows table at stop (group tag required inner rest) s e =
     ∙ rw (own-rows table (at + 1 + items inner) stop rest (group-rest s) (omega arith))
 
 -- the level's stretch lies in the table
-stands-length : (table : List ℕ) (at : ℕ) (layout : Layout) → RowsStand table at layout → at + items layout ≤ length table / 4
+pub stands-length : (table : List ℕ) (at : ℕ) (layout : Layout) → RowsStand table at layout → at + items layout ≤ length table / 4
 stands-length table at layout s =
     omega (arith, ap length (s .whole), length-append (s .before) (rowsFrom at layout ++ s .after), length-append (rowsFrom at layout) (s .after), rows-length at layout, s .start)
 

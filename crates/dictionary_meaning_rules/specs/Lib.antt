@@ -29,3 +29,4 @@ pub mod PlainTagsLaws
 pub mod TagsMeant
 pub mod KnownTags
 pub mod Examples
+pub mod Kept

@@ -9,15 +9,8 @@ use Rattle.face_told.specs.Told.{told}
 use Rattle.face_messages.specs.declared.Shown.{Shown}
 use Rattle.face_messages.specs.Lent.{shownOf, toldOf}
 
--- a build's answer, records and words are those of its outcome
-pub built-shown : (b : Built) (words : List ℕ) (o : BuildOutcome) (n : ℕ) → builtTold b words ≡ o → n ≡ numberOf (b .answer) → _≡_ {A = Shown} (record { number = n; records = b .records; written = b .written }) (shownOf o)
-unfolding builtTold shownOf
-built-shown b words o n e h = ap (λ (x : ℕ). record { number = x; records = b .records; written = b .written }) h ∙ ap shownOf e
-
-pub built-out : (b : Built) (words : List ℕ) (o : BuildOutcome) (out : List ℕ) (v : ℕ × ℕ) → builtTold b words ≡ o → v ≡ valuesOf (b .answer) → out ≡ told (b .records) v → out ≡ toldOf o
-unfolding builtTold toldOf
-built-out b words o out v e h t = t ∙ ap (told (b .records)) h ∙ ap toldOf e
-
-pub built-words : (b : Built) (words : List ℕ) (o : BuildOutcome) → builtTold b words ≡ o → words ≡ o .words
-unfolding builtTold
-built-words b words o e = ap (λ (x : BuildOutcome). x .words) e
+-- a build's answer, words and values are those of its outcome
+pub built-told : (b : Built) (words : List ℕ) (o : BuildOutcome) → builtTold b words ≡ o → (r : Shown) → r ≡ record { number = numberOf (b .answer); records = b .records; written = b .written } → (out : List ℕ) → out ≡ told (b .records) (valuesOf (b .answer)) →
+    (r ≡ shownOf o) × (words ≡ o .words) × (out ≡ toldOf o)
+unfolding builtTold shownOf toldOf
+built-told b words o e r s out t = (s ∙ ap shownOf e, ap (λ (x : BuildOutcome). x .words) e, t ∙ ap toldOf e)

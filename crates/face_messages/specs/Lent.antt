@@ -11,6 +11,7 @@ use Rattle.build_records.specs.declared.Record.{Record}
 use Rattle.build_records.specs.Records.{laid, recordsOf, recordAt, onRecords, replaced, recordWords}
 use Rattle.build_answers.specs.Answer.{numberOf, valuesOf}
 use Rattle.builder.specs.Build.{BuildOutcome, buildOf}
+use Rattle.builder.specs.Through.{buildOver}
 use Rattle.face_messages.specs.declared.FieldRecord.{FieldRecord}
 use Rattle.face_messages.specs.declared.Shown.{Shown}
 use Rattle.face_told.specs.Told.{told}
@@ -55,6 +56,10 @@ recordsLent built lent = filled (built .words) (built .records) (built .written)
 -- a build of what the caller gives, over so many lent records
 unfoldable pub builtFrom : List ℕ → ℕ → ℕ → List ℕ → ℕ → BuildOutcome
 builtFrom message separator settings dictionary lent = buildOf message (configOf settings separator) dictionary lent (replicate recordWords 0)
+
+-- the same over memory that a dictionary was prepared in
+unfoldable pub builtOver : List ℕ → ℕ → ℕ → List ℕ → List ℕ → ℕ → BuildOutcome
+builtOver message separator settings copy memory lent = buildOver message (configOf settings separator) copy memory lent (replicate recordWords 0)
 
 -- ===== lent records, taken over =====
 

@@ -1,12 +1,15 @@
 // face_messages: a build and a taking over as a caller in another language asks for them, over records of twelve bytes that the caller lends.
 // It takes records apart and decides nothing; `gateway` lends what the caller lent.
 use build_records::Record;
+use builder::Built;
 ghost use mathlib.Core.Path.{_≡_};
 ghost use Prim.Native.Nat.{_*_, _%_, _^_, _≤_};
 ghost use lib.ListN.{take, replicate};
 ghost use Rattle.message_take_over.specs.Taking.{takingOver};
 ghost use Rattle.build_records.specs.Records.{onRecords, replaced, recordWords, stride};
 ghost use Rattle.builder.specs.Build.{buildOf};
+ghost use Rattle.builder.specs.Through.{buildOver};
+ghost use Rattle.build_answers.specs.Answer.{numberOf, valuesOf};
 ghost use Rattle.build_config.specs.Settings.{configOf};
 ghost use Rattle.face_told.specs.Told.{told, takingNumber, takenWords, takenValues};
 ghost use Rattle.face_messages.specs.Lent.{fieldRecordAt, shownOf, toldOf, recordOfLent, readCount};
@@ -73,6 +76,21 @@ pub fn blank_words() -> [u32; build_records::WORDS]
     [0; build_records::WORDS]
 }
 
+// Tells what a build answered.
+fn tell_built(built: Built, out: &mut [u32; 4]) -> Shown
+    ensures { λ r. ⌜ r ≡ record { number = numberOf (built .answer); records = built .records; written = built .written } ⌝ }
+    ensures { λ _. ⌜ now (out .exit) ≡ told (built .records) (valuesOf (built .answer)) ⌝ }
+{
+    let answer = built.answer;
+    let values = build_answers::values_of(answer);
+    face_told::tell(out, built.records, values.first, values.second);
+    Shown {
+        number: build_answers::number_of(answer),
+        records: built.records,
+        written: built.written,
+    }
+}
+
 // Builds a message from its bytes, with its records in the words, and tells the answer. So many records are lent to be filled from them.
 pub fn build(
     message: &[u8],
@@ -88,15 +106,32 @@ pub fn build(
         × (now (out .exit) ≡ toldOf (buildOf (now (message .entry)) (configOf settings separator) (now (dictionary .entry)) lent (now (words .entry)))) ⌝ }
 {
     let config = build_config::config_of(settings, separator);
-    let built = builder::build(message, config, dictionary, lent, words);
-    let answer = built.answer;
-    let values = build_answers::values_of(answer);
-    face_told::tell(out, built.records, values.first, values.second);
-    Shown {
-        number: build_answers::number_of(answer),
-        records: built.records,
-        written: built.written,
-    }
+    tell_built(
+        builder::build(message, config, dictionary, lent, words),
+        out,
+    )
+}
+
+// Builds a message over memory that a dictionary was prepared in, and tells the answer.
+pub fn build_prepared(
+    message: &[u8],
+    separator: u8,
+    settings: u32,
+    copy: &[u8],
+    memory: &[u16],
+    lent: usize,
+    words: &mut [u32; build_records::WORDS],
+    out: &mut [u32; 4],
+) -> Shown
+    ensures { λ r. ⌜ (r ≡ shownOf (buildOver (now (message .entry)) (configOf settings separator) (now (copy .entry)) (now (memory .entry)) lent (now (words .entry))))
+        × (now (words .exit) ≡ buildOver (now (message .entry)) (configOf settings separator) (now (copy .entry)) (now (memory .entry)) lent (now (words .entry)) .words)
+        × (now (out .exit) ≡ toldOf (buildOver (now (message .entry)) (configOf settings separator) (now (copy .entry)) (now (memory .entry)) lent (now (words .entry)))) ⌝ }
+{
+    let config = build_config::config_of(settings, separator);
+    tell_built(
+        builder::build_prepared(message, config, copy, memory, lent, words),
+        out,
+    )
 }
 
 // A lent record as record i of the words.

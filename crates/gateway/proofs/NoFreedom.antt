@@ -25,6 +25,10 @@ use Rattle.gateway.proofs.gateway_message_words.Reads as of-message-wor
 use Rattle.gateway.proofs.gateway_message_words.Kinds as in-message-words
 use Rattle.gateway.proofs.building.gateway_check.Reads as of-check
 use Rattle.gateway.proofs.building.gateway_check.Kinds as in-check
+use Rattle.gateway.proofs.building.gateway_prepared_words.Reads as of-prepared-words
+use Rattle.gateway.proofs.building.gateway_prepared_words.Kinds as in-prepared-words
+use Rattle.gateway.proofs.building.gateway_prepare.Reads as of-prepare
+use Rattle.gateway.proofs.building.gateway_prepare.Kinds as in-prepare
 use Rattle.gateway.proofs.finding.gateway_find_part.Reads as of-find-part
 use Rattle.gateway.proofs.finding.gateway_find_part.Kinds as in-find-part
 use Rattle.gateway.proofs.finding.gateway_find_field.Reads as of-find-field
@@ -52,6 +56,7 @@ use Rattle.gateway.proofs.messages.gateway_hang.Kinds as in-hang
 use Rattle.gateway.proofs.messages.gateway_encode.Reads as of-encode
 use Rattle.gateway.proofs.messages.gateway_encode.Kinds as in-encode
 use Rattle.gateway.proofs.building.gateway_build as of-build
+use Rattle.gateway.proofs.building.gateway_build_prepared as of-build-prepared
 use Rattle.gateway.proofs.taking_over.gateway_take_over as of-take-over
 use Rattle.gateway.proofs.framers.gateway_ported_push as of-ported-push
 use Rattle.gateway.proofs.framers.gateway_ported_end as of-ported-end
@@ -79,6 +84,12 @@ gateway-message-words κs a x y left other p q = same p q
 
 pub gateway-check : NoFreedom 2 in-check.ps in-check.r of-check.Post (λ κs x y left other. (x ≡ y) × (now (left .1 .0) ≡ now (other .1 .0)))
 gateway-check κs a x y left other p q = (same (p .0) (q .0), same (p .1) (q .1))
+
+pub gateway-prepared-words : NoFreedom 0 in-prepared-words.ps in-prepared-words.r of-prepared-words.Post (λ κs x y left other. x ≡ y)
+gateway-prepared-words κs a x y left other p q = same p q
+
+pub gateway-prepare : NoFreedom 4 in-prepare.ps in-prepare.r of-prepare.Post (λ κs x y left other. (x ≡ y) × (now (left .1 .0) ≡ now (other .1 .0)) × (now (left .1 .1 .0) ≡ now (other .1 .1 .0)) × (now (left .1 .1 .1 .0) ≡ now (other .1 .1 .1 .0)))
+gateway-prepare κs a x y left other p q = (same (p .0) (q .0), same (p .1 .0) (q .1 .0), same (p .1 .1 .0) (q .1 .1 .0), same (p .1 .1 .1) (q .1 .1 .1))
 
 pub gateway-find-part : NoFreedom 3 in-find-part.ps in-find-part.r of-find-part.Post (λ κs x y left other. (x ≡ y) × (now (left .1 .1 .1 .0) ≡ now (other .1 .1 .1 .0)))
 gateway-find-part κs a x y left other p q = (same (p .0) (q .0), same (p .1) (q .1))
@@ -129,6 +140,9 @@ pub record Walked (T : Ended) (contract : (M : Type 1) (𝓤 : URA M) (H : Heap 
 
 pub gateway-build : Walked of-build.ended (λ M. of-build.clauses) (λ κs x y left other. (x ≡ y) × (now (left .1 .1 .1 .1 .0) ≡ now (other .1 .1 .1 .1 .0)) × (now (left .1 .1 .1 .1 .1 .0) ≡ now (other .1 .1 .1 .1 .1 .0)))
 gateway-build = record { Said = _; states = λ M 𝓤 H A mem run κs a g x left. refl; fixes = λ κs a x y left other p q. (same (p .0) (q .0), same (p .1) (q .1), same (p .2) (q .2)) }
+
+pub gateway-build-prepared : Walked of-build-prepared.ended (λ M. of-build-prepared.clauses) (λ κs x y left other. (x ≡ y) × (now (left .1 .1 .1 .1 .1 .0) ≡ now (other .1 .1 .1 .1 .1 .0)) × (now (left .1 .1 .1 .1 .1 .1 .0) ≡ now (other .1 .1 .1 .1 .1 .1 .0)))
+gateway-build-prepared = record { Said = _; states = λ M 𝓤 H A mem run κs a g x left. refl; fixes = λ κs a x y left other p q. (same (p .0) (q .0), same (p .1) (q .1), same (p .2) (q .2)) }
 
 pub gateway-take-over : Walked of-take-over.ended (λ M. of-take-over.clauses) (λ κs x y left other. (x ≡ y) × (now (left .1 .1 .1 .0) ≡ now (other .1 .1 .1 .0)) × (now (left .1 .1 .1 .1 .0) ≡ now (other .1 .1 .1 .1 .0)) × (now (left .1 .1 .1 .1 .1 .0) ≡ now (other .1 .1 .1 .1 .1 .0)))
 gateway-take-over = record { Said = _; states = λ M 𝓤 H A mem run κs a g x left. refl; fixes = λ κs a x y left other p q. (same (p .0) (q .0), same (p .1) (q .1), same (p .2) (q .2), same (p .3) (q .3)) }

@@ -41,7 +41,7 @@ pub use denote.RattleType.{owns, flat, RattleType}
 pub use denote.Laws.{Is, shows, Are, Ises, Spells, valss, Tellss}
 pub use denote.Memory.{mem, pointee, cellAt, partAt, shares, lone}
 unfoldable pub use denote.Memory.{partOf}
-pub use denote.Builtin.{u8, u32, RefMutOf, SliceRefMutOf, SliceRefOf, usize, unit}
+pub use denote.Builtin.{u8, u16, u32, RefMutOf, SliceRefMutOf, SliceRefOf, usize, unit}
 pub use denote.Ref.{RefT, MutRef, now, ptr-vals, mut-tells, ShrRef, shr-tells, shr-copy, shr-lawful}
 pub use denote.Slice.{MutSlice, ShrSlice, Room, finally, slice-vals, mut-slice-tells, shr-slice-tells, shr-slice-copy, shr-slice-lawful, sliceTy, sliceVal, heres, codedHoleys, at-slice}
 pub use denote.Signature.{plain, typeAt, typesAt}

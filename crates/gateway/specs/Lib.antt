@@ -2,3 +2,4 @@ pub mod MessageLaws
 pub mod FoundLaws
 pub mod Sets
 pub mod TakingLaws
+pub mod PreparingLaws

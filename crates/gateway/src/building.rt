@@ -1,4 +1,4 @@
-// The dictionary's check, and the build over the caller's records.
+// The dictionary's check, a dictionary prepared in the caller's memory, and the build over the caller's records.
 use face_messages::FieldRecord;
 ghost use mathlib.Core.Path.{_≡_};
 ghost use Prim.Native.Nat.{_≤_};
@@ -6,7 +6,8 @@ ghost use lib.ListN.{length, getD};
 ghost use Rattle.dictionary_rules.specs.Check.{checkOf, numberOfCheck, valuesOfCheck};
 ghost use Rattle.build_answers.specs.Answer.{numberOf, valuesOf};
 ghost use Rattle.face_told.specs.Told.{told};
-ghost use Rattle.face_messages.specs.Lent.{filled, builtFrom, recordsLent};
+ghost use Rattle.face_messages.specs.Lent.{filled, builtFrom, builtOver, recordsLent};
+ghost use Rattle.dictionary_prepared.specs.Memory.{headWords, preparation, preparingOf, copyOf, memoryOf, numberOfPreparing, valueOfPreparing};
 
 // Checks a flat dictionary.
 #[no_mangle]
@@ -17,6 +18,33 @@ pub extern "C" fn gateway_check(dictionary: &[u8], out: &mut [u32; 4]) -> u32
     let checked = dictionary_check::check(dictionary);
     face_told::tell(out, 0, dictionary_check::value_of(checked) as usize, 0);
     dictionary_check::number_of(checked)
+}
+
+// The words of memory that a dictionary is prepared in, at the least; the copy of its records has as many bytes as it has.
+#[no_mangle]
+pub extern "C" fn gateway_prepared_words() -> u32
+    ensures { λ r. ⌜ r ≡ headWords ⌝ }
+{
+    dictionary_prepared::HEAD as u32
+}
+
+// Checks a flat dictionary and prepares it for many builds: its records in the copy, what they name in the memory. On a refusal both are as they
+// were.
+#[no_mangle]
+pub extern "C" fn gateway_prepare(
+    dictionary: &[u8],
+    copy: &mut [u8],
+    memory: &mut [u16],
+    out: &mut [u32; 4],
+) -> u32
+    ensures { λ r. ⌜ r ≡ numberOfPreparing (preparingOf (preparation (now (dictionary .entry)) (now (copy .entry)) (now (memory .entry)))) ⌝ }
+    ensures { λ _. ⌜ now (copy .exit) ≡ copyOf (preparation (now (dictionary .entry)) (now (copy .entry)) (now (memory .entry))) ⌝ }
+    ensures { λ _. ⌜ now (memory .exit) ≡ memoryOf (preparation (now (dictionary .entry)) (now (copy .entry)) (now (memory .entry))) ⌝ }
+    ensures { λ _. ⌜ now (out .exit) ≡ told 0 (valueOfPreparing (preparingOf (preparation (now (dictionary .entry)) (now (copy .entry)) (now (memory .entry)))), 0) ⌝ }
+{
+    let preparing = dictionary_prepared::prepare(dictionary, copy, memory);
+    face_told::tell(out, 0, dictionary_prepared::value_of(preparing) as usize, 0);
+    dictionary_prepared::number_of(preparing)
 }
 
 // Writes over so many of the lent records: those that the words show, and blank ones behind them.
@@ -56,6 +84,36 @@ pub extern "C" fn gateway_build(
         separator,
         settings,
         dictionary,
+        records.len(),
+        &mut words,
+        out,
+    );
+    fill(records, &words, built.records, built.written);
+    built.number
+}
+
+// Builds a message as `gateway_build` does, over memory that a dictionary was prepared in: it takes no dictionary and checks none.
+#[no_mangle]
+pub extern "C" fn gateway_build_prepared(
+    message: &[u8],
+    separator: u8,
+    settings: u32,
+    copy: &[u8],
+    memory: &[u16],
+    records: &mut [FieldRecord],
+    out: &mut [u32; 4],
+) -> u32
+    ensures { λ r. ⌜ (r ≡ numberOf (builtOver (now (message .entry)) separator settings (now (copy .entry)) (now (memory .entry)) (length (now (records .entry))) .answer))
+        × (now (records .exit) ≡ recordsLent (builtOver (now (message .entry)) separator settings (now (copy .entry)) (now (memory .entry)) (length (now (records .entry)))) (now (records .entry)))
+        × (now (out .exit) ≡ told (builtOver (now (message .entry)) separator settings (now (copy .entry)) (now (memory .entry)) (length (now (records .entry))) .records) (valuesOf (builtOver (now (message .entry)) separator settings (now (copy .entry)) (now (memory .entry)) (length (now (records .entry))) .answer))) ⌝ }
+{
+    let mut words = face_messages::blank_words();
+    let built = face_messages::build_prepared(
+        message,
+        separator,
+        settings,
+        copy,
+        memory,
         records.len(),
         &mut words,
         out,

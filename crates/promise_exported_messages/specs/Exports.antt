@@ -9,13 +9,27 @@ use Rattle.message_take_over.specs.Taking.{takingOver}
 use Rattle.encode_rules.specs.Encode.{encodingOf}
 use Rattle.face_told.specs.Told.{told, takingNumber, takenWords, takenValues, encodingNumber, encodingLength, leftWords, leftValues, leftOutput}
 use Rattle.face_messages.specs.declared.FieldRecord.{FieldRecord}
-use Rattle.face_messages.specs.Lent.{builtFrom, recordsLent, wordsLent}
+use Rattle.face_messages.specs.Lent.{builtFrom, builtOver, recordsLent, wordsLent}
+use Rattle.dictionary_prepared.specs.Memory.{preparation, preparingOf, copyOf, memoryOf, numberOfPreparing, valueOfPreparing}
 
 -- `gateway_build`
 pub record Builds (message : List ℕ) (separator settings : ℕ) (dictionary : List ℕ) (records : List FieldRecord) (number : ℕ) (recordsLeft : List FieldRecord) (out : List ℕ) : Type 0 where
   pub answers : number ≡ numberOf (builtFrom message separator settings dictionary (length records) .answer)
   pub fills : recordsLeft ≡ recordsLent (builtFrom message separator settings dictionary (length records)) records
   pub tells : out ≡ told (builtFrom message separator settings dictionary (length records) .records) (valuesOf (builtFrom message separator settings dictionary (length records) .answer))
+
+-- `gateway_prepare`
+pub record Prepares (dictionary copy memory : List ℕ) (number : ℕ) (copyLeft memoryLeft out : List ℕ) : Type 0 where
+  pub answers : number ≡ numberOfPreparing (preparingOf (preparation dictionary copy memory))
+  pub leaves-copy : copyLeft ≡ copyOf (preparation dictionary copy memory)
+  pub leaves-memory : memoryLeft ≡ memoryOf (preparation dictionary copy memory)
+  pub tells : out ≡ told 0 (valueOfPreparing (preparingOf (preparation dictionary copy memory)), 0)
+
+-- `gateway_build_prepared`
+pub record BuildsPrepared (message : List ℕ) (separator settings : ℕ) (copy memory : List ℕ) (records : List FieldRecord) (number : ℕ) (recordsLeft : List FieldRecord) (out : List ℕ) : Type 0 where
+  pub answers : number ≡ numberOf (builtOver message separator settings copy memory (length records) .answer)
+  pub fills : recordsLeft ≡ recordsLent (builtOver message separator settings copy memory (length records)) records
+  pub tells : out ≡ told (builtOver message separator settings copy memory (length records) .records) (valuesOf (builtOver message separator settings copy memory (length records) .answer))
 
 -- `gateway_take_over`
 pub record TakesOver (records : List FieldRecord) (count : ℕ) (message words values : List ℕ) (number : ℕ) (wordsLeft valuesLeft out : List ℕ) : Type 0 where

@@ -5,3 +5,4 @@ pub mod CallLaws
 pub mod ComesBack
 pub mod Again
 pub mod Dealer
+pub mod Prepared

@@ -7,6 +7,7 @@ use borrow.Fn.Kinds.{Out}
 use Rattle.promise_no_freedom.proofs.Schema.{same, NoFreedom}
 use Rattle.builder.specs.Build.{BuildOutcome, builtTold}
 use Rattle.builder.specs.declared.Built.{Built}
+use Rattle.dictionary_prepared.specs.Memory.{preparingOf, copyOf, memoryOf}
 use Rattle.field_tagvalue.proofs.find.Reads as of-field-tagvalue-find
 use Rattle.field_tagvalue.proofs.find.Kinds as in-field-tagvalue-find
 use Rattle.field_numbers.proofs.number_of.Reads as of-field-numbers-number-of
@@ -45,6 +46,14 @@ use Rattle.dictionary_check.proofs.number_of.Reads as of-dictionary-check-numbe
 use Rattle.dictionary_check.proofs.number_of.Kinds as in-dictionary-check-number-of
 use Rattle.dictionary_check.proofs.value_of.Reads as of-dictionary-check-value-of
 use Rattle.dictionary_check.proofs.value_of.Kinds as in-dictionary-check-value-of
+use Rattle.dictionary_prepared.proofs.number_of.Reads as of-dictionary-prepared-number-of
+use Rattle.dictionary_prepared.proofs.number_of.Kinds as in-dictionary-prepared-number-of
+use Rattle.dictionary_prepared.proofs.value_of.Reads as of-dictionary-prepared-value-of
+use Rattle.dictionary_prepared.proofs.value_of.Kinds as in-dictionary-prepared-value-of
+use Rattle.dictionary_prepared.proofs.is_prepared.Reads as of-dictionary-prepared-is-prepared
+use Rattle.dictionary_prepared.proofs.is_prepared.Kinds as in-dictionary-prepared-is-prepared
+use Rattle.dictionary_prepared.proofs.prepare.Reads as of-dictionary-prepared-prepare
+use Rattle.dictionary_prepared.proofs.prepare.Kinds as in-dictionary-prepared-prepare
 use Rattle.dictionary_layout.proofs.position_of.Reads as of-dictionary-layout-position-of
 use Rattle.dictionary_layout.proofs.position_of.Kinds as in-dictionary-layout-position-of
 use Rattle.dictionary_layout.proofs.group_of.Reads as of-dictionary-layout-group-of
@@ -57,6 +66,8 @@ use Rattle.dictionary_layout.proofs.holds.Reads as of-dictionary-layout-holds
 use Rattle.dictionary_layout.proofs.holds.Kinds as in-dictionary-layout-holds
 use Rattle.builder.proofs.build.Reads as of-builder-build
 use Rattle.builder.proofs.build.Kinds as in-builder-build
+use Rattle.builder.proofs.build_prepared.Reads as of-builder-build-prepared
+use Rattle.builder.proofs.build_prepared.Kinds as in-builder-build-prepared
 use Rattle.build_answers.proofs.number_of.Reads as of-build-answers-number-of
 use Rattle.build_answers.proofs.number_of.Kinds as in-build-answers-number-of
 use Rattle.build_answers.proofs.values_of.Reads as of-build-answers-values-of
@@ -183,6 +194,18 @@ dictionary-check-number-of κs a x y left other p q = same p q
 pub dictionary-check-value-of : NoFreedom 0 in-dictionary-check-value-of.ps in-dictionary-check-value-of.r of-dictionary-check-value-of.Post (λ κs x y left other. x ≡ y)
 dictionary-check-value-of κs a x y left other p q = same p q
 
+pub dictionary-prepared-number-of : NoFreedom 0 in-dictionary-prepared-number-of.ps in-dictionary-prepared-number-of.r of-dictionary-prepared-number-of.Post (λ κs x y left other. x ≡ y)
+dictionary-prepared-number-of κs a x y left other p q = same p q
+
+pub dictionary-prepared-value-of : NoFreedom 0 in-dictionary-prepared-value-of.ps in-dictionary-prepared-value-of.r of-dictionary-prepared-value-of.Post (λ κs x y left other. x ≡ y)
+dictionary-prepared-value-of κs a x y left other p q = same p q
+
+pub dictionary-prepared-is-prepared : NoFreedom 2 in-dictionary-prepared-is-prepared.ps in-dictionary-prepared-is-prepared.r of-dictionary-prepared-is-prepared.Post (λ κs x y left other. x ≡ y)
+dictionary-prepared-is-prepared κs a x y left other p q = same p q
+
+pub dictionary-prepared-prepare : NoFreedom 3 in-dictionary-prepared-prepare.ps in-dictionary-prepared-prepare.r of-dictionary-prepared-prepare.Post (λ κs x y left other. (x ≡ y) × (now (left .1 .0) ≡ now (other .1 .0)) × (now (left .1 .1 .0) ≡ now (other .1 .1 .0)))
+dictionary-prepared-prepare κs a x y left other p q = let e = same p q in unfold preparingOf copyOf memoryOf in (ap preparingOf e, ap copyOf e, ap memoryOf e)
+
 pub dictionary-layout-position-of : NoFreedom 1 in-dictionary-layout-position-of.ps in-dictionary-layout-position-of.r of-dictionary-layout-position-of.Post (λ κs x y left other. x ≡ y)
 dictionary-layout-position-of κs a x y left other p q = same p q
 
@@ -200,6 +223,9 @@ dictionary-layout-holds κs a x y left other p q = same p q
 
 pub builder-build : NoFreedom 3 in-builder-build.ps in-builder-build.r of-builder-build.Post (λ κs x y left other. (x ≡ y) × (now (left .1 .1 .1 .1 .0) ≡ now (other .1 .1 .1 .1 .0)))
 builder-build κs a x y left other p q = let e = same p q in unfold builtTold in (ap builtOf e, ap (λ (o : BuildOutcome). o .words) e)
+
+pub builder-build-prepared : NoFreedom 4 in-builder-build-prepared.ps in-builder-build-prepared.r of-builder-build-prepared.Post (λ κs x y left other. (x ≡ y) × (now (left .1 .1 .1 .1 .1 .0) ≡ now (other .1 .1 .1 .1 .1 .0)))
+builder-build-prepared κs a x y left other p q = let e = same p q in unfold builtTold in (ap builtOf e, ap (λ (o : BuildOutcome). o .words) e)
 
 pub build-answers-number-of : NoFreedom 0 in-build-answers-number-of.ps in-build-answers-number-of.r of-build-answers-number-of.Post (λ κs x y left other. x ≡ y)
 build-answers-number-of κs a x y left other p q = same p q

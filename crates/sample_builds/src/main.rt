@@ -5,6 +5,9 @@
 //   q               the records are not shown
 //   m8=F|9=..       builds the message of these bytes
 //   f35=D|38=1|     builds the message of these fields, with a right BodyLength before and a right CheckSum behind them
+//   p pc pw pl      prepares the dictionary in a copy of 62 bytes, 61 with `c`, 60,001 with `l`, and the least memory, a word less with `w`, and builds no
+//                   byte over them
+// Each message is built over prepared memory too, and a line says so only where that is answered otherwise.
 mod telling;
 
 use sample_kit::dictionaries;
@@ -76,6 +79,12 @@ fn step(case: Case, dictionary: &mut [u8], piece: &[u8]) -> Case {
         b'.' => {
             saying::piece(piece, b":");
             usual(size)
+        }
+        b'p' => {
+            let config = build_config::config_of(case.settings, case.separator);
+            let lent = sample_texts::first(dictionary, size);
+            telling::prepared(config, lent, case.lent, sample_texts::byte_at(piece, 1));
+            case
         }
         b'm' | b'f' => {
             build(case, sample_texts::first(dictionary, size), piece);

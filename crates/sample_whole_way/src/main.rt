@@ -55,11 +55,22 @@ fn take_over(
 fn build(frame: &[u8], words: &mut [u32], values: &mut [u8]) {
     let config = build_config::config_of(1, SEPARATOR);
     let mut records = [0u32; build_records::WORDS];
-    let built = builder::build(frame, config, &sample::DICTIONARY, 1024, &mut records);
+    let mut copy = [0u8; 60000];
+    let mut memory = [0u16; dictionary_prepared::HEAD];
+    let preparing = dictionary_prepared::prepare(
+        &sample::DICTIONARY,
+        &mut copy[..],
+        &mut memory[..],
+    );
+    let built = builder::build_prepared(frame, config, &copy[..], &memory[..], 1024, &mut records);
     let answer = built.answer;
     let count = built.records;
     showing::step(
-        b"3. The build answers",
+        b"3. The dictionary is prepared once, which answers",
+        dictionary_prepared::number_of(preparing) as usize,
+    );
+    showing::step(
+        b". A build over it answers",
         build_answers::number_of(answer) as usize,
     );
     showing::step(b". Fields read:", count_fields(frame));

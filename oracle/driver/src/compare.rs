@@ -175,20 +175,29 @@ impl Comparison {
                 }
             }
         }
+        self.one_of_ours(line, &request, &given, &paper, ruling.outside.is_none());
+    }
+
+    fn one_of_ours(&mut self, line: &str, request: &Request, given: &Answer, paper: &str, inside: bool) {
         let Some(ours) = &mut self.ours else { return };
-        let Some(own) = ours.answer(&request) else {
+        let own = ours.answer(request);
+        for unlike in ours.unlike() {
+            let what = format!("ours and ours differ: {}", unlike.what);
+            self.differ(&what, line, &unlike.said.each_ref().map(|(side, said)| (*side, said.as_str())));
+        }
+        let Some(own) = own else {
             self.seen.unanswered += 1;
             return;
         };
         self.seen.ours += 1;
-        if ruling.outside.is_none() {
+        if inside {
             self.seen.ours_with_rust += 1;
-            if !self.given_agrees(&request, &given, &own) {
-                return self.differ("our side and the Rust differ", line, &[("ours", &own), ("Rust", &given.text()), ("01", &paper)]);
+            if !self.given_agrees(request, given, &own) {
+                return self.differ("our side and the Rust differ", line, &[("ours", &own), ("Rust", &given.text()), ("01", paper)]);
             }
         }
         if own != paper {
-            self.differ("our side and 01 differ", line, &[("ours", &own), ("01", &paper), ("Rust", &given.text())]);
+            self.differ("our side and 01 differ", line, &[("ours", &own), ("01", paper), ("Rust", &given.text())]);
         }
     }
 
@@ -217,6 +226,9 @@ impl Comparison {
             "compared: the Rust and 01 as the driver reads it on {}, ours and that 01 on {}, ours and the Rust on {}; our side has no call for {}",
             self.seen.inside, self.seen.ours, self.seen.ours_with_rust, self.seen.unanswered
         );
+        if let Some(held) = self.ours.as_ref().and_then(|ours| ours.held()) {
+            println!("ours and ours: {held}");
+        }
         for ((kind, number), count) in &self.numbers {
             println!("  {kind:10} {number:>3} {count:>9}");
         }

@@ -3,7 +3,7 @@ mod calls;
 mod exhaustive;
 mod messages;
 mod outside;
-mod random;
+pub(crate) mod random;
 mod shape;
 mod standard;
 mod streams;

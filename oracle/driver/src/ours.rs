@@ -1,8 +1,14 @@
 //! Our own side: a program that speaks the line protocol, or the static library that ships.
 #[cfg(feature = "library")]
+mod any_content;
+#[cfg(feature = "library")]
 mod exports;
 #[cfg(feature = "library")]
+mod forms;
+#[cfg(feature = "library")]
 pub mod library;
+#[cfg(feature = "library")]
+pub mod prepared;
 
 use std::io::{BufRead, BufReader, BufWriter, Write};
 use std::process::{Child, ChildStdout, Command, Stdio};
@@ -10,11 +16,25 @@ use std::sync::mpsc::{Sender, channel};
 
 use crate::protocol::Request;
 
+/// Where ours said or left one thing and ours another: what it is, and both.
+pub struct Unlike {
+    pub what: &'static str,
+    pub said: [(&'static str, String); 2],
+}
+
 pub trait Ours {
     /// Told of requests ahead of their answers, so that a program needn't be waited for line by line.
     fn ask(&mut self, line: &str);
     /// The answer to the oldest request that has none yet; nothing where this side has no such call.
     fn answer(&mut self, request: &Request) -> Option<String>;
+    /// Where ours differed with ours in the last answer. A program shows one form alone.
+    fn unlike(&mut self) -> Vec<Unlike> {
+        vec![]
+    }
+    /// How much of ours was held against ours.
+    fn held(&self) -> Option<String> {
+        None
+    }
 }
 
 pub struct Program {

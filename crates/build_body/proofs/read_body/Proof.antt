@@ -27,9 +27,9 @@ abbrev μ-loop : tie.MeasureT-loop
 
 loop-holds : tie.Need-loop-holds Inv-loop μ-loop
 unfolding partRoom
-loop-holds c = let a = c .before .before .before .before in (
+loop-holds c = let a = c .before .before .before .before .before in (
   refl,
-  stays-at _ _ _ _ _ refl _ _ (record { fits = omega arith; inside = a .pre .1; starts = omega arith; falls = omega arith }),
+  stays-at _ _ _ _ _ refl _ _ (record { fits = omega arith; inside = a .pre .0 .1; starts = omega arith; falls = omega arith }),
   refl,
 )
 
@@ -42,13 +42,13 @@ returns c = let l = c .before .before in
     (sym (l .loop .inv .2 ∙ left-refused _ _ _ _ _ _ _ _ _ _ (c .enum-told .given .1)), l .loop .inv .1)
 
 -- where reading stands
-ends : (c : tie.After-known-told Inv-loop μ-loop) → let l = c .before .before .before in let a = l .before .before .before .before .before in Ends (a .args .message .now) (a .args .words .now) (a .args .from) (suc (a .args .progress .room)) (c .before .reading .given .0 .0) (c .before .reading .given .0 .1 .0)
+ends : (c : tie.After-known-told Inv-loop μ-loop) → let l = c .before .before .before in let a = l .before .before .before .before .before .before in Ends (a .args .message .now) (a .args .words .now) (a .args .from) (suc (a .args .progress .room)) (c .before .reading .given .0 .0) (c .before .reading .given .0 .1 .0)
 unfolding partRoom
 ends c = c .before .before .before .loop .inv .1 .ends _ _ (c .before .reading .given .1)
 
 -- what the steps of the body ask
 record Asks (c : tie.After-known-told Inv-loop μ-loop) : Type 0 where
-  short : length (c .before .before .before .before .before .before .before .before .args .message .now) < 2 ^ 32
+  short : length (c .before .before .before .before .before .before .before .before .before .args .message .now) < 2 ^ 32
   fits : c .before .reading .given .0 .1 .0 .records + c .before .reading .given .0 .1 .0 .room < length (c .before .before .before .loop .words) / stride
   words-short : length (c .before .before .before .loop .words) < 2 ^ 32
 
@@ -83,7 +83,7 @@ read-group-requires : tie.Need-read-group-requires Inv-loop μ-loop
 read-group-requires c κs = let k = c .before .before .before .before .before in
     let a = asks k in
     let e = ends k in
-    (a .short, e .inside, e .starts, a .fits, a .words-short)
+    ((a .short, e .inside, e .starts, a .fits, a .words-short), k .before .before .before .before .before .before .before .before .before .pre .1)
 
 loop-less-2 : tie.Need-loop-less-2 Inv-loop μ-loop
 loop-less-2 c = let r = c .before .before in

@@ -13,23 +13,23 @@ use Rattle.build_body.proofs.read_group.Statement.{statement}
 use Rattle.build_body.proofs.read_group.Tie as tie
 
 record-of-requires : tie.Need-record-of-requires
-record-of-requires c κs = let i = c .before .before .before .before .pre .1 in (omega (arith, i .within), omega (arith, i .within))
+record-of-requires c κs = let i = c .before .before .before .before .before .pre .0 .1 in (omega (arith, i .within), omega (arith, i .within))
 
 open-run-requires : tie.Need-open-run-requires
 open-run-requires c κs = (omega arith, omega arith)
 
 -- where the run starts
-fits : (c : tie.After-read-run-arg) → let o = c .before .before .before in let a = o .before .before .before .before .before .before .args in Fits (a .message .now) (record { room = a .progress .room; records = o .open-run .result .records; place = o .open-run .result .place })
+fits : (c : tie.After-read-run-arg) → let o = c .before .before .before in let a = o .before .before .before .before .before .before .before .args in Fits (a .message .now) (record { room = a .progress .room; records = o .open-run .result .records; place = o .open-run .result .place })
 fits c = let o = c .before .before .before in
     let e = o .open-run .ensures in
     record { short = omega arith; counted = omega (arith, e .by-one); placed = omega (arith, e .by-one, e .within) }
 
-words-left : (c : tie.After-read-run-arg) → let o = c .before .before .before in let a = o .before .before .before .before .before .before .args in o .open-run .result .records + a .progress .room ≤ length (o .open-run .last .0) / stride
+words-left : (c : tie.After-read-run-arg) → let o = c .before .before .before in let a = o .before .before .before .before .before .before .before .args in o .open-run .result .records + a .progress .room ≤ length (o .open-run .last .0) / stride
 words-left c = let o = c .before .before .before in
     omega (arith, o .open-run .ensures .by-one, o .open-run .kept .0)
 
 read-run-requires : tie.Need-read-run-requires
-read-run-requires c κs = fits c
+read-run-requires c κs = (fits c, c .before .before .before .before .before .before .before .before .before .before .pre .1)
 
 check-run-requires : tie.Need-check-run-requires
 check-run-requires c κs = let k = c .before in

@@ -7,6 +7,7 @@ use lib.ListN.{length}
 use borrow.Author.Needs.{needs}
 use borrow.Author.Tests.{not-true, not-false}
 use Rattle.field_rules.specs.declared.Field.{Field}
+use Rattle.dictionary_chains.specs.Chain.{indexWords}
 use Rattle.dictionary_rules.specs.Index.{tagAt}
 use Rattle.build_group_rules.specs.Reading.{FitsAt, runOf, entryOf}
 use Rattle.build_group_rules.specs.ReadingLaws.{Follows, roomOf, makes-one, next-follows}
@@ -65,13 +66,13 @@ abbrev read-entry-μ-loop : read-entry-lts.MeasureT-loop
 read-entry-μ-loop message config table index group number words₀ start reading₀ last₀ words reading last = roomOf reading
 
 read-entry-record-of-requires : (t : ℕ) → read-entry-lts.Need-record-of-requires (entry-calls t) (read-entry-at t) read-entry.Post read-entry-Inv-loop read-entry-μ-loop
-read-entry-record-of-requires t c κs = let fits = c .before .before .before .before .pre .1 in (omega (arith, fits .short, fits .inside .within), omega (arith, fits .short, fits .inside .within))
+read-entry-record-of-requires t c κs = let fits = c .before .before .before .before .before .pre .1 .0 in (omega (arith, fits .short, fits .inside .within), omega (arith, fits .short, fits .inside .within))
 
 read-entry-add-requires : (t : ℕ) → read-entry-lts.Need-add-requires (entry-calls t) (read-entry-at t) read-entry.Post read-entry-Inv-loop read-entry-μ-loop
-read-entry-add-requires t c κs = let fits = c .before .before .before .before .before .pre .1 in (omega (arith, fits .counted), omega (arith, fits .placed))
+read-entry-add-requires t c κs = let fits = c .before .before .before .before .before .before .pre .1 .0 in (omega (arith, fits .counted), omega (arith, fits .placed))
 
 read-entry-loop-holds : (t : ℕ) → read-entry-lts.Need-loop-holds (entry-calls t) (read-entry-at t) read-entry.Post read-entry-Inv-loop read-entry-μ-loop
-read-entry-loop-holds t c = let fits = c .before .before .before .before .before .before .before .before .before .pre .1 in
+read-entry-loop-holds t c = let fits = c .before .before .before .before .before .before .before .before .before .before .pre .1 .0 in
     (refl, stored-follows _ _ _ _ _ _ 1 _ (omega arith) fits (c .before .before .before .add .ensures .0) (c .next-field .ensures) .fits, refl)
 
 -- the entry reader at its loop, and where it has read a field
@@ -87,11 +88,14 @@ entry-loop t c = c .before .before .before
 entry-stands : (t : ℕ) (c : EntryField t) → entry-loop t c .loop .reading ≡ At (c .before .reading .given .0 .0) (c .before .reading .given .0 .1 .0)
 entry-stands t c = c .before .reading .given .1
 
-entry-fits : (t : ℕ) (c : EntryField t) → FitsAt (entry-loop t c .before .before .before .before .before .before .before .before .before .before .args .message .now) (c .before .reading .given .0 .0) (c .before .reading .given .0 .1 .0)
+entry-fits : (t : ℕ) (c : EntryField t) → FitsAt (entry-loop t c .before .before .before .before .before .before .before .before .before .before .before .args .message .now) (c .before .reading .given .0 .0) (c .before .reading .given .0 .1 .0)
 entry-fits t c = entry-loop t c .loop .inv .1 _ _ (entry-stands t c)
 
+entry-index : (t : ℕ) (c : EntryField t) → length (entry-loop t c .before .before .before .before .before .before .before .before .before .before .before .args .index .now) ≡ indexWords
+entry-index t c = entry-loop t c .before .before .before .before .before .before .before .before .before .before .before .pre .1 .1
+
 -- the whole is what is left at the loop
-entry-whole : (t : ℕ) (l : EntryLoop t) → let a = l .before .before .before .before .before .before .before .before .before .before .args in
+entry-whole : (t : ℕ) (l : EntryLoop t) → let a = l .before .before .before .before .before .before .before .before .before .before .before .args in
     entryOf (a .message .now) (a .config) (a .table .now) (tagAt (a .index .now)) (a .group) (a .number) (a .delimiter) (a .progress) (a .words .now)
     ≡ entryLeft (a .message .now) (a .config) (a .table .now) (tagAt (a .index .now)) (a .group) (a .number) (l .loop .last) (a .progress .place) (l .loop .reading) (l .loop .words)
 entry-whole t l =
@@ -104,22 +108,25 @@ read-entry-returns t c = left-refused _ _ _ _ _ _ _ _ (c .enum-told .given .1) �
 read-entry-record-of-requires-2 : (t : ℕ) → read-entry-lts.Need-record-of-requires-2 (entry-calls t) (read-entry-at t) read-entry.Post read-entry-Inv-loop read-entry-μ-loop
 read-entry-record-of-requires-2 t c κs = let fits = entry-fits t (c .before) in (omega (arith, fits .short, fits .inside .within), omega (arith, fits .short, fits .inside .within))
 
+read-entry-kind-of-requires : (t : ℕ) → read-entry-lts.Need-kind-of-requires (entry-calls t) (read-entry-at t) read-entry.Post read-entry-Inv-loop read-entry-μ-loop
+read-entry-kind-of-requires t c κs = entry-index t (c .before .before)
+
 read-entry-add-requires-2 : (t : ℕ) → read-entry-lts.Need-add-requires-2 (entry-calls t) (read-entry-at t) read-entry.Post read-entry-Inv-loop read-entry-μ-loop
 read-entry-add-requires-2 t c κs = let fits = entry-fits t (c .before .before .before .before .before .before .before) in (omega (arith, fits .counted), omega (arith, fits .placed))
 
 -- where reading stands after each kind of field
 after-plain : (t : ℕ) (c : read-entry-lts.After-next-field2 (entry-calls t) (read-entry-at t) read-entry.Post read-entry-Inv-loop read-entry-μ-loop) → let k = c .before .before .before .before .before .before .before .before .before .before .before in
-    Follows (entry-loop t k .before .before .before .before .before .before .before .before .before .before .args .message .now) (k .before .reading .given .0 .1 .0 .room) (c .next-field2 .result)
+    Follows (entry-loop t k .before .before .before .before .before .before .before .before .before .before .before .args .message .now) (k .before .reading .given .0 .1 .0 .room) (c .next-field2 .result)
 after-plain t c =
     stored-follows _ _ _ _ _ _ 1 _ (omega arith) (entry-fits t (c .before .before .before .before .before .before .before .before .before .before .before)) (c .before .before .before .add2 .ensures .0) (c .next-field2 .ensures)
 
 after-user : (t : ℕ) (c : read-entry-lts.After-next-field3 (entry-calls t) (read-entry-at t) read-entry.Post read-entry-Inv-loop read-entry-μ-loop) → let k = c .before .before .before .before .before .before .before .before .before .before in
-    Follows (entry-loop t k .before .before .before .before .before .before .before .before .before .before .args .message .now) (k .before .reading .given .0 .1 .0 .room) (c .next-field3 .result)
+    Follows (entry-loop t k .before .before .before .before .before .before .before .before .before .before .before .args .message .now) (k .before .reading .given .0 .1 .0 .room) (c .next-field3 .result)
 after-user t c =
     stored-follows _ _ _ _ _ _ _ _ (makes-one _) (entry-fits t (c .before .before .before .before .before .before .before .before .before .before)) (c .before .before .before .join .ensures .0) (c .next-field3 .ensures)
 
 after-count : (t : ℕ) (c : read-entry-lts.After-read-run (entry-calls t) (read-entry-at t) read-entry.Post read-entry-Inv-loop read-entry-μ-loop) → let k = c .before .before .before .before .before .before .before .before .before .before .before .before .before in
-    Follows (entry-loop t k .before .before .before .before .before .before .before .before .before .before .args .message .now) (k .before .reading .given .0 .1 .0 .room) (c .read-run .result)
+    Follows (entry-loop t k .before .before .before .before .before .before .before .before .before .before .before .args .message .now) (k .before .reading .given .0 .1 .0 .room) (c .read-run .result)
 after-count t c = count-follows _ _ _ _ _ _ _ _ _ (entry-fits t (c .before .before .before .before .before .before .before .before .before .before .before .before .before)) (c .before .before .before .before .before .add3 .ensures .0) _ _ (c .read-run .ensures)
 
 read-entry-loop-less : (t : ℕ) → read-entry-lts.Need-loop-less (entry-calls t) (read-entry-at t) read-entry.Post read-entry-Inv-loop read-entry-μ-loop
@@ -142,8 +149,8 @@ read-entry-add-t33 t c = omega (arith, count-below _ _ _ _ _ _ _ _ _ (c .before 
 
 read-entry-read-run-requires : (t : ℕ) → read-entry-lts.Need-read-run-requires (entry-calls t) (read-entry-at t) read-entry.Post read-entry-Inv-loop read-entry-μ-loop
 read-entry-read-run-requires t c κs = let k = c .before .before .before .before .before .before .before .before .before .before .before .before in (
-  omega (arith, count-below _ _ _ _ _ _ _ _ _ (c .before .before .before .before .before .before .before .before .before .kind-of .ensures) (c .before .before .before .before .before .before .before .level .given .1), entry-loop t k .before .before .before .before .before .before .before .before .before .before .pre .0),
-  stored-fits _ _ _ _ 1 (omega arith) (entry-fits t k) (c .before .before .before .before .add3 .ensures .0),
+  omega (arith, count-below _ _ _ _ _ _ _ _ _ (c .before .before .before .before .before .before .before .before .before .kind-of .ensures) (c .before .before .before .before .before .before .before .level .given .1), entry-loop t k .before .before .before .before .before .before .before .before .before .before .before .pre .0),
+  (stored-fits _ _ _ _ 1 (omega arith) (entry-fits t k) (c .before .before .before .before .add3 .ensures .0), entry-index t k),
 )
 
 read-entry-loop-less-2 : (t : ℕ) → read-entry-lts.Need-loop-less-2 (entry-calls t) (read-entry-at t) read-entry.Post read-entry-Inv-loop read-entry-μ-loop
@@ -189,7 +196,7 @@ abbrev read-run-μ-loop : read-run-lts.MeasureT-loop
 read-run-μ-loop message config table index group words₀ reading₀ number₀ words reading number = roomOf reading
 
 read-run-loop-holds : (t : ℕ) → read-run-lts.Need-loop-holds (run-calls t) (read-run-at t) read-run.Post read-run-Inv-loop read-run-μ-loop
-read-run-loop-holds t c = let fits = c .before .before .before .before .pre .1 in
+read-run-loop-holds t c = let fits = c .before .before .before .before .before .pre .1 .0 in
     (refl, omega arith, rw (c .next-field .ensures) (next-follows _ _ _ _ fits .fits), refl)
 
 -- the run reader at its loop, and where it has read a field
@@ -205,10 +212,10 @@ run-loop t c = c .before .before .before
 run-stands : (t : ℕ) (c : RunField t) → run-loop t c .loop .reading ≡ At (c .before .reading .given .0 .0) (c .before .reading .given .0 .1 .0)
 run-stands t c = c .before .reading .given .1
 
-run-fits : (t : ℕ) (c : RunField t) → FitsAt (run-loop t c .before .before .before .before .before .args .message .now) (c .before .reading .given .0 .0) (c .before .reading .given .0 .1 .0)
+run-fits : (t : ℕ) (c : RunField t) → FitsAt (run-loop t c .before .before .before .before .before .before .args .message .now) (c .before .reading .given .0 .0) (c .before .reading .given .0 .1 .0)
 run-fits t c = run-loop t c .loop .inv .2 _ _ (run-stands t c)
 
-run-whole : (t : ℕ) (l : RunLoop t) → let a = l .before .before .before .before .before .args in
+run-whole : (t : ℕ) (l : RunLoop t) → let a = l .before .before .before .before .before .before .args in
     runOf (a .message .now) (a .config) (a .table .now) (tagAt (a .index .now)) (a .group) (a .cursor) (a .progress) (a .words .now)
     ≡ runLeft (a .message .now) (a .config) (a .table .now) (tagAt (a .index .now)) (a .group) (l .loop .number) (l .loop .reading) (l .loop .words)
 run-whole t l = run-starts _ _ _ _ _ _ _ _ _ (l .before .next-field .ensures) ∙ l .loop .inv .3
@@ -217,8 +224,8 @@ run-whole t l = run-starts _ _ _ _ _ _ _ _ _ (l .before .next-field .ensures) �
 run-number : (t : ℕ) (c : RunField t) → run-loop t c .loop .number + 1 < 2 ^ 32
 run-number t c =
     let l = run-loop t c in
-    let fits = l .before .before .before .before .before .pre .1 in
-    let a = l .before .before .before .before .before .args in
+    let fits = l .before .before .before .before .before .before .pre .1 .0 in
+    let a = l .before .before .before .before .before .before .args in
     let first = next-follows (a .config .mode) (a .message .now) (a .cursor) (a .progress) fits .falls in
     let here : roomOf (l .loop .reading) ≡ suc (c .before .reading .given .0 .1 .0 .room) = ap roomOf (run-stands t c) ∙ unfold roomOf in refl in
     omega (arith, l .loop .inv .1, fits .counted, ap roomOf (l .before .next-field .ensures), first)
@@ -238,10 +245,11 @@ read-run-add-number : (t : ℕ) → read-run-lts.Need-add-number (run-calls t) (
 read-run-add-number t c = omega (arith, run-number t (c .before .before))
 
 read-run-read-entry-requires : (t : ℕ) → read-run-lts.Need-read-entry-requires (run-calls t) (read-run-at t) read-run.Post read-run-Inv-loop read-run-μ-loop
-read-run-read-entry-requires t c κs = (omega (arith, run-loop t (c .before .before .before) .before .before .before .before .before .pre .0), run-fits t (c .before .before .before))
+read-run-read-entry-requires t c κs = let k = c .before .before .before in
+    (omega (arith, run-loop t k .before .before .before .before .before .before .pre .0), (run-fits t k, run-loop t k .before .before .before .before .before .before .pre .1 .1))
 
 after-entry : (t : ℕ) (c : read-run-lts.After-read-entry (run-calls t) (read-run-at t) read-run.Post read-run-Inv-loop read-run-μ-loop) → let k = c .before .before .before .before in
-    Follows (run-loop t k .before .before .before .before .before .args .message .now) (k .before .reading .given .0 .1 .0 .room) (c .read-entry .result)
+    Follows (run-loop t k .before .before .before .before .before .before .args .message .now) (k .before .reading .given .0 .1 .0 .room) (c .read-entry .result)
 after-entry t c = entry-follows _ _ _ _ _ _ _ _ _ (run-fits t (c .before .before .before .before)) _ _ (c .read-entry .ensures)
 
 read-run-loop-less : (t : ℕ) → read-run-lts.Need-loop-less (run-calls t) (read-run-at t) read-run.Post read-run-Inv-loop read-run-μ-loop
@@ -261,7 +269,7 @@ pub +read-entry+read-run-spec : {M : Type 1} → statement M
 +read-entry+read-run-spec = close μ-read-entry μ-read-run (λ t. read-entry-lts.spec (entry-calls t)
     (read-entry-at t) read-entry.Post read-entry-Inv-loop read-entry-μ-loop (read-entry-record-of-requires t)
     (read-entry-add-requires t) (λ c κs. search needs) (read-entry-loop-holds t) (λ c. search needs) (λ c. search needs)
-    (λ c. search needs) (read-entry-returns t) (read-entry-record-of-requires-2 t) (λ c κs. search needs)
+    (λ c. search needs) (read-entry-returns t) (read-entry-record-of-requires-2 t) (read-entry-kind-of-requires t)
     (λ c. search needs) (read-entry-add-requires-2 t) (λ c κs. search needs) (read-entry-loop-less t)
     (read-entry-loop-again t) (λ c. search needs) (read-entry-add-requires-3 t) (read-entry-add-t33 t)
     (read-entry-read-run-requires t) (read-entry-loop-less-2 t) (read-entry-loop-again-2 t) (λ c. search needs)

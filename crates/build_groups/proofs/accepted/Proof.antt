@@ -13,7 +13,7 @@ returns-2 : tie.Need-returns-2
 returns-2 c = sym (not-user-defined _ _ _ (c .if2 .taken))
 
 returns-3 : tie.Need-returns-3
-returns-3 c = sym (unknown _ _ _ (c .before .before .before .if1 .left) (c .before .before .if2 .left) ∙ ap not (sym (c .tag-known .ensures)))
+returns-3 c = sym (unknown _ _ _ (c .before .before .if1 .left) (c .before .if2 .left) ∙ ap not (sym (c .tag-known .ensures)))
 
 pub accepted-spec : {M : Type 1} → statement M
 accepted-spec = tie.close (tie.spec returns returns-2 (λ c κs. search needs) returns-3)

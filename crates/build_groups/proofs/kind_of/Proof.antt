@@ -13,14 +13,14 @@ returns : tie.Need-returns
 returns c = unfold meant in sym (kind-delimiter _ _ _ _ _ _ (sym (c .before .opens .ensures) ∙ c .if1 .taken))
 
 -- the tag is no delimiter
-closed : (c : tie.Else1) → let a = c .before .before .before .before .args in opensAt (a .table .now) (a .group .level) (a .tag) ≡ false
+closed : (c : tie.Else1) → let a = c .before .before .before .before .before .args in opensAt (a .table .now) (a .group .level) (a .tag) ≡ false
 closed c = sym (c .before .opens .ensures) ∙ c .if1 .left
 
-shut : (c : tie.After-known-told) → let a = c .before .before .before .before .before .before .before .before .args in opensAt (a .table .now) (a .group .level) (a .tag) ≡ false
+shut : (c : tie.After-known-told) → let a = c .before .before .before .before .before .before .before .before .before .args in opensAt (a .table .now) (a .group .level) (a .tag) ≡ false
 shut c = closed (c .before .before .before .before)
 
 -- the tag has a position
-stands : (c : tie.After-known-told) → let a = c .before .before .before .before .before .before .before .before .args in positionOf (a .table .now) (a .group .level) (a .tag) ≡ At (c .before .position .given .0 .0)
+stands : (c : tie.After-known-told) → let a = c .before .before .before .before .before .before .before .before .before .args in positionOf (a .table .now) (a .group .level) (a .tag) ≡ At (c .before .position .given .0 .0)
 stands c = sym (c .before .before .before .position-of .ensures) ∙ c .before .position .given .1
 
 returns-2 : tie.Need-returns-2

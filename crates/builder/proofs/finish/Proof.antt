@@ -17,11 +17,16 @@ use Rattle.builder.proofs.finish.Tie as tie
 abbrev body-of : tie.After-known-told2 → tie.After-read-body
 body-of c = c .before .before .before .before .before
 
-ends : (c : tie.After-known-told2) → let a = body-of c .before .before .before .before .before .before .before .before .before .args in Ends (a .message .now) (a .words .now) (a .headed .progress .records) (suc (a .headed .progress .room)) (c .before .field .given .0 .0) (c .before .field .given .0 .1 .0)
+ends : (c : tie.After-known-told2) → let a = body-of c .before .before .before .before .before .before .before .before .before .before .args in Ends (a .message .now) (a .words .now) (a .headed .progress .records) (suc (a .headed .progress .room)) (c .before .field .given .0 .0) (c .before .field .given .0 .1 .0)
 ends c = body-of c .read-body .ensures .1 .ends _ _ (c .before .field .given .1)
 
 words-kept : (c : tie.After-known-told2) → c .before .field .given .0 .1 .0 .records + c .before .field .given .0 .1 .0 .room < length (body-of c .read-body .last .1 .1 .1 .1 .1 .1 .1 .0) / stride
 words-kept c = omega (arith, ends c .fits, body-of c .read-body .kept .1 .1 .1 .1 .1 .1 .1 .0)
+
+-- the verified CheckSum lies in the message
+record-of-requires : tie.Need-record-of-requires
+record-of-requires c κs = let p = body-of (c .before) .before .before .before .before .before .before .before .before .before .before .pre .0 in
+    (omega (arith, p .0, p .2 .within), omega (arith, p .0, p .2 .within))
 
 keep-requires : tie.Need-keep-requires
 keep-requires c κs = (omega arith, omega (arith, words-kept (c .before .before)))
@@ -29,7 +34,7 @@ keep-requires c κs = (omega arith, omega (arith, words-kept (c .before .before)
 read-trailer-requires : tie.Need-read-trailer-requires
 read-trailer-requires c κs = let h = c .before .before .before in
     let k = h .before .before .before in
-    (body-of k .before .before .before .before .before .before .before .before .before .pre .0, ends k .inside, h .keep .ensures .grows, omega (arith, words-kept k, h .keep .ensures .by-one, h .keep .kept .0))
+    (body-of k .before .before .before .before .before .before .before .before .before .before .pre .0 .0, ends k .inside, h .keep .ensures .grows, omega (arith, words-kept k, h .keep .ensures .by-one, h .keep .kept .0))
 
 returns : tie.Need-returns
 unfolding finishCounts
@@ -65,6 +70,6 @@ returns-4 c = let t = c .before .before .before .before in
 pub finish-spec : {M : Type 1} → statement M
 finish-spec =
     tie.close
-    (tie.spec (λ c κs. search needs) (λ c. search needs) (λ c. search needs) (λ c κs. search needs) keep-requires
+    (tie.spec (λ c κs. search needs) (λ c. search needs) (λ c. search needs) record-of-requires keep-requires
     read-trailer-requires (λ c. search needs) (λ c. search needs) (λ c. search needs) (λ c. search needs) returns
     (λ c. search needs) returns-2 (λ c. search needs) returns-3 (λ c. search needs) returns-4)

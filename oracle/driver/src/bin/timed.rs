@@ -8,6 +8,7 @@ use std::time::Duration;
 use driver::given::Given;
 use driver::ours::library::{Built, build_into, check};
 use driver::protocol::{KEPT, Request};
+use driver::used;
 
 #[derive(Default)]
 struct Total {
@@ -35,23 +36,6 @@ impl Total {
 
 /// The shortest of some rounds.
 const ROUNDS: u32 = 5;
-
-/// The processor's time that this thread has used: other work on the machine shows less in it than in the time of day.
-fn used() -> Duration {
-    #[repr(C)]
-    struct Time {
-        seconds: i64,
-        nanoseconds: i64,
-    }
-    unsafe extern "C" {
-        fn clock_gettime(clock: i32, time: *mut Time) -> i32;
-    }
-    const THREAD: i32 = 3;
-    let mut time = Time { seconds: 0, nanoseconds: 0 };
-    // SAFETY: it is lent one `struct timespec`.
-    unsafe { clock_gettime(THREAD, &mut time) };
-    Duration::new(time.seconds as u64, time.nanoseconds as u32)
-}
 
 fn timed<T>(times: u32, mut work: impl FnMut() -> T) -> Duration {
     let round = || {

@@ -5,7 +5,7 @@ pub type Out = [u32; 4];
 
 /// A record as it is lent.
 #[repr(C)]
-#[derive(Clone, Copy, PartialEq)]
+#[derive(Clone, Copy, Debug, PartialEq)]
 pub struct FieldRecord {
     pub part: u8,
     pub depth: u8,
@@ -33,6 +33,29 @@ unsafe extern "C" {
         settings: u32,
         dictionary: *const u8,
         dictionary_length: usize,
+        records: *mut FieldRecord,
+        record_count: usize,
+        out: *mut Out,
+    ) -> u32;
+    pub fn gateway_prepared_words() -> u32;
+    pub fn gateway_prepare(
+        dictionary: *const u8,
+        dictionary_length: usize,
+        copy: *mut u8,
+        copy_length: usize,
+        memory: *mut u16,
+        memory_count: usize,
+        out: *mut Out,
+    ) -> u32;
+    pub fn gateway_build_prepared(
+        message: *const u8,
+        message_length: usize,
+        separator: u8,
+        settings: u32,
+        copy: *const u8,
+        copy_length: usize,
+        memory: *const u16,
+        memory_count: usize,
         records: *mut FieldRecord,
         record_count: usize,
         out: *mut Out,
@@ -155,6 +178,7 @@ unsafe extern "C" {
 }
 
 pub const RECORDS: usize = 1_024;
+pub const PREPARED_WORDS: usize = 96_153;
 pub const WORDS: usize = 8_205;
 pub const VALUES: usize = 8_192;
 pub const OUTPUT: usize = 8_192;

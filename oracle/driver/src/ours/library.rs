@@ -1,11 +1,12 @@
 //! Our static library, called through its exports. The answers are made into lines here, so that all sides are compared alike.
-use super::Ours;
 use super::exports::*;
+use super::forms::Forms;
+use super::{Ours, Unlike};
 use crate::maps::Row;
 use crate::protocol::{KEPT, Reading, Request, Step, hex, rows_text};
 
 /// A number that stands everywhere before a call: what isn't written shows.
-const UNTOUCHED: u32 = 9;
+pub const UNTOUCHED: u32 = 9;
 const UNTOUCHED_RECORD: FieldRecord = FieldRecord { part: 9, depth: 9, entry: 9, tag: 9, place: 9, length: 9 };
 const BLANK_RECORD: FieldRecord = FieldRecord { part: 0, depth: 0, entry: 0, tag: 0, place: 0, length: 0 };
 
@@ -30,25 +31,25 @@ impl Default for Built {
 }
 
 impl Built {
-    fn count(&self) -> usize {
+    pub fn count(&self) -> usize {
         (self.out[0] as usize).min(RECORDS)
     }
 
-    fn line(&self, message: &[u8]) -> String {
+    /// What is wrong with the records past the count, and with the four words, whatever was built.
+    pub fn flaws(&self) -> String {
+        let rest = if matches!(self.number, 20 | 22 | 23 | 27) { UNTOUCHED_RECORD } else { BLANK_RECORD };
+        let past = if self.records[self.count()..].iter().any(|record| *record != rest) { " records past the count" } else { "" };
+        format!("{past}{}", if self.out[3] != 0 { " a fourth word" } else { "" })
+    }
+
+    pub fn line(&self, message: &[u8]) -> String {
         let mut line = format!("{} {} {} {}", self.number, self.out[1], self.out[2], self.out[0]);
         for record in &self.records[..self.count()] {
             let (place, length) = (usize::from(record.place), usize::from(record.length));
             let value = message.get(place..place + length).map_or("?".to_string(), hex);
             line.push_str(&format!(" {}.{}.{}.{}.{value}", record.part, record.depth, record.entry, record.tag));
         }
-        let rest = if matches!(self.number, 20 | 22 | 23) { UNTOUCHED_RECORD } else { BLANK_RECORD };
-        if self.records[self.count()..].iter().any(|record| *record != rest) {
-            line.push_str(" records past the count");
-        }
-        if self.out[3] != 0 {
-            line.push_str(" a fourth word");
-        }
-        line
+        line + &self.flaws()
     }
 }
 
@@ -296,13 +297,12 @@ impl Lent {
     }
 }
 
-fn again_line(dictionary: &[u8], reading: &Reading, second: u8) -> String {
-    let built = build(dictionary, reading);
+fn again_line(built: &Built, reading: &Reading, second: u8) -> String {
     if built.number > 0 {
         return built.line(&reading.message);
     }
     let mut lent = Lent::new();
-    match lent.take_over(&built, &reading.message) {
+    match lent.take_over(built, &reading.message) {
         0 => lent.encode(second),
         number => format!("taken over: {number}"),
     }
@@ -333,11 +333,22 @@ fn chunk_word(state: &mut PortedState, store: &mut [u8], chunk: &[u8]) -> String
 
 pub struct Library {
     dictionaries: Vec<Vec<u8>>,
+    forms: Forms,
 }
 
 impl Default for Library {
     fn default() -> Self {
-        Self { dictionaries: vec![vec![]; KEPT] }
+        Self { dictionaries: vec![vec![]; KEPT], forms: Forms::default() }
+    }
+}
+
+impl Library {
+    /// The plain build, with which builds over a prepared dictionary are compared.
+    fn build(&mut self, reading: &Reading) -> Built {
+        let dictionary = &self.dictionaries[reading.dictionary];
+        let built = build(dictionary, reading);
+        self.forms.build(dictionary, reading, &built);
+        built
     }
 }
 
@@ -349,11 +360,12 @@ impl Ours for Library {
             Request::Dictionary(number, bytes) => {
                 self.dictionaries[*number] = bytes.clone();
                 let (answer, out) = check(bytes);
+                self.forms.dictionary(*number, bytes, (answer, out));
                 let others = if [out[0], out[2], out[3]] == [0; 3] { "" } else { " other words" };
                 Some(format!("{answer} {}{others}", out[1]))
             }
-            Request::Build(reading) => Some(build(&self.dictionaries[reading.dictionary], reading).line(&reading.message)),
-            Request::Again(reading, second) => Some(again_line(&self.dictionaries[reading.dictionary], reading, *second)),
+            Request::Build(reading) => Some(self.build(reading).line(&reading.message)),
+            Request::Again(reading, second) => Some(again_line(&self.build(reading), reading, *second)),
             Request::Calls(steps) => {
                 let mut lent = Lent::new();
                 let words: Option<Vec<String>> = steps.iter().map(|step| lent.step(step)).collect();
@@ -364,5 +376,13 @@ impl Ours for Library {
                 Some(chunks.iter().map(|chunk| chunk_word(&mut state, &mut store, chunk)).collect::<Vec<_>>().join(" "))
             }
         }
+    }
+
+    fn unlike(&mut self) -> Vec<Unlike> {
+        self.forms.unlike()
+    }
+
+    fn held(&self) -> Option<String> {
+        Some(self.forms.held())
     }
 }

@@ -1,12 +1,12 @@
 -- `gateway_take_over` meets its contract: a walk of its MIR, by hand. Fresh words are put into a local, the local is lent by `&mut` to `lay` and by `&` to the core,
 -- each time for a lifetime that the walk makes, and the message is given up to the core. Of the callees only their contracts are known.
 use Rattle.build_records.specs.Records.{recordWords, stride}
-use Rattle.gateway.proofs.Walk.{_≡_, refl, sym, ap, _∙_, subst, ℕ, _*_, _<_, _≤_, _^_, [], _∷_, List, length, take, replicate, URA, fullShare, named, w32, w64, tyInt, Val, vptr, vint, SProp, ent, emp, via, fst∗, id⊢, Lft, Share, GName, Fml, ftrue, fat, froom, flft, flent, fres}
-use Rattle.gateway.proofs.Walk.{Memory, Routine, Heap, Calls, Loops, WpFn, Atoms, Fun, factI, Given, ‵, raw, _⊛_, ⋆, some, later, _$_, _∵_, !, qed, by, move, keep, drop, use1, use2, use3, split, join, pick, rewrite, fsplit, fjoin, feqL, suffices, frame, await, done, look, init, forget, stop, hop, fld, from, load, of-opd, addr, and-then, no-more, assigns, land, returns, enter, alloc1, alloc0, params1, pass1, pass0, free1, free0, agg, whole, sub, look-in, Body, lft-new, lft-end, lent-back, FmC}
-use Rattle.gateway.proofs.Walk.{owns, Is, shows, mem, partAt, lone, uint-makes, uint-lawful, uint-vals, uint-tells, nothing-lawful, u8, u32, usize, unit, array-lawful, RefT, now, MutRef, ShrRef, ptr-vals, mut-tells, sliceVal, MutSlice, ShrSlice, Room, finally, slice-vals, mut-slice-tells, shr-slice-tells, shr-slice-copy, shr-slice-lawful, lends-ref, ref-back, lends-shr, plain, only, owned, peeks, heard, nothing, Contract, Triple, calls-at, onEntry, tripleOf, cited, says, Stays, gave-ref, gave-slice, stay-none, stay-none-slice, walkOf, goes-gave-ref, goes-gave-slice, goes-none, goes-none-slice, ends-at, yes}
+use Rattle.gateway.proofs.Walk.{_≡_, refl, sym, ap, _∙_, subst, ℕ, _*_, _<_, _≤_, _^_, [], _∷_, List, length, take, replicate, URA, fullShare, named, w32, w64, tyInt, Val, vptr, vint, SProp, ent, emp, via, fst∗, id⊢, Lft, Share, GName, Fml, ftrue, fat, flft, fres}
+use Rattle.gateway.proofs.Walk.{Memory, Routine, Heap, Calls, Loops, WpFn, Atoms, Fun, factI, Given, ‵, raw, _⊛_, ⋆, _$_, _∵_, !, qed, by, move, keep, drop, use1, use2, split, join, rewrite, fsplit, fjoin, feqL, suffices, frame, done, look, init, forget, stop, hop, fld, from, load, of-opd, addr, and-then, no-more, assigns, land, returns, enter, alloc1, alloc0, params1, pass1, pass0, free1, free0, agg, whole, sub, look-in, FmC}
+use Rattle.gateway.proofs.Walk.{owns, Is, shows, uint-makes, uint-lawful, uint-vals, uint-tells, nothing-lawful, u8, u32, usize, unit, array-lawful, RefT, now, MutRef, ptr-vals, mut-tells, sliceVal, MutSlice, ShrSlice, Room, finally, slice-vals, mut-slice-tells, shr-slice-tells, shr-slice-copy, shr-slice-lawful, plain, only, owned, peeks, heard, nothing, Contract, Triple, calls-at, onEntry, tripleOf, cited, says, Stays, gave-ref, gave-slice, stay-none, stay-none-slice, walkOf, goes-gave-ref, goes-gave-slice, goes-none, goes-none-slice, ends-at, yes}
 use Rattle.gateway.proofs.Calling.{asked, answered, Knows, meets-on}
 use Rattle.gateway.proofs.Framer.{Four}
-use Rattle.gateway.proofs.Words.{Words, packed, given-up}
+use Rattle.gateway.proofs.Words.{Words, at, Blank, to-blank, lent-mut, mut-back, lent-shr, shr-up}
 use Rattle.message_take_over.specs.Taking.{AfterTaking, takingOver}
 use Rattle.face_told.specs.Told.{told, takingNumber, takenWords, takenValues}
 use Rattle.face_messages.specs.Lent.{wordsLent, readCount, putFields}
@@ -37,11 +37,8 @@ use Rattle.gateway.proofs.taking_over.gateway_take_over.Code as code
 abbrev stayed : Stays (entry.ended .signature .params) (entry.ended .kept)
 stayed = (stay-none-slice (0 ∷ []) tt (plain (λ _. T.the-row)) yes, (stay-none (λ _. usize) yes, (stay-none-slice (1 ∷ []) tt (plain (λ _. u8)) yes, (gave-slice (2 ∷ []) tt (plain (λ _. u32)), (gave-slice (3 ∷ []) tt (plain (λ _. u8)), (gave-ref (4 ∷ []) tt (plain (λ _. Four)), tt))))))
 
--- the contracts that the proof cites
+-- the contracts that the proof cites, besides that of fresh words
 module _ {M : Type 1} (𝓤 : URA M) (H : Heap 𝓤) (A : Atoms 𝓤) (mem′ : Memory → SProp 𝓤) (run : Routine → Fun 𝓤) where
-  abbrev Blank : Contract 𝓤
-  Blank = tripleOf 𝓤 H A blank.signature (blank.spec 𝓤 H A mem′ run)
-
   abbrev Count : Contract 𝓤
   Count = tripleOf 𝓤 H A counted.signature (counted.spec 𝓤 H A mem′ run)
 
@@ -87,13 +84,6 @@ module _ {M : Type 1} (𝓤 : URA M) (H : Heap 𝓤) (A : Atoms 𝓤) (W : Given
 
   abbrev Post : Val → SProp 𝓤
   Post = walkOf 𝓤 H A entry.ended stayed (entry.clauses 𝓤 H A at-mem run) .post ghosts
-
-  -- a reference to the words cs in the local at l, under the name δ
-  abbrev at : ℕ → GName → List ℕ → RefT (List ℕ)
-  at l δ cs = record { ptr = (l, 0); name = δ; now = cs }
-
-  abbrev to-blank : Blank 𝓤 H A at-mem run .Ghost
-  to-blank = ((tt, tt, tt, tt, tt), tt)
 
   abbrev to-count : Count 𝓤 H A at-mem run .Ghost
   to-count = ((tt, tt, tt, (len, (count, tt)), (vint w64 len ∷ [], (vint w64 count ∷ [], tt))), tt)
@@ -145,9 +135,9 @@ module _ {M : Type 1} (𝓤 : URA M) (H : Heap 𝓤) (A : Atoms 𝓤) (W : Given
         alloc1 ! (λ l₀. alloc1 ! (λ l₁. alloc1 ! (λ l₂. alloc1 ! (λ l₃. alloc1 ! (λ l₄. alloc1 ! (λ l₅. alloc1 ! (λ l₆. alloc1 ! (λ l₇. alloc1 ! (λ l₈. alloc1 ! (λ l₉. alloc1 ! (λ l₁₀. alloc1 ! (λ l₁₁. alloc1 ! (λ l₁₂. alloc1 ! (λ l₁₃. alloc1 ! (λ l₁₄. alloc1 ! (λ l₁₅. alloc1 ! (λ l₁₆. alloc1 ! (λ l₁₇. alloc1 ! (λ l₁₈. alloc0 ! $ params1 ! $
         pass1 ! (init ! 34 refl (shr-slice-lawful 𝓤 H A W (named 0) κ T.the-row .typed x (v ∷ []) xis .0)) $ pass1 ! (init ! 32 refl (tt, record { fits = count-fits })) $ pass1 ! (init ! 30 refl (shr-slice-lawful 𝓤 H A W (named 1) κ₁ u8 .typed s (w ∷ []) ss .0)) $ pass1 ! (init ! 28 refl (tt, (tt, (record { fits = room₂ .0 }, tt)))) $ pass1 ! (init ! 26 refl (tt, (tt, (record { fits = room₃ .0 }, tt)))) $ pass1 ! (init ! 24 refl (tt, tt)) $ pass0 ! $
         -- fresh words
-        nothing ! $ nothing ! $ move ! (1 ∷ 0 ∷ []) $ use2 W (raw (Blank 𝓤 H A at-mem run .pre to-blank)) (asked 𝓤 H A blank.ended (blank.clauses 𝓤 H A at-mem run) to-blank (id⊢ 𝓤 (emp 𝓤))) $
-        calls-at ! fm (Blank 𝓤 H A at-mem run) known-blank to-blank (no-more !) (λ u.
-        answered 𝓤 H A blank.ended (blank.clauses 𝓤 H A at-mem run) to-blank ! tt u (λ cs _. heard ! (cs ≡ replicate recordWords 0) (λ e₁. drop ! $ move ! (1 ∷ []) $ drop ! $
+        nothing ! $ nothing ! $ move ! (1 ∷ 0 ∷ []) $ use2 W (raw (Blank 𝓤 H A at-mem run .pre (to-blank 𝓤 H A at-mem run))) (asked 𝓤 H A blank.ended (blank.clauses 𝓤 H A at-mem run) (to-blank 𝓤 H A at-mem run) (id⊢ 𝓤 (emp 𝓤))) $
+        calls-at ! fm (Blank 𝓤 H A at-mem run) known-blank (to-blank 𝓤 H A at-mem run) (no-more !) (λ u.
+        answered 𝓤 H A blank.ended (blank.clauses 𝓤 H A at-mem run) (to-blank 𝓤 H A at-mem run) ! tt u (λ cs _. heard ! (cs ≡ replicate recordWords 0) (λ e₁. drop ! $ move ! (1 ∷ []) $ drop ! $
         peeks ! Words (Is Words) (shows 𝓤 H A Words) cs (u ∷ []) (λ is₁.
         land ! (from ! (stop !)) (init ! 19 refl (array-lawful 𝓤 H A W u32 (uint-lawful 𝓤 H A W w32) recordWords .typed cs _ is₁ .0)) $
         assigns ! (of-opd ! (load ! (from ! (stop !)) (look ! 19 refl))) (from ! (stop !)) (init ! 23 refl (array-lawful 𝓤 H A W u32 (uint-lawful 𝓤 H A W w32) recordWords .typed cs _ is₁ .0)) $
@@ -161,8 +151,7 @@ module _ {M : Type 1} (𝓤 : URA M) (H : Heap 𝓤) (A : Atoms 𝓤) (W : Given
         land ! (from ! (stop !)) (init ! 22 refl (uint-lawful 𝓤 H A W w64 .typed n _ isn .0)) $ rewrite ! 22 (λ (z : Val). ‵ (fat fullShare (tyInt w64) l₈ 0 z)) (ap only (uint-tells w64 n (u₁ ∷ []) isn)) refl $ drop ! $
         -- the local is lent for a lifetime ν, and the records are laid in it
         assigns ! (addr ! (from ! (stop !))) (from ! (stop !)) (init ! 13 refl (tt, tt)) $
-        move ! (23 ∷ 0 ∷ []) $ use2 W (‵ (partAt Words fullShare cs l₇ 0)) (packed 𝓤 H A W cs l₇ 0 (u ∷ [])) $ lft-new ! tt (λ ν. move ! (1 ∷ []) $
-        use1 W (later (some (λ (δ : GName). ‵ (MutRef (named 1) (ν ∷ []) Words .own (at l₇ δ cs) (vptr l₇ 0 ∷ [])) ⊛ ‵ (flent (ν ∷ []) (Body (mem Words) l₇ 0 δ))))) (lends-ref 𝓤 H A W Words (named 1) (ν ∷ []) cs l₇ 0) $ await ! tt $ pick ! (λ δ. split ! $
+        move ! (23 ∷ 0 ∷ []) $ lent-mut ! tt 1 cs l₇ (u ∷ []) (λ ν δ.
         move ! (41 ∷ []) $ fsplit ! $ move ! (1 ∷ []) $ fsplit ! $ move ! (1 ∷ []) $ fsplit ! $ move ! (1 ∷ []) $ fsplit ! $ move ! (1 ∷ []) $ fsplit ! $ move ! (1 ∷ []) $ fsplit ! $ move ! (1 ∷ []) $ drop ! $ move ! (4 ∷ []) $ drop ! $ move ! (4 ∷ []) $ use1 W (‵ Own ⊛ ‵ Own) (shr-slice-copy 𝓤 H A W (named 0) κ T.the-row .twice x (v ∷ [])) $ split ! $ move ! (5 ∷ []) $ use1 W (‵ Own₁ ⊛ ‵ Own₁) (shr-slice-copy 𝓤 H A W (named 1) κ₁ u8 .twice s (w ∷ [])) $ split ! $
         move ! (47 ∷ []) $ split ! $ move ! (1 ∷ []) $ split ! $ move ! (1 ∷ []) $ split ! $ move ! (1 ∷ []) $ split ! $ move ! (1 ∷ []) $ split ! $ move ! (1 ∷ []) $ drop ! $
         nothing ! $ move ! (15 ∷ 0 ∷ []) $ join ! $ move ! (5 ∷ 0 ∷ []) $ join ! $ nothing ! $ move ! (13 ∷ 0 ∷ []) $ fjoin ! $ owned ! usize (Is usize) (uint-makes 𝓤 H A W w64) n _ (refl, isn .1) $ fjoin ! $ move ! (8 ∷ 0 ∷ []) $ fjoin ! $ move ! (1 ∷ 0 ∷ []) $
@@ -171,7 +160,7 @@ module _ {M : Type 1} (𝓤 : URA M) (H : Heap 𝓤) (A : Atoms 𝓤) (W : Given
         answered 𝓤 H A lay.ended (lay.clauses 𝓤 H A at-mem run) (to-lay l₇ ν δ cs n) ! tt u₂ (λ z ws. heard ! (ws .1 .1 .0 ≡ putFields (now x) n cs) (λ e₂. fsplit ! $ drop ! $ fsplit ! $ drop ! $ fsplit ! $ move ! (1 ∷ []) $ drop ! $
         move ! (1 ∷ 2 ∷ []) $ peeks ! unit (Is unit) (shows 𝓤 H A unit) z (u₂ ∷ []) (λ is₃.
         land ! (from ! (stop !)) (init ! 28 refl (nothing-lawful 𝓤 H A W .typed z _ is₃ .0)) $ drop ! $
-        split ! $ move ! (1 ∷ []) $ split ! $ move ! (1 ∷ []) $ drop ! $ lft-end ! tt $ move ! (0 ∷ 13 ∷ 2 ∷ []) $ use3 W (later (‵ (partAt Words fullShare (ws .1 .1 .0) l₇ 0))) (ref-back 𝓤 H A W Words (ν ∷ []) δ (ws .1 .1 .0) l₇ 0) $ await ! tt $
+        split ! $ move ! (1 ∷ []) $ split ! $ move ! (1 ∷ []) $ drop ! $ move ! (0 ∷ 13 ∷ 2 ∷ []) $ mut-back ! tt (ws .1 .1 .0) l₇ $
         -- the local is lent again, by `&`, and the core is called
         assigns ! (addr ! (from ! (stop !))) (from ! (stop !)) (init ! 22 refl (tt, tt)) $
         assigns ! (addr ! (from ! (fld ! refl (hop ! (look-in ! 39 (sub ! 0 refl (whole !))) (stop !))))) (from ! (stop !)) (init ! 20 refl (tt, tt)) $
@@ -179,18 +168,17 @@ module _ {M : Type 1} (𝓤 : URA M) (H : Heap 𝓤) (A : Atoms 𝓤) (W : Given
         assigns ! (addr ! (from ! (fld ! refl (hop ! (look-in ! 37 (sub ! 0 refl (whole !))) (stop !))))) (from ! (stop !)) (init ! 16 refl (tt, tt)) $
         assigns ! (agg ! (and-then ! (load ! (from ! (stop !)) (look ! 16 refl)) (and-then ! (load ! (from ! (fld ! refl (stop !))) (look-in ! 37 (sub ! 1 refl (whole !)))) (no-more !)))) (from ! (stop !)) (init ! 14 refl (tt, (tt, (record { fits = room₃ .0 }, tt)))) $
         assigns ! (addr ! (from ! (hop ! (look ! 35 refl) (stop !)))) (from ! (stop !)) (init ! 12 refl (tt, tt)) $
-        lft-new ! tt (λ ν₂. move ! (1 ∷ []) $
-        use1 W (later (some (λ (δ₂ : GName). ‵ (ShrRef (named 0) (ν₂ ∷ []) Words .own (at l₇ δ₂ (ws .1 .1 .0)) (vptr l₇ 0 ∷ [])) ⊛ ‵ (flent (ν₂ ∷ []) (partAt Words fullShare (ws .1 .1 .0) l₇ 0))))) (lends-shr 𝓤 H A W Words (named 0) (ν₂ ∷ []) fullShare (ws .1 .1 .0) l₇ 0) $ await ! tt $ pick ! (λ δ₂. split ! $
+        lent-shr ! tt 0 (ws .1 .1 .0) l₇ (λ ν₂ δ₂.
         nothing ! $ move ! (5 ∷ 0 ∷ []) $ join ! $ move ! (5 ∷ 0 ∷ []) $ join ! $ move ! (5 ∷ 0 ∷ []) $ join ! $ move ! (5 ∷ 0 ∷ []) $ join ! $ move ! (3 ∷ 0 ∷ []) $ join ! $ nothing ! $ move ! (8 ∷ 0 ∷ []) $ fjoin ! $ move ! (8 ∷ 0 ∷ []) $ fjoin ! $ move ! (8 ∷ 0 ∷ []) $ fjoin ! $ move ! (5 ∷ 0 ∷ []) $ fjoin ! $ owned ! usize (Is usize) (uint-makes 𝓤 H A W w64) count _ (refl, count-fits) $ fjoin ! $ owned ! usize (Is usize) (uint-makes 𝓤 H A W w64) n _ (refl, isn .1) $ fjoin ! $ move ! (2 ∷ 0 ∷ []) $ fjoin ! $
         move ! (1 ∷ 0 ∷ []) $ use2 W (raw (Take 𝓤 H A at-mem run .pre (to-take l₇ ν₂ δ₂ (ws .1 .1 .0) n))) (asked 𝓤 H A core.ended (core.clauses 𝓤 H A at-mem run) (to-take l₇ ν₂ δ₂ (ws .1 .1 .0) n) (factI 𝓤 (n ≤ 1024) (emp 𝓤) (most n en))) $
         calls-at ! fm (Take 𝓤 H A at-mem run) known-take (to-take l₇ ν₂ δ₂ (ws .1 .1 .0) n) (and-then ! (load ! (from ! (stop !)) (look ! 15 refl)) (and-then ! (load ! (from ! (stop !)) (look ! 25 refl)) (and-then ! (load ! (from ! (stop !)) (look ! 36 refl)) (and-then ! (load ! (from ! (stop !)) (look ! 34 refl)) (and-then ! (load ! (from ! (stop !)) (look ! 11 refl)) (and-then ! (load ! (from ! (stop !)) (look ! 7 refl)) (and-then ! (load ! (from ! (stop !)) (look ! 5 refl)) (no-more !)))))))) (λ u₃.
         answered 𝓤 H A core.ended (core.clauses 𝓤 H A at-mem run) (to-take l₇ ν₂ δ₂ (ws .1 .1 .0) n) ! tt u₃ (λ r us. heard ! (Said n (ws .1 .1 .0) r (us .1 .1 .1 .1 .0) (us .1 .1 .1 .1 .1 .0) (us .1 .1 .1 .1 .1 .1 .0)) (λ e₃. fsplit ! $ drop ! $ fsplit ! $ drop ! $ fsplit ! $ drop ! $ fsplit ! $ drop ! $ fsplit ! $ fsplit ! $ move ! (1 ∷ []) $ feqL ! (λ same. move ! (1 ∷ []) $ fsplit ! $ fsplit ! $ move ! (1 ∷ []) $ feqL ! (λ same₁. move ! (1 ∷ []) $ fsplit ! $ move ! (1 ∷ []) $ drop ! $
         move ! (3 ∷ 4 ∷ []) $ peeks ! u32 (Is u32) (shows 𝓤 H A u32) r (u₃ ∷ []) (λ isr.
         land ! (from ! (stop !)) (init ! 44 refl (uint-lawful 𝓤 H A W w32 .typed r _ isr .0)) $ rewrite ! 44 (λ (z : Val). ‵ (fat fullShare (tyInt w32) l₀ 0 z)) (ap only (uint-tells w32 r (u₃ ∷ []) isr)) refl $ drop ! $
-        split ! $ move ! (1 ∷ []) $ split ! $ move ! (1 ∷ []) $ split ! $ move ! (1 ∷ []) $ split ! $ move ! (1 ∷ []) $ split ! $ move ! (1 ∷ []) $ drop ! $ move ! (4 ∷ []) $ lft-end ! tt $ move ! (0 ∷ 8 ∷ []) $ lent-back ! tt $ use1 W (‵ (froom (lone (Words .mir)) l₇ 0)) (given-up 𝓤 H A W (ws .1 .1 .0) l₇ 0) $
+        split ! $ move ! (1 ∷ []) $ split ! $ move ! (1 ∷ []) $ split ! $ move ! (1 ∷ []) $ split ! $ move ! (1 ∷ []) $ split ! $ move ! (1 ∷ []) $ drop ! $ move ! (4 ∷ 8 ∷ []) $ shr-up ! tt (ws .1 .1 .0) l₇ $
         returns ! (look ! 46 refl) $ forget ! 11 refl $ forget ! 13 refl $ forget ! 15 refl $ forget ! 17 refl $ forget ! 19 refl $ forget ! 21 refl $ forget ! 23 refl $ forget ! 25 refl $ forget ! 27 refl $ forget ! 29 refl $ forget ! 31 refl $ forget ! 34 refl $ forget ! 36 refl $ forget ! 38 refl $ forget ! 40 refl $ forget ! 42 refl $ forget ! 44 refl $ forget ! 46 refl $
         move ! (46 ∷ 47 ∷ []) $ free1 ! $ move ! (44 ∷ 45 ∷ []) $ free1 ! $ move ! (42 ∷ 43 ∷ []) $ free1 ! $ move ! (40 ∷ 41 ∷ []) $ free1 ! $ move ! (38 ∷ 39 ∷ []) $ free1 ! $ move ! (36 ∷ 37 ∷ []) $ free1 ! $ move ! (34 ∷ 35 ∷ []) $ free1 ! $ move ! (0 ∷ 33 ∷ []) $ free1 ! $ move ! (30 ∷ 31 ∷ []) $ free1 ! $ move ! (28 ∷ 29 ∷ []) $ free1 ! $ move ! (26 ∷ 27 ∷ []) $ free1 ! $ move ! (24 ∷ 25 ∷ []) $ free1 ! $ move ! (22 ∷ 23 ∷ []) $ free1 ! $ move ! (20 ∷ 21 ∷ []) $ free1 ! $ move ! (18 ∷ 19 ∷ []) $ free1 ! $ move ! (16 ∷ 17 ∷ []) $ free1 ! $ move ! (14 ∷ 15 ∷ []) $ free1 ! $ move ! (12 ∷ 13 ∷ []) $ free1 ! $ move ! (10 ∷ 11 ∷ []) $ free1 ! $ free0 ! $
-        keep ! (7 ∷ 3 ∷ 2 ∷ 1 ∷ 0 ∷ 9 ∷ 8 ∷ 6 ∷ 5 ∷ 4 ∷ []) $ by ! (exits r (us .1 .1 .1 .1 .0) (us .1 .1 .1 .1 .1 .0) (us .1 .1 .1 .1 .1 .1 .0) (isr .1) same same₁ (joined cs n (ws .1 .1 .0) r (us .1 .1 .1 .1 .0) (us .1 .1 .1 .1 .1 .0) (us .1 .1 .1 .1 .1 .1 .0) e₁ en e₂ e₃)))))))))))))))))))))))))))))))))))))))))))
+        keep ! (7 ∷ 3 ∷ 2 ∷ 1 ∷ 0 ∷ 9 ∷ 8 ∷ 6 ∷ 5 ∷ 4 ∷ []) $ by ! (exits r (us .1 .1 .1 .1 .0) (us .1 .1 .1 .1 .1 .0) (us .1 .1 .1 .1 .1 .1 .0) (isr .1) same same₁ (joined cs n (ws .1 .1 .0) r (us .1 .1 .1 .1 .0) (us .1 .1 .1 .1 .1 .0) (us .1 .1 .1 .1 .1 .1 .0) e₁ en e₂ e₃)))))))))))))))))))))))))))))))))))))))))
 
 abbrev Known : Knows
 Known M 𝓤 H A mem run C = Triple 𝓤 (C #face-messages·blank-words) (Blank 𝓤 H A mem run) × Triple 𝓤 (C #face-messages·read-count) (Count 𝓤 H A mem run) × Triple 𝓤 (C #taking-over·lay) (Lay 𝓤 H A mem run) × Triple 𝓤 (C #face-messages·take-over) (Take 𝓤 H A mem run)

@@ -3,8 +3,8 @@ use mathlib.Core.Path.{sym}
 use native.Mathlib.Omega.{arith}
 use borrow.Author.Needs.{needs}
 use Rattle.builder.specs.BuildLaws.{shows-none, shows-nothing, shows-header}
-use Rattle.builder.proofs.shown_with.Statement.{statement}
-use Rattle.builder.proofs.shown_with.Tie as tie
+use Rattle.builder.proofs.showing.shown_with.Statement.{statement}
+use Rattle.builder.proofs.showing.shown_with.Tie as tie
 
 returns : tie.Need-returns
 returns c = sym (shows-none _ _ _ (c .before .number-of .ensures) (c .if1 .taken))

@@ -7,8 +7,8 @@ use borrow.Author.Needs.{needs}
 use lib.ListN.{length, length-set, take, drop, replicate, take-append-drop}
 use Rattle.build_records.specs.Records.{recordWords, stride}
 use Rattle.builder.specs.BuildLaws.{blank-step, blank-start, blank-end}
-use Rattle.builder.proofs.blank.Statement.{statement}
-use Rattle.builder.proofs.blank.Tie as tie
+use Rattle.builder.proofs.showing.blank.Statement.{statement}
+use Rattle.builder.proofs.showing.blank.Tie as tie
 
 abbrev Inv-loop : tie.InvT-loop
 Inv-loop words₀ records i₀ words i = (stride * records ≤ i) × (i ≤ recordWords) × (length words ≡ recordWords) × (words ≡ take (stride * records) words₀ ++ (replicate (i - stride * records) 0 ++ drop i words₀))

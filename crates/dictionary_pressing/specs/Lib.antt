@@ -1,0 +1,10 @@
+pub mod Linking
+pub mod ChainLaws
+pub mod HeadLaws
+pub mod ClearLaws
+pub mod LinkingLaws
+pub mod RowsLaws
+pub mod Pressing
+pub mod PressingLaws
+pub mod ForwardLaws
+pub mod Sizing

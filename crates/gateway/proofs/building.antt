@@ -1,0 +1,2 @@
+-- What the walks of the exports that build share.
+mod Filling
