@@ -13,9 +13,7 @@ use build_parts::Progress;
 use build_records::Record;
 use build_records::Standing;
 use build_required_rules::Lack;
-use dictionary_layout_rules::Level;
-use dictionary_layout_rules::Nested;
-use dictionary_layout_rules::Position;
+use dictionary_tables_rules::Item;
 use field_rules::Field;
 ghost use mathlib.Core.Path.{_≡_};
 ghost use Rattle.dictionary_rules.specs.Index.{tagAt};
@@ -23,28 +21,69 @@ ghost use Prim.Native.Nat.{suc, _+_, _≤_, _<_, _/_, _^_};
 ghost use lib.ListN.{length};
 ghost use Rattle.dictionary_chains.specs.Chain.{indexWords};
 ghost use Rattle.field_rules.specs.Fields.{field, fieldsFrom, Inside};
-ghost use Rattle.build_records.specs.Records.{stored, stride};
+ghost use Rattle.build_records.specs.Records.{onRecords, heldFrom, storedBetween, stored, stride};
+ghost use Rattle.dictionary_tables_rules.specs.Tags.{tagsFound};
 ghost use Rattle.build_group_rules.specs.Reading.{tableRules, answerOf};
 ghost use Rattle.build_required_rules.specs.Checking.{tableDemands};
-ghost use Rattle.build_parts.specs.Parts.{partRecord, partOf, partTold, Stays};
+ghost use Rattle.build_parts.specs.Parts.{partRecord, partOf, Kept, partTold, Stays};
 ghost use Rattle.build_body_rules.specs.Kinds.{meantBy, bodyKind, runFrom, bodyOf};
 ghost use Rattle.build_body_rules.specs.Body.{nextFrom, withRun, bodyFrom, RunEnd, Dropped, Opened};
+ghost use Rattle.build_body_rules.specs.Seen.{noted, Covers};
+
+// A tag's cell is its remainder. Where a cell isn't set, the body holds no field of its own with such a tag.
+const CELLS: usize = 256;
 
 // With validation off, unknown user-defined tags are the body's too.
-fn kind_of(config: Config, table: &[u32], index: &[u16], level: Level, tag: u32) -> BodyKind
+fn kind_of(config: Config, table: &[u16], index: &[u16], level: usize, tag: u32) -> BodyKind
     requires { ⌜ length (now index) ≡ indexWords ⌝ }
     ensures { λ r. ⌜ meantBy r ≡ bodyKind (tableRules config (now (table .entry)) (tagAt (now (index .entry)))) level tag ⌝ }
 {
-    let Position::At(_) = dictionary_layout::position_of(table, level, tag) else {
+    let Item::At(_, inner) = dictionary_tables::item_of(table, level, tag) else {
         if build_groups::accepted(config, index, tag) {
             return BodyKind::Plain;
         }
         return BodyKind::Other;
     };
-    let Nested::Within(inner) = dictionary_layout::group_of(table, level, tag) else {
+    if inner == 0 {
         return BodyKind::Plain;
-    };
+    }
     BodyKind::Counts(inner)
+}
+
+// Stores a record in the last map, whose records start at an index. Groups can make that long, so it is looked through only where the tag's cell is set.
+fn store(
+    words: &mut [u32],
+    seen: &mut [bool],
+    from: usize,
+    records: usize,
+    stored: Record,
+) -> Standing
+    requires { ⌜ (records < length (now words) / stride) × (stored .depth ≡ 0) ⌝ }
+    requires { ⌜ Covers (now seen) (partOf from records (now words)) ⌝ }
+    ensures { λ r. ⌜ r ≡ heldFrom from (stored .depth) (stored .tag) (partOf from records (now (words .entry))) ⌝ }
+    ensures { λ _. ⌜ now (words .exit) ≡ onRecords (storedBetween records from records stored) (now (words .entry)) ⌝ }
+    ensures { λ _. ⌜ now (seen .exit) ≡ noted (stored .tag) (now (seen .entry)) ⌝ }
+{
+    let cell = stored.tag as usize % CELLS;
+    if seen[cell] {
+        return build_records::store(words, records, from, records, stored);
+    }
+    seen[cell] = true;
+    build_records::replace(words, records, stored);
+    Standing::Nowhere
+}
+
+// The same; answers how many records there are then.
+fn keep(words: &mut [u32], seen: &mut [bool], from: usize, records: usize, stored: Record) -> usize
+    requires { ⌜ (from ≤ records) × (records < length (now words) / stride) × (stored .depth ≡ 0) ⌝ }
+    requires { ⌜ Covers (now seen) (partOf from records (now words)) ⌝ }
+    ensures { λ r. ⌜ Kept (now (words .entry)) (now (words .exit)) from records stored r ⌝ }
+    ensures { λ _. ⌜ now (seen .exit) ≡ noted (stored .tag) (now (seen .entry)) ⌝ }
+{
+    match store(words, seen, from, records, stored) {
+        Standing::At(_) => records,
+        Standing::Nowhere => records + 1,
+    }
 }
 
 // Stores a field of the body and reads the next.
@@ -53,15 +92,19 @@ fn read_plain(
     config: Config,
     plain: Field,
     words: &mut [u32],
+    seen: &mut [bool],
     from: usize,
     progress: Progress,
 ) -> PartRead
     requires { ⌜ (length (now message) < 2 ^ 32) × (Inside (now message) plain) × (from ≤ progress .records) × (progress .records + progress .room < length (now words) / stride) ⌝ }
+    requires { ⌜ Covers (now seen) (partOf from (progress .records) (now words)) ⌝ }
     ensures { λ r. ⌜ partTold (config .mode) (now (message .entry)) from r (now (words .exit)) ≡ nextFrom (fieldsFrom (config .mode) (now (message .entry)) (plain .next)) (progress .room) (stored (partRecord 2 plain) (partOf from (progress .records) (now (words .entry)))) ⌝ }
     ensures { λ r. ⌜ Stays (now (message .entry)) (now (words .entry)) (now (words .exit)) from (progress .room) r ⌝ }
+    ensures { λ _. ⌜ now (seen .exit) ≡ noted (plain .tag) (now (seen .entry)) ⌝ }
 {
-    let records = build_parts::keep(
+    let records = keep(
         words,
+        seen,
         from,
         progress.records,
         build_parts::record_of(build_records::BODY, plain),
@@ -116,11 +159,19 @@ fn drop_run(words: &mut [u32], place: usize, records: usize) -> usize
 }
 
 // Stores a count in the last map, whose records start at an index, and makes way for its run. "A second run replaces the first."
-fn open_run(words: &mut [u32], from: usize, records: usize, stored: Record) -> Opening
-    requires { ⌜ (from ≤ records) × (records < length (now words) / stride) ⌝ }
+fn open_run(
+    words: &mut [u32],
+    seen: &mut [bool],
+    from: usize,
+    records: usize,
+    stored: Record,
+) -> Opening
+    requires { ⌜ (from ≤ records) × (records < length (now words) / stride) × (stored .depth ≡ 0) ⌝ }
+    requires { ⌜ Covers (now seen) (partOf from records (now words)) ⌝ }
     ensures { λ r. ⌜ Opened (now (words .entry)) (now (words .exit)) from records stored r ⌝ }
+    ensures { λ _. ⌜ now (seen .exit) ≡ noted (stored .tag) (now (seen .entry)) ⌝ }
 {
-    match build_records::store(words, records, from, records, stored) {
+    match store(words, seen, from, records, stored) {
         Standing::At(i) => {
             let place = i + 1;
             Opening {
@@ -139,21 +190,25 @@ fn open_run(words: &mut [u32], from: usize, records: usize, stored: Record) -> O
 fn read_group(
     message: &[u8],
     config: Config,
-    table: &[u32],
+    table: &[u16],
     index: &[u16],
-    inner: Level,
+    inner: usize,
     count: Field,
     words: &mut [u32],
+    seen: &mut [bool],
     from: usize,
     progress: Progress,
 ) -> PartRead
     requires { ⌜ (length (now message) < 2 ^ 32) × (Inside (now message) count) × (from ≤ progress .records) × (progress .records + progress .room < length (now words) / stride) × (length (now words) < 2 ^ 32) ⌝ }
     requires { ⌜ length (now index) ≡ indexWords ⌝ }
+    requires { ⌜ Covers (now seen) (partOf from (progress .records) (now words)) ⌝ }
     ensures { λ r. ⌜ partTold (config .mode) (now (message .entry)) from r (now (words .exit)) ≡ withRun (partRecord 2 count) (partOf from (progress .records) (now (words .entry))) (runFrom (tableRules config (now (table .entry)) (tagAt (now (index .entry)))) (tableDemands (now (table .entry))) inner (count .tag) (fieldsFrom (config .mode) (now (message .entry)) (count .next)) (progress .room)) ⌝ }
     ensures { λ r. ⌜ Stays (now (message .entry)) (now (words .entry)) (now (words .exit)) from (progress .room) r ⌝ }
+    ensures { λ _. ⌜ now (seen .exit) ≡ noted (count .tag) (now (seen .entry)) ⌝ }
 {
     let opening = open_run(
         words,
+        seen,
         from,
         progress.records,
         build_parts::record_of(build_records::BODY, count),
@@ -197,22 +252,24 @@ fn read_group(
     }
 }
 
-// The body, from the field that ended the header on. "The first other field must be a trailer tag, else 1."
-pub fn read_body(
+// Reads on from a field of the body. "The first other field must be a trailer tag, else 1."
+fn read_on(
     message: &[u8],
     config: Config,
-    table: &[u32],
+    table: &[u16],
     index: &[u16],
-    trailer_tags: &[u32],
-    level: Level,
+    trailer_tags: &[u16],
+    level: usize,
     first: Field,
     words: &mut [u32],
+    seen: &mut [bool],
     from: usize,
     progress: Progress,
 ) -> PartRead
     requires { ⌜ (length (now message) < 2 ^ 32) × (Inside (now message) first) × (from ≤ progress .records) × (progress .records + progress .room < length (now words) / stride) × (length (now words) < 2 ^ 32) ⌝ }
     requires { ⌜ length (now index) ≡ indexWords ⌝ }
-    ensures { λ r. ⌜ partTold (config .mode) (now (message .entry)) from r (now (words .exit)) ≡ bodyFrom (bodyOf (tableRules config (now (table .entry)) (tagAt (now (index .entry)))) (tableDemands (now (table .entry))) (now («trailer_tags» .entry)) level) (field first (fieldsFrom (config .mode) (now (message .entry)) (first .next))) (suc (progress .room)) (partOf from (progress .records) (now (words .entry))) ⌝ }
+    requires { ⌜ Covers (now seen) (partOf from (progress .records) (now words)) ⌝ }
+    ensures { λ r. ⌜ partTold (config .mode) (now (message .entry)) from r (now (words .exit)) ≡ bodyFrom (bodyOf (tableRules config (now (table .entry)) (tagAt (now (index .entry)))) (tableDemands (now (table .entry))) (tagsFound (now («trailer_tags» .entry))) level) (field first (fieldsFrom (config .mode) (now (message .entry)) (first .next))) (suc (progress .room)) (partOf from (progress .records) (now (words .entry))) ⌝ }
     ensures { λ r. ⌜ Stays (now (message .entry)) (now (words .entry)) (now (words .exit)) from (suc (progress .room)) r ⌝ }
 {
     let mut reading = PartRead::At(first, progress);
@@ -222,7 +279,7 @@ pub fn read_body(
         };
         match kind_of(config, table, index, level, field.tag) {
             BodyKind::Plain => {
-                reading = read_plain(message, config, field, words, from, so_far);
+                reading = read_plain(message, config, field, words, seen, from, so_far);
             }
             BodyKind::Counts(inner) => {
                 reading = read_group(
@@ -233,16 +290,54 @@ pub fn read_body(
                     inner,
                     field,
                     words,
+                    seen,
                     from,
                     so_far,
                 );
             }
             BodyKind::Other => {
-                if dictionary_layout::holds(trailer_tags, field.tag) {
+                if dictionary_tables::holds(trailer_tags, field.tag) {
                     return reading;
                 }
                 return PartRead::Refused(Answer::InvalidField(field.tag));
             }
         }
     }
+}
+
+// The body, from the field that ended the header on.
+pub fn read_body(
+    message: &[u8],
+    config: Config,
+    table: &[u16],
+    index: &[u16],
+    trailer_tags: &[u16],
+    level: usize,
+    first: Field,
+    words: &mut [u32],
+    from: usize,
+    progress: Progress,
+) -> PartRead
+    requires { ⌜ (length (now message) < 2 ^ 32) × (Inside (now message) first) × (from ≤ progress .records) × (progress .records + progress .room < length (now words) / stride) × (length (now words) < 2 ^ 32) ⌝ }
+    requires { ⌜ length (now index) ≡ indexWords ⌝ }
+    ensures { λ r. ⌜ partTold (config .mode) (now (message .entry)) from r (now (words .exit)) ≡ bodyFrom (bodyOf (tableRules config (now (table .entry)) (tagAt (now (index .entry)))) (tableDemands (now (table .entry))) (tagsFound (now («trailer_tags» .entry))) level) (field first (fieldsFrom (config .mode) (now (message .entry)) (first .next))) (suc (progress .room)) (partOf from (progress .records) (now (words .entry))) ⌝ }
+    ensures { λ r. ⌜ Stays (now (message .entry)) (now (words .entry)) (now (words .exit)) from (suc (progress .room)) r ⌝ }
+{
+    // Which tags a body holds that was begun already isn't known: it may be any.
+    let begun = from < progress.records;
+    let mut cells = [begun; CELLS];
+    let seen = &mut cells[..];
+    read_on(
+        message,
+        config,
+        table,
+        index,
+        trailer_tags,
+        level,
+        first,
+        words,
+        seen,
+        from,
+        progress,
+    )
 }

@@ -10,7 +10,6 @@ use Rattle.field_rules.specs.Fields.{Fields, fieldsFrom, Inside}
 use Rattle.field_rules.specs.declared.Cursor.{Cursor}
 use Rattle.field_rules.specs.declared.Field.{Field}
 use Rattle.build_config.specs.declared.Config.{Config}
-use Rattle.dictionary_layout_rules.specs.declared.Level.{Level}
 use Rattle.build_records.specs.Records.{recordsOf, between, stride}
 use Rattle.build_records.specs.WordLaws.{records-length}
 use Rattle.build_records.specs.RecordLaws.{between-parts}
@@ -62,7 +61,7 @@ pub front-parts : (rs other : List Record) (from place : ℕ) → from ≤ place
 front-parts rs other from place h e =
     front-is from rs ∙ sym (take-take from place rs h) ∙ ap (take from) e ∙ take-take from place other h ∙ sym (front-is from other)
 
-module _ (message : List ℕ) (config : Config) (table : List ℕ) (known : ℕ → Bool) (inner : Level) (tag : ℕ) (cursor : Cursor) (room : ℕ) (entry mid exit : List ℕ) (from count : ℕ) (r : Record) (opening : Opening) (opened : Opened entry mid from count r opening)
+module _ (message : List ℕ) (config : Config) (table : List ℕ) (known : ℕ → Bool) (inner tag : ℕ) (cursor : Cursor) (room : ℕ) (entry mid exit : List ℕ) (from count : ℕ) (r : Record) (opening : Opening) (opened : Opened entry mid from count r opening)
     (kept : length mid ≡ length entry) (last : length exit ≡ length mid) (fits : opening .records + room ≤ length mid / stride) where
   abbrev pub start : Progress
   start = record { room = room; records = opening .records; place = opening .place }

@@ -6,7 +6,6 @@ use Rattle.field_rules.specs.Choice.{pick}
 use Rattle.field_rules.specs.Fields.{Fields}
 use Rattle.field_rules.specs.declared.Field.{Field}
 use Rattle.build_records.specs.declared.Record.{Record}
-use Rattle.dictionary_layout_rules.specs.declared.Level.{Level}
 use Rattle.dictionary_layout_rules.specs.declared.Position.{Position}
 use Rattle.dictionary_layout_rules.specs.declared.Position.the-variants.{At, Nowhere}
 use Rattle.build_group_rules.specs.Groups.{Opened, none, opened, Rules, run, RunOutcome, walk}
@@ -22,7 +21,7 @@ use Rattle.build_body_rules.specs.Body.{Kind, plain, counts, other, Body
 use Rattle.build_parts.specs.Parts.{Reading, ended, refused}
 
 -- what the code's kinds mean
-unfoldable pub meantBy : BodyKind → Kind Level
+unfoldable pub meantBy : BodyKind → Kind ℕ
 meantBy Plain = plain
 meantBy (Counts inner) = counts inner
 meantBy Other = other

@@ -7,3 +7,5 @@ pub mod RunWords
 pub mod GroupReading
 pub mod BodyReading
 pub mod Meaning
+pub mod Seen
+pub mod SeenLaws

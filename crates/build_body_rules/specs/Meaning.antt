@@ -9,8 +9,7 @@ use Rattle.field_rules.specs.Choice.{pick}
 use Rattle.field_rules.specs.Fields.{Fields, unreadable, field}
 use Rattle.field_rules.specs.declared.Field.{Field}
 use Rattle.dictionary_layout_rules.specs.Layout.{Layout}
-use Rattle.dictionary_layout_rules.specs.Tabled.{Tabled}
-use Rattle.dictionary_layout_rules.specs.declared.Level.{Level}
+use Rattle.dictionary_tables_rules.specs.Tabled.{Tabled}
 use Rattle.dictionary_layout_rules.specs.declared.Position.{Position}
 use Rattle.dictionary_layout_rules.specs.declared.Position.the-variants.{At, Nowhere}
 use Rattle.build_records.specs.Records.{stored}
@@ -82,7 +81,7 @@ module _ {L M : Type 0} (Same : L → M → Type 0) where
     within-same (suc turns) (field f rest) (suc room) records = takes-same (bodyWithin body turns) (bodyWithin another turns) (within-same turns) f rest room records (alike .kinds (f .tag))
 
 -- a run that was read from a table and checked with it is the run of the layout, checked with that
-module _ (config : Config) (table : List ℕ) (known has : ℕ → Bool) (same : (tag : ℕ) → known tag ≡ has tag) (level : Level) (layout : Layout) (t : Tabled table level layout) (tag : ℕ) where
+module _ (config : Config) (table : List ℕ) (known has : ℕ → Bool) (same : (tag : ℕ) → known tag ≡ has tag) (level : ℕ) (layout : Layout) (t : Tabled table level layout) (tag : ℕ) where
   checks-same : (o : RunOutcome (List Record) (List Record)) → ranAs (tableRules config table known) (tableDemands table) level tag o ≡ ranAs (layoutRules (accepted config has)) layoutDemands layout tag o
   unfolding ranAs
   checks-same (ran f rest room entries) = ap (checked f rest room entries) (table-checks table 4 level layout t tag 1 entries)
@@ -95,7 +94,7 @@ module _ (config : Config) (table : List ℕ) (known has : ℕ → Bool) (same :
 
 -- reading a body through a table is reading it through the layout that the table holds
 pub body-means : (config : Config) (table : List ℕ) (known has : ℕ → Bool) → ((tag : ℕ) → known tag ≡ has tag) →
-    (level : Level) (layout : Layout) → Tabled table level layout → (trailerTags : List ℕ) (fields : Fields) (room : ℕ) (records : List Record) →
+    (level : ℕ) (layout : Layout) → Tabled table level layout → (trailerTags : List ℕ) (fields : Fields) (room : ℕ) (records : List Record) →
     bodyFrom (bodyOf (tableRules config table known) (tableDemands table) trailerTags level) fields room records
     ≡ bodyFrom (bodyOf (layoutRules (accepted config has)) layoutDemands trailerTags layout) fields room records
 unfolding bodyFrom bodyOf

@@ -13,9 +13,7 @@ use Rattle.field_rules.specs.Fields.{Fields, fieldsFrom}
 use Rattle.field_rules.specs.declared.Cursor.{Cursor}
 use Rattle.build_config.specs.declared.Config.{Config}
 use Rattle.dictionary_layout_rules.specs.Layout.{Layout, Group as LayoutGroup}
-use Rattle.dictionary_layout_rules.specs.Tabled.{Tabled, Opens, neither, both, position-means, delimiter-means, group-means}
-use Rattle.dictionary_layout_rules.specs.declared.Level.{Level}
-use Rattle.dictionary_layout_rules.specs.declared.Nested.{Nested}
+use Rattle.dictionary_tables_rules.specs.Tabled.{Tabled, Opens, neither, both, position-means, delimiter-means, group-means}
 use Rattle.build_records.specs.Records.{recordsOf, leftover, inserted, between, heldFrom, storedBetween, stored}
 use Rattle.build_records.specs.WordLaws.{records-on, leftover-on, on-same}
 use Rattle.build_records.specs.RecordLaws.{HeldAs, inserted-parts, between-new, stored-new, stored-held, stored-parts-held}
@@ -25,13 +23,14 @@ use Rattle.build_records.specs.declared.Standing.the-variants.{At as held-at, N
 use Rattle.build_group_rules.specs.Groups.{run, Store, RunOutcome, ended, refused, walk}
 use Rattle.build_group_rules.specs.Alike.{OpenedAlike, none-alike, opened-alike, RulesAlike, empty-alike, run-alike, StoresAlike, OutcomeAlike, ended-alike, refused-alike, walk-alike}
 use Rattle.build_group_rules.specs.Reading.{accepted, openedBy, tableRules, openedAs, layoutRules, joinedList, listStore, Memory, memory, addedWords, makes, standingIn, joinedWords, wordStore, runOf}
+use Rattle.build_group_rules.specs.ReadingLaws.{opened-none, opened-some}
 use Rattle.build_group_rules.specs.declared.Group.{Group}
 use Rattle.build_group_rules.specs.declared.Progress.{Progress}
 
-pub opens-alike : (table : List ℕ) {nested : Nested} {group : LayoutGroup} → Opens table nested group → OpenedAlike (Tabled table) (openedBy nested) (openedAs group)
-unfolding openedBy openedAs
-opens-alike table neither = none-alike
-opens-alike table (both t) = opened-alike t
+pub opens-alike : (table : List ℕ) {level : ℕ} {group : LayoutGroup} → Opens table level group → OpenedAlike (Tabled table) (openedBy level) (openedAs group)
+unfolding openedAs
+opens-alike table neither = rw (opened-none 0 refl) none-alike
+opens-alike table (both {level} some t) = rw (opened-some level some) (opened-alike t)
 
 -- a table answers as the layouts that it holds
 pub rules-alike : (config : Config) (table : List ℕ) (known has : ℕ → Bool) → ((tag : ℕ) → known tag ≡ has tag) → RulesAlike (Tabled table) (tableRules config table known) (layoutRules (accepted config has))
@@ -46,7 +45,7 @@ outcome-same (ended-alike {f} {rest} {room} e) = ap (ended f rest room) e
 outcome-same (refused-alike {refusal} e) = ap (refused refusal) e
 
 -- whatever keeps the records, a level of a table is read as the layout that the table holds there
-pub table-reads : {S W : Type 0} (store : Store S W) (config : Config) (table : List ℕ) (known has : ℕ → Bool) → ((tag : ℕ) → known tag ≡ has tag) → (level : Level) (layout : Layout) → Tabled table level layout → (room group depth number : ℕ) (s : S) (fields : Fields) →
+pub table-reads : {S W : Type 0} (store : Store S W) (config : Config) (table : List ℕ) (known has : ℕ → Bool) → ((tag : ℕ) → known tag ≡ has tag) → (level : ℕ) (layout : Layout) → Tabled table level layout → (room group depth number : ℕ) (s : S) (fields : Fields) →
     walk (tableRules config table known) store room (run level group depth number ∷ []) s fields ≡ walk (layoutRules (accepted config has)) store room (run layout group depth number ∷ []) s fields
 table-reads store config table known has same level layout t room group depth number s fields =
     outcome-same (walk-alike (Tabled table) (λ room s t. s ≡ t) (λ w x. w ≡ x) _ _ (rules-alike config table known has same) store store (same-store store) room _ _ s s fields (run-alike t empty-alike) refl)

@@ -16,10 +16,8 @@ use Rattle.build_config.specs.declared.Config.{Config}
 use Rattle.build_answers.specs.declared.Answer.{Answer}
 use Rattle.build_answers.specs.declared.Answer.the-variants.{Malformed as malformed, TooManyFields as too-many-fields, InvalidOrderInGroup as invalid-order}
 use Rattle.dictionary_layout_rules.specs.Layout.{Layout, Group as LayoutGroup, none as no-group, entries, positionIn, groupOf, delimiterOf}
-use Rattle.dictionary_layout_rules.specs.Table.{positionOf, groupWithin, delimiterAt}
-use Rattle.dictionary_layout_rules.specs.declared.Level.{Level}
-use Rattle.dictionary_layout_rules.specs.declared.Nested.{Nested}
-use Rattle.dictionary_layout_rules.specs.declared.Nested.the-variants.{Within, NoGroup}
+use Rattle.dictionary_tables_rules.specs.Table.{itemOf, delimiterAt}
+use Rattle.dictionary_tables_rules.specs.Tabled.{placeOf, groupOfItem}
 use Rattle.build_records.specs.Records.{recordsOf, onRecords, inserted, between, heldFrom, storedBetween, stored}
 use Rattle.build_records.specs.declared.Record.{Record}
 use Rattle.build_records.specs.declared.Standing.{Standing}
@@ -44,13 +42,20 @@ answerOf (InvalidOrderInGroup tag group) = invalid-order tag group
 unfoldable pub accepted : Config → (ℕ → Bool) → ℕ → Bool
 accepted config known tag = pick (config .validate) false (pick (ltb tag 5000) false (pick (known tag) false true))
 
-unfoldable pub openedBy : Nested → Opened Level
-openedBy NoGroup = none
-openedBy (Within level) = opened level
+-- the level that starts at a word of the table; no group's starts at the first, so 0 opens none
+unfoldable pub openedBy : ℕ → Opened ℕ
+openedBy zero = none
+openedBy (suc n) = opened (suc n)
 
 -- levels looked up in a table
-unfoldable pub tableRules : Config → List ℕ → (ℕ → Bool) → Rules Level
-tableRules config table known = record { delimiter = delimiterAt table; position = positionOf table; group = λ level tag. openedBy (groupWithin table level tag); accepts = accepted config known }
+unfoldable pub tableRules : Config → List ℕ → (ℕ → Bool) → Rules ℕ
+tableRules config table known =
+    record {
+      delimiter = delimiterAt table;
+      position = λ level tag. placeOf (itemOf table level tag);
+      group = λ level tag. openedBy (groupOfItem (itemOf table level tag));
+      accepts = accepted config known;
+    }
 
 unfoldable pub openedAs : LayoutGroup → Opened Layout
 openedAs no-group = none
@@ -60,18 +65,18 @@ openedAs (entries layout) = opened layout
 unfoldable pub layoutRules : (ℕ → Bool) → Rules Layout
 layoutRules accepts = record { delimiter = delimiterOf; position = λ layout tag. positionIn tag layout; group = λ layout tag. openedAs (groupOf tag layout); accepts = accepts }
 
-unfoldable pub opensAt : List ℕ → Level → ℕ → Bool
+unfoldable pub opensAt : List ℕ → ℕ → ℕ → Bool
 opensAt table level tag = isDelimiter (delimiterAt table level) tag
 
 -- what the code's kinds mean
-unfoldable pub meant : CodeKind → Kind Level
+unfoldable pub meant : CodeKind → Kind ℕ
 meant (Plain position) = plain position
 meant (Count level position) = count level position
 meant Joins = joins
 meant Wrong = wrong
 meant Ends = ends
 
-unfoldable pub kindAt : Config → List ℕ → (ℕ → Bool) → Group → ℕ → ℕ → Kind Level
+unfoldable pub kindAt : Config → List ℕ → (ℕ → Bool) → Group → ℕ → ℕ → Kind ℕ
 kindAt config table known group last tag = entryKind (tableRules config table known) (group .level) (group .depth) last tag
 
 -- records as a list: a new one comes last, and what joins an entry is stored in the entry's own map

@@ -15,18 +15,27 @@ use Rattle.field_rules.specs.declared.Cause.{Cause}
 use Rattle.field_rules.specs.declared.Field.{Field}
 use Rattle.field_rules.specs.declared.FieldRead.{FieldRead}
 use Rattle.field_rules.specs.declared.FieldRead.the-variants.{Read, Unreadable}
-use Rattle.dictionary_layout_rules.specs.declared.Level.{Level}
 use Rattle.build_records.specs.declared.Record.{Record}
 use Rattle.build_records.specs.declared.Standing.{Standing}
 use Rattle.build_records.specs.declared.Standing.the-variants.{At as held-at, Nowhere as not-held}
-use Rattle.build_group_rules.specs.Groups.{Rules, Frame, RunOutcome, refused, walk, taking, andThen}
+use Rattle.build_group_rules.specs.Groups.{none, opened, Rules, Frame, RunOutcome, refused, walk, taking, andThen}
 use Rattle.build_group_rules.specs.GroupLaws.{walk-unreadable, walk-full, walk-field, keeps}
-use Rattle.build_group_rules.specs.Reading.{Memory, memory, addedWords, makes, standingIn, joinedWords, wordStore, further, Fits, FitsAt, roomFor, nextReading, toldBy}
+use Rattle.build_group_rules.specs.Reading.{openedBy, Memory, memory, addedWords, makes, standingIn, joinedWords, wordStore, further, Fits, FitsAt, roomFor, nextReading, toldBy}
 use Rattle.build_group_rules.specs.declared.Progress.{Progress}
 use Rattle.build_group_rules.specs.declared.Refusal.{Refusal}
 use Rattle.build_group_rules.specs.declared.Refusal.the-variants.{Malformed, TooManyFields}
 use Rattle.build_group_rules.specs.declared.Reading.{Reading}
 use Rattle.build_group_rules.specs.declared.Reading.the-variants.{At, Refused}
+
+-- each way that a group word goes
+pub opened-none : (level : ℕ) → level ≡ 0 → openedBy level ≡ none
+unfolding openedBy
+opened-none level e = rw e
+
+pub opened-some : (level : ℕ) → (level ≡ 0 → ⊥) → openedBy level ≡ opened level
+unfolding openedBy
+opened-some zero some = absurd (some refl)
+opened-some (suc n) some = refl
 
 -- each way that the next field goes
 module _ (read : FieldRead) (progress : Progress) where
@@ -69,12 +78,12 @@ pub record Follows (message : List ℕ) (room : ℕ) (reading : Reading) : Type 
   pub fits : (f : Field) (progress : Progress) → reading ≡ At f progress → FitsAt message f progress
 
 -- what is left to be read of a stack from where a reading stands
-module _ (rules : Rules Level) (mode : Mode) (message : List ℕ) where
-  unfoldable pub going : List (Frame Level) → Reading → List ℕ → RunOutcome Memory (List ℕ)
+module _ (rules : Rules ℕ) (mode : Mode) (message : List ℕ) where
+  unfoldable pub going : List (Frame ℕ) → Reading → List ℕ → RunOutcome Memory (List ℕ)
   going stack (At f progress) words = taking rules wordStore (progress .room) stack (memory progress words) f (fieldsFrom mode message (f .next))
   going stack (Refused refusal) words = refused refusal words
 
-module _ (rules : Rules Level) (mode : Mode) (message : List ℕ) (stack : List (Frame Level)) (progress : Progress) (words : List ℕ) (c : Cursor) where
+module _ (rules : Rules ℕ) (mode : Mode) (message : List ℕ) (stack : List (Frame ℕ)) (progress : Progress) (words : List ℕ) (c : Cursor) where
   by-field : (r : FieldRead) → fieldAt mode message c ≡ r → (room : ℕ) → progress .room ≡ room →
       walk rules wordStore (progress .room) stack (memory progress words) (fieldsFrom mode message c) ≡ going rules mode message stack (nextReading (fieldAt mode message c) progress) words
   unfolding going wordStore memory
@@ -89,14 +98,14 @@ module _ (rules : Rules Level) (mode : Mode) (message : List ℕ) (stack : List 
       ∙ walk-field rules wordStore room stack (memory progress words) f (fieldsFrom mode message (f .next))
       ∙ ap (λ (k : ℕ). taking rules wordStore k stack (memory progress words) f (fieldsFrom mode message (f .next))) (sym r))
 
-module _ (rules : Rules Level) (mode : Mode) (message : List ℕ) where
+module _ (rules : Rules ℕ) (mode : Mode) (message : List ℕ) where
   -- reading the next field is a step of the walk
-  pub walk-next : (stack : List (Frame Level)) (progress : Progress) (words : List ℕ) (c : Cursor) →
+  pub walk-next : (stack : List (Frame ℕ)) (progress : Progress) (words : List ℕ) (c : Cursor) →
       walk rules wordStore (progress .room) stack (memory progress words) (fieldsFrom mode message c) ≡ going rules mode message stack (nextReading (fieldAt mode message c) progress) words
   walk-next stack progress words c = by-field rules mode message stack progress words c (fieldAt mode message c) refl (progress .room) refl
 
   -- going on from where a reading ended
-  pub going-on : (stack : List (Frame Level)) (reading : Reading) (words : List ℕ) (outcome : RunOutcome Memory (List ℕ)) → toldBy mode message reading words ≡ outcome →
+  pub going-on : (stack : List (Frame ℕ)) (reading : Reading) (words : List ℕ) (outcome : RunOutcome Memory (List ℕ)) → toldBy mode message reading words ≡ outcome →
       andThen outcome (λ room s f rest. taking rules wordStore room stack s f rest) ≡ going rules mode message stack reading words
   unfolding going toldBy andThen
   going-on stack (At f progress) words outcome e = rw (← e)
@@ -150,7 +159,7 @@ leaves-join limit room start r m l =
     record { within = omega (arith, l .within); counted = omega (arith, l .counted, one); placed = omega (arith, l .placed, one) }
 
 -- where a run or an entry ended lies within the message, and the room falls
-pub told-follows : (rules : Rules Level) (mode : Mode) (message : List ℕ) (stack : List (Frame Level)) (c : Cursor) (progress : Progress) (words : List ℕ) → Fits message progress → (reading : Reading) (words₁ : List ℕ) →
+pub told-follows : (rules : Rules ℕ) (mode : Mode) (message : List ℕ) (stack : List (Frame ℕ)) (c : Cursor) (progress : Progress) (words : List ℕ) → Fits message progress → (reading : Reading) (words₁ : List ℕ) →
     toldBy mode message reading words₁ ≡ walk rules wordStore (progress .room) stack (memory progress words) (fieldsFrom mode message c) → Follows message (progress .room) reading
 unfolding toldBy memory
 told-follows rules mode message stack c progress words fits (Refused refusal) words₁ e = refused-follows message (progress .room) refusal

@@ -1,15 +1,14 @@
 // build_group_rules: how repeating groups are read, one field a step over a stack of what is open: definitions, what they come to over tables
 // and over layouts, and worked runs. No function stands here, so that a wrong definition is refused in seconds; `build_groups` is proved against it.
-use dictionary_layout_rules::Level;
 use field_rules::Cause;
 use field_rules::Field;
 
 // How deep groups nest.
 pub const LEVELS: u32 = 4;
 
-// A group whose count was read: the level of its entries, the count's tag, and the depth of its records.
+// A group whose count was read: where the level of its entries starts in the table, the count's tag, and the depth of its records.
 pub struct Group {
-    pub level: Level,
+    pub level: usize,
     pub tag: u32,
     pub depth: u32,
 }
@@ -34,10 +33,10 @@ pub enum Reading {
     Refused(Refusal),
 }
 
-// What a tag is to an open entry. A tag of the level comes with its position.
+// What a tag is to an open entry. A tag of the level comes with its position, a count also with where the level of its entries starts.
 pub enum Kind {
     Plain(usize),
-    Count(Level, usize),
+    Count(usize, usize),
     Joins,
     Wrong,
     Ends,

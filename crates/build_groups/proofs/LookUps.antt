@@ -7,13 +7,13 @@ use lib.Dec.{eqb}
 use borrow.Author.Tests.{le-leb, lt-leb, lt-ltb, le-ltb}
 use Rattle.field_rules.specs.Choice.{pick, pick-same}
 use Rattle.build_config.specs.declared.Config.{Config}
-use Rattle.dictionary_layout_rules.specs.Table.{positionOf, groupWithin, delimiterAt}
-use Rattle.dictionary_layout_rules.specs.declared.Level.{Level}
-use Rattle.dictionary_layout_rules.specs.declared.Position.the-variants.{At, Nowhere}
-use Rattle.dictionary_layout_rules.specs.declared.Nested.the-variants.{Within, NoGroup}
 use Rattle.dictionary_layout_rules.specs.declared.FirstTag.the-variants.{First, NoTag}
+use Rattle.dictionary_tables_rules.specs.Table.{itemOf, delimiterAt}
+use Rattle.dictionary_tables_rules.specs.Tabled.{placeOf, groupOfItem}
+use Rattle.dictionary_tables_rules.specs.declared.Item.the-variants.{At, Nowhere}
 use Rattle.build_group_rules.specs.Groups.{isDelimiter, opens, plain, count, joins, wrong, ends, counting, declared, entryKind}
-use Rattle.build_group_rules.specs.Reading.{accepted, openedBy, tableRules, opensAt, kindAt}
+use Rattle.build_group_rules.specs.Reading.{accepted, tableRules, opensAt, kindAt}
+use Rattle.build_group_rules.specs.ReadingLaws.{opened-none, opened-some}
 use Rattle.build_group_rules.specs.declared.Group.{Group}
 
 module _ (config : Config) (known : ℕ → Bool) (tag : ℕ) where
@@ -33,7 +33,7 @@ module _ (config : Config) (known : ℕ → Bool) (tag : ℕ) where
       turned true = refl
       turned false = refl
 
-module _ (table : List ℕ) (level : Level) (tag : ℕ) where
+module _ (table : List ℕ) (level tag : ℕ) where
   pub no-delimiter : delimiterAt table level ≡ NoTag → opensAt table level tag ≡ false
   unfolding opensAt isDelimiter
   no-delimiter e = rw e
@@ -43,7 +43,7 @@ module _ (table : List ℕ) (level : Level) (tag : ℕ) where
   one-delimiter delimiter e = rw e
 
 -- the delimiter test is the rules' own
-pub opens-table : (config : Config) (table : List ℕ) (known : ℕ → Bool) (level : Level) (tag : ℕ) → opens (tableRules config table known) level tag ≡ opensAt table level tag
+pub opens-table : (config : Config) (table : List ℕ) (known : ℕ → Bool) (level tag : ℕ) → opens (tableRules config table known) level tag ≡ opensAt table level tag
 unfolding opens tableRules opensAt
 opens-table config table known level tag = refl
 
@@ -53,27 +53,29 @@ module _ (config : Config) (table : List ℕ) (known : ℕ → Bool) (group : Gr
   kind-delimiter o = rw o
 
   module _ (o : opensAt table (group .level) tag ≡ false) where
-    pub kind-user : positionOf table (group .level) tag ≡ Nowhere → accepted config known tag ≡ true → kindAt config table known group last tag ≡ joins
-    unfolding kindAt entryKind opens tableRules opensAt declared
+    pub kind-user : itemOf table (group .level) tag ≡ Nowhere → accepted config known tag ≡ true → kindAt config table known group last tag ≡ joins
+    unfolding kindAt entryKind opens tableRules opensAt declared placeOf
     kind-user p a = rw (o, p, a)
 
-    pub kind-other : positionOf table (group .level) tag ≡ Nowhere → accepted config known tag ≡ false → kindAt config table known group last tag ≡ ends
-    unfolding kindAt entryKind opens tableRules opensAt declared
+    pub kind-other : itemOf table (group .level) tag ≡ Nowhere → accepted config known tag ≡ false → kindAt config table known group last tag ≡ ends
+    unfolding kindAt entryKind opens tableRules opensAt declared placeOf
     kind-other p a = rw (o, p, a)
 
-    module _ (position : ℕ) (p : positionOf table (group .level) tag ≡ At position) where
+    module _ (position inner : ℕ) (p : itemOf table (group .level) tag ≡ At position inner) where
       pub kind-wrong : position ≤ last → kindAt config table known group last tag ≡ wrong
-      unfolding kindAt entryKind opens tableRules opensAt declared
+      unfolding kindAt entryKind opens tableRules opensAt declared placeOf
       kind-wrong h = rw (o, p, le-leb _ _ h)
 
-      pub kind-plain : last < position → groupWithin table (group .level) tag ≡ NoGroup → kindAt config table known group last tag ≡ plain position
-      unfolding kindAt entryKind opens tableRules opensAt declared counting openedBy
-      kind-plain h g = rw (o, p, lt-leb _ _ h, g)
+      module _ (h : last < position) where
+        pub kind-plain : inner ≡ 0 → kindAt config table known group last tag ≡ plain position
+        unfolding kindAt entryKind opens tableRules opensAt declared placeOf groupOfItem counting
+        kind-plain z = rw (o, p, lt-leb _ _ h, p, opened-none inner z)
 
-      pub kind-count : last < position → (inner : Level) → groupWithin table (group .level) tag ≡ Within inner → group .depth < 4 → kindAt config table known group last tag ≡ count inner position
-      unfolding kindAt entryKind opens tableRules opensAt declared counting openedBy
-      kind-count h inner g d = rw (o, p, lt-leb _ _ h, g, lt-ltb _ _ d)
+        module _ (some : inner ≡ 0 → ⊥) where
+          pub kind-count : group .depth < 4 → kindAt config table known group last tag ≡ count inner position
+          unfolding kindAt entryKind opens tableRules opensAt declared placeOf groupOfItem counting
+          kind-count d = rw (o, p, lt-leb _ _ h, p, opened-some inner some, lt-ltb _ _ d)
 
-      pub kind-deep : last < position → (inner : Level) → groupWithin table (group .level) tag ≡ Within inner → 4 ≤ group .depth → kindAt config table known group last tag ≡ plain position
-      unfolding kindAt entryKind opens tableRules opensAt declared counting openedBy
-      kind-deep h inner g d = rw (o, p, lt-leb _ _ h, g, le-ltb _ _ d)
+          pub kind-deep : 4 ≤ group .depth → kindAt config table known group last tag ≡ plain position
+          unfolding kindAt entryKind opens tableRules opensAt declared placeOf groupOfItem counting
+          kind-deep d = rw (o, p, lt-leb _ _ h, p, opened-some inner some, le-ltb _ _ d)

@@ -14,7 +14,6 @@ use Rattle.field_rules.specs.Fields.{fieldsFrom}
 use Rattle.field_rules.specs.declared.Cursor.{Cursor}
 use Rattle.field_rules.specs.declared.Field.{Field}
 use Rattle.build_config.specs.declared.Config.{Config}
-use Rattle.dictionary_layout_rules.specs.declared.Level.{Level}
 use Rattle.dictionary_layout_rules.specs.declared.Position.{Position}
 use Rattle.dictionary_layout_rules.specs.declared.Position.the-variants.{At as position-at, Nowhere}
 use Rattle.build_records.specs.Records.{onRecords, inserted, storedBetween}
@@ -66,7 +65,7 @@ module _ {L : Type 0} (rules : Rules L) (level : L) (depth last tag : ℕ) (inne
       go false e = declared-below (rules .position level tag) e
 
 -- a refusal is told as it came
-pub left-refused : (message : List ℕ) (config : Config) (table : List ℕ) (known : ℕ → Bool) (stack : List (Frame Level)) (reading : Reading) (words : List ℕ) (refusal : Refusal) → reading ≡ Refused refusal →
+pub left-refused : (message : List ℕ) (config : Config) (table : List ℕ) (known : ℕ → Bool) (stack : List (Frame ℕ)) (reading : Reading) (words : List ℕ) (refusal : Refusal) → reading ≡ Refused refusal →
     toldBy (config .mode) message reading words ≡ going (tableRules config table known) (config .mode) message stack reading words
 unfolding toldBy going
 left-refused message config table known stack reading words refusal e = rw e
@@ -92,20 +91,20 @@ module _ (message : List ℕ) (config : Config) (table : List ℕ) (known : ℕ 
       rw (d, c, b, a) (walk-next _ _ _ _ (further 1 progress) (onRecords (inserted (progress .records) (progress .place) (entryRecord (group .depth) number delimiter)) words) (delimiter .next))
 
   -- going on from a field is taking it
-  at-field : (stack : List (Frame Level)) (reading : Reading) (words : List ℕ) (f : Field) (progress : Progress) → reading ≡ At f progress →
+  at-field : (stack : List (Frame ℕ)) (reading : Reading) (words : List ℕ) (f : Field) (progress : Progress) → reading ≡ At f progress →
       going (tableRules config table known) (config .mode) message stack reading words ≡ taking (tableRules config table known) wordStore (progress .room) stack (memory progress words) f (fieldsFrom (config .mode) message (f .next))
   unfolding going
   at-field stack reading words f progress e = rw e
 
   module _ (number : ℕ) (reading : Reading) (words : List ℕ) (f : Field) (progress : Progress) (e : reading ≡ At f progress) where
     -- what is kept after a field is what the words hold then
-    added-field : (stack : List (Frame Level)) →
+    added-field : (stack : List (Frame ℕ)) →
         walk (tableRules config table known) wordStore (progress .room) stack (wordStore .add (entryRecord (group .depth) number f) (memory progress words)) (fieldsFrom (config .mode) message (f .next))
         ≡ walk (tableRules config table known) wordStore (further 1 progress .room) stack (memory (further 1 progress) (onRecords (inserted (progress .records) (progress .place) (entryRecord (group .depth) number f)) words)) (fieldsFrom (config .mode) message (f .next))
     unfolding wordStore addedWords memory further
     added-field stack = refl
 
-    joined-field : (stack : List (Frame Level)) (start : ℕ) → let k = makes (standingIn start (progress .place) (entryRecord (group .depth) number f) words) in
+    joined-field : (stack : List (Frame ℕ)) (start : ℕ) → let k = makes (standingIn start (progress .place) (entryRecord (group .depth) number f) words) in
         walk (tableRules config table known) wordStore (progress .room) stack (wordStore .join start (entryRecord (group .depth) number f) (memory progress words)) (fieldsFrom (config .mode) message (f .next))
         ≡ walk (tableRules config table known) wordStore (further k progress .room) stack (memory (further k progress) (onRecords (storedBetween (progress .records) start (progress .place) (entryRecord (group .depth) number f)) words)) (fieldsFrom (config .mode) message (f .next))
     unfolding wordStore joinedWords memory further
@@ -139,7 +138,7 @@ module _ (message : List ℕ) (config : Config) (table : List ℕ) (known : ℕ 
               ∙ entry-plain _ _ _ _ _ _ _ _ _ _ _ _ position (sym k ∙ ap meant q)
               ∙ rw (c, b, a, is) (added-field _ ∙ walk-next _ _ _ _ (further 1 progress) (onRecords (inserted (progress .records) (progress .place) (entryRecord (group .depth) number f)) words) (f .next))
 
-          pub turn-count : (inner : Level) (position : ℕ) → kind ≡ Count inner position → (words₂ : List ℕ) →
+          pub turn-count : (inner position : ℕ) → kind ≡ Count inner position → (words₂ : List ℕ) →
               toldBy (config .mode) message reading₁ words₂ ≡ runOf message config table known (record { level = inner; tag = f .tag; depth = group .depth + 1 }) (f .next) stored words₁ →
               entryLeft number last start reading words ≡ entryLeft number position start reading₁ words₂
           unfolding meant kindAt runOf
@@ -168,7 +167,7 @@ module _ (message : List ℕ) (config : Config) (table : List ℕ) (known : ℕ 
     unfolding going toldBy
     left-over o n = rw e (sym (run-over _ _ _ _ _ _ _ _ _ _ (opens-table config table known (group .level) (f .tag) ∙ o) n))
 
-pub count-below : (config : Config) (table : List ℕ) (known : ℕ → Bool) (group : Group) (last tag : ℕ) (kind : CodeKind) (inner : Level) (position : ℕ) → meant kind ≡ kindAt config table known group last tag → kind ≡ Count inner position → group .depth < 4
+pub count-below : (config : Config) (table : List ℕ) (known : ℕ → Bool) (group : Group) (last tag : ℕ) (kind : CodeKind) (inner position : ℕ) → meant kind ≡ kindAt config table known group last tag → kind ≡ Count inner position → group .depth < 4
 unfolding meant kindAt
 count-below config table known group last tag kind inner position k q = kind-below _ _ _ _ _ inner position (sym k ∙ ap meant q)
 

@@ -9,9 +9,7 @@ use build_group_rules::Refusal;
 use build_records::Record;
 use build_records::Standing;
 use dictionary_layout_rules::FirstTag;
-use dictionary_layout_rules::Level;
-use dictionary_layout_rules::Nested;
-use dictionary_layout_rules::Position;
+use dictionary_tables_rules::Item;
 use field_rules::Cursor;
 use field_rules::Field;
 use field_rules::FieldRead;
@@ -43,10 +41,10 @@ pub fn accepted(config: Config, index: &[u16], tag: u32) -> bool
 }
 
 // The tag is the level's delimiter.
-pub fn opens(table: &[u32], level: Level, tag: u32) -> bool
+pub fn opens(table: &[u16], level: usize, tag: u32) -> bool
     ensures { λ r. ⌜ r ≡ opensAt (now (table .entry)) level tag ⌝ }
 {
-    let FirstTag::First(delimiter) = dictionary_layout::delimiter(table, level) else {
+    let FirstTag::First(delimiter) = dictionary_tables::delimiter(table, level) else {
         return false;
     };
     delimiter == tag
@@ -54,7 +52,7 @@ pub fn opens(table: &[u32], level: Level, tag: u32) -> bool
 
 fn kind_of(
     config: Config,
-    table: &[u32],
+    table: &[u16],
     index: &[u16],
     group: Group,
     last: usize,
@@ -67,7 +65,7 @@ fn kind_of(
     if opens(table, level, tag) {
         return Kind::Ends;
     }
-    let Position::At(position) = dictionary_layout::position_of(table, level, tag) else {
+    let Item::At(position, inner) = dictionary_tables::item_of(table, level, tag) else {
         if accepted(config, index, tag) {
             return Kind::Joins;
         }
@@ -76,9 +74,9 @@ fn kind_of(
     if position <= last {
         return Kind::Wrong;
     }
-    let Nested::Within(inner) = dictionary_layout::group_of(table, level, tag) else {
+    if inner == 0 {
         return Kind::Plain(position);
-    };
+    }
     if group.depth < build_group_rules::LEVELS {
         return Kind::Count(inner, position);
     }
@@ -156,7 +154,7 @@ fn join(words: &mut [u32], start: usize, progress: Progress, stored: Record) -> 
 pub fn read_run(
     message: &[u8],
     config: Config,
-    table: &[u32],
+    table: &[u16],
     index: &[u16],
     group: Group,
     cursor: Cursor,
@@ -198,7 +196,7 @@ pub fn read_run(
 pub fn read_entry(
     message: &[u8],
     config: Config,
-    table: &[u32],
+    table: &[u16],
     index: &[u16],
     group: Group,
     number: u32,

@@ -13,6 +13,7 @@ ghost use lib.ListN.{length};
 ghost use Rattle.build_records.specs.Records.{stride};
 ghost use Rattle.field_rules.specs.Fields.{field, fieldsFrom, Inside};
 ghost use Rattle.field_rules.specs.Field.{fieldAt};
+ghost use Rattle.dictionary_tables_rules.specs.Tags.{tagsFound};
 ghost use Rattle.build_parts.specs.Parts.{partRecord, partOf, Kept, nextOf, partTold, Stays};
 ghost use Rattle.build_parts.specs.Header.{headerFrom};
 ghost use Rattle.build_parts.specs.Trailer.{trailerFrom, trailerTold, trailerCounts};
@@ -89,13 +90,13 @@ pub fn next_field(message: &[u8], config: Config, cursor: Cursor, room: usize) -
 pub fn read_header(
     message: &[u8],
     config: Config,
-    header_tags: &[u32],
+    header_tags: &[u16],
     cursor: Cursor,
     words: &mut [u32],
     progress: Progress,
 ) -> PartRead
     requires { ⌜ (length (now message) < 2 ^ 32) × (progress .records + progress .room ≤ length (now words) / stride) ⌝ }
-    ensures { λ r. ⌜ partTold (config .mode) (now (message .entry)) 0 r (now (words .exit)) ≡ headerFrom (now («header_tags» .entry)) (fieldsFrom (config .mode) (now (message .entry)) cursor) (progress .room) (partOf 0 (progress .records) (now (words .entry))) ⌝ }
+    ensures { λ r. ⌜ partTold (config .mode) (now (message .entry)) 0 r (now (words .exit)) ≡ headerFrom (tagsFound (now («header_tags» .entry))) (fieldsFrom (config .mode) (now (message .entry)) cursor) (progress .room) (partOf 0 (progress .records) (now (words .entry))) ⌝ }
     ensures { λ r. ⌜ Stays (now (message .entry)) (now (words .entry)) (now (words .exit)) 0 (progress .room) r ⌝ }
 {
     let mut at = cursor;
@@ -108,7 +109,7 @@ pub fn read_header(
             }
             Next::Got(field) => {
                 room -= 1;
-                if !dictionary_layout::holds(header_tags, field.tag) {
+                if !dictionary_tables::holds(header_tags, field.tag) {
                     return PartRead::At(field, Progress { room, records });
                 }
                 records = keep(words, 0, records, record_of(build_records::HEADER, field));

@@ -36,6 +36,10 @@ pub inserted-pushing : (n i : ℕ) (r : Record) (rs : List Record) → i ≤ n �
 unfolding inserted pushing
 inserted-pushing n i r rs h l = rw (le-leb _ _ h, lt-ltb _ _ l)
 
+-- behind all others no record moves
+pub inserted-last : (n : ℕ) (r : Record) (rs : List Record) → n < length rs → inserted n n r rs ≡ replaced n r rs
+inserted-last n r rs l = inserted-pushing n n r rs (omega arith) l ∙ pushing-last n r rs l
+
 pub inserted-past : (n i : ℕ) (r : Record) (rs : List Record) → n < i → inserted n i r rs ≡ rs
 unfolding inserted
 inserted-past n i r rs h = rw (lt-leb _ _ h)

@@ -8,19 +8,17 @@ use lib.ListN.{length}
 use lib.Dec.{eqb}
 use borrow.Author.Tests.{eqb-true, eqb-false}
 use Rattle.field_rules.specs.Choice.{pick}
-use Rattle.dictionary_layout_rules.specs.Table.{groupWithin}
-use Rattle.dictionary_layout_rules.specs.declared.Level.{Level}
-use Rattle.dictionary_layout_rules.specs.declared.Nested.{Nested}
-use Rattle.dictionary_layout_rules.specs.declared.Nested.the-variants.{Within, NoGroup}
+use Rattle.dictionary_tables_rules.specs.Table.{itemOf}
+use Rattle.dictionary_tables_rules.specs.Tabled.{groupOfItem}
 use Rattle.build_records.specs.Records.{recordsOf, recordAt, between, stride}
 use Rattle.build_records.specs.WordLaws.{records-length}
 use Rattle.build_records.specs.declared.Record.{Record}
 use Rattle.build_group_rules.specs.Groups.{none, opened}
-use Rattle.build_group_rules.specs.Reading.{openedBy}
+use Rattle.build_group_rules.specs.ReadingLaws.{opened-none, opened-some}
 use Rattle.build_group_rules.specs.declared.Group.{Group}
 use Rattle.build_required_rules.specs.Required.{orElse, shallow, nestedLack, entriesLack, entryLack, runLack}
 use Rattle.build_required_rules.specs.Checking.{tableDemands, startsAt, countAt, endFrom, lackOfFields, lackOfEntry, lackOfRun}
-use Rattle.build_required_rules.specs.RequiredLaws.{else-missing, else-complete, end-within, entries-over, entries-skip, entries-open, nested-over, nested-deep, nested-plain, nested-run}
+use Rattle.build_required_rules.specs.RequiredLaws.{else-missing, else-complete, end-within, end-found, entries-over, entries-next, entries-open, run-empty, nested-over, nested-deep, nested-plain, nested-empty, nested-run}
 use Rattle.build_required_rules.specs.declared.Lack.{Lack}
 use Rattle.build_required_rules.specs.declared.Lack.the-variants.{Missing, Complete}
 
@@ -30,29 +28,32 @@ data NoCount (table : List ℕ) (group : Group) (r : Record) : Type 0 where
   plain : tableDemands table .group (group .level) (r .tag) ≡ none → NoCount table group r
 
 module _ (table : List ℕ) (group : Group) (r : Record) where
-  group-none : groupWithin table (group .level) (r .tag) ≡ NoGroup → tableDemands table .group (group .level) (r .tag) ≡ none
-  unfolding tableDemands openedBy
-  group-none n = rw n
+  abbrev own : ℕ
+  own = groupOfItem (itemOf table (group .level) (r .tag))
 
-  group-some : (level : Level) → groupWithin table (group .level) (r .tag) ≡ Within level → tableDemands table .group (group .level) (r .tag) ≡ opened level
-  unfolding tableDemands openedBy
-  group-some level n = rw n
+  group-none : own ≡ 0 → tableDemands table .group (group .level) (r .tag) ≡ none
+  unfolding tableDemands
+  group-none n = opened-none own n
 
-  count-none : countAt table group r ≡ NoGroup → NoCount table group r
+  group-some : (level : ℕ) → own ≡ level → (level ≡ 0 → ⊥) → tableDemands table .group (group .level) (r .tag) ≡ opened level
+  unfolding tableDemands
+  group-some level n some = rw n (opened-some level some)
+
+  count-none : countAt table group r ≡ 0 → NoCount table group r
   unfolding countAt
   count-none n = go (eqb (r .depth) (group .depth)) refl n
     where
-      go : (b : Bool) → eqb (r .depth) (group .depth) ≡ b → pick b (groupWithin table (group .level) (r .tag)) NoGroup ≡ NoGroup → NoCount table group r
+      go : (b : Bool) → eqb (r .depth) (group .depth) ≡ b → pick b own 0 ≡ 0 → NoCount table group r
       go true q n = plain (group-none n)
       go false q n = deep (eqb-false _ _ q)
 
-  count-some : (level : Level) → countAt table group r ≡ Within level → (r .depth ≡ group .depth) × (tableDemands table .group (group .level) (r .tag) ≡ opened level)
+  count-some : (level : ℕ) → countAt table group r ≡ level → (level ≡ 0 → ⊥) → (r .depth ≡ group .depth) × (tableDemands table .group (group .level) (r .tag) ≡ opened level)
   unfolding countAt
-  count-some level n = go (eqb (r .depth) (group .depth)) refl n
+  count-some level n some = go (eqb (r .depth) (group .depth)) refl n
     where
-      go : (b : Bool) → eqb (r .depth) (group .depth) ≡ b → pick b (groupWithin table (group .level) (r .tag)) NoGroup ≡ Within level → (r .depth ≡ group .depth) × (tableDemands table .group (group .level) (r .tag) ≡ opened level)
-      go true q n = (eqb-true _ _ q, group-some level n)
-      go false q n = let z : _≡_ {A = ℕ} 0 1 = cc in absurd (omega arith)
+      go : (b : Bool) → eqb (r .depth) (group .depth) ≡ b → pick b own 0 ≡ level → (r .depth ≡ group .depth) × (tableDemands table .group (group .level) (r .tag) ≡ opened level)
+      go true q n = (eqb-true _ _ q, group-some level n some)
+      go false q n = absurd (some (sym n))
 
 module _ (table : List ℕ) (group : Group) where
   -- what is left of an entry's nested runs, and of a run's entries
@@ -90,36 +91,43 @@ module _ (table : List ℕ) (group : Group) where
   nested-over-all at to rs h = nested-over _ _ _ at to rs h
 
   pub entries-over-all : (at to : ℕ) (rs : List Record) → to ≤ at → entriesLeft (between at to rs) ≡ Complete
-  entries-over-all at to rs h = entries-over (startsAt table group) at to rs (lackOfEntry table group) h
+  entries-over-all at to rs h = entries-over (startsAt table group) (lackOfEntry table group) to rs at h
 
-  module _ (at to : ℕ) (rs : List Record) (h : at < to) (l : to ≤ length rs) (found : Record) (f : found ≡ recordAt at rs) where
-    pub turn-plain : (count : Nested) → count ≡ countAt table group found → count ≡ NoGroup → nestedLeft (between at to rs) ≡ nestedLeft (between (at + 1) to rs)
-    turn-plain count c n = go (count-none table group (recordAt at rs) (ap (countAt table group) (sym f) ∙ sym c ∙ n))
-      where
-        go : NoCount table group (recordAt at rs) → nestedLeft (between at to rs) ≡ nestedLeft (between (at + 1) to rs)
-        go (deep d) = nested-deep _ _ _ at to rs h l d
-        go (plain g) = nested-plain _ _ _ at to rs h l g
+  -- no entry is passed on the way to where the next one starts, and one does start there
+  pub entries-from : (at to : ℕ) (rs : List Record) → to ≤ length rs → (end : ℕ) → end ≡ endFrom (startsAt table group) at (between at to rs) →
+      (entriesLeft (between at to rs) ≡ entriesLeft (between end to rs)) × (end < to → startsAt table group (recordAt end rs) ≡ true)
+  entries-from at to rs l end e =
+      rw e (entries-next (startsAt table group) (lackOfEntry table group) to rs l at, end-found (startsAt table group) to rs l at)
 
-    pub turn-run : (count : Nested) (level : Level) → count ≡ countAt table group found → count ≡ Within level →
-        (end : ℕ) → end ≡ endFrom (shallow (group .depth)) (at + 1) (between (at + 1) to rs) →
-        (lack : Lack) → lack ≡ lackOfRun table (record { level = level; tag = found .tag; depth = group .depth + 1 }) (between (at + 1) end rs) →
-        nestedLeft (between at to rs) ≡ orElse lack (nestedLeft (between (at + 1) to rs))
-    unfolding lackOfRun
-    turn-run count level c n end e lack q =
-        let some = count-some table group (recordAt at rs) level (ap (countAt table group) (sym f) ∙ sym c ∙ n) in
-        let levels : 5 - (group .depth + 1) ≡ 4 - group .depth = omega arith in
-        nested-run _ _ _ at to rs h l (some .0) level (some .1) ∙ rw (q, e, f, levels)
+  module _ (at to : ℕ) (rs : List Record) (h : at < to) (l : to ≤ length rs) where
+    pub turn-entry : startsAt table group (recordAt at rs) ≡ true → (end : ℕ) → end ≡ endFrom (startsAt table group) (at + 1) (between (at + 1) to rs) →
+        (lack : Lack) → lack ≡ lackOfEntry table group (between at end rs) → entriesLeft (between at to rs) ≡ orElse lack (entriesLeft (between end to rs))
+    turn-entry o end e lack q = rw q (entries-open (startsAt table group) (lackOfEntry table group) to rs at h l o end e)
 
-    module _ (opens : Bool) (o : opens ≡ startsAt table group found) where
-      pub turn-skip : opens ≡ false → entriesLeft (between at to rs) ≡ entriesLeft (between (at + 1) to rs)
-      turn-skip n = entries-skip (startsAt table group) at to rs (lackOfEntry table group) h (omega arith) (ap (startsAt table group) (sym f) ∙ sym o ∙ n)
+    module _ (end : ℕ) (e : end ≡ endFrom (shallow (group .depth)) (at + 1) (between (at + 1) to rs)) where
+      pub turn-empty : end ≡ at + 1 → nestedLeft (between at to rs) ≡ nestedLeft (between end to rs)
+      turn-empty n = nested-empty _ _ _ at to rs h l end e (λ level tag. run-empty (tableDemands table) (4 - group .depth) level tag (group .depth + 1)) n
 
-      pub turn-entry : opens ≡ true → (end : ℕ) → end ≡ endFrom (startsAt table group) (at + 1) (between (at + 1) to rs) →
-          (lack : Lack) → lack ≡ lackOfEntry table group (between at end rs) → entriesLeft (between at to rs) ≡ orElse lack (entriesLeft (between (at + 1) to rs))
-      turn-entry y end e lack q =
-          entries-open (startsAt table group) at to rs (lackOfEntry table group) h l (ap (startsAt table group) (sym f) ∙ sym o ∙ y) ∙ rw (q, e)
+      module _ (found : Record) (f : found ≡ recordAt at rs) where
+        pub turn-plain : (count : ℕ) → count ≡ countAt table group found → count ≡ 0 → nestedLeft (between at to rs) ≡ nestedLeft (between end to rs)
+        turn-plain count c n = go (count-none table group (recordAt at rs) (ap (countAt table group) (sym f) ∙ sym c ∙ n))
+          where
+            go : NoCount table group (recordAt at rs) → nestedLeft (between at to rs) ≡ nestedLeft (between end to rs)
+            go (deep d) = nested-deep _ _ _ at to rs h l end e d
+            go (plain g) = nested-plain _ _ _ at to rs h l end e g
 
--- the first of a kind stands within the words
-pub end-fits : (test : Record → Bool) (at to end : ℕ) (words : List ℕ) → at < to → to ≤ length words / stride → end ≡ endFrom test (at + 1) (between (at + 1) to (recordsOf words)) → end ≤ length words / stride
+        pub turn-run : (level : ℕ) → level ≡ countAt table group found → (level ≡ 0 → ⊥) →
+            (lack : Lack) → lack ≡ lackOfRun table (record { level = level; tag = found .tag; depth = group .depth + 1 }) (between (at + 1) end rs) →
+            nestedLeft (between at to rs) ≡ orElse lack (nestedLeft (between end to rs))
+        unfolding lackOfRun
+        turn-run level c filled lack q =
+            let some = count-some table group (recordAt at rs) level (ap (countAt table group) (sym f) ∙ sym c) filled in
+            let levels : 5 - (group .depth + 1) ≡ 4 - group .depth = omega arith in
+            nested-run _ _ _ at to rs h l end e (some .0) level (some .1) ∙ rw (q, f, levels)
+
+-- the first of a kind stands behind the record, and within the words
+pub end-fits : (test : Record → Bool) (at to end : ℕ) (words : List ℕ) → at < to → to ≤ length words / stride → end ≡ endFrom test (at + 1) (between (at + 1) to (recordsOf words)) →
+    (at < end) × (end ≤ length words / stride)
 end-fits test at to end words h l e =
-    omega (arith, end-within test (at + 1) to (recordsOf words) (omega arith) (omega (arith, records-length words)) .1)
+    let within = end-within test (at + 1) to (recordsOf words) (omega arith) (omega (arith, records-length words)) in
+    (omega (arith, within .0), omega (arith, within .1))

@@ -4,8 +4,8 @@ use build_group_rules::Group;
 use build_records::Record;
 use build_records::Standing;
 use build_required_rules::Lack;
-use dictionary_layout_rules::Marked;
-use dictionary_layout_rules::Nested;
+use dictionary_tables_rules::Item;
+use dictionary_tables_rules::Mark;
 ghost use mathlib.Core.Path.{_≡_};
 ghost use Prim.Native.Nat.{_/_, _≤_, _-_};
 ghost use lib.ListN.{length};
@@ -14,7 +14,7 @@ ghost use Rattle.build_required_rules.specs.Required.{shallow};
 ghost use Rattle.build_required_rules.specs.Checking.{startsAt, countAt, endFrom, lackOfFields, lackOfEntry, lackOfRun};
 
 // The record opens an entry of the group.
-fn starts(table: &[u32], group: Group, found: Record) -> bool
+fn starts(table: &[u16], group: Group, found: Record) -> bool
     ensures { λ r. ⌜ r ≡ startsAt (now (table .entry)) group found ⌝ }
 {
     if found.depth != group.depth {
@@ -23,18 +23,21 @@ fn starts(table: &[u32], group: Group, found: Record) -> bool
     build_groups::opens(table, group.level, found.tag)
 }
 
-// The level of the run that hangs on a record of an entry's own fields.
-fn count_at(table: &[u32], group: Group, found: Record) -> Nested
+// Where the level of the run starts that hangs on a record of an entry's own fields, 0 where none does.
+fn count_at(table: &[u16], group: Group, found: Record) -> usize
     ensures { λ r. ⌜ r ≡ countAt (now (table .entry)) group found ⌝ }
 {
     if found.depth != group.depth {
-        return Nested::NoGroup;
+        return 0;
     }
-    dictionary_layout::group_of(table, group.level, found.tag)
+    match dictionary_tables::item_of(table, group.level, found.tag) {
+        Item::At(_, inner) => inner,
+        Item::Nowhere => 0,
+    }
 }
 
 // Where the next entry of the group starts.
-fn entry_end(words: &[u32], table: &[u32], group: Group, from: usize, to: usize) -> usize
+fn entry_end(words: &[u32], table: &[u16], group: Group, from: usize, to: usize) -> usize
     requires { ⌜ to ≤ length (now words) / stride ⌝ }
     ensures { λ r. ⌜ r ≡ endFrom (startsAt (now (table .entry)) group) from (between from to (recordsOf (now (words .entry)))) ⌝ }
 {
@@ -65,46 +68,44 @@ fn run_end(words: &[u32], depth: u32, from: usize, to: usize) -> usize
 }
 
 // "Its required fields in layout order."
-fn check_fields(words: &[u32], table: &[u32], group: Group, from: usize, to: usize) -> Lack
+fn check_fields(words: &[u32], table: &[u16], group: Group, from: usize, to: usize) -> Lack
     ensures { λ r. ⌜ r ≡ lackOfFields (now (table .entry)) group (between from to (recordsOf (now (words .entry)))) ⌝ }
 {
-    let mut rest = group.level;
+    let mut link: usize = 1;
     loop {
-        let Marked::Required(tag, later) = dictionary_layout::next_required(table, rest) else {
+        let Mark::Required(tag, behind) = dictionary_tables::next_required(table, group.level, link)
+        else {
             return Lack::Complete;
         };
         let Standing::At(_) = build_records::held(words, from, to, group.depth, tag) else {
             return Lack::Missing(tag, group.tag);
         };
-        rest = later;
+        link = behind;
     }
 }
 
 // "For each entry": the run's records stand from one index to another.
-pub fn check_run(words: &[u32], table: &[u32], group: Group, from: usize, to: usize) -> Lack
+pub fn check_run(words: &[u32], table: &[u16], group: Group, from: usize, to: usize) -> Lack
     requires { ⌜ to ≤ length (now words) / stride ⌝ }
     ensures { λ r. ⌜ r ≡ lackOfRun (now (table .entry)) group (between from to (recordsOf (now (words .entry)))) ⌝ }
 {
     if build_group_rules::LEVELS < group.depth {
         return Lack::Complete;
     }
-    let mut at = from;
+    let mut at = entry_end(words, table, group, from, to);
     while at < to {
         let first = at;
-        at += 1;
-        if starts(table, group, build_records::record_at(words, first)) {
-            let end = entry_end(words, table, group, at, to);
-            let lack = check_entry(words, table, group, first, end);
-            let Lack::Complete = lack else {
-                return lack;
-            };
-        }
+        at = entry_end(words, table, group, first + 1, to);
+        let lack = check_entry(words, table, group, first, at);
+        let Lack::Complete = lack else {
+            return lack;
+        };
     }
     Lack::Complete
 }
 
 // "Its required fields in layout order, then its nested runs."
-pub fn check_entry(words: &[u32], table: &[u32], group: Group, from: usize, to: usize) -> Lack
+pub fn check_entry(words: &[u32], table: &[u16], group: Group, from: usize, to: usize) -> Lack
     requires { ⌜ (to ≤ length (now words) / stride) × (group .depth ≤ 4) ⌝ }
     ensures { λ r. ⌜ r ≡ lackOfEntry (now (table .entry)) group (between from to (recordsOf (now (words .entry)))) ⌝ }
 {
@@ -114,18 +115,23 @@ pub fn check_entry(words: &[u32], table: &[u32], group: Group, from: usize, to: 
     };
     let mut at = from;
     while at < to {
-        let found = build_records::record_at(words, at);
-        at += 1;
-        let Nested::Within(level) = count_at(table, group, found) else {
+        let count = at;
+        at = run_end(words, group.depth, count + 1, to);
+        // A run without records lacks nothing, so the table need not be asked for most fields.
+        if at == count + 1 {
             continue;
-        };
+        }
+        let found = build_records::record_at(words, count);
+        let level = count_at(table, group, found);
+        if level == 0 {
+            continue;
+        }
         let nested = Group {
             level,
             tag: found.tag,
             depth: group.depth + 1,
         };
-        let end = run_end(words, group.depth, at, to);
-        let lack = check_run(words, table, nested, at, end);
+        let lack = check_run(words, table, nested, count + 1, at);
         let Lack::Complete = lack else {
             return lack;
         };

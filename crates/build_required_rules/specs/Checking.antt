@@ -7,10 +7,8 @@ use Rattle.field_rules.specs.Choice.{pick}
 use Rattle.build_answers.specs.declared.Answer.{Answer}
 use Rattle.build_answers.specs.declared.Answer.the-variants.{Valid, RequiredFieldMissing}
 use Rattle.dictionary_layout_rules.specs.Layout.{Layout, groupOf, delimiterOf, requiredTags}
-use Rattle.dictionary_layout_rules.specs.Table.{siblings, requiredAmong, groupWithin}
-use Rattle.dictionary_layout_rules.specs.declared.Level.{Level}
-use Rattle.dictionary_layout_rules.specs.declared.Nested.{Nested}
-use Rattle.dictionary_layout_rules.specs.declared.Nested.the-variants.{NoGroup}
+use Rattle.dictionary_tables_rules.specs.Table.{itemOf, requiredOf}
+use Rattle.dictionary_tables_rules.specs.Tabled.{groupOfItem}
 use Rattle.build_records.specs.declared.Record.{Record}
 use Rattle.build_group_rules.specs.Groups.{isDelimiter}
 use Rattle.build_group_rules.specs.Reading.{opensAt, openedBy, openedAs}
@@ -25,8 +23,8 @@ answerOfLack Complete = Valid
 answerOfLack (Missing tag group) = RequiredFieldMissing tag group
 
 -- levels looked up in a table
-unfoldable pub tableDemands : List ℕ → Demands Level
-tableDemands table = record { opens = opensAt table; required = λ level. requiredAmong (siblings table level); group = λ level tag. openedBy (groupWithin table level tag) }
+unfoldable pub tableDemands : List ℕ → Demands ℕ
+tableDemands table = record { opens = opensAt table; required = requiredOf table; group = λ level tag. openedBy (groupOfItem (itemOf table level tag)) }
 
 -- levels that are layouts
 unfoldable pub layoutDemands : Demands Layout
@@ -35,8 +33,9 @@ layoutDemands = record { opens = λ layout tag. isDelimiter (delimiterOf layout)
 unfoldable pub startsAt : List ℕ → Group → Record → Bool
 startsAt table group r = opensEntry (tableDemands table) (group .level) (group .depth) r
 
-unfoldable pub countAt : List ℕ → Group → Record → Nested
-countAt table group r = pick (eqb (r .depth) (group .depth)) (groupWithin table (group .level) (r .tag)) NoGroup
+-- where the level of the run starts that hangs on a record, 0 where none does
+unfoldable pub countAt : List ℕ → Group → Record → ℕ
+countAt table group r = pick (eqb (r .depth) (group .depth)) (groupOfItem (itemOf table (group .level) (r .tag))) 0
 
 -- where the first record of a kind stands, or the end
 unfoldable pub endFrom : (Record → Bool) → ℕ → List Record → ℕ

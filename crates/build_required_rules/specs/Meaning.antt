@@ -4,8 +4,7 @@ use mathlib.Core.Bool.{Bool}
 use mathlib.Core.List.{List, [], _∷_}
 use Prim.Native.Nat.{ℕ, zero, suc, _+_, _-_}
 use Rattle.dictionary_layout_rules.specs.Layout.{Layout, requiredTags}
-use Rattle.dictionary_layout_rules.specs.Tabled.{Tabled, delimiter-means, group-means, required-means}
-use Rattle.dictionary_layout_rules.specs.declared.Level.{Level}
+use Rattle.dictionary_tables_rules.specs.Tabled.{Tabled, delimiter-means, group-means, required-means}
 use Rattle.build_records.specs.declared.Record.{Record}
 use Rattle.build_group_rules.specs.Groups.{Opened}
 use Rattle.build_group_rules.specs.Alike.{OpenedAlike, none-alike, opened-alike}
@@ -39,19 +38,19 @@ module _ {L M : Type 0} (Same : L → M → Type 0) (nested : L → ℕ → List
   nested-same groups groups₁ g depth [] = refl
   nested-same groups groups₁ g depth (r ∷ rs) = rw (run-same (g (r .tag)) (r .tag) (before (shallow depth) rs), nested-same groups groups₁ g depth rs)
 
-module _ (table : List ℕ) (level : Level) (layout : Layout) (t : Tabled table level layout) where
+module _ (table : List ℕ) (level : ℕ) (layout : Layout) (t : Tabled table level layout) where
   same-start : (depth : ℕ) (r : Record) → opensEntry (tableDemands table) level depth r ≡ opensEntry layoutDemands layout depth r
   unfolding opensEntry tableDemands layoutDemands opensAt
   same-start depth r = rw (delimiter-means table level layout t)
 
-  same-entry : (nested : Level → ℕ → List Record → Lack) (others : Layout → ℕ → List Record → Lack) → ((l : Level) (m : Layout) → Tabled table l m → (tag : ℕ) (rs : List Record) → nested l tag rs ≡ others m tag rs) →
+  same-entry : (nested : ℕ → ℕ → List Record → Lack) (others : Layout → ℕ → List Record → Lack) → ((l : ℕ) (m : Layout) → Tabled table l m → (tag : ℕ) (rs : List Record) → nested l tag rs ≡ others m tag rs) →
       (group depth : ℕ) (entry : List Record) → entryLack (tableDemands table) nested level group depth entry ≡ entryLack layoutDemands others layout group depth entry
   unfolding entryLack tableDemands layoutDemands
   same-entry nested others alike group depth entry =
       rw (required-means table level layout t) (ap (λ (l : Lack). orElse (fieldsLack (requiredTags layout) group depth entry) l) (nested-same (Tabled table) nested others alike _ _ (λ tag. opens-alike table (group-means table level layout t tag)) depth entry))
 
 -- however many levels may be open
-pub table-checks : (table : List ℕ) (levels : ℕ) (level : Level) (layout : Layout) → Tabled table level layout → (group depth : ℕ) (rs : List Record) → runLack (tableDemands table) levels level group depth rs ≡ runLack layoutDemands levels layout group depth rs
+pub table-checks : (table : List ℕ) (levels level : ℕ) (layout : Layout) → Tabled table level layout → (group depth : ℕ) (rs : List Record) → runLack (tableDemands table) levels level group depth rs ≡ runLack layoutDemands levels layout group depth rs
 unfolding runLack
 table-checks table zero level layout t group depth rs = refl
 table-checks table (suc levels) level layout t group depth rs =

@@ -10,10 +10,6 @@ use Rattle.build_config.specs.declared.Config.{Config}
 use Rattle.dictionary_rules.specs.Check.{numberOfCheck}
 use Rattle.dictionary_rules.specs.declared.Checked.{Checked}
 use Rattle.dictionary_meaning_rules.specs.Meaning.{dictionaryOf}
-use Rattle.dictionary_meaning_rules.specs.PlainTags.{listing, plainTags}
-use Rattle.dictionary_meaning_rules.specs.Kept.{tags-kept}
-use Rattle.dictionary_meaning_rules.specs.declared.TagList.{TagList}
-use Rattle.dictionary_meaning_rules.specs.declared.TagList.the-variants.{Listed, Unlisted}
 use Rattle.build_records.specs.Records.{recordsOf, leftover, laid, between, recordWords, recordRoom, stride}
 use Rattle.build_records.specs.WordLaws.{words-whole, laid-append, laid-length, records-length}
 use Rattle.build_records.specs.declared.Record.{Record}
@@ -25,7 +21,6 @@ use Rattle.build_parts.specs.PartLaws.{parted, part-length}
 use Rattle.build_rules.specs.Message.{refusal, messageRead}
 use Rattle.builder.specs.Reading.{shownCount}
 use Rattle.builder.specs.Build.{wordsWith, checkedRead}
-use Rattle.builder.specs.Through.{listedTags}
 
 module _ (answer : Answer) (header n : ℕ) (e : n ≡ numberOf answer) where
   pub shows-none : n < 1 → shownCount answer header ≡ 0
@@ -75,18 +70,6 @@ blanked words n size few =
 pub part-count : (words : List ℕ) (n : ℕ) → length words ≡ recordWords → n ≤ recordRoom → length (partOf 0 n words) ≡ n
 unfolding partOf
 part-count words n size few = part-length (recordsOf words) 0 n (omega arith) (omega (arith, records-length words)) ∙ omega arith
-
--- the tags that were listed, or none
-module _ (d index list : List ℕ) (number : ℕ) (room : length list ≡ 1024) (exit : List ℕ) where
-  pub tags-taken : (r : TagList) → listing r exit ≡ plainTags d index number list → (count : ℕ) → r ≡ Listed count → (take count exit ≡ listedTags (plainTags d index number list)) × (count ≤ length exit)
-  unfolding listedTags
-  tags-taken r e count is =
-      let told : listing (Listed count) exit ≡ plainTags d index number list = ap (λ (t : TagList). listing t exit) (sym is) ∙ e in
-      (ap listedTags told, tags-kept d index number list (omega arith) count exit told)
-
-  pub tags-none : (r : TagList) → listing r exit ≡ plainTags d index number list → r ≡ Unlisted → (take 0 exit ≡ listedTags (plainTags d index number list)) × (0 ≤ length exit)
-  unfolding listedTags
-  tags-none r e is = (ap listedTags (ap (λ (t : TagList). listing t exit) (sym is) ∙ e), omega arith)
 
 module _ (message : List ℕ) (config : Config) (d : List ℕ) (checked : Checked) where
   pub check-refuses : (numberOfCheck checked ≡ 0 → ⊥) → checkedRead message config d checked ≡ refusal (BadDictionary checked) []

@@ -1,5 +1,5 @@
--- What reading behind a header rests on: MsgType's record is the first under 35, and body and trailer are read by the table that is made for its
--- value.
+-- What reading behind a header rests on: MsgType's record is the first under 35, and body and trailer are read by the table of its value, which
+-- means the layout that it was laid from.
 use mathlib.Core.Path.{_≡_, refl, sym, ap, _∙_}
 use mathlib.Core.Bool.{Bool}
 use mathlib.Core.List.{List, [], _∷_}
@@ -14,21 +14,26 @@ use Rattle.build_records.specs.Records.{recordAt, between, blank, valueAt}
 use Rattle.build_records.specs.RecordLaws.{between-on, between-end}
 use Rattle.build_records.specs.declared.Record.{Record}
 use Rattle.dictionary_rules.specs.Index.{tagAt}
+use Rattle.dictionary_rules.specs.declared.Placed.{Placed}
+use Rattle.dictionary_rules.specs.declared.Placed.the-variants as placed
+use Rattle.dictionary_layout_rules.specs.RowsLayout.{layoutIn}
+use Rattle.dictionary_tables_rules.specs.Laid.{tableSize, tableOf}
+use Rattle.dictionary_tables_rules.specs.Tabled.{tabled-whole}
+use Rattle.dictionary_directory.specs.Directory.{keptAt, laidAlone}
+use Rattle.dictionary_directory.specs.declared.Kept.the-variants.{Table, Nowhere}
 use Rattle.dictionary_meaning_rules.specs.MsgTypeText.{Bytes, no-bytes, a-byte}
-use Rattle.dictionary_meaning_rules.specs.MessageTable.{Tabling, tabling, messageTable}
-use Rattle.dictionary_meaning_rules.specs.declared.MessageTable.{MessageTable}
+use Rattle.dictionary_meaning_rules.specs.MessageTable.{Tabling, tabling, placeOf, placedTable}
 use Rattle.dictionary_meaning_rules.specs.declared.MessageTable.the-variants.{Rows, NoMessage, Unprepared}
 use Rattle.build_group_rules.specs.Reading.{tableRules}
 use Rattle.build_required_rules.specs.Checking.{tableDemands}
 use Rattle.build_answers.specs.declared.Answer.the-variants.{InvalidMsgType}
 use Rattle.build_parts.specs.Parts.{partOf}
-use Rattle.build_body_rules.specs.Kinds.{bodyOf}
-use Rattle.build_body_rules.specs.Body.{bodyFrom}
+use Rattle.build_body_rules.specs.Meaning.{body-means}
 use Rattle.builder.specs.declared.Finished.the-variants.{Refused}
 use Rattle.build_rules.specs.Beginning.{msgTypeRecord}
 use Rattle.build_rules.specs.Message.{afterBody}
 use Rattle.builder.specs.Reading.{finishTold}
-use Rattle.builder.specs.Through.{tagsThrough, afterTable}
+use Rattle.builder.specs.Through.{unknownType, afterLevel, afterTable, afterKept, afterPlaced}
 
 module _ (i count : ℕ) (rs : List Record) where
   pub type-here : i < count → i < length rs → recordAt i rs .tag ≡ 35 → msgTypeRecord (between i count rs) ≡ recordAt i rs
@@ -52,30 +57,53 @@ bytes-of (b ∷ s) h = a-byte (h 0) (bytes-of s (λ i. h (suc i)))
 pub type-inside : (message : List ℕ) (r kind : Record) → r ≡ kind → kind .place + kind .length ≤ length message → r .place + r .length ≤ length message
 type-inside message r kind e h = rw e h
 
--- the table that was made for MsgType's value, by its record
-pub type-tabled : (d index message table : List ℕ) (r kind : Record) → r ≡ kind → (answer : MessageTable) (written : List ℕ) → tabling answer written ≡ messageTable d index (take (r .place + r .length - r .place) (drop (r .place) message)) table →
-    messageTable d index (valueAt message kind) table ≡ tabling answer written
+-- the place of the message of MsgType's value, by its record
+pub type-placed : (index message : List ℕ) (r kind : Record) → r ≡ kind → (found : Placed) → found ≡ placeOf index (take (r .place + r .length - r .place) (drop (r .place) message)) →
+    placeOf index (valueAt message kind) ≡ found
 unfolding valueAt
-type-tabled d index message table r kind e answer written h =
+type-placed index message r kind e found h =
     let long : r .place + r .length - r .place ≡ r .length = omega arith in
     sym (rw long at h ∙ rw e)
 
-module _ (d index : List ℕ) (config : Config) (f : Field) (rest : Fields) (room : ℕ) (checksum : Field) {told : Tabling} (answer : MessageTable) (written : List ℕ) (is : told ≡ tabling answer written) where
-  -- body and trailer are read through the table
-  pub rows-after : (header : List Record) (count : ℕ) → answer ≡ Rows count → (trailer : List ℕ) → trailer ≡ tagsThrough d index 1 →
-      afterBody header checksum (bodyFrom (bodyOf (tableRules config written (tagAt index)) (tableDemands written) trailer (record { first = 0; end = count })) (field f rest) (suc room) [])
-      ≡ afterTable d index config f rest room header checksum told
-  unfolding afterTable
-  rows-after header count e trailer s = rw (is, e, s)
+-- "and then MsgType must be in the dictionary, else 3"
+pub unknown : (count : ℕ) (words : List ℕ) (r : Record) → r ≡ msgTypeRecord (partOf 0 count words) →
+    finishTold count (Refused (InvalidMsgType (r .place) (r .length))) words ≡ unknownType (partOf 0 count words)
+unfolding finishTold unknownType
+unknown count words r is = rw is
 
-  -- "and then MsgType must be in the dictionary, else 3"
-  pub none-after : (count : ℕ) (words : List ℕ) (r : Record) → r ≡ msgTypeRecord (partOf 0 count words) → ((rows : ℕ) → answer ≡ Rows rows → ⊥) →
-      finishTold count (Refused (InvalidMsgType (r .place) (r .length))) words ≡ afterTable d index config f rest room (partOf 0 count words) checksum told
-  unfolding finishTold afterTable
-  none-after count words r e none = rw (e, is) (go answer none)
-    where
-      go : (a : MessageTable) → ((rows : ℕ) → a ≡ Rows rows → ⊥) →
-          finishTold count (Refused (InvalidMsgType (msgTypeRecord (partOf 0 count words) .place) (msgTypeRecord (partOf 0 count words) .length))) words ≡ afterTable d index config f rest room (partOf 0 count words) checksum (tabling a written)
-      go (Rows rows) n = absurd (n rows refl)
-      go NoMessage n = refl
-      go Unprepared n = refl
+module _ (trailers : List ℕ) (f : Field) (rest : Fields) (room : ℕ) (header : List Record) (checksum : Field) (records index : List ℕ) (config : Config) where
+  -- a table that is just a layout's is read as the layout
+  pub layout-after : (table : List ℕ) {told : Tabling} (count : ℕ) (rows : List ℕ) → told ≡ tabling (Rows count) rows → table ≡ tableOf (layoutIn rows count) →
+      afterLevel trailers f rest room header checksum (tableRules config table (tagAt index)) (tableDemands table) 0 ≡ afterTable trailers f rest room header checksum records index config told
+  unfolding afterTable
+  layout-after table count rows is t =
+      rw (is, t)
+      (ap (afterBody header checksum)
+      (body-means config (tableOf (layoutIn rows count)) (tagAt index) (tagAt index) (λ tag. refl) 0 (layoutIn rows count) (tabled-whole (layoutIn rows count)) trailers (field f rest) (suc room) []))
+
+  -- where none is laid
+  pub unlaid-after : (told : Tabling) → Nowhere ≡ laidAlone told → unknownType header ≡ afterTable trailers f rest room header checksum records index config told
+  unfolding afterTable
+  unlaid-after (tabling NoMessage rows) e = refl
+  unlaid-after (tabling Unprepared rows) e = refl
+  unlaid-after (tabling (Rows n) rows) e =
+      let s : Nowhere ≡ Table 0 (tableSize (layoutIn rows n)) = unfold laidAlone in e in
+      let z : _≡_ {A = ℕ} 0 1 = cc in absurd (omega arith)
+
+  -- a message without a place, with a table that is kept for its place, and with one that is laid
+  module _ (tables : List ℕ) {found : Placed} where
+    pub placed-none : found ≡ placed.Nowhere → unknownType header ≡ afterPlaced trailers f rest room header checksum records index config tables found
+    unfolding afterPlaced
+    placed-none e = rw e
+
+    module _ (place : ℕ) (is : found ≡ placed.At place) where
+      pub placed-kept : (from size n : ℕ) → Table from size ≡ keptAt tables place → n ≡ size →
+          afterLevel trailers f rest room header checksum (tableRules config (take n (drop from tables)) (tagAt index)) (tableDemands (take n (drop from tables))) 0
+          ≡ afterPlaced trailers f rest room header checksum records index config tables found
+      unfolding afterPlaced afterKept
+      placed-kept from size n e long = rw (is, ← e, long)
+
+      pub placed-laid : Nowhere ≡ keptAt tables place →
+          afterTable trailers f rest room header checksum records index config (placedTable records index (placed.At place) (replicate 4096 0)) ≡ afterPlaced trailers f rest room header checksum records index config tables found
+      unfolding afterPlaced afterKept
+      placed-laid e = rw (is, ← e)

@@ -5,7 +5,8 @@ use mathlib.Core.Bool.{Bool, true, false}
 use mathlib.Core.List.{List, [], _∷_, _++_}
 use Prim.Native.Nat.{ℕ, suc, _+_, _-_, _*_, _≤_, _<_}
 use native.Mathlib.Omega.{arith}
-use lib.ListN.{length, take, replicate}
+use lib.ListN.{length, take, drop, replicate, length-append, length-drop}
+use lib.Seq.{take-at}
 use lib.Dec.{eqb, leb, ltb}
 use borrow.Author.Tests.{eq-eqb, ne-eqb, le-ltb, lt-ltb, ltb-false}
 use Rattle.dictionary_chains.specs.Chain.{indexWords}
@@ -16,8 +17,15 @@ use Rattle.field_rules.specs.Fields.{fieldsFrom}
 use Rattle.build_config.specs.declared.Config.{Config}
 use Rattle.dictionary_rules.specs.Check.{outcome, checkOf, preparedOf, storeOf, numberOfCheck}
 use Rattle.dictionary_rules.specs.declared.Checked.{Checked}
+use Rattle.dictionary_tables_rules.specs.Laid.{tableSize, tableOf}
+use Rattle.dictionary_tables_rules.specs.Tabled.{table-length}
+use Rattle.dictionary_tables_rules.specs.Tags.{fieldsOf, tagsFound}
+use Rattle.dictionary_tables_rules.specs.TagsLaws.{tags-found}
+use Rattle.dictionary_directory.specs.Directory.{tagsListed, tagsAt}
+use Rattle.dictionary_directory.specs.declared.Kept.the-variants.{Table}
+use Rattle.dictionary_directory.specs.declared.Kept.the-variants as kept
 use Rattle.dictionary_meaning_rules.specs.Meaning.{dictionaryOf}
-use Rattle.dictionary_meaning_rules.specs.MessageTable.{messageTable}
+use Rattle.dictionary_meaning_rules.specs.MessageTable.{placeOf}
 use Rattle.build_answers.specs.declared.Answer.{Answer}
 use Rattle.build_answers.specs.declared.Answer.the-variants.{Valid, TooLong, InvalidSeparator, TooFewRecords, BadDictionary}
 use Rattle.build_answers.specs.Answer.{numberOf}
@@ -34,7 +42,7 @@ use Rattle.build_rules.specs.Message.{Outcome, shownWith, refusal, messageRead}
 use Rattle.builder.specs.Reading.{finishTold, finishCounts}
 use Rattle.builder.specs.Reading.{startTold, Prepared, shownCount, readTold}
 use Rattle.builder.specs.Build.{untouched, shown, judged, checkedRead, firstRefusal, buildOf, builtTold}
-use Rattle.builder.specs.Through.{tagsThrough, afterTable, afterStart, messageThrough}
+use Rattle.builder.specs.Through.{afterPlaced, afterStart, messageBy, messageListed, messageKept, messageThrough}
 use Rattle.dictionary_prepared.specs.MemoryLaws.{zero-passes}
 use Rattle.builder.specs.BuildLaws.{blanked, part-count, check-refuses, check-reads}
 use Rattle.builder.specs.Finishing.{part-empty}
@@ -72,39 +80,68 @@ pub whole-counts : (r : Finished) (stop : Stop) (count : ℕ) → r ≡ Whole st
 unfolding finishCounts
 whole-counts r stop count e = rw e
 
-module _ (records index : List ℕ) (config : Config) (message tags words : List ℕ) (is : tags ≡ tagsThrough records index 0) (begun : Begun) (told : startTold (config .mode) message begun words ≡ startOf tags config message) where
-  begins : messageThrough records index config message ≡ afterStart records index config message (startTold (config .mode) message begun words)
-  unfolding messageThrough
-  begins = rw (told, is)
+module _ (records index tables : List ℕ) (config : Config) (message headers trailers words : List ℕ) (begun : Begun) (told : startTold (config .mode) message begun words ≡ startOf headers config message) where
+  begins : messageBy records index tables config message headers trailers ≡ afterStart records index tables config message trailers (startTold (config .mode) message begun words)
+  unfolding messageBy
+  begins = rw told
 
   -- integrity or the header was refused
-  pub read-refused : (answer : Answer) → begun ≡ Refused answer → (after : List ℕ) → readTold (record { answer = answer; stop = Nowhere; records = 0 }) after ≡ messageThrough records index config message
+  pub read-refused : (answer : Answer) → begun ≡ Refused answer → (after : List ℕ) → readTold (record { answer = answer; stop = Nowhere; records = 0 }) after ≡ messageBy records index tables config message headers trailers
   read-refused answer e after = none-shown answer after ∙ sym (begins ∙ refuses)
     where
-      refuses : afterStart records index config message (startTold (config .mode) message begun words) ≡ refusal answer []
+      refuses : afterStart records index tables config message trailers (startTold (config .mode) message begun words) ≡ refusal answer []
       refuses = unfold startTold afterStart in rw e
 
   module _ (h : Headed) (e : begun ≡ Header h) (r : Finished) (after : List ℕ)
-      (finished : finishTold (h .progress .records) r after ≡ afterTable records index config (h .stop) (fieldsFrom (config .mode) message (h .stop .next)) (h .progress .room) (partOf 0 (h .progress .records) words) (h .checksum) (messageTable records index (valueAt message (msgTypeRecord (partOf 0 (h .progress .records) words))) (replicate 4096 0))) where
-    goes-on : messageThrough records index config message ≡ finishTold (h .progress .records) r after
+      (finished : finishTold (h .progress .records) r after ≡ afterPlaced trailers (h .stop) (fieldsFrom (config .mode) message (h .stop .next)) (h .progress .room) (partOf 0 (h .progress .records) words) (h .checksum) records index config tables (placeOf index (valueAt message (msgTypeRecord (partOf 0 (h .progress .records) words))))) where
+    goes-on : messageBy records index tables config message headers trailers ≡ finishTold (h .progress .records) r after
     goes-on = begins ∙ headed ∙ sym finished
       where
-        headed : afterStart records index config message (startTold (config .mode) message begun words) ≡ afterTable records index config (h .stop) (fieldsFrom (config .mode) message (h .stop .next)) (h .progress .room) (partOf 0 (h .progress .records) words) (h .checksum) (messageTable records index (valueAt message (msgTypeRecord (partOf 0 (h .progress .records) words))) (replicate 4096 0))
+        headed : afterStart records index tables config message trailers (startTold (config .mode) message begun words) ≡ afterPlaced trailers (h .stop) (fieldsFrom (config .mode) message (h .stop .next)) (h .progress .room) (partOf 0 (h .progress .records) words) (h .checksum) records index config tables (placeOf index (valueAt message (msgTypeRecord (partOf 0 (h .progress .records) words))))
         headed = unfold startTold afterStart in rw e
 
     -- all was read
-    pub read-whole : (stop : Stop) (count : ℕ) → r ≡ Whole stop count → readTold (record { answer = Valid; stop = stop; records = count }) after ≡ messageThrough records index config message
+    pub read-whole : (stop : Stop) (count : ℕ) → r ≡ Whole stop count → readTold (record { answer = Valid; stop = stop; records = count }) after ≡ messageBy records index tables config message headers trailers
     read-whole stop count w = sym (goes-on ∙ told-whole)
       where
         told-whole : finishTold (h .progress .records) r after ≡ readTold (record { answer = Valid; stop = stop; records = count }) after
         told-whole = unfold finishTold readTold in rw w
 
     -- MsgType, body or trailer was refused
-    pub read-stopped : (answer : Answer) → r ≡ Stopped answer → (n : ℕ) → n ≡ shownCount answer (h .progress .records) → readTold (record { answer = answer; stop = Nowhere; records = n }) after ≡ messageThrough records index config message
+    pub read-stopped : (answer : Answer) → r ≡ Stopped answer → (n : ℕ) → n ≡ shownCount answer (h .progress .records) → readTold (record { answer = answer; stop = Nowhere; records = n }) after ≡ messageBy records index tables config message headers trailers
     read-stopped answer s n shows = sym (goes-on ∙ told-stopped)
       where
         told-stopped : finishTold (h .progress .records) r after ≡ readTold (record { answer = answer; stop = Nowhere; records = n }) after
         told-stopped = unfold finishTold readTold refusal in rw (s, shows, shown-part answer (h .progress .records) after)
+
+-- the table of tags that was laid over the first words stands for these tags, and the words stay as many
+module _ (tags words after : List ℕ) (size : ℕ) (laid : after ≡ tableOf (fieldsOf tags) ++ drop size words) (sized : size ≡ tableSize (fieldsOf tags)) where
+  pub tags-laid : tagsFound (take size after) ≡ tags
+  tags-laid =
+      ap tagsFound (ap (take size) laid ∙ take-at (tableOf (fieldsOf tags)) (drop size words) size (table-length (fieldsOf tags) ∙ sym sized)) ∙ tags-found tags
+
+  pub tags-long : size ≤ length words → length after ≡ length words
+  tags-long fits = ap length laid ∙ length-append (tableOf (fieldsOf tags)) (drop size words) ∙ omega (arith, table-length (fieldsOf tags), length-drop size words)
+
+-- which tags a message is read with
+module _ (records index tables : List ℕ) (config : Config) (message : List ℕ) where
+  pub by-listed : (headers trailers : List ℕ) → headers ≡ tagsListed records index 0 → trailers ≡ tagsListed records index 1 →
+      messageBy records index tables config message headers trailers ≡ messageListed records index tables config message
+  by-listed headers trailers e f = rw (e, f)
+
+  pub through-unkept : kept.Nowhere ≡ tagsAt tables 0 → messageListed records index tables config message ≡ messageThrough records index tables config message
+  unfolding messageThrough messageKept
+  through-unkept e = rw (← e)
+
+  module _ (from size : ℕ) (header : Table from size ≡ tagsAt tables 0) where
+    pub through-half : kept.Nowhere ≡ tagsAt tables 1 → messageListed records index tables config message ≡ messageThrough records index tables config message
+    unfolding messageThrough messageKept
+    through-half e = rw (← header, ← e)
+
+    pub through-kept : (start long : ℕ) → Table start long ≡ tagsAt tables 1 → (n m : ℕ) → n ≡ size → m ≡ long →
+        messageBy records index tables config message (tagsFound (take n (drop from tables))) (tagsFound (take m (drop start tables))) ≡ messageThrough records index tables config message
+    unfolding messageThrough messageKept
+    through-kept start long e n m q w = rw (← header, ← e, q, w)
 
 module _ (message : List ℕ) (config : Config) (d : List ℕ) (checked : Checked) (is : checked ≡ checkOf d) where
   pub refused-dictionary : (numberOfCheck checked ≡ 0 → ⊥) → (words : List ℕ) → readTold (record { answer = BadDictionary checked; stop = Nowhere; records = 0 }) words ≡ checkedRead message config d (checkOf d)

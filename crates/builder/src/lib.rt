@@ -1,6 +1,7 @@
 // builder: from a message's bytes to its answer and its records: integrity, header, MsgType's layout, body and trailer in turn.
-// It reads a dictionary through its records and the index, whatever they hold, and keeps records through `build_records` only. A build checks its
-// dictionary and then reads; a build over memory that a dictionary was prepared in reads at once. There is one path of reading.
+// It reads a dictionary through its records, the index and the tables that are kept, whatever they hold, and keeps records through `build_records` only.
+// A build checks its dictionary and then reads; a build over memory that a dictionary was prepared in reads at once. There is one path of reading.
+mod finishing;
 mod showing;
 
 use build_answers::Answer;
@@ -9,37 +10,21 @@ use build_integrity_rules::Integrity;
 use build_integrity_rules::Verified;
 use build_parts::PartRead;
 use build_parts::Progress;
-use build_parts::TrailerRead;
-use build_records::Record;
 use build_rules::Stop;
-use dictionary_flattening::tags;
-use dictionary_layout_rules::Level;
-use dictionary_meaning_rules::MessageTable;
-use dictionary_meaning_rules::TagList;
+use dictionary_directory::Kept;
 use field_rules::Field;
 ghost use mathlib.Core.Path.{_≡_};
-ghost use mathlib.Core.List.{[]};
-ghost use Prim.Native.Nat.{suc, _+_, _≤_, _<_, _/_, _^_};
-ghost use lib.ListN.{length, take, replicate};
-ghost use Rattle.build_records.specs.Records.{recordWords, recordRoom, stride, valueAt};
-ghost use Rattle.dictionary_rules.specs.Index.{tagAt};
-ghost use Rattle.field_rules.specs.Fields.{field, fieldsFrom, Inside};
-ghost use Rattle.build_group_rules.specs.Reading.{tableRules};
-ghost use Rattle.build_required_rules.specs.Checking.{tableDemands};
-ghost use Rattle.dictionary_meaning_rules.specs.MessageTable.{messageTable};
-ghost use Rattle.dictionary_meaning_rules.specs.PlainTags.{plainTags};
+ghost use Prim.Native.Nat.{_≤_, _<_, _/_, _^_};
+ghost use lib.ListN.{length};
+ghost use Rattle.build_records.specs.Records.{recordWords, recordRoom, stride};
 ghost use Rattle.dictionary_chains.specs.Chain.{indexWords};
+ghost use Rattle.dictionary_tables_rules.specs.Tags.{tagsFound};
 ghost use Rattle.build_parts.specs.Parts.{partOf};
-ghost use Rattle.build_body_rules.specs.Kinds.{bodyOf};
-ghost use Rattle.build_body_rules.specs.Body.{bodyFrom};
-ghost use Rattle.build_rules.specs.Beginning.{verifiedRecords, startOf, msgTypeRecord};
-ghost use Rattle.build_rules.specs.Message.{afterBody};
-ghost use Rattle.builder.specs.Reading.{finishTold, finishCounts, VerifiedInside, startTold, HeaderEnds, Begins, readTold};
+ghost use Rattle.build_rules.specs.Beginning.{verifiedRecords, startOf};
+ghost use Rattle.builder.specs.Reading.{VerifiedInside, startTold, Begins, readTold};
 ghost use Rattle.builder.specs.Build.{shown, checkedRead, firstRefusal, buildOf, builtTold};
-ghost use Rattle.builder.specs.Through.{listedTags, tagsThrough, afterTable, messageThrough, buildOver};
+ghost use Rattle.builder.specs.Through.{messageBy, messageListed, messageThrough, buildOver};
 ghost use Rattle.dictionary_rules.specs.Check.{checkOf};
-
-const MSG_TYPE: u32 = 35;
 
 // How many fields may be read behind the three that are verified: a 1,025th is too many.
 const ROOM: usize = 1021;
@@ -78,60 +63,6 @@ pub struct Built {
     pub written: usize,
 }
 
-// Body and trailer, from the field that ended the header on. The header's records stay, whatever the answer is.
-fn finish(
-    message: &[u8],
-    config: Config,
-    table: &[u32],
-    index: &[u16],
-    trailer_tags: &[u32],
-    level: Level,
-    headed: Headed,
-    words: &mut [u32],
-) -> Finished
-    requires { ⌜ (length (now message) < 2 ^ 32) × (Inside (now message) (headed .stop)) × (Inside (now message) (headed .checksum)) × (headed .progress .records + headed .progress .room < length (now words) / stride) × (length (now words) < 2 ^ 32) ⌝ }
-    requires { ⌜ length (now index) ≡ indexWords ⌝ }
-    ensures { λ r. ⌜ finishTold (headed .progress .records) r (now (words .exit)) ≡ afterBody (partOf 0 (headed .progress .records) (now (words .entry))) (headed .checksum) (bodyFrom (bodyOf (tableRules config (now (table .entry)) (tagAt (now (index .entry)))) (tableDemands (now (table .entry))) (now («trailer_tags» .entry)) level) (field (headed .stop) (fieldsFrom (config .mode) (now (message .entry)) (headed .stop .next))) (suc (headed .progress .room)) []) ⌝ }
-    ensures { λ r. ⌜ finishCounts r ≤ length (now (words .entry)) / stride ⌝ }
-{
-    let begun = headed.progress;
-    let first = headed.stop;
-    let checksum = headed.checksum;
-    let header = begun.records;
-    match build_body::read_body(
-        message,
-        config,
-        table,
-        index,
-        trailer_tags,
-        level,
-        first,
-        words,
-        header,
-        begun,
-    ) {
-        PartRead::Refused(answer) => Finished::Refused(answer),
-        PartRead::At(field, so_far) => {
-            let from = so_far.records;
-            let records = build_parts::keep(
-                words,
-                from,
-                from,
-                build_parts::record_of(build_records::TRAILER, checksum),
-            );
-            let progress = Progress {
-                room: so_far.room,
-                records,
-            };
-            match build_parts::read_trailer(message, config, field, words, from, progress) {
-                TrailerRead::Stopped(stop, count) => Finished::Whole(Stop::At(stop), count),
-                TrailerRead::Unstopped(count) => Finished::Whole(Stop::Nowhere, count),
-                TrailerRead::TooManyFields => Finished::Refused(Answer::TooManyFields),
-            }
-        }
-    }
-}
-
 // The fields that were verified stand first in the header; answers how many records they make.
 fn keep_verified(words: &mut [u32], verified: Verified) -> usize
     requires { ⌜ (3 ≤ length (now words) / stride) × VerifiedInside verified ⌝ }
@@ -146,9 +77,9 @@ fn keep_verified(words: &mut [u32], verified: Verified) -> usize
 }
 
 // Integrity, and the header behind the fields that it verified.
-fn begin(message: &[u8], config: Config, header_tags: &[u32], words: &mut [u32]) -> Begun
+fn begin(message: &[u8], config: Config, header_tags: &[u16], words: &mut [u32]) -> Begun
     requires { ⌜ (length (now message) < 2 ^ 32) × (length (now words) ≡ recordWords) ⌝ }
-    ensures { λ r. ⌜ startTold (config .mode) (now (message .entry)) r (now (words .exit)) ≡ startOf (now («header_tags» .entry)) config (now (message .entry)) ⌝ }
+    ensures { λ r. ⌜ startTold (config .mode) (now (message .entry)) r (now (words .exit)) ≡ startOf (tagsFound (now («header_tags» .entry))) config (now (message .entry)) ⌝ }
     ensures { λ r. ⌜ Begins (now (message .entry)) (now (words .exit)) r ⌝ }
 {
     match build_integrity::verify(message, config.mode) {
@@ -173,92 +104,22 @@ fn begin(message: &[u8], config: Config, header_tags: &[u32], words: &mut [u32])
     }
 }
 
-// MsgType is the value that was stored last under 35.
-fn msg_type_of(words: &[u32], count: usize) -> Record
-    requires { ⌜ count ≤ length (now words) / stride ⌝ }
-    ensures { λ r. ⌜ r ≡ msgTypeRecord (partOf 0 count (now (words .entry))) ⌝ }
-{
-    let mut i: usize = 0;
-    while i < count {
-        let found = build_records::record_at(words, i);
-        if found.tag == MSG_TYPE {
-            return found;
-        }
-        i += 1;
-    }
-    build_records::record_at(words, words.len())
-}
-
-// Body and trailer by the table that is laid for MsgType; where none can be laid, the dictionary has no such message.
-fn read_headed(
+// Reads a message with the tables of the header's and of the trailer's tags.
+fn read_by(
     message: &[u8],
     config: Config,
     dictionary: &[u8],
     index: &[u16],
-    trailer_tags: &[u32],
-    headed: Headed,
-    words: &mut [u32],
-) -> Finished
-    requires { ⌜ (length (now message) < 2 ^ 32) × (length (now words) ≡ recordWords) × HeaderEnds (now message) (now words) headed × (length (now index) ≡ indexWords) × (now «trailer_tags» ≡ tagsThrough (now dictionary) (now index) 1) ⌝ }
-    ensures { λ r. ⌜ finishTold (headed .progress .records) r (now (words .exit)) ≡ afterTable (now (dictionary .entry)) (now (index .entry)) config (headed .stop) (fieldsFrom (config .mode) (now (message .entry)) (headed .stop .next)) (headed .progress .room) (partOf 0 (headed .progress .records) (now (words .entry))) (headed .checksum) (messageTable (now (dictionary .entry)) (now (index .entry)) (valueAt (now (message .entry)) (msgTypeRecord (partOf 0 (headed .progress .records) (now (words .entry))))) (replicate 4096 0)) ⌝ }
-    ensures { λ r. ⌜ finishCounts r ≤ recordRoom ⌝ }
-{
-    let progress = headed.progress;
-    let msg_type = msg_type_of(words, progress.records);
-    let place = msg_type.place as usize;
-    let length = msg_type.length as usize;
-    let mut table = [0u32; 4096];
-    match dictionary_flattening::message_table(
-        dictionary,
-        index,
-        &message[place..place + length],
-        &mut table,
-    ) {
-        MessageTable::Rows(rows) => finish(
-            message,
-            config,
-            &table[..],
-            index,
-            trailer_tags,
-            Level {
-                first: 0,
-                end: rows,
-            },
-            headed,
-            words,
-        ),
-        _ => Finished::Refused(Answer::InvalidMsgType(place, length)),
-    }
-}
-
-// The header's tags (0) or the trailer's (1), listed from the records; answers how many there are.
-fn tags_of(dictionary: &[u8], index: &[u16], number: u16, list: &mut [u32; 1024]) -> usize
-    requires { ⌜ (length (now index) ≡ indexWords) × (length (now list) ≡ 1024) ⌝ }
-    ensures { λ r. ⌜ (take r (now (list .exit)) ≡ listedTags (plainTags (now (dictionary .entry)) (now (index .entry)) number (now (list .entry)))) × (r ≤ length (now (list .exit))) ⌝ }
-{
-    match tags::plain_tags(dictionary, index, number, list) {
-        TagList::Listed(count) => count,
-        TagList::Unlisted => 0,
-    }
-}
-
-// Reads a message through a dictionary's records and the index that its check left, whatever they hold.
-fn read_message(
-    message: &[u8],
-    config: Config,
-    dictionary: &[u8],
-    index: &[u16],
+    tables: &[u16],
+    header_tags: &[u16],
+    trailer_tags: &[u16],
     words: &mut [u32],
 ) -> Read
     requires { ⌜ (length (now message) < 2 ^ 32) × (length (now words) ≡ recordWords) × (length (now index) ≡ indexWords) ⌝ }
-    ensures { λ r. ⌜ readTold r (now (words .exit)) ≡ messageThrough (now (dictionary .entry)) (now (index .entry)) config (now (message .entry)) ⌝ }
+    ensures { λ r. ⌜ readTold r (now (words .exit)) ≡ messageBy (now (dictionary .entry)) (now (index .entry)) (now (tables .entry)) config (now (message .entry)) (tagsFound (now («header_tags» .entry))) (tagsFound (now («trailer_tags» .entry))) ⌝ }
     ensures { λ r. ⌜ r .records ≤ recordRoom ⌝ }
 {
-    let mut header_tags = [0u32; 1024];
-    let mut trailer_tags = [0u32; 1024];
-    let headers = tags_of(dictionary, index, 0, &mut header_tags);
-    let trailers = tags_of(dictionary, index, 1, &mut trailer_tags);
-    match begin(message, config, &header_tags[..headers], words) {
+    match begin(message, config, header_tags, words) {
         Begun::Refused(answer) => Read {
             answer,
             stop: Stop::Nowhere,
@@ -266,12 +127,13 @@ fn read_message(
         },
         Begun::Header(headed) => {
             let header = headed.progress;
-            match read_headed(
+            match finishing::read_headed(
                 message,
                 config,
                 dictionary,
                 index,
-                &trailer_tags[..trailers],
+                tables,
+                trailer_tags,
                 headed,
                 words,
             ) {
@@ -290,6 +152,66 @@ fn read_message(
     }
 }
 
+// Reads a message with the tags that are listed of the records.
+fn read_listed(
+    message: &[u8],
+    config: Config,
+    dictionary: &[u8],
+    index: &[u16],
+    tables: &[u16],
+    words: &mut [u32],
+) -> Read
+    requires { ⌜ (length (now message) < 2 ^ 32) × (length (now words) ≡ recordWords) × (length (now index) ≡ indexWords) ⌝ }
+    ensures { λ r. ⌜ readTold r (now (words .exit)) ≡ messageListed (now (dictionary .entry)) (now (index .entry)) (now (tables .entry)) config (now (message .entry)) ⌝ }
+    ensures { λ r. ⌜ r .records ≤ recordRoom ⌝ }
+{
+    let mut header_tags = [0u16; dictionary_directory::TAG_WORDS];
+    let mut trailer_tags = [0u16; dictionary_directory::TAG_WORDS];
+    let headers = dictionary_directory::lay_tags(dictionary, index, 0, &mut header_tags);
+    let trailers = dictionary_directory::lay_tags(dictionary, index, 1, &mut trailer_tags);
+    read_by(
+        message,
+        config,
+        dictionary,
+        index,
+        tables,
+        &header_tags[..headers],
+        &trailer_tags[..trailers],
+        words,
+    )
+}
+
+// Reads a message through a dictionary's records, the index that its check left and the tables that are kept, whatever they hold.
+fn read_message(
+    message: &[u8],
+    config: Config,
+    dictionary: &[u8],
+    index: &[u16],
+    tables: &[u16],
+    words: &mut [u32],
+) -> Read
+    requires { ⌜ (length (now message) < 2 ^ 32) × (length (now words) ≡ recordWords) × (length (now index) ≡ indexWords) ⌝ }
+    ensures { λ r. ⌜ readTold r (now (words .exit)) ≡ messageThrough (now (dictionary .entry)) (now (index .entry)) (now (tables .entry)) config (now (message .entry)) ⌝ }
+    ensures { λ r. ⌜ r .records ≤ recordRoom ⌝ }
+{
+    let Kept::Table(header, headers) = dictionary_directory::tags_at(tables, 0) else {
+        return read_listed(message, config, dictionary, index, tables, words);
+    };
+    let Kept::Table(trailer, trailers) = dictionary_directory::tags_at(tables, 1) else {
+        return read_listed(message, config, dictionary, index, tables, words);
+    };
+    read_by(
+        message,
+        config,
+        dictionary,
+        index,
+        tables,
+        &tables[header..header + headers],
+        &tables[trailer..trailer + trailers],
+        words,
+    )
+}
+
 // The dictionary is checked, and then the message is read by it.
 fn read_checked(message: &[u8], config: Config, dictionary: &[u8], words: &mut [u32]) -> Read
     requires { ⌜ (length (now message) < 2 ^ 32) × (length (now words) ≡ recordWords) ⌝ }
@@ -305,7 +227,9 @@ fn read_checked(message: &[u8], config: Config, dictionary: &[u8], words: &mut [
             records: 0,
         };
     }
-    read_message(message, config, dictionary, &index[..], words)
+    // Nothing is kept of a dictionary that is checked for one message.
+    let none = [0u16; 0];
+    read_message(message, config, dictionary, &index[..], &none[..], words)
 }
 
 // Nothing was written over the lent records.
@@ -394,6 +318,7 @@ pub fn build_prepared(
     }
     let size = dictionary_chains::wide(memory[2]) as usize;
     let index = &memory[dictionary_prepared::FRONT..dictionary_prepared::HEAD];
-    let read = read_message(message, config, &copy[..size], index, records);
+    let tables = &memory[dictionary_prepared::HEAD..];
+    let read = read_message(message, config, &copy[..size], index, tables, records);
     show(read, lent, records)
 }

@@ -1,5 +1,5 @@
--- The index: three heads tables of 2,048 words, then entries of six words: the next older entry of its chain, the place of its
--- record, and four words of its table. Entry 0 is none.
+-- The index: three heads tables of 2,048 words, then entries of seven words: its two branches, the place of its record, and four
+-- words of its table. Keys that share a head hang in one tree, which branches by the bits of what is left of them. Entry 0 is none.
 use Prim.Native.Nat.{ℕ, zero, suc, _+_, _*_, _/_, _%_}
 use mathlib.Core.List.{List}
 use lib.ListN.{getD, set}
@@ -8,6 +8,7 @@ use Rattle.field_rules.specs.Choice.{pick}
 use Rattle.dictionary_chains.specs.declared.Table.{Table}
 use Rattle.dictionary_chains.specs.declared.Table.the-variants.{Tags, Components, MsgTypes}
 use Rattle.dictionary_chains.specs.declared.Entry.{Entry}
+use Rattle.dictionary_chains.specs.declared.Way.{Way}
 
 -- words of heads, of all three tables
 abbrev pub headWords : ℕ
@@ -15,7 +16,7 @@ headWords = 6144
 
 -- an entry of a number starts here
 abbrev pub entryStart : ℕ → ℕ
-entryStart number = headWords + 6 * number
+entryStart number = headWords + 7 * number
 
 -- entries, entry 0 among them: places below 60,000 give numbers up to 15,000
 abbrev pub entryRoom : ℕ
@@ -23,7 +24,7 @@ entryRoom = 15001
 
 -- words of an index
 abbrev pub indexWords : ℕ
-indexWords = 96150
+indexWords = 111151
 
 -- a tag is two words, a component's number one, a MsgType four, low word first
 unfoldable pub keyOf : Table → Entry → ℕ
@@ -36,48 +37,76 @@ rankOf Tags = 0
 rankOf Components = 1
 rankOf MsgTypes = 2
 
--- the word that holds the newest entry of a key's chain
+-- the word that leads to the tree of a key
 unfoldable pub headOf : Table → ℕ → ℕ
 headOf table key = 2048 * rankOf table + key % 2048
 
 unfoldable pub wordAt : List ℕ → ℕ → ℕ → ℕ
 wordAt index number k = getD index (entryStart number + k) 0
 
-unfoldable pub olderOf : List ℕ → ℕ → ℕ
-olderOf index number = getD index (entryStart number) 0
-
 unfoldable pub entryAt : List ℕ → ℕ → Entry
-entryAt index number = record { place = wordAt index number 1; first = wordAt index number 2; second = wordAt index number 3; third = wordAt index number 4; fourth = wordAt index number 5 }
+entryAt index number =
+    record {
+      place = wordAt index number 2;
+      first = wordAt index number 3;
+      second = wordAt index number 4;
+      third = wordAt index number 5;
+      fourth = wordAt index number 6;
+    }
 
--- from a link on: an entry is looked at only where its number falls below the limit, so every chain ends
-unfoldable pub chased : ℕ → Table → List ℕ → ℕ → ℕ → ℕ → ℕ
-chased zero table index key limit link = 0
-chased (suc fuel) table index key limit link =
-    pick (ltb link limit)
-    (pick (eqb link 0) 0
-    (pick (eqb (keyOf table (entryAt index link)) key) link (chased fuel table index key link (olderOf index link))))
-    0
+-- the entry that a word leads to, `entryRoom` where it leads to none: its link must rise above the entry that the word belongs to,
+-- `low`, so every way ends
+unfoldable pub linkAt : List ℕ → ℕ → ℕ → ℕ
+linkAt index low cell = pick (leb (getD index cell 0) low) entryRoom (getD index cell 0)
 
--- a chain has no more entries than its limit says
-unfoldable pub followed : Table → List ℕ → ℕ → ℕ → ℕ → ℕ
-followed table index key limit link = chased limit table index key limit link
+-- the branch that what is left of a key takes
+unfoldable pub branchOf : ℕ → ℕ → ℕ
+branchOf number rest = entryStart number + rest % 2
 
--- the number of the newest entry with a key, and 0 where there is none
+-- where a way ends: the word that leads on from there, and the number of the entry with the key, or 0
+abbrev pub ends : ℕ → ℕ → Way
+ends cell number = record { cell = cell; number = number }
+
+-- from a link on, looking at so many entries at most
+unfoldable pub climbed : ℕ → Table → List ℕ → ℕ → ℕ → ℕ → ℕ → Way
+climbed zero table index key cell rest link = ends cell 0
+climbed (suc looks) table index key cell rest link =
+    pick (ltb link entryRoom)
+    (pick (eqb (keyOf table (entryAt index link)) key) (ends cell link)
+    (climbed looks table index key (branchOf link rest) (rest / 2) (linkAt index link (branchOf link rest))))
+    (ends cell 0)
+
+-- no way passes more entries than there are
+unfoldable pub followed : Table → List ℕ → ℕ → ℕ → ℕ → ℕ → Way
+followed table index key cell rest link = climbed entryRoom table index key cell rest link
+
+unfoldable pub wayOf : Table → List ℕ → ℕ → Way
+wayOf table index key = followed table index key (headOf table key) (key / 2048) (linkAt index 0 (headOf table key))
+
+-- the number of the entry with a key, and 0 where there is none
 unfoldable pub found : Table → List ℕ → ℕ → ℕ
-found table index key = followed table index key entryRoom (getD index (headOf table key) 0)
+found table index key = wayOf table index key .number
 
--- the six words of an entry
-unfoldable pub placed : List ℕ → ℕ → ℕ → Entry → List ℕ
-placed index at next e =
-    set (set (set (set (set (set index at next) (at + 1) (e .place)) (at + 2) (e .first)) (at + 3) (e .second)) (at + 4) (e .third)) (at + 5) (e .fourth)
+-- what an entry holds beside its branches
+unfoldable pub written : List ℕ → ℕ → Entry → List ℕ
+written index number e =
+    set (set (set (set (set index (entryStart number + 2) (e .place)) (entryStart number + 3) (e .first)) (entryStart number + 4) (e .second))
+    (entryStart number + 5) (e .third)) (entryStart number + 6) (e .fourth)
+
+-- a word leads to a new entry, that has no branches yet
+unfoldable pub branched : List ℕ → ℕ → ℕ → List ℕ
+branched index cell number = set (set (set index (entryStart number) 0) (entryStart number + 1) 0) cell number
 
 -- an entry is numbered by its record's place: no two top-level records start within four bytes
 unfoldable pub numberAt : ℕ → ℕ
 numberAt place = place / 4 + 1
 
--- a new entry leads its chain
-unfoldable pub enteredAt : List ℕ → ℕ → ℕ → Entry → List ℕ
-enteredAt index number head e = set (placed index (entryStart number) (getD index head 0) e) head number
+-- a key that was entered before keeps its entry
+unfoldable pub enteredAt : List ℕ → Way → Entry → List ℕ
+enteredAt index way e =
+    pick (eqb (way .number) 0)
+    (written (branched index (way .cell) (numberAt (e .place))) (numberAt (e .place)) e)
+    (written index (way .number) e)
 
 unfoldable pub entered : Table → List ℕ → Entry → List ℕ
-entered table index e = pick (leb 60000 (e .place)) index (enteredAt index (numberAt (e .place)) (headOf table (keyOf table e)) e)
+entered table index e = pick (leb 60000 (e .place)) index (enteredAt index (wayOf table index (keyOf table e)) e)

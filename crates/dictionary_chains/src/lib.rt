@@ -1,16 +1,16 @@
 // dictionary_chains: what a dictionary is looked up by. Three tables (known tags, closed components, MsgTypes) share the entries of one lent
-// array. It reads no dictionary bytes, and it demands nothing of what the array holds: a link is followed only where it falls.
+// array, in trees that branch by the bits of a key. It reads no dictionary bytes, and demands nothing of the array: only links that rise are followed.
 ghost use mathlib.Core.Path.{_≡_};
 ghost use mathlib.Core.List.{_++_};
 ghost use Prim.Native.Nat.{_<_};
 ghost use lib.ListN.{length, drop, replicate};
-ghost use Rattle.dictionary_chains.specs.Chain.{entryRoom, headWords, indexWords, keyOf, headOf, entryAt, found, entered};
+ghost use Rattle.dictionary_chains.specs.Chain.{entryRoom, headWords, indexWords, keyOf, headOf, entryAt, linkAt, wayOf, found, written, entered};
 
 // Words of heads, 2,048 to each table.
 const HEAD_WORDS: usize = 6144;
 
 // Words to an entry.
-const STRIDE: usize = 6;
+const STRIDE: usize = 7;
 
 // Entries, entry 0 among them.
 const ENTRY_ROOM: usize = 15001;
@@ -33,6 +33,12 @@ pub struct Entry {
     pub fourth: u16,
 }
 
+// Where a way ends: the word that leads on from there, and the number of the entry with the key, 0 where there is none.
+struct Way {
+    cell: usize,
+    number: usize,
+}
+
 pub fn wide(word: u16) -> u64
     ensures { λ r. ⌜ r ≡ word ⌝ }
 {
@@ -53,7 +59,7 @@ pub fn key_of(table: Table, entry: Entry) -> u64
     }
 }
 
-// Where the table keeps the newest entry of the keys that share a head.
+// Where the tree of the keys that share a head starts.
 fn head_of(table: Table, key: u64) -> usize
     ensures { λ r. ⌜ r ≡ headOf table key ⌝ }
 {
@@ -71,36 +77,67 @@ pub fn entry_at(index: &[u16], number: usize) -> Entry
 {
     let at = HEAD_WORDS + STRIDE * number;
     Entry {
-        place: index[at + 1],
-        first: index[at + 2],
-        second: index[at + 3],
-        third: index[at + 4],
-        fourth: index[at + 5],
+        place: index[at + 2],
+        first: index[at + 3],
+        second: index[at + 4],
+        third: index[at + 5],
+        fourth: index[at + 6],
     }
 }
 
-// The number of the newest entry with this key, and 0 where there is none.
+// The entry that a word leads to, ENTRY_ROOM where it leads to none: its link must rise above the entry that the word belongs to, or 0 for a head.
+fn link_at(index: &[u16], low: usize, cell: usize) -> usize
+    requires { ⌜ (length (now index) ≡ indexWords) × (cell < indexWords) ⌝ }
+    ensures { λ r. ⌜ r ≡ linkAt (now (index .entry)) low cell ⌝ }
+{
+    let link = wide(index[cell]) as usize;
+    if link <= low {
+        return ENTRY_ROOM;
+    }
+    link
+}
+
+fn way_of(index: &[u16], table: Table, key: u64) -> Way
+    requires { ⌜ length (now index) ≡ indexWords ⌝ }
+    ensures { λ r. ⌜ r ≡ wayOf table (now (index .entry)) key ⌝ }
+{
+    let mut cell = head_of(table, key);
+    let mut rest = key / 2048;
+    let mut link = link_at(index, 0, cell);
+    while link < ENTRY_ROOM {
+        if key_of(table, entry_at(index, link)) == key {
+            return Way { cell, number: link };
+        }
+        cell = HEAD_WORDS + STRIDE * link + (rest % 2) as usize;
+        rest = rest / 2;
+        link = link_at(index, link, cell);
+    }
+    Way { cell, number: 0 }
+}
+
+// The number of the entry with this key, and 0 where there is none.
 pub fn find(index: &[u16], table: Table, key: u64) -> usize
     requires { ⌜ length (now index) ≡ indexWords ⌝ }
     ensures { λ r. ⌜ r ≡ found table (now (index .entry)) key ⌝ }
 {
-    let head = head_of(table, key);
-    let mut limit: usize = ENTRY_ROOM;
-    let mut link = wide(index[head]) as usize;
-    while link < limit {
-        if link == 0 {
-            return 0;
-        }
-        if key_of(table, entry_at(index, link)) == key {
-            return link;
-        }
-        limit = link;
-        link = wide(index[HEAD_WORDS + STRIDE * link]) as usize;
-    }
-    0
+    let way = way_of(index, table, key);
+    way.number
 }
 
-// Enters what a top-level record makes known. Its number comes from its place, so that newer entries have higher numbers.
+// Writes what an entry holds. Its branches stay.
+fn write(index: &mut [u16], number: usize, entry: Entry)
+    requires { ⌜ (length (now index) ≡ indexWords) × (number < entryRoom) ⌝ }
+    ensures { λ _. ⌜ now (index .exit) ≡ written (now (index .entry)) number entry ⌝ }
+{
+    let at = HEAD_WORDS + STRIDE * number;
+    index[at + 2] = entry.place;
+    index[at + 3] = entry.first;
+    index[at + 4] = entry.second;
+    index[at + 5] = entry.third;
+    index[at + 6] = entry.fourth;
+}
+
+// Enters what a top-level record makes known. A new entry's number comes from its place, so that newer entries have higher numbers.
 pub fn enter(index: &mut [u16], table: Table, entry: Entry)
     requires { ⌜ length (now index) ≡ indexWords ⌝ }
     ensures { λ _. ⌜ now (index .exit) ≡ entered table (now (index .entry)) entry ⌝ }
@@ -109,16 +146,17 @@ pub fn enter(index: &mut [u16], table: Table, entry: Entry)
     if 60000 <= place {
         return;
     }
-    let number = place / 4 + 1;
-    let head = head_of(table, key_of(table, entry));
-    let at = HEAD_WORDS + STRIDE * number;
-    index[at] = index[head];
-    index[at + 1] = entry.place;
-    index[at + 2] = entry.first;
-    index[at + 3] = entry.second;
-    index[at + 4] = entry.third;
-    index[at + 5] = entry.fourth;
-    index[head] = number as u16;
+    let way = way_of(index, table, key_of(table, entry));
+    let mut number = way.number;
+    if number == 0 {
+        number = place / 4 + 1;
+        let at = HEAD_WORDS + STRIDE * number;
+        let cell = way.cell;
+        index[at] = 0;
+        index[at + 1] = 0;
+        index[cell] = number as u16;
+    }
+    write(index, number, entry);
 }
 
 // Forgets every entry.

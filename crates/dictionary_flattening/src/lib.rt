@@ -14,9 +14,10 @@ ghost use mathlib.Core.Path.{_≡_};
 ghost use Prim.Native.Nat.{_≤_, _<_};
 ghost use lib.ListN.{length};
 ghost use Rattle.dictionary_rules.specs.Index.{componentAt};
+ghost use Rattle.dictionary_rules.specs.declared.Placed.the-variants.{At};
 ghost use Rattle.dictionary_meaning_rules.specs.Laying.{laying, putRow, layItems, standsAt};
 ghost use Rattle.dictionary_meaning_rules.specs.MsgType.{nameOf};
-ghost use Rattle.dictionary_meaning_rules.specs.MessageTable.{tabling, messageTable};
+ghost use Rattle.dictionary_meaning_rules.specs.MessageTable.{tabling, placeOf, placedTable};
 ghost use Rattle.dictionary_chains.specs.Chain.{indexWords};
 
 // An empty component is skipped, and one that only stands for another is passed through, so that each step down adds an item.
@@ -49,7 +50,7 @@ fn put_row(table: &mut [u32], row: usize, tag: u32, required: bool, is_group: bo
 }
 
 // The items from a place on up to their close. A group's entries and a component's items are laid by the same function, the open
-// depth falling.
+// depth falling. A component that adds no row breaks off: else forged content could make the work double with each level.
 fn lay_items(
     bytes: &[u8],
     index: &[u16],
@@ -110,6 +111,9 @@ fn lay_items(
                         ) else {
                             return Laid::Broken;
                         };
+                        if end <= row {
+                            return Laid::Broken;
+                        }
                         row = end;
                     }
                     Expansion::NoItems => {}
@@ -154,24 +158,30 @@ pub fn name_of(msgtype: &[u8]) -> MsgTypeName
     MsgTypeName::Named(number)
 }
 
-// The layout of a message as a table, from a dictionary that passed its check and the index that the check left.
-pub fn message_table(
+// Where the record stands that opens the message of a MsgType.
+pub fn place_of(index: &[u16], msgtype: &[u8]) -> Placed
+    requires { ⌜ length (now index) ≡ indexWords ⌝ }
+    ensures { λ r. ⌜ r ≡ placeOf (now (index .entry)) (now (msgtype .entry)) ⌝ }
+{
+    let MsgTypeName::Named(number) = name_of(msgtype) else {
+        return Placed::Nowhere;
+    };
+    dictionary_names::message_of(index, number)
+}
+
+// The layout of the message whose record stands at a place, as a table, from a dictionary that passed its check and the index that the
+// check left.
+pub fn placed_table(
     dictionary: &[u8],
     index: &[u16],
-    msgtype: &[u8],
+    opening: u16,
     table: &mut [u32; 4096],
 ) -> MessageTable
     requires { ⌜ length (now index) ≡ indexWords ⌝ }
-    ensures { λ r. ⌜ tabling r (now (table .exit)) ≡ messageTable (now (dictionary .entry)) (now (index .entry)) (now (msgtype .entry)) (now (table .entry)) ⌝ }
+    ensures { λ r. ⌜ tabling r (now (table .exit)) ≡ placedTable (now (dictionary .entry)) (now (index .entry)) (At opening) (now (table .entry)) ⌝ }
 {
     // Only where the array is made a slice does the proof learn its length.
     let rows = &mut table[..];
-    let MsgTypeName::Named(number) = name_of(msgtype) else {
-        return MessageTable::NoMessage;
-    };
-    let Placed::At(opening) = dictionary_names::message_of(index, number) else {
-        return MessageTable::NoMessage;
-    };
     let items = dictionary_chains::wide(opening) as usize + 9;
     let Laid::Upto(_, count) = lay_items(dictionary, index, rows, items, 0, 2050) else {
         return MessageTable::Unprepared;

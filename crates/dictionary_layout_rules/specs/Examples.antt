@@ -2,24 +2,16 @@
 -- A wrong definition is refused here, whatever code is proved against it.
 use mathlib.Core.Path.{_≡_, refl}
 use mathlib.Core.List.{List, [], _∷_, map}
-use mathlib.Core.Bool.{Bool, true, false}
-use Prim.Native.Nat.{ℕ, zero, suc, _+_, _≤_}
+use mathlib.Core.Bool.{true, false}
+use Prim.Native.Nat.{ℕ, zero, suc}
 use native.Mathlib.Omega.{arith}
-use Prim.Native.String.{String}
 use Rattle.field_rules.specs.Text.{bytes}
-use Rattle.dictionary_layout_rules.specs.Layout.{Layout, end, field, group, followedBy, firstOf, positionFrom, positionIn, Group, none, entries, groupSince, groupOf, delimiterOf, requiredTags, items, larger, depth}
-use Rattle.dictionary_layout_rules.specs.Tree.{Nodes, nothing, fieldItem, componentItem, groupItem, Message, Dictionary, holdsTag, knows, plainFields, headerTags, trailerTags, flattened, sameBytes, Choice, noMessage, laidOut, messageOf, layoutOf}
-use Rattle.dictionary_layout_rules.specs.Table.{rowStride, mark, rowsFrom, nextSibling, rowAt, siblingsWithin, siblingsFrom, stopOf, siblings, positionAmong, positionOf, laterGroup, groupAmong, groupWithin, firstAmong, delimiterAt, firstRequired, nextRequired}
+use Rattle.dictionary_layout_rules.specs.Layout.{Layout, end, field, group, followedBy, firstOf, positionFrom, positionIn, none, entries, groupSince, groupOf, delimiterOf, requiredTags, items, larger, depth}
+use Rattle.dictionary_layout_rules.specs.Tree.{Nodes, nothing, fieldItem, componentItem, groupItem, Dictionary, holdsTag, knows, plainFields, flattened, sameBytes, noMessage, laidOut, messageOf, layoutOf}
+use Rattle.dictionary_layout_rules.specs.Table.{mark, rowsFrom}
 use Rattle.dictionary_layout_rules.specs.Measures.{NoEmptyGroup, none-at-end, none-after-field, none-in-group, Bounded}
-use Rattle.dictionary_layout_rules.specs.declared.Level.{Level}
-use Rattle.dictionary_layout_rules.specs.declared.Position.{Position}
 use Rattle.dictionary_layout_rules.specs.declared.Position.the-variants.{At, Nowhere}
-use Rattle.dictionary_layout_rules.specs.declared.Nested.{Nested}
-use Rattle.dictionary_layout_rules.specs.declared.Nested.the-variants.{Within, NoGroup}
-use Rattle.dictionary_layout_rules.specs.declared.FirstTag.{FirstTag}
 use Rattle.dictionary_layout_rules.specs.declared.FirstTag.the-variants.{First, NoTag}
-use Rattle.dictionary_layout_rules.specs.declared.Marked.{Marked}
-use Rattle.dictionary_layout_rules.specs.declared.Marked.the-variants.{Required, NoMore}
 
 abbrev plain : List ℕ → Nodes
 plain [] = nothing
@@ -151,28 +143,3 @@ orderTable =
 tables : rowsFrom 0 order ≡ orderTable
 unfolding rowsFrom items mark
 tables = refl
-
-abbrev level : ℕ → ℕ → Level
-level first last = record { first = first; end = last }
-
--- looking up in it: the message's own level, the entries of 78, those of 539, and levels that pass the table
-table-positions : map {B = Position × Position × Position} (λ (l : Level). (positionOf orderTable l 58, positionOf orderTable l 539, positionOf orderTable l 525)) (level 0 8 ∷ level 2 7 ∷ level 5 7 ∷ level 7 100 ∷ level 8 8 ∷ []) ≡ (At 2, Nowhere, Nowhere) ∷ (Nowhere, At 2, Nowhere) ∷ (Nowhere, Nowhere, At 1) ∷ (At 0, Nowhere, Nowhere) ∷ (Nowhere, Nowhere, Nowhere) ∷ []
-unfolding positionOf positionAmong firstOf siblings siblingsFrom siblingsWithin stopOf rowAt nextSibling
-table-positions = refl
-
-table-groups : map {B = Nested × Nested × Nested} (λ (l : Level). (groupWithin orderTable l 78, groupWithin orderTable l 539, groupWithin orderTable l 58)) (level 0 8 ∷ level 2 7 ∷ level 5 7 ∷ []) ≡ (Within (level 2 7), NoGroup, NoGroup) ∷ (NoGroup, Within (level 5 7), NoGroup) ∷ (NoGroup, NoGroup, NoGroup) ∷ []
-unfolding groupWithin groupAmong laterGroup siblings siblingsFrom siblingsWithin stopOf rowAt nextSibling
-table-groups = refl
-
-table-delimiters : map (delimiterAt orderTable) (level 0 8 ∷ level 2 7 ∷ level 5 7 ∷ level 7 7 ∷ level 9 20 ∷ []) ≡ First 38 ∷ First 79 ∷ First 524 ∷ NoTag ∷ NoTag ∷ []
-unfolding delimiterAt firstAmong siblings siblingsFrom siblingsWithin stopOf rowAt nextSibling
-table-delimiters = refl
-
-table-required : map (nextRequired orderTable) (level 2 7 ∷ level 3 7 ∷ level 4 7 ∷ level 0 8 ∷ []) ≡ Required 79 (level 3 7) ∷ Required 80 (level 4 7) ∷ NoMore ∷ NoMore ∷ []
-unfolding nextRequired firstRequired siblings siblingsFrom siblingsWithin stopOf rowAt nextSibling
-table-required = refl
-
--- a link that doesn't rise ends the level, and words that make no whole row are no row
-odd-tables : map (λ (table : List ℕ). positionOf table (level 0 9) 2) ((1 ∷ 0 ∷ 0 ∷ 0 ∷ 2 ∷ 0 ∷ 0 ∷ 2 ∷ []) ∷ (1 ∷ 0 ∷ 0 ∷ 1 ∷ 2 ∷ 0 ∷ 0 ∷ []) ∷ (1 ∷ 0 ∷ 0 ∷ 1 ∷ 2 ∷ 0 ∷ 0 ∷ 0 ∷ []) ∷ [] ∷ []) ≡ Nowhere ∷ Nowhere ∷ At 1 ∷ Nowhere ∷ []
-unfolding positionOf positionAmong firstOf siblings siblingsFrom siblingsWithin stopOf rowAt nextSibling
-odd-tables = refl

@@ -2,8 +2,7 @@ pub mod Layout
 pub mod Tree
 pub mod Table
 pub mod Measures
-pub mod TreeLaws
 pub mod TableLaws
-pub mod RequiredLaws
 pub mod Tabled
+pub mod RowsLayout
 pub mod Examples

@@ -1,22 +1,14 @@
--- The laws of walking a table: each way that a look-up goes at a row, for every content of the table.
+-- The laws of walking a table's rows, for every content of the table: each way that the walk goes at a row.
 -- Places rise from sibling to sibling, so the fuel never runs out; later proofs cite only these steps.
-use mathlib.Core.Path.{_≡_, refl, sym, ap, _∙_}
+use mathlib.Core.Path.{_≡_, refl, ap, _∙_}
 use mathlib.Core.Bool.{Bool, true, false}
 use mathlib.Core.List.{List, [], _∷_}
-use Prim.Native.Nat.{ℕ, zero, suc, _+_, _-_, _*_, _/_, _≤_, _<_}
+use Prim.Native.Nat.{ℕ, zero, suc, _-_, _≤_, _<_}
 use native.Mathlib.Omega.{arith}
-use lib.ListN.{length, getD}
-use lib.Dec.{eqb, ltb}
-use borrow.Author.Tests.{eq-eqb, ne-eqb, lt-ltb, le-ltb, ltb-true, ltb-false}
-use Rattle.field_rules.specs.Choice.{pick, pick-same}
-use Rattle.dictionary_layout_rules.specs.Layout.{firstOf}
-use Rattle.dictionary_layout_rules.specs.Table.{Row, tagAt, requiredAt, groupAt, linkAt, nextSibling, rowAt, siblingsWithin, siblingsFrom, stopOf, siblings, positionAmong, positionOf, inside, laterGroup, groupAmong, groupWithin, firstAmong, delimiterAt, requiredAmong, firstRequired, nextRequired}
-use Rattle.dictionary_layout_rules.specs.declared.Level.{Level}
-use Rattle.dictionary_layout_rules.specs.declared.Position.the-variants.{At, Nowhere}
-use Rattle.dictionary_layout_rules.specs.declared.Nested.{Nested}
-use Rattle.dictionary_layout_rules.specs.declared.Nested.the-variants.{Within, NoGroup}
-use Rattle.dictionary_layout_rules.specs.declared.FirstTag.the-variants.{First, NoTag}
-use Rattle.dictionary_layout_rules.specs.declared.Marked.the-variants.{Required, NoMore}
+use lib.Dec.{ltb}
+use borrow.Author.Tests.{lt-ltb, le-ltb, ltb-true}
+use Rattle.field_rules.specs.Choice.{pick}
+use Rattle.dictionary_layout_rules.specs.Table.{Row, linkAt, nextSibling, rowAt, siblingsWithin, siblingsFrom}
 
 module _ (table : List ℕ) (at stop : ℕ) where
   pub sibling-link : at < linkAt table at → nextSibling table at stop ≡ linkAt table at
@@ -61,100 +53,3 @@ module _ (table : List ℕ) (at stop : ℕ) where
   pub walk-end : stop ≤ at → siblingsFrom table at stop ≡ []
   unfolding siblingsFrom siblingsWithin
   walk-end h = siblings-fuel (stop - at) 0 table at stop (omega arith) (omega arith)
-
--- no further than the table goes
-pub stop-within : (table : List ℕ) (level : Level) → stopOf table level ≤ length table / 4
-unfolding stopOf
-stop-within table level = go (ltb (length table / 4) (level .end)) refl
-  where
-    go : (t : Bool) → ltb (length table / 4) (level .end) ≡ t → pick t (length table / 4) (level .end) ≤ length table / 4
-    go true e = omega arith
-    go false e = ltb-false _ _ e
-
-module _ (table : List ℕ) (at stop : ℕ) where
-  abbrev pub left : List Row
-  left = siblingsFrom table at stop
-
-  abbrev pub leftAfter : List Row
-  leftAfter = siblingsFrom table (nextSibling table at stop) stop
-
-  module _ (tag position : ℕ) where
-    pub position-hit : at < stop → tagAt table at ≡ tag → positionAmong tag position left ≡ At position
-    unfolding positionAmong rowAt firstOf
-    position-hit h e = rw (walk-on table at stop h, eq-eqb _ _ e)
-
-    pub position-miss : at < stop → (tagAt table at ≡ tag → ⊥) → positionAmong tag position left ≡ positionAmong tag (position + 1) leftAfter
-    unfolding positionAmong rowAt firstOf
-    position-miss h e = rw (walk-on table at stop h, ne-eqb _ _ e)
-
-    pub position-end : stop ≤ at → positionAmong tag position left ≡ Nowhere
-    unfolding positionAmong
-    position-end h = rw (walk-end table at stop h)
-
-  module _ (sofar : Nested) (tag : ℕ) where
-    group-step : (later : Nested) → at < stop → laterGroup sofar tag (rowAt table at stop) ≡ later → groupAmong sofar tag left ≡ groupAmong later tag leftAfter
-    group-step later h e = rw (walk-on table at stop h) (unfold groupAmong in ap (λ (found : Nested). groupAmong found tag leftAfter) e)
-
-    pub group-hit : at < stop → tagAt table at ≡ tag → groupAt table at ≡ 1 → groupAmong sofar tag left ≡ groupAmong (Within (record { first = at + 1; end = linkAt table at })) tag leftAfter
-    unfolding laterGroup rowAt
-    group-hit h e g = group-step _ h (rw (eq-eqb _ _ e, eq-eqb _ _ g))
-
-    pub group-plain : at < stop → (groupAt table at ≡ 1 → ⊥) → groupAmong sofar tag left ≡ groupAmong sofar tag leftAfter
-    unfolding laterGroup rowAt
-    group-plain h g = group-step _ h (rw (ne-eqb _ _ g, pick-same))
-
-    pub group-other : at < stop → (tagAt table at ≡ tag → ⊥) → groupAmong sofar tag left ≡ groupAmong sofar tag leftAfter
-    unfolding laterGroup rowAt
-    group-other h e = group-step _ h (rw (ne-eqb _ _ e))
-
-    pub group-end : stop ≤ at → groupAmong sofar tag left ≡ sofar
-    unfolding groupAmong
-    group-end h = rw (walk-end table at stop h)
-
-  pub first-some : at < stop → firstAmong left ≡ First (tagAt table at)
-  unfolding firstAmong rowAt
-  first-some h = rw (walk-on table at stop h)
-
-  pub first-none : stop ≤ at → firstAmong left ≡ NoTag
-  unfolding firstAmong
-  first-none h = rw (walk-end table at stop h)
-
-  module _ (ends : ℕ) where
-    pub required-hit : at < stop → requiredAt table at ≡ 1 → firstRequired ends left ≡ Required (tagAt table at) (record { first = nextSibling table at stop; end = ends })
-    unfolding firstRequired rowAt
-    required-hit h e = rw (walk-on table at stop h, eq-eqb _ _ e)
-
-    pub required-miss : at < stop → (requiredAt table at ≡ 1 → ⊥) → firstRequired ends left ≡ firstRequired ends leftAfter
-    unfolding firstRequired rowAt
-    required-miss h e = rw (walk-on table at stop h, ne-eqb _ _ e)
-
-    pub required-end : stop ≤ at → firstRequired ends left ≡ NoMore
-    unfolding firstRequired
-    required-end h = rw (walk-end table at stop h)
-
--- each look-up in a level is a walk from its first row to where it stops
-module _ (table : List ℕ) (level : Level) where
-  pub stop-table : length table / 4 < level .end → stopOf table level ≡ length table / 4
-  unfolding stopOf
-  stop-table h = rw (lt-ltb _ _ h)
-
-  pub stop-level : level .end ≤ length table / 4 → stopOf table level ≡ level .end
-  unfolding stopOf
-  stop-level h = rw (le-ltb _ _ h)
-
-  module _ (stop : ℕ) (stops : stop ≡ stopOf table level) where
-    pub position-walk : (tag : ℕ) → positionOf table level tag ≡ positionAmong tag 0 (siblingsFrom table (level .first) stop)
-    unfolding positionOf siblings
-    position-walk tag = rw stops
-
-    pub group-walk : (tag : ℕ) → groupWithin table level tag ≡ groupAmong NoGroup tag (siblingsFrom table (level .first) stop)
-    unfolding groupWithin siblings
-    group-walk tag = rw stops
-
-    pub delimiter-walk : delimiterAt table level ≡ firstAmong (siblingsFrom table (level .first) stop)
-    unfolding delimiterAt siblings
-    delimiter-walk = rw stops
-
-    pub required-walk : nextRequired table level ≡ firstRequired (level .end) (siblingsFrom table (level .first) stop)
-    unfolding nextRequired siblings
-    required-walk = rw stops

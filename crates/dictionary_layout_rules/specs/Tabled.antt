@@ -1,22 +1,17 @@
--- A table that holds a layout means it: the rows of a level are the layout's own items, and each look-up in the table answers what the
--- layout says. What stands in the table before and after the level makes no difference.
+-- A table that holds a layout: where the rows of its items and of what lies within them stand, and that the rows of a level are the layout's
+-- own items. What stands in the table before and after the level makes no difference.
 use mathlib.Core.Path.{_≡_, refl, sym, ap, _∙_}
 use mathlib.Core.Bool.{Bool, true, false}
 use mathlib.Core.List.{List, [], _∷_, _++_, append-assoc}
-use Prim.Native.Nat.{ℕ, zero, suc, _+_, _-_, _*_, _/_, _≤_, _<_}
+use Prim.Native.Nat.{ℕ, _+_, _*_, _/_, _≤_, _<_}
 use native.Mathlib.Omega.{arith}
 use lib.ListN.{length, getD, length-append}
 use lib.Seq.{getD-append-add}
-use lib.Dec.{eqb, ltb}
-use borrow.Author.Tests.{eq-eqb, ne-eqb}
-use Rattle.field_rules.specs.Choice.{pick, pick-same}
-use Rattle.dictionary_layout_rules.specs.Layout.{Layout, end, field, group, items, positionFrom, positionIn, Group, none, entries, groupSince, groupOf, delimiterOf, requiredTags}
-use Rattle.dictionary_layout_rules.specs.Table.{mark, rowsFrom, Row, tagAt, requiredAt, groupAt, linkAt, nextSibling, rowAt, siblingsFrom, stopOf, siblings, positionAmong, positionOf, inside, laterGroup, groupAmong, groupWithin, firstAmong, delimiterAt, requiredAmong, firstRequired, nextRequired}
-use Rattle.dictionary_layout_rules.specs.TableLaws.{sibling-link, walk-on, walk-end, stop-level}
+use lib.Dec.{eqb}
+use Rattle.dictionary_layout_rules.specs.Layout.{Layout, end, field, group, items}
+use Rattle.dictionary_layout_rules.specs.Table.{mark, rowsFrom, Row, tagAt, requiredAt, groupAt, linkAt, nextSibling, rowAt, siblingsFrom}
+use Rattle.dictionary_layout_rules.specs.TableLaws.{sibling-link, walk-on, walk-end}
 use Rattle.dictionary_layout_rules.specs.declared.Level.{Level}
-use Rattle.dictionary_layout_rules.specs.declared.Nested.{Nested}
-use Rattle.dictionary_layout_rules.specs.declared.Nested.the-variants.{Within, NoGroup}
-use Rattle.dictionary_layout_rules.specs.declared.Marked.the-variants.{Required, NoMore}
 
 -- four words to an item
 pub rows-length : (at : ℕ) (layout : Layout) → length (rowsFrom at layout) ≡ 4 * items layout
@@ -99,7 +94,7 @@ walk-written table before more at tag required isGroup link stop whole start ris
     next = unfold rowAt in ap (λ (r : Row). r .next) e
 
 -- a level's rows are the layout's own items
-own-rows : (table : List ℕ) (at stop : ℕ) (layout : Layout) → RowsStand table at layout → stop ≡ at + items layout → siblingsFrom table at stop ≡ ownRows at layout
+pub own-rows : (table : List ℕ) (at stop : ℕ) (layout : Layout) → RowsStand table at layout → stop ≡ at + items layout → siblingsFrom table at stop ≡ ownRows at layout
 unfolding ownRows items
 own-rows table at stop end s e = walk-end table at stop (omega arith)
 own-rows table at stop (field tag required rest) s e =
@@ -113,58 +108,3 @@ own-rows table at stop (group tag required inner rest) s e =
 pub stands-length : (table : List ℕ) (at : ℕ) (layout : Layout) → RowsStand table at layout → at + items layout ≤ length table / 4
 stands-length table at layout s =
     omega (arith, ap length (s .whole), length-append (s .before) (rowsFrom at layout ++ s .after), length-append (rowsFrom at layout) (s .after), rows-length at layout, s .start)
-
-own-position : (tag at position : ℕ) (layout : Layout) → positionAmong tag position (ownRows at layout) ≡ positionFrom tag position layout
-unfolding positionAmong ownRows positionFrom
-own-position tag at position end = refl
-own-position tag at position (field t required rest) = rw (own-position tag (at + 1) (position + 1) rest)
-own-position tag at position (group t required inner rest) = rw (own-position tag (at + 1 + items inner) (position + 1) rest)
-
-own-first : (at : ℕ) (layout : Layout) → firstAmong (ownRows at layout) ≡ delimiterOf layout
-unfolding firstAmong ownRows delimiterOf
-own-first at end = refl
-own-first at (field tag required rest) = refl
-own-first at (group tag required inner rest) = refl
-
-own-required : (at : ℕ) (layout : Layout) → requiredAmong (ownRows at layout) ≡ requiredTags layout
-unfolding requiredAmong ownRows requiredTags
-own-required at end = refl
-own-required at (field tag required rest) = rw (own-required (at + 1) rest)
-own-required at (group tag required inner rest) = rw (own-required (at + 1 + items inner) rest)
-
--- a level that was looked up means the group that the layout has, or neither has one
-pub data Opens (table : List ℕ) : Nested → Group → Type 0 where
-  neither : Opens table NoGroup none
-  both : {level : Level} {layout : Layout} → Tabled table level layout → Opens table (Within level) (entries layout)
-
-opens-later : {table : List ℕ} {sofar : Nested} {was : Group} (b : Bool) (level : Level) (layout : Layout) → Opens table sofar was → Tabled table level layout → Opens table (pick b (Within level) sofar) (pick b (entries layout) was)
-opens-later true level layout o t = both t
-opens-later false level layout o t = o
-
-own-group : (table : List ℕ) (sofar : Nested) (was : Group) (tag at : ℕ) (layout : Layout) → RowsStand table at layout → Opens table sofar was → Opens table (groupAmong sofar tag (ownRows at layout)) (groupSince was tag layout)
-unfolding groupAmong laterGroup ownRows groupSince
-own-group table sofar was tag at end s o = o
-own-group table sofar was tag at (field t required rest) s o = own-group table (pick (eqb t tag) sofar sofar) was tag (at + 1) rest (field-rest s) (rw pick-same o)
-own-group table sofar was tag at (group t required inner rest) s o =
-    own-group table _ _ tag (at + 1 + items inner) rest (group-rest s) (opens-later (eqb t tag) _ inner o (record { stands = group-inner s; ends = refl }))
-
-module _ (table : List ℕ) (level : Level) (layout : Layout) (tabled : Tabled table level layout) where
-  pub level-rows : siblings table level ≡ ownRows (level .first) layout
-  unfolding siblings
-  level-rows = own-rows table (level .first) (stopOf table level) layout (tabled .stands)
-      (stop-level table level (omega (arith, stands-length table (level .first) layout (tabled .stands), tabled .ends)) ∙ tabled .ends)
-
-  pub position-means : (tag : ℕ) → positionOf table level tag ≡ positionIn tag layout
-  unfolding positionOf positionIn
-  position-means tag = rw level-rows (own-position tag (level .first) 0 layout)
-
-  pub delimiter-means : delimiterAt table level ≡ delimiterOf layout
-  unfolding delimiterAt
-  delimiter-means = rw level-rows (own-first (level .first) layout)
-
-  pub group-means : (tag : ℕ) → Opens table (groupWithin table level tag) (groupOf tag layout)
-  unfolding groupWithin groupOf
-  group-means tag = rw level-rows (own-group table NoGroup none tag (level .first) layout (tabled .stands) neither)
-
-  pub required-means : requiredAmong (siblings table level) ≡ requiredTags layout
-  required-means = rw level-rows (own-required (level .first) layout)

@@ -1,5 +1,6 @@
-// dictionary_layout_rules: definitions and worked examples alone. What a dictionary means as a tree, and what is looked up in its tables,
-// whatever code looks it up: `dictionary_layout` is proved against it. No function stands here, so that a wrong definition is refused in seconds.
+// dictionary_layout_rules: definitions, laws and worked examples alone. What a dictionary means as a tree, which layout each of its messages has,
+// and in which rows a layout is written down, whatever code writes and reads them: `dictionary_flattening` and `dictionary_pressing` are proved
+// against it. No function stands here, so that a wrong definition is refused in seconds.
 
 // The rows of a message's own items, or of a group's entries: the first of them, and the row where they end.
 pub struct Level {
@@ -12,18 +13,7 @@ pub enum Position {
     Nowhere,
 }
 
-pub enum Nested {
-    Within(Level),
-    NoGroup,
-}
-
 pub enum FirstTag {
     First(u32),
     NoTag,
-}
-
-// A required tag, and what is left of its level.
-pub enum Marked {
-    Required(u32, Level),
-    NoMore,
 }

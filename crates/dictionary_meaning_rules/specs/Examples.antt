@@ -103,6 +103,11 @@ rows : map (λ (depth : ℕ). layItems depth dictionary (componentIn components)
 unfolding layItems itemsFrom itemsWithin onRead onRecord onComponent afterComponent afterGroup putRow standsAt expanding behindOpening componentIn mark recordAt recordFrom withKind withBody recordBody recordBodyLength knownTag opensComponent opensMessage fieldBody componentBody groupBody withTag withMark zeroFilled lowFirst
 rows = refl
 
+-- an index that claims items for component 4 and leads to the empty one: no row is added, so the laying breaks off
+forged : layItems 3 dictionary (componentIn (record { number = 4; place = 35; items = 2; depth = 0; stands = 4 } ∷ [])) 117 4 (replicate 32 9) ≡ laying Broken (replicate 32 9)
+unfolding layItems itemsFrom itemsWithin onRead onRecord onComponent afterComponent standsAt expanding behindOpening componentIn recordAt recordFrom withKind withBody recordBody recordBodyLength componentBody withMark zeroFilled lowFirst
+forged = refl
+
 -- a MsgType is compared with its length
 names : map nameOf (bytes "D" ∷ bytes "AE" ∷ (68 ∷ 0 ∷ []) ∷ (0 ∷ 68 ∷ []) ∷ [] ∷ bytes "12345678" ∷ bytes "123456789" ∷ []) ≡ Named 68 ∷ Named 17729 ∷ Unnamed ∷ Unnamed ∷ Unnamed ∷ Named 4050765991979987505 ∷ Unnamed ∷ []
 unfolding nameOf noZero lowFirst

@@ -9,7 +9,7 @@ use lib.ListN.{length, set, length-set}
 use lib.Dec.{eqb, leb}
 use borrow.Author.Tests.{leb-false}
 use Rattle.field_rules.specs.Choice.{pick}
-use Rattle.dictionary_rules.specs.Index.{componentAt, messageAt}
+use Rattle.dictionary_rules.specs.Index.{componentAt}
 use Rattle.dictionary_rules.specs.Record.{recordAt}
 use Rattle.dictionary_rules.specs.declared.Looked.{Looked}
 use Rattle.dictionary_rules.specs.declared.Looked.the-variants.{Closed, Missing}
@@ -21,15 +21,12 @@ use Rattle.dictionary_rules.specs.declared.RecordRead.{RecordRead}
 use Rattle.dictionary_rules.specs.declared.RecordRead.the-variants.{Whole, Bad, End}
 use Rattle.dictionary_meaning_rules.specs.Laying.{Laying, laying, Step, standsAt, putRow, afterGroup, afterComponent, onComponent, onRecord, onRead, itemsWithin, itemsFrom, layItems}
 use Rattle.dictionary_meaning_rules.specs.LayingLaws.{put-length}
-use Rattle.dictionary_meaning_rules.specs.MessageTable.{Tabling, tabling, asTable, placedTable, namedTable, messageTable}
-use Rattle.dictionary_meaning_rules.specs.MsgType.{nameOf}
+use Rattle.dictionary_meaning_rules.specs.MessageTable.{Tabling, tabling, asTable, placedTable}
 use Rattle.dictionary_meaning_rules.specs.PlainTags.{Listing, listing, TagStep, tagOn, tagRead, tagsWithin, tagsFrom, componentTags, plainTags}
 use Rattle.dictionary_meaning_rules.specs.declared.Laid.{Laid}
 use Rattle.dictionary_meaning_rules.specs.declared.Laid.the-variants.{Upto, Broken}
 use Rattle.dictionary_meaning_rules.specs.declared.Expansion.{Expansion}
 use Rattle.dictionary_meaning_rules.specs.declared.Expansion.the-variants.{ItemsAt, NoItems}
-use Rattle.dictionary_meaning_rules.specs.declared.MsgTypeName.{MsgTypeName}
-use Rattle.dictionary_meaning_rules.specs.declared.MsgTypeName.the-variants.{Named, Unnamed}
 use Rattle.dictionary_meaning_rules.specs.declared.MessageTable.{MessageTable}
 use Rattle.dictionary_meaning_rules.specs.declared.TagList.{TagList}
 use Rattle.dictionary_meaning_rules.specs.declared.TagList.the-variants.{Listed, Unlisted}
@@ -53,9 +50,13 @@ module _ (inner rest : Step) (within : Keeping inner) (goes : Keeping rest) wher
   component-keeps next row table NoItems = goes next row table
   component-keeps next row table (ItemsAt place) = after (inner place row table) ∙ within place row table
     where
-      after : (outcome : Laying) → length (tableOf (afterComponent rest next outcome)) ≡ length (tableOf outcome)
+      after : (outcome : Laying) → length (tableOf (afterComponent rest next row outcome)) ≡ length (tableOf outcome)
       after (laying Broken table₁) = refl
-      after (laying (Upto a end) table₁) = goes next end table₁
+      after (laying (Upto a end) table₁) = go (leb end row)
+        where
+          go : (still : Bool) → length (tableOf (pick still (laying Broken table₁) (rest next end table₁))) ≡ length table₁
+          go true = refl
+          go false = goes next end table₁
 
   record-keeps : (components : ℕ → Looked) (row next : ℕ) (table : List ℕ) (r : Record) → length (tableOf (onRecord inner rest components row table r next)) ≡ length table
   unfolding onRecord tableOf
@@ -101,17 +102,13 @@ as-keeps (laying Broken table) = refl
 as-keeps (laying (Upto after rows) table) = refl
 
 -- the table of a message is as long as the one that was lent
-pub table-kept : (d index value table : List ℕ) (answer : MessageTable) (written : List ℕ) → tabling answer written ≡ messageTable d index value table → length table ≡ length written
-unfolding messageTable namedTable placedTable rowsOf
-table-kept d index value table answer written told = sym (ap (λ (t : Tabling). length (rowsOf t)) told ∙ by-name (nameOf value))
+pub table-kept : (d index : List ℕ) (placed : Placed) (table : List ℕ) (answer : MessageTable) (written : List ℕ) → tabling answer written ≡ placedTable d index placed table → length table ≡ length written
+unfolding placedTable rowsOf
+table-kept d index placed table answer written told = sym (ap (λ (t : Tabling). length (rowsOf t)) told ∙ by-place placed)
   where
-    by-place : (placed : Placed) → length (rowsOf (placedTable d index placed table)) ≡ length table
+    by-place : (p : Placed) → length (rowsOf (placedTable d index p table)) ≡ length table
     by-place Nowhere = refl
     by-place (At place) = ap length (as-keeps (layItems 2050 d (componentAt index) (place + 9) 0 table)) ∙ lay-keeps 2050 d (componentAt index) (place + 9) 0 table
-
-    by-name : (name : MsgTypeName) → length (rowsOf (namedTable d index name table)) ≡ length table
-    by-name Unnamed = refl
-    by-name (Named msgType) = by-place (messageAt index msgType)
 
 -- ===== the list of tags =====
 

@@ -34,10 +34,10 @@ Layable bytes components place layout = (depth row : ℕ) (table : List ℕ) →
 abbrev pub layoutOf : List Defined → ℕ → Layout
 layoutOf defined number = flattened (nodesOf defined number)
 
--- a component's layout is empty and is skipped, or it is laid from where the component stands
+-- a component's layout is empty and is skipped, or it has items and is laid from where the component stands
 pub data Lays (bytes : List ℕ) (components : ℕ → Looked) (number : ℕ) (layout : Layout) : Type 0 where
   lays-nothing : standsAt components number ≡ NoItems → layout ≡ end → Lays bytes components number layout
-  lays-items : {place : ℕ} → standsAt components number ≡ ItemsAt place → Layable bytes components place layout → Lays bytes components number layout
+  lays-items : {place : ℕ} → standsAt components number ≡ ItemsAt place → 1 ≤ items layout → Layable bytes components place layout → Lays bytes components number layout
 
 -- every component that items name is laid
 pub data AllLay (bytes : List ℕ) (components : ℕ → Looked) (defined : List Defined) : Items → Type 0 where
@@ -122,10 +122,10 @@ module _ (bytes : List ℕ) (components : ℕ → Looked) (defined : List Define
       lay-empty (layItems depth bytes components) bytes components (lay-advances depth bytes components) at row table number required next e s
       ∙ r row table (omega (arith, count-component defined number required rest))
       ∙ laid-empty defined after row table number required rest z
-  component-level at next after number required rest depth e (lays-items {place} s l) n r row table h =
+  component-level at next after number required rest depth e (lays-items {place} s m l) n r row table h =
       let c = count-component defined number required rest in
       let w = l depth row table n (omega arith) in
-      lay-component (layItems depth bytes components) bytes components (lay-advances depth bytes components) at row table number required next e place (w .0) (row + items (layoutOf defined number)) (written row (layoutOf defined number) table) s (w .1)
+      lay-component (layItems depth bytes components) bytes components (lay-advances depth bytes components) at row table number required next e place (w .0) (row + items (layoutOf defined number)) (written row (layoutOf defined number) table) s (w .1) (omega arith)
       ∙ r (row + items (layoutOf defined number)) (written row (layoutOf defined number) table) (omega arith)
       ∙ laid-component defined after row table number required rest
 

@@ -1,5 +1,6 @@
 -- Flattening as the code does it: one record at a time, each item into the next free row of the table. Whatever bytes, index and table
--- hold, this has an outcome: items that can't be read, a table that is full, or a depth that is used up make it broken.
+-- hold, this has an outcome: items that can't be read, a table that is full, a component without a row, or a depth that is used up
+-- make it broken.
 use Prim.Native.Nat.{ℕ, zero, suc, _+_, _-_, _*_}
 use mathlib.Core.List.{List}
 use mathlib.Core.Bool.{Bool, true, false}
@@ -51,14 +52,14 @@ unfoldable pub afterGroup : Step → ℕ → ℕ → Bool → Laying → Laying
 afterGroup rest row tag required (laying Broken table) = laying Broken table
 afterGroup rest row tag required (laying (Upto after end) table) = rest after end (putRow table row tag required true end)
 
--- "Components are flattened in place"
-unfoldable pub afterComponent : Step → ℕ → Laying → Laying
-afterComponent rest next (laying Broken table) = laying Broken table
-afterComponent rest next (laying (Upto after end) table) = rest next end table
+-- "Components are flattened in place"; a component that has items adds a row, so that what is laid grows with each step down
+unfoldable pub afterComponent : Step → ℕ → ℕ → Laying → Laying
+afterComponent rest next row (laying Broken table) = laying Broken table
+afterComponent rest next row (laying (Upto after end) table) = pick (leb end row) (laying Broken table) (rest next end table)
 
 unfoldable pub onComponent : Step → Step → ℕ → ℕ → List ℕ → Expansion → Laying
 onComponent inner rest next row table NoItems = rest next row table
-onComponent inner rest next row table (ItemsAt place) = afterComponent rest next (inner place row table)
+onComponent inner rest next row table (ItemsAt place) = afterComponent rest next row (inner place row table)
 
 unfoldable pub onRecord : Step → Step → (ℕ → Looked) → ℕ → List ℕ → Record → ℕ → Laying
 onRecord inner rest components row table (FieldItem tag required) next =

@@ -45,10 +45,14 @@ module _ (limit : ℕ) (inner : Step) (rises : Advancing limit inner) (rest : St
   after-group-advances at row (laying Broken table) tag required breaks = breaks
   after-group-advances at row (laying (Upto after end) table) tag required (reaches a b c d) = later a c (goes after end _ d)
 
-  after-component-advances : (at row next place : ℕ) (outcome : Laying) → at < next → Advances limit place row outcome → Advances limit at row (afterComponent rest next outcome)
+  after-component-advances : (at row next place : ℕ) (outcome : Laying) → at < next → Advances limit place row outcome → Advances limit at row (afterComponent rest next row outcome)
   unfolding afterComponent
   after-component-advances at row next place (laying Broken table) h breaks = breaks
-  after-component-advances at row next place (laying (Upto after end) table) h (reaches a b c d) = later h c (goes next end _ d)
+  after-component-advances at row next place (laying (Upto after end) table) h (reaches a b c d) = go (leb end row)
+    where
+      go : (still : Bool) → Advances limit at row (pick still (laying Broken table) (rest next end table))
+      go true = breaks
+      go false = later h c (goes next end _ d)
 
   component-advances : (at row next : ℕ) (table : List ℕ) (stands : Expansion) → at < next → row ≤ 1024 → Advances limit at row (onComponent inner rest next row table stands)
   unfolding onComponent
@@ -98,15 +102,15 @@ module _ (limit : ℕ) (inner : Step) (rises : Advancing limit inner) (rest othe
   after-group-agrees row tag upto required (laying Broken table) breaks = refl
   after-group-agrees row tag upto required (laying (Upto after end) table) (reaches a b c d) = agree after end _ (omega arith)
 
-  after-component-agrees : (outcome : Laying) → afterComponent rest from outcome ≡ afterComponent other from outcome
+  after-component-agrees : (row : ℕ) (outcome : Laying) → afterComponent rest from row outcome ≡ afterComponent other from row outcome
   unfolding afterComponent
-  after-component-agrees (laying Broken table) = refl
-  after-component-agrees (laying (Upto after end) table) = agree from end table (omega arith)
+  after-component-agrees row (laying Broken table) = refl
+  after-component-agrees row (laying (Upto after end) table) = rw (agree from end table (omega arith))
 
   component-agrees : (row : ℕ) (table : List ℕ) (stands : Expansion) → onComponent inner rest from row table stands ≡ onComponent inner other from row table stands
   unfolding onComponent
   component-agrees row table NoItems = agree from row table (omega arith)
-  component-agrees row table (ItemsAt place) = after-component-agrees (inner place row table)
+  component-agrees row table (ItemsAt place) = after-component-agrees row (inner place row table)
 
   record-agrees : (row : ℕ) (components : ℕ → Looked) (table : List ℕ) (r : Record) → onRecord inner rest components row table r from ≡ onRecord inner other components row table r from
   unfolding onRecord
@@ -190,9 +194,13 @@ module _ (inner : Step) (bytes : List ℕ) (components : ℕ → Looked) (rises 
       unfolding onRecord onComponent
       lay-empty s = items-step _ _ e ∙ rw s
 
-      pub lay-component : (place after end : ℕ) (within : List ℕ) → standsAt components number ≡ ItemsAt place → inner place row table ≡ laying (Upto after end) within → here ≡ goOn next end within
+      pub lay-component : (place after end : ℕ) (within : List ℕ) → standsAt components number ≡ ItemsAt place → inner place row table ≡ laying (Upto after end) within → row < end → here ≡ goOn next end within
       unfolding onRecord onComponent afterComponent
-      lay-component place after end within s i = items-step _ _ e ∙ rw (s, i)
+      lay-component place after end within s i h = items-step _ _ e ∙ rw (s, i, lt-leb _ _ h)
+
+      pub lay-component-still : (place after end : ℕ) (within : List ℕ) → standsAt components number ≡ ItemsAt place → inner place row table ≡ laying (Upto after end) within → end ≤ row → here ≡ laying Broken within
+      unfolding onRecord onComponent afterComponent
+      lay-component-still place after end within s i h = items-step _ _ e ∙ rw (s, i, le-leb _ _ h)
 
       pub lay-component-broken : (place : ℕ) (within : List ℕ) → standsAt components number ≡ ItemsAt place → inner place row table ≡ laying Broken within → here ≡ laying Broken within
       unfolding onRecord onComponent afterComponent

@@ -30,3 +30,4 @@ pub mod TagsMeant
 pub mod KnownTags
 pub mod Examples
 pub mod Kept
+pub mod LaidLayout

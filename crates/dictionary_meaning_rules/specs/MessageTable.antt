@@ -27,9 +27,14 @@ unfoldable pub placedTable : List ℕ → List ℕ → Placed → List ℕ → T
 placedTable dictionary index Nowhere table = tabling NoMessage table
 placedTable dictionary index (At place) table = asTable (layItems 2050 dictionary (componentAt index) (place + 9) 0 table)
 
-unfoldable pub namedTable : List ℕ → List ℕ → MsgTypeName → List ℕ → Tabling
-namedTable dictionary index Unnamed table = tabling NoMessage table
-namedTable dictionary index (Named msgType) table = placedTable dictionary index (messageAt index msgType) table
+-- where the record stands that opens the message of a name
+unfoldable pub placeNamed : List ℕ → MsgTypeName → Placed
+placeNamed index Unnamed = Nowhere
+placeNamed index (Named msgType) = messageAt index msgType
+
+-- and that of a MsgType's value
+unfoldable pub placeOf : List ℕ → List ℕ → Placed
+placeOf index value = placeNamed index (nameOf value)
 
 unfoldable pub messageTable : List ℕ → List ℕ → List ℕ → List ℕ → Tabling
-messageTable dictionary index value table = namedTable dictionary index (nameOf value) table
+messageTable dictionary index value table = placedTable dictionary index (placeOf index value) table

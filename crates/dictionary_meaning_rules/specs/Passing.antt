@@ -4,7 +4,7 @@ use mathlib.Core.Path.{_≡_, refl, sym, ap, _∙_}
 use mathlib.Core.Bool.{Bool, true, false}
 use mathlib.Core.Logic.{_⊎_, inl, inr, ⊎-elim}
 use mathlib.Core.List.{List, [], _∷_, _++_}
-use Prim.Native.Nat.{ℕ, zero, suc, _+_, _-_, _*_, _≤_, _<_}
+use Prim.Native.Nat.{ℕ, zero, suc, _+_, _-_, _≤_}
 use native.Mathlib.Omega.{arith}
 use lib.Dec.{eqb}
 use lib.ListN.{length}
@@ -105,11 +105,13 @@ module _ (bytes : List ℕ) (components : ℕ → Looked) (names : Names) (defin
   several-lays e s p z n =
       let here : components (c .stands) ≡ Closed c = ap components s ∙ looked in
       let stands : standsAt components number ≡ ItemsAt at = stands-somewhere components number c c looked z here ∙ ap ItemsAt p in
-      lays-items stands (level-layable bytes components defined reads (lay-known bytes components names defined known resolved) (λ depth h. room-proper (lookIn names) defined depth agreeing e (some (c .items) z n h) (omega arith)))
+      let filled = has-items (c .items) z n in
+      lays-items stands filled (level-layable bytes components defined reads (lay-known bytes components names defined known resolved)
+      (λ depth h. room-proper (lookIn names) defined depth agreeing e (omega arith) (omega arith)))
     where
-      some : (k : ℕ) → (k ≡ 0 → ⊥) → k ≡ items (flat defined level) → {depth : ℕ} → 2 * items (flat defined level) < suc depth → 1 ≤ depth
-      some zero z n h = absurd (z refl)
-      some (suc k) z n h = omega arith
+      has-items : (k : ℕ) → (k ≡ 0 → ⊥) → k ≡ items (flat defined level) → 1 ≤ items (flat defined level)
+      has-items zero z n = absurd (z refl)
+      has-items (suc k) z n = omega arith
 
   -- one that holds another only is laid as that one
   only-lays : (s : ℕ) → heldFrom (lookIn names) Empty level ≡ Only s → c .stands ≡ s → (c .items ≡ 0 → ⊥) → Lays bytes components number (flat defined level)
@@ -121,9 +123,9 @@ module _ (bytes : List ℕ) (components : ℕ → Looked) (names : Names) (defin
         where
           by : Lays bytes components (o .number) (layoutOf defined (o .number)) → Lays bytes components number (flat defined level)
           by (lays-nothing w x) = absurd (omega (arith, o .some, k .count, ap items x, items-end))
-          by (lays-items w l) =
+          by (lays-items w m l) =
               let some = o .some in
-              rw (o .same) (lays-items (stands-alike components number (o .number) c (o .component) looked (k .looked) z (λ q. absurd (omega arith)) (t ∙ sym (o .standing)) ∙ w) l)
+              rw (o .same) (lays-items (stands-alike components number (o .number) c (o .component) looked (k .looked) z (λ q. absurd (omega arith)) (t ∙ sym (o .standing)) ∙ w) m l)
 
   -- and in each case it is laid
   pub closed-lays : c .items ≡ items (flat defined level) → c .stands ≡ standsFor number (heldFrom (lookIn names) Empty level) → c .place + 3 ≡ at → Lays bytes components number (flat defined level)

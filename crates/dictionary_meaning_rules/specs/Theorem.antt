@@ -23,7 +23,7 @@ use Rattle.dictionary_meaning_rules.specs.MsgType.{nameOf}
 use Rattle.dictionary_meaning_rules.specs.MsgTypeText.{Bytes}
 use Rattle.dictionary_meaning_rules.specs.MsgTypeRecords.{numbered, layoutNamed, tree-named}
 use Rattle.dictionary_meaning_rules.specs.MessageTable.{Tabling, tabling, messageTable}
-use Rattle.dictionary_meaning_rules.specs.MessageTableLaws.{table-unnamed, table-nowhere, table-rows}
+use Rattle.dictionary_meaning_rules.specs.MessageTableLaws.{place-unnamed, place-named, table-nowhere, table-rows}
 use Rattle.dictionary_meaning_rules.specs.Tables.{layoutNumbered, MessageAs}
 use Rattle.dictionary_meaning_rules.specs.Prepared.{message-laid, message-none}
 use Rattle.dictionary_meaning_rules.specs.declared.MsgTypeName.{MsgTypeName}
@@ -44,7 +44,7 @@ module _ (d : List ℕ) (bytes : Bytes d) (passes : checkOf d ≡ Passes) (index
   laid-table value table msgType place layout room name placed as-laid =
       let w = as-laid .laid table in
       let limit = as-laid .limit in
-      rw (table-rows d made value table msgType name place placed (w .0) (items layout) (written 0 layout table) (w .1))
+      rw (table-rows d made value table place (place-named made value msgType name ∙ placed) (w .0) (items layout) (written 0 layout table) (w .1))
       (a-table limit (written-length 0 layout table) (record { stands = written-stands 0 layout table (omega arith); ends = omega arith }))
 
   tree-by-name : (value : List ℕ) → Bytes value → layoutInTree (dictionaryOf d) value ≡ layoutNamed [] (declarationsOf (recordsFrom d 0)) (nameOf value)
@@ -55,11 +55,11 @@ module _ (d : List ℕ) (bytes : Bytes d) (passes : checkOf d ≡ Passes) (index
   tables-mean-tree value table text room = rw (tree-by-name value text) (by-name (nameOf value) refl)
     where
       by-place : (msgType : ℕ) (placed : Placed) → nameOf value ≡ Named msgType → messageAt made msgType ≡ placed → TableOf table (layoutNumbered [] (declarationsOf (recordsFrom d 0)) msgType) (messageTable d made value table)
-      by-place msgType Nowhere name e = rw (message-none d passes index size msgType e, table-nowhere d made value table msgType name e) no-table
+      by-place msgType Nowhere name e = rw (message-none d passes index size msgType e, table-nowhere d made value table (place-named made value msgType name ∙ e)) no-table
       by-place msgType (At place) name e =
           let l = message-laid d passes index size msgType place e in
           rw (l .1) (laid-table value table msgType place (l .0) room name e (l .2))
 
       by-name : (name : MsgTypeName) → nameOf value ≡ name → TableOf table (layoutNamed [] (declarationsOf (recordsFrom d 0)) name) (messageTable d made value table)
-      by-name Unnamed e = unfold layoutNamed in rw (table-unnamed d made value table e) no-table
+      by-name Unnamed e = unfold layoutNamed in rw (table-nowhere d made value table (place-unnamed made value e)) no-table
       by-name (Named msgType) e = unfold layoutNamed in by-place msgType (messageAt made msgType) e refl

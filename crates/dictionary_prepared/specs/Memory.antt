@@ -1,6 +1,6 @@
--- Prepared memory. The caller lends bytes for a copy of the dictionary's records and words for what they name; `prepare` fills both or neither.
--- Every content of both is an input of what reads through them: what a build sees there is `recordsIn` and `indexIn`, for any content, and where
--- the stamp or a length is wrong it sees nothing.
+-- Prepared memory. The caller lends bytes for a copy of the dictionary's records and words for what they name and for tables; `prepare` fills both or
+-- neither. Every content of both is an input of what reads through them: what a build sees there is `recordsIn`, `indexIn` and `tablesIn`, for any
+-- content, and where the stamp or a length is wrong it sees nothing.
 use Prim.Native.Nat.{ℕ, _+_}
 use mathlib.Core.List.{List, _∷_, _++_}
 use mathlib.Core.Bool.{Bool, false}
@@ -10,6 +10,7 @@ use Rattle.field_rules.specs.Choice.{pick}
 use Rattle.dictionary_chains.specs.Chain.{indexWords}
 use Rattle.dictionary_rules.specs.Check.{checkOf, preparedOf, storeOf, numberOfCheck, valuesOfCheck}
 use Rattle.dictionary_rules.specs.declared.Checked.{Checked}
+use Rattle.dictionary_directory.specs.Directory.{layTables}
 use Rattle.dictionary_prepared.specs.declared.Preparing.{Preparing}
 use Rattle.dictionary_prepared.specs.declared.Preparing.the-variants.{Ready, NoRoom, Refused}
 
@@ -46,6 +47,18 @@ recordsIn copy memory = take (getD memory 2 0) copy
 unfoldable pub indexIn : List ℕ → List ℕ
 indexIn memory = take indexWords (drop front memory)
 
+-- and what stands behind the index
+unfoldable pub tablesIn : List ℕ → List ℕ
+tablesIn memory = drop headWords memory
+
+-- the index that the check of a dictionary leaves
+abbrev pub indexFor : List ℕ → List ℕ
+indexFor dictionary = storeOf (preparedOf dictionary (replicate indexWords 0))
+
+-- "The size of the memory changes the time and never an answer": tables are laid behind the head while there is room
+unfoldable pub memoryFor : List ℕ → List ℕ → List ℕ
+memoryFor dictionary memory = headFor (length dictionary) (indexFor dictionary) ++ layTables dictionary (indexFor dictionary) (drop headWords memory)
+
 -- the answer, and what is left in the copy and in the memory
 pub data Preparation : Type 0 where
   prepared : Preparing → List ℕ → List ℕ → Preparation
@@ -54,7 +67,7 @@ pub data Preparation : Type 0 where
 unfoldable pub byCheck : List ℕ → List ℕ → List ℕ → Checked → Preparation
 byCheck dictionary copy memory checked =
     pick (eqb (numberOfCheck checked) 0)
-    (prepared Ready (dictionary ++ drop (length dictionary) copy) (headFor (length dictionary) (storeOf (preparedOf dictionary (replicate indexWords 0))) ++ drop headWords memory))
+    (prepared Ready (dictionary ++ drop (length dictionary) copy) (memoryFor dictionary memory))
     (prepared (Refused checked) copy memory)
 
 -- "less than the dictionary's length and a fixed head is 23, before 30 to 37"

@@ -2,12 +2,12 @@
 -- what it names in the index; and on a refusal nothing was written.
 use mathlib.Core.Path.{_≡_, refl, ap, _∙_}
 use mathlib.Core.Bool.{Bool, true, false}
-use mathlib.Core.List.{List, [], _∷_, _++_}
-use Prim.Native.Nat.{ℕ, _+_, _≤_, _<_}
+use mathlib.Core.List.{List, [], _∷_, _++_, append-nil}
+use Prim.Native.Nat.{ℕ, _+_, _-_, _≤_, _<_}
 use native.Mathlib.Omega.{arith}
 use native.Mathlib.Numerals.{add-one}
-use lib.ListN.{length, getD, take, drop, set, replicate, length-append, length-drop, length-replicate}
-use lib.Seq.{sets-eq, paste, paste-suc, take-all, take-length, take-at, take-append-seam, drop-drop, drop-append-add, length-take-le}
+use lib.ListN.{length, getD, take, drop, set, replicate, length-append, length-drop, length-replicate, drop-of-length-le}
+use lib.Seq.{sets-eq, paste, paste-suc, take-all, take-length, take-at, drop-at, take-append-seam, drop-drop, drop-append-add, length-take-le}
 use lib.Dec.{eqb, leb, ltb}
 use borrow.Author.Tests.{eqb-true, eqb-false, ltb-true, ltb-false, leb-true, eq-eqb, ne-eqb, le-ltb, lt-ltb, le-leb}
 use Rattle.field_rules.specs.Choice.{pick}
@@ -16,9 +16,10 @@ use Rattle.dictionary_rules.specs.Check.{outcome, tooLong, checkOf, preparedOf,
 use Rattle.dictionary_rules.specs.Prepared.{check-long, prepared-names}
 use Rattle.dictionary_rules.specs.declared.Checked.{Checked}
 use Rattle.dictionary_rules.specs.declared.Checked.the-variants.{Passes, TooLong, BadRecord, NoComponent, UnknownTag, EmptyGroup, TooDeep, Twice, TooManyItems}
+use Rattle.dictionary_directory.specs.Directory.{layTables}
 use Rattle.dictionary_prepared.specs.declared.Preparing.{Preparing}
 use Rattle.dictionary_prepared.specs.declared.Preparing.the-variants.{Ready, NoRoom, Refused}
-use Rattle.dictionary_prepared.specs.Memory.{firstStamp, secondStamp, front, headWords, headFor, isPrepared, recordsIn, indexIn}
+use Rattle.dictionary_prepared.specs.Memory.{firstStamp, secondStamp, front, headWords, headFor, isPrepared, recordsIn, indexIn, tablesIn, indexFor, memoryFor}
 use Rattle.dictionary_prepared.specs.Memory.{Preparation, prepared, byCheck, preparation, preparingOf, copyOf, memoryOf, numberOfPreparing}
 
 -- the words in front of the index, written one by one
@@ -115,10 +116,6 @@ passes-short d passes = go (ltb 60000 (length d)) refl
         let long : checkOf d ≡ TooLong = check-long d (ltb-true 60000 (length d) e) in
         let z : _≡_ {A = ℕ} 0 1 = cc in absurd (omega arith)
 
--- the index that the check of a dictionary leaves
-abbrev pub indexFor : List ℕ → List ℕ
-indexFor d = storeOf (preparedOf d (replicate indexWords 0))
-
 pub index-length : (d : List ℕ) → checkOf d ≡ Passes → length (indexFor d) ≡ indexWords
 index-length d passes =
     prepared-names d (replicate indexWords 0) (length-replicate {A = ℕ} indexWords 0)
@@ -130,7 +127,7 @@ index-left d index checked e = ap storeOf e
 
 -- what is left where a dictionary passes
 abbrev pub readyWith : List ℕ → List ℕ → List ℕ → Preparation
-readyWith d copy memory = prepared Ready (d ++ drop (length d) copy) (headFor (length d) (indexFor d) ++ drop headWords memory)
+readyWith d copy memory = prepared Ready (d ++ drop (length d) copy) (memoryFor d memory)
 
 -- what `prepare` leaves, test by test
 module _ (d copy memory : List ℕ) where
@@ -156,9 +153,10 @@ module _ (d copy memory : List ℕ) where
       unfolding byCheck
       prepare-ready z = reached ∙ rw (eq-eqb (numberOfCheck checked) 0 z)
 
--- the copy and the head that were written are those of the dictionary
+-- the copy, the head and the tables that were written are those of the dictionary
 pub ready-left : (d copy memory copied words index : List ℕ) → copied ≡ take (length d) d ++ drop (length d) copy
-    → words ≡ headFor (length d) index ++ drop (3 + indexWords) memory → index ≡ indexFor d → prepared Ready copied words ≡ readyWith d copy memory
+    → words ≡ headFor (length d) index ++ layTables d index (drop headWords memory) → index ≡ indexFor d → prepared Ready copied words ≡ readyWith d copy memory
+unfolding memoryFor
 ready-left d copy memory copied words index e f g = rw (e, f, g, take-length d)
 
 -- the four ways that a preparation can end, by the answers to its tests
@@ -171,10 +169,10 @@ ended d copy memory few small passes =
 record Made (d copy memory c m : List ℕ) : Type 0 where
   pub passes : checkOf d ≡ Passes
   pub copied : c ≡ d ++ drop (length d) copy
-  pub headed : m ≡ headFor (length d) (indexFor d) ++ drop headWords memory
+  pub headed : m ≡ headFor (length d) (indexFor d) ++ layTables d (indexFor d) (drop headWords memory)
 
 made : (d copy memory c m : List ℕ) → prepared Ready c m ≡ preparation d copy memory → Made d copy memory c m
-unfolding preparation byCheck
+unfolding preparation byCheck memoryFor
 made d copy memory c m = go (ltb (length memory) headWords) (ltb (length copy) (length d)) (eqb (numberOfCheck (checkOf d)) 0) refl
   where
     go : (few small passes : Bool) → eqb (numberOfCheck (checkOf d)) 0 ≡ passes
@@ -195,6 +193,22 @@ module _ (n size : ℕ) (index rest : List ℕ) (long : length index ≡ n) wher
   unfolding headFor
   head-index = take-at index rest n long
 
+  head-rest : (m : List ℕ) → m ≡ headFor size index ++ rest → drop (front + n) m ≡ rest
+  unfolding headFor
+  head-rest m e = ap (λ (l : List ℕ). drop (front + n) l) e ∙ drop-at (firstStamp ∷ secondStamp ∷ size ∷ index) rest (front + n) (omega arith)
+
+  -- words that are laid over all that stands behind the head
+  pub rest-laid : (m : List ℕ) → m ≡ headFor size index ++ rest → (lays : List ℕ → List ℕ) (laid : List ℕ) → laid ≡ lays (take (length m - (front + n)) (drop (front + n) m)) →
+      take (front + n) m ++ (laid ++ drop (length m - (front + n)) (drop (front + n) m)) ≡ headFor size index ++ lays rest
+  unfolding headFor
+  rest-laid m e lays laid f =
+      let words : List ℕ = firstStamp ∷ secondStamp ∷ size ∷ index in
+      let behind : drop (front + n) m ≡ rest = head-rest m (unfold headFor in e) in
+      let many : length m - (front + n) ≡ length rest = omega (arith, ap length e, length-append index rest) in
+      let first : take (front + n) m ≡ words = ap (take (front + n)) e ∙ take-at words rest (front + n) (omega arith) in
+      rw (first, f, behind, many, take-all (length rest) rest (omega arith), drop-of-length-le rest {i = length rest} (omega arith))
+      (ap (λ (l : List ℕ). words ++ l) (append-nil (lays rest)))
+
   index-read : (m : List ℕ) → m ≡ headFor size index ++ rest → take n (drop front m) ≡ index
   index-read m e = ap (λ (l : List ℕ). take n (drop front l)) e ∙ head-index
 
@@ -210,6 +224,10 @@ module _ (dictionary copy memory c m : List ℕ) (h : prepared Ready c m ≡ pre
   long : length (indexFor dictionary) ≡ indexWords
   long = index-length dictionary (it .passes)
 
+  -- the tables that were laid behind the head
+  abbrev behind : List ℕ
+  behind = layTables dictionary (indexFor dictionary) (drop headWords memory)
+
   pub ready-passes : checkOf dictionary ≡ Passes
   ready-passes = it .passes
 
@@ -217,20 +235,25 @@ module _ (dictionary copy memory c m : List ℕ) (h : prepared Ready c m ≡ pre
   pub ready-stands : isPrepared c m ≡ true
   ready-stands =
       rw (it .headed)
-      (head-stands indexWords (length dictionary) (indexFor dictionary) (drop headWords memory) long c refl
+      (head-stands indexWords (length dictionary) (indexFor dictionary) behind long c refl
       (omega (arith, ap length (it .copied), length-append dictionary (drop (length dictionary) copy))))
 
   -- its records are read back
   pub ready-records : recordsIn c m ≡ dictionary
   unfolding recordsIn
   ready-records =
-      rw (it .headed, head-size indexWords (length dictionary) (indexFor dictionary) (drop headWords memory) long, it .copied)
+      rw (it .headed, head-size indexWords (length dictionary) (indexFor dictionary) behind long, it .copied)
       (take-append-seam dictionary (drop (length dictionary) copy))
 
   -- and so is the index that its check left
   pub ready-index : indexIn m ≡ storeOf (preparedOf dictionary (replicate indexWords 0))
   unfolding indexIn
-  ready-index = index-read indexWords (length dictionary) (indexFor dictionary) (drop headWords memory) long m (it .headed)
+  ready-index = index-read indexWords (length dictionary) (indexFor dictionary) behind long m (it .headed)
+
+  -- and the tables stand behind it
+  pub ready-tables : tablesIn m ≡ layTables dictionary (storeOf (preparedOf dictionary (replicate indexWords 0))) (drop headWords memory)
+  unfolding tablesIn
+  ready-tables = head-rest indexWords (length dictionary) (indexFor dictionary) behind long m (it .headed)
 
 -- on a refusal both are as they were
 pub refused-same : (dictionary copy memory c m : List ℕ) (p : Preparing) → prepared p c m ≡ preparation dictionary copy memory

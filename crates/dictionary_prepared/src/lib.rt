@@ -1,5 +1,6 @@
-// dictionary_prepared: a dictionary that is checked once for many messages. Its records are copied into bytes that the caller lends, and what
-// they name is left in words that the caller lends, behind a stamp. It reads no message; and it trusts no memory: what was not prepared is told.
+// dictionary_prepared: a dictionary that is checked once for many messages. Its records are copied into bytes that the caller lends; what they name
+// and the tables of its messages are left in words that the caller lends, behind a stamp. It reads no message; and it trusts no memory: what was not
+// prepared is told.
 use dictionary_rules::Checked;
 ghost use mathlib.Core.Path.{_≡_};
 ghost use Prim.Native.Nat.{_+_, _≤_};
@@ -79,7 +80,8 @@ fn put_head(size: u16, index: &[u16], memory: &mut [u16])
     }
 }
 
-// Checks a dictionary and prepares it: its records in the copy, what they name in the memory. On a refusal both are as they were.
+// Checks a dictionary and prepares it: its records in the copy, what they name in the memory, and behind that as many tables as have room. On a refusal
+// both are as they were.
 pub fn prepare(dictionary: &[u8], copy: &mut [u8], memory: &mut [u16]) -> Preparing
     ensures { λ r. ⌜ prepared r (now (copy .exit)) (now (memory .exit)) ≡ preparation (now (dictionary .entry)) (now (copy .entry)) (now (memory .entry)) ⌝ }
 {
@@ -96,5 +98,6 @@ pub fn prepare(dictionary: &[u8], copy: &mut [u8], memory: &mut [u16]) -> Prepar
     }
     bytes::copy(dictionary, copy);
     put_head(dictionary.len() as u16, &index[..], memory);
+    dictionary_directory::lay_tables(dictionary, &index[..], &mut memory[HEAD..]);
     Preparing::Ready
 }

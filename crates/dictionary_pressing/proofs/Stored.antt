@@ -2,12 +2,7 @@
 use mathlib.Core.Path.{_≡_, refl}
 use mathlib.Core.Bool.{Bool, true, false}
 use mir.Val.{boolByte}
-use Rattle.field_rules.specs.Choice.{pick}
 use Rattle.dictionary_layout_rules.specs.Table.{mark}
-
-pub stored-pick : (b : Bool) → boolByte b ≡ pick b 1 0
-stored-pick true = refl
-stored-pick false = refl
 
 pub stored-mark : (b : Bool) → boolByte b ≡ mark b
 unfolding mark

@@ -13,6 +13,7 @@ use borrow.Author.Tests.{eq-eqb, ne-eqb, eqb-true, eqb-false}
 use Rattle.field_rules.specs.Choice.{pick}
 use Rattle.dictionary_tables_rules.specs.Table.{tagAt}
 use Rattle.dictionary_tables_rules.specs.Laid.{Own, firstUnder, lastGroup, itemWords, itemsWords}
+use Rattle.dictionary_tables_rules.specs.PartLaws.{items-words-length}
 use Rattle.dictionary_pressing.specs.Linking.{Chain}
 
 -- the group so far goes on only where no later item of the tag has one
@@ -143,11 +144,6 @@ link-behind heads head link (own ∷ owns) = go (eqb (own .tag % heads) head) (l
     go false (inl e) = inl e
     go false (inr h) = inr (omega arith, omega arith)
 
-pub items-length : (heads link : ℕ) (owns : List Own) → length (itemsWords heads link owns) ≡ 5 * length owns
-unfolding itemsWords itemWords
-items-length heads link [] = refl
-items-length heads link (own ∷ owns) = omega (arith, items-length heads (link + 1) owns)
-
 -- how far a chain may go yet
 unfoldable pub ahead : ℕ → ℕ → ℕ
 ahead size link = pick (eqb link 0) 0 (1 + (size - link))
@@ -181,7 +177,7 @@ module _ (table : List ℕ) (start tag link : ℕ) (owns : List Own) (s : Seen t
         length-append (s .front) (itemWords (s .heads) (s .place + 1) (s .own) (s .later) ++ (itemsWords (s .heads) (s .place + 1 + 1) (s .later) ++ s .back)),
         five,
         length-append (itemsWords (s .heads) (s .place + 1 + 1) (s .later)) (s .back),
-        items-length (s .heads) (s .place + 1 + 1) (s .later),
+        items-words-length (s .heads) (s .place + 1 + 1) (s .later),
       )
     where
       five : length (itemWords (s .heads) (s .place + 1) (s .own) (s .later) ++ (itemsWords (s .heads) (s .place + 1 + 1) (s .later) ++ s .back)) ≡

@@ -6,8 +6,8 @@ use native.Mathlib.Numerals.{add-one}
 use native.Mathlib.Omega.{arith}
 use lib.ListN.{length, getD, set, take, drop, replicate, length-append, take-append-drop, length-replicate, replicate-append-replicate}
 use lib.Seq.{length-take-le, drop-drop, drop-cons, getD-drop, take-at, drop-at, append-snoc, take-suc-set, drop-set-lt}
-use Rattle.dictionary_tables_rules.specs.Table.{tagAt}
-use Rattle.dictionary_tables_rules.specs.Laid.{headWord, headsFor, partSize}
+use Rattle.dictionary_tables_rules.specs.Table.{headsFor, tagAt}
+use Rattle.dictionary_tables_rules.specs.Laid.{partSize}
 use Rattle.dictionary_pressing.specs.Linking.{ownAt, ownsFrom, itemsStart, cleared, linked}
 use Rattle.dictionary_pressing.specs.HeadLaws.{set-in}
 
@@ -43,18 +43,18 @@ cleared-same t u level count p e = rw (p, e)
 module _ (table : List ℕ) (level count : ℕ) (room : level + partSize count ≤ length table) where
   cleared-front : take level (cleared table level count) ≡ take level table
   unfolding cleared
-  cleared-front = take-at (take level table) (headWord count ∷ (replicate (headsFor count) 0 ++ drop (itemsStart level count) table)) level
+  cleared-front = take-at (take level table) (count ∷ (replicate (headsFor count) 0 ++ drop (itemsStart level count) table)) level
       (length-take-le level table (omega arith))
 
   cleared-items : drop (itemsStart level count) (cleared table level count) ≡ drop (itemsStart level count) table
   unfolding cleared
   cleared-items =
       ap (λ (l : List ℕ). drop (itemsStart level count) l)
-      (sym (append-assoc (take level table) (headWord count ∷ replicate (headsFor count) 0) (drop (itemsStart level count) table)))
-      ∙ drop-at (take level table ++ (headWord count ∷ replicate (headsFor count) 0)) (drop (itemsStart level count) table) (itemsStart level count)
+      (sym (append-assoc (take level table) (count ∷ replicate (headsFor count) 0) (drop (itemsStart level count) table)))
+      ∙ drop-at (take level table ++ (count ∷ replicate (headsFor count) 0)) (drop (itemsStart level count) table) (itemsStart level count)
       (unfold itemsStart in omega (
         arith,
-        length-append (take level table) (headWord count ∷ replicate (headsFor count) 0),
+        length-append (take level table) (count ∷ replicate (headsFor count) 0),
         length-take-le level table (omega arith),
         length-replicate {A = ℕ} (headsFor count) 0,
       ))
@@ -85,8 +85,8 @@ clear-on table level i h =
     ∙ ap (λ (l : List ℕ). l ++ drop (suc (level + 1 + i)) table) (replicate-append-replicate {A = ℕ} i 1 0)))
 
 pub clear-all : (table : List ℕ) (level count : ℕ) → level < length table →
-    clearedTo (set table level (headWord count)) level (headsFor count) ≡ cleared table level count
+    clearedTo (set table level count) level (headsFor count) ≡ cleared table level count
 unfolding clearedTo cleared itemsStart
 clear-all table level count h =
-    rw (add-one level, take-suc-set table level (headWord count) h, drop-set-lt (suc level + headsFor count) table level (headWord count) (omega arith))
-    (append-assoc (take level table) (headWord count ∷ []) (replicate (headsFor count) 0 ++ drop (suc level + headsFor count) table))
+    rw (add-one level, take-suc-set table level count h, drop-set-lt (suc level + headsFor count) table level count (omega arith))
+    (append-assoc (take level table) (count ∷ []) (replicate (headsFor count) 0 ++ drop (suc level + headsFor count) table))

@@ -10,10 +10,12 @@ use lib.Dec.{eqb}
 use Rattle.dictionary_layout_rules.specs.Layout.{Layout, end, field, group, items}
 use Rattle.dictionary_layout_rules.specs.Table.{tagAt, requiredAt, groupAt, linkAt, siblingsFrom}
 use Rattle.dictionary_layout_rules.specs.Tabled.{RowsStand, Tabled, field-rest, group-inner, group-rest, stands-length}
-use Rattle.dictionary_tables_rules.specs.Laid.{ownCount, headsFor, partSize, innerSize, tableSize, levelWords}
+use Rattle.dictionary_tables_rules.specs.Table.{headsFor}
+use Rattle.dictionary_tables_rules.specs.Laid.{ownCount, partSize, innerSize, tableSize, levelWords}
+use Rattle.dictionary_tables_rules.specs.Tabled.{level-length}
 use Rattle.dictionary_pressing.specs.Linking.{itemsStart, linked}
 use Rattle.dictionary_pressing.specs.Pressing.{putItem, pressed, pressItems, Pressing, Pressed, Forward}
-use Rattle.dictionary_pressing.specs.PressingLaws.{level-length, press-linked}
+use Rattle.dictionary_pressing.specs.PressingLaws.{press-linked}
 use Rattle.dictionary_pressing.specs.RowsLaws.{rows-counted, RowSays, field-says, group-says}
 
 -- the next item is a field

@@ -1,54 +1,22 @@
--- The heads of a level: how many it has, and how the head of one item more moves to it while the others stay.
+-- The heads of a level: each tag has one, and the head of one item more moves to it while the others stay.
 use mathlib.Core.Path.{_≡_, refl, sym, ap, _∙_}
-use mathlib.Core.Bool.{Bool, true, false}
-use mathlib.Core.Logic.{_⊎_, inl, inr}
 use mathlib.Core.List.{List, [], _∷_, _++_, append-assoc}
-use Prim.Native.Nat.{ℕ, zero, suc, _+_, _%_, _≤_, _<_}
+use Prim.Native.Nat.{ℕ, zero, suc, _+_, _%_, _<_}
 use native.Mathlib.Omega.{arith}
+use native.Mathlib.Nat.{mod-lt}
 use lib.ListN.{length, getD, set, replicate, length-append}
 use lib.Seq.{set-at, set-append-left}
-use lib.Dec.{eqb, ltb}
-use borrow.Author.Tests.{eq-eqb, ne-eqb, lt-ltb, le-ltb}
-use Rattle.field_rules.specs.Choice.{pick}
-use Rattle.dictionary_tables_rules.specs.Table.{headCount}
-use Rattle.dictionary_tables_rules.specs.Laid.{Own, headWord, headsFor, firstUnder, headWords}
+use borrow.Author.Tests.{eq-eqb, ne-eqb}
+use Rattle.dictionary_tables_rules.specs.Table.{headsFor}
+use Rattle.dictionary_tables_rules.specs.TableLaws.{heads-bounds}
+use Rattle.dictionary_tables_rules.specs.Laid.{Own, firstUnder, headWords}
 use Rattle.dictionary_pressing.specs.Linking.{headsSince}
 
-pub heads-many : (count : ℕ) → 16 < count → headsFor count ≡ 128
-unfolding headsFor headWord headCount
-heads-many count h = rw (lt-ltb 16 count h)
-
-pub heads-few : (count : ℕ) → count ≤ 16 → headsFor count ≡ 8
-unfolding headsFor headWord headCount
-heads-few count h = rw (le-ltb 16 count h)
-
-pub heads-some : (count : ℕ) → (headsFor count ≡ 8) ⊎ (headsFor count ≡ 128)
-unfolding headsFor headWord headCount
-heads-some count = go (ltb 16 count)
-  where
-    go : (t : Bool) → (_≡_ {A = ℕ} (pick (eqb (pick t 1 0) 0) 8 128) 8) ⊎ (_≡_ {A = ℕ} (pick (eqb (pick t 1 0) 0) 8 128) 128)
-    go true = inr refl
-    go false = inl refl
-
 pub head-below : (count tag : ℕ) → tag % headsFor count < headsFor count
-head-below count tag = go (headsFor count) (heads-some count)
-  where
-    go : (n : ℕ) → (n ≡ 8) ⊎ (n ≡ 128) → tag % n < n
-    go n (inl e) = rw e (omega arith)
-    go n (inr e) = rw e (omega arith)
+head-below count tag = mod-lt tag (omega (arith, heads-bounds count .0))
 
 pub heads-mod : (heads count tag : ℕ) → heads ≡ headsFor count → tag % heads < heads
 heads-mod heads count tag e = rw e (head-below count tag)
-
-pub heads-more : (count : ℕ) → 0 < headsFor count
-heads-more count = omega (arith, head-below count 0)
-
-pub heads-most : (count : ℕ) → headsFor count ≤ 128
-heads-most count = go (headsFor count) (heads-some count)
-  where
-    go : (n : ℕ) → (n ≡ 8) ⊎ (n ≡ 128) → n ≤ 128
-    go n (inl e) = omega arith
-    go n (inr e) = omega arith
 
 -- heads that an item doesn't have
 heads-same : (left heads head link : ℕ) (own : Own) (owns : List Own) → own .tag % heads < head →

@@ -8,3 +8,4 @@ pub mod Pressing
 pub mod PressingLaws
 pub mod ForwardLaws
 pub mod Sizing
+pub mod Tags

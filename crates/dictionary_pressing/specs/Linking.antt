@@ -5,8 +5,8 @@ use mathlib.Core.Path.{_≡_}
 use mathlib.Core.List.{List, [], _∷_, _++_}
 use lib.ListN.{length, getD, set, take, drop, replicate}
 use lib.Dec.{eqb}
-use Rattle.dictionary_tables_rules.specs.Table.{tagAt}
-use Rattle.dictionary_tables_rules.specs.Laid.{Own, headWord, headsFor, partSize, firstUnder, firstMarked, itemsWords, partWords}
+use Rattle.dictionary_tables_rules.specs.Table.{headsFor, tagAt}
+use Rattle.dictionary_tables_rules.specs.Laid.{Own, partSize, firstUnder, firstMarked, itemsWords, partWords}
 
 -- an item as it was written
 unfoldable pub ownAt : List ℕ → ℕ → Own
@@ -31,13 +31,13 @@ headsSince (suc left) heads head link owns = firstUnder heads head link owns ∷
 
 -- no item is linked yet
 unfoldable pub cleared : List ℕ → ℕ → ℕ → List ℕ
-cleared table level count = take level table ++ (headWord count ∷ (replicate (headsFor count) 0 ++ drop (itemsStart level count) table))
+cleared table level count = take level table ++ (count ∷ (replicate (headsFor count) 0 ++ drop (itemsStart level count) table))
 
 -- the items from one on are linked
 unfoldable pub linkedFrom : List ℕ → ℕ → ℕ → ℕ → List ℕ
 linkedFrom table level count i =
     take level table
-    ++ (headWord count
+    ++ (count
     ∷ (headsSince (headsFor count) (headsFor count) 0 (i + 1) (ownsBehind table level count i)
     ++ (take (5 * i) (drop (itemsStart level count) table)
     ++ (itemsWords (headsFor count) (i + 1) (ownsBehind table level count i) ++ drop (level + partSize count) table))))

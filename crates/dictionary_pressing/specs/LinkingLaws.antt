@@ -10,8 +10,8 @@ use lib.Seq.{length-take-le, take-add, drop-drop, drop-cons, getD-append-add}
 use lib.Dec.{eqb}
 use Rattle.field_rules.specs.Choice.{pick}
 use Rattle.dictionary_layout_rules.specs.Table.{mark}
-use Rattle.dictionary_tables_rules.specs.Table.{tagAt}
-use Rattle.dictionary_tables_rules.specs.Laid.{Own, headWord, headsFor, partSize, firstUnder, lastGroup, firstMarked, itemWords, itemsWords, headWords, partWords}
+use Rattle.dictionary_tables_rules.specs.Table.{headsFor, tagAt}
+use Rattle.dictionary_tables_rules.specs.Laid.{Own, partSize, firstUnder, lastGroup, firstMarked, itemWords, itemsWords, headWords, partWords}
 use Rattle.dictionary_pressing.specs.Linking.{ownAt, ownsFrom, itemsStart, ownsBehind, headsSince, cleared, linkedFrom, linked, linksPut, Linking, Chain}
 use Rattle.dictionary_pressing.specs.ChainLaws.{last-own}
 use Rattle.dictionary_pressing.specs.HeadLaws.{heads-set, heads-length, heads-get, heads-clear, heads-all, head-below, set-in, set-head}
@@ -80,7 +80,7 @@ module _ (table : List ℕ) (level count : ℕ) (room : level + partSize count �
       let n : length (drop (itemsStart level count) table) ≡ length table - itemsStart level count = length-drop (itemsStart level count) table in
       let e : itemsStart level count + 5 * count ≡ level + partSize count = (unfold itemsStart partSize in omega arith) in
       rw (behind-none table level count, heads-clear (headsFor count) (headsFor count) 0 (count + 1))
-      (ap (λ (l : List ℕ). take level table ++ (headWord count ∷ (replicate (headsFor count) 0 ++ l)))
+      (ap (λ (l : List ℕ). take level table ++ (count ∷ (replicate (headsFor count) 0 ++ l)))
       (sym (take-append-drop (5 * count) (drop (itemsStart level count) table))
       ∙ ap (λ (l : List ℕ). take (5 * count) (drop (itemsStart level count) table) ++ l) (drop-drop (5 * count) (itemsStart level count) table
       ∙ ap (λ (k : ℕ). drop k table) e)))
@@ -91,20 +91,20 @@ module _ (table : List ℕ) (level count : ℕ) (room : level + partSize count �
       let z : itemsStart level count + 5 * 0 ≡ itemsStart level count = omega arith in
       let n : count - 0 ≡ count = omega arith in
       rw (z, n, owns-length table (itemsStart level count) count, heads-all (headsFor count) (headsFor count) 0 (ownsFrom table (itemsStart level count) count))
-      (ap (λ (l : List ℕ). take level table ++ (headWord count ∷ l))
+      (ap (λ (l : List ℕ). take level table ++ (count ∷ l))
       (sym (append-assoc (headWords (headsFor count) (headsFor count) 0 (ownsFrom table (itemsStart level count) count))
       (itemsWords (headsFor count) 1 (ownsFrom table (itemsStart level count) count)) (drop (level + partSize count) table))))
 
   -- what stands before an item
   ahead-length : (i : ℕ) (heads : List ℕ) → i ≤ count → length heads ≡ headsFor count →
-      length (take level table ++ (headWord count ∷ (heads ++ take (5 * i) (drop (itemsStart level count) table)))) ≡ itemsStart level count + 5 * i
+      length (take level table ++ (count ∷ (heads ++ take (5 * i) (drop (itemsStart level count) table)))) ≡ itemsStart level count + 5 * i
   unfolding itemsStart
   ahead-length i heads h e =
       let d = length-drop (itemsStart level count) table in
       let w = start-within in
       omega (
         arith,
-        length-append (take level table) (headWord count ∷ (heads ++ take (5 * i) (drop (itemsStart level count) table))),
+        length-append (take level table) (count ∷ (heads ++ take (5 * i) (drop (itemsStart level count) table))),
         length-take-le level table (omega arith),
         length-append heads (take (5 * i) (drop (itemsStart level count) table)),
         length-take-le (5 * i) (drop (itemsStart level count) table) (omega arith),
@@ -138,7 +138,7 @@ module _ (table : List ℕ) (level count : ℕ) (room : level + partSize count �
         ∙ ap (λ (l : List ℕ). raw ++ take 5 l) (drop-drop (5 * i) (itemsStart level count) table ∙ five-words table at (omega (arith, start-within))))
 
     abbrev front : List ℕ
-    front = take level table ++ (headWord count ∷ (heads ++ raw))
+    front = take level table ++ (count ∷ (heads ++ raw))
 
     front-length : length front ≡ at
     front-length = ahead-length i heads (omega arith) (heads-length (headsFor count) (headsFor count) 0 (i + 1 + 1) later)
@@ -175,13 +175,13 @@ module _ (table : List ℕ) (level count : ℕ) (room : level + partSize count �
         let head : ℕ = own .tag % headsFor count in
         let below : head < headsFor count = head-below count (own .tag) in
         let size : length heads ≡ headsFor count = heads-length (headsFor count) (headsFor count) 0 (i + 1 + 1) later in
-        let n : level + 1 + head ≡ length (take level table ++ (headWord count ∷ [])) + head =
-        omega (arith, length-append (take level table) (headWord count ∷ []), length-take-le level table (omega arith)) in
+        let n : level + 1 + head ≡ length (take level table ++ (count ∷ [])) + head =
+        omega (arith, length-append (take level table) (count ∷ []), length-take-le level table (omega arith)) in
         let rest : List ℕ = take (5 * (i + 1)) (drop (itemsStart level count) table) ++ done in
-        ap (λ (m : ℕ). getD (take level table ++ (headWord count ∷ (heads ++ rest))) m 0) n
-        ∙ ap (λ (l : List ℕ). getD l (length (take level table ++ (headWord count ∷ [])) + head) 0)
-        (sym (append-assoc (take level table) (headWord count ∷ []) (heads ++ rest)))
-        ∙ getD-append-add (take level table ++ (headWord count ∷ [])) (heads ++ rest) head 0
+        ap (λ (m : ℕ). getD (take level table ++ (count ∷ (heads ++ rest))) m 0) n
+        ∙ ap (λ (l : List ℕ). getD l (length (take level table ++ (count ∷ [])) + head) 0)
+        (sym (append-assoc (take level table) (count ∷ []) (heads ++ rest)))
+        ∙ getD-append-add (take level table ++ (count ∷ [])) (heads ++ rest) head 0
         ∙ List·getD-append heads rest 0 head (omega arith)
         ∙ heads-get (headsFor count) (headsFor count) 0 (i + 1 + 1) head later below
         ∙ (let z : 0 + head ≡ head = omega arith in rw z)
@@ -194,7 +194,7 @@ module _ (table : List ℕ) (level count : ℕ) (room : level + partSize count �
           heads = headsFor count;
           place = i + 1;
           owns = later;
-          front = take level table ++ (headWord count ∷ (heads ++ take (5 * (i + 1)) (drop (itemsStart level count) table)));
+          front = take level table ++ (count ∷ (heads ++ take (5 * (i + 1)) (drop (itemsStart level count) table)));
           back = drop (level + partSize count) table;
           whole = simp append-assoc;
           starts = ahead-length (i + 1) heads (omega arith) (heads-length (headsFor count) (headsFor count) 0 (i + 1 + 1) later);
@@ -214,20 +214,20 @@ module _ (table : List ℕ) (level count : ℕ) (room : level + partSize count �
         ∙ ap (λ (u : List ℕ). set u (level + 1 + head) (i + 1))
         (set-item front done (getD table at 0) (getD table (at + 1) 0) (getD table (at + 2) 0) (getD table (at + 3) 0)
         (getD table (at + 4) 0) group marks link at front-length ∙ regroup words)
-        ∙ set-head (take level table) heads (raw ++ words) (headWord count) level head (i + 1) (length-take-le level table (omega arith))
+        ∙ set-head (take level table) heads (raw ++ words) count level head (i + 1) (length-take-le level table (omega arith))
         (rw heads-length (head-below count (own .tag)))
-        ∙ ap (λ (l : List ℕ). take level table ++ (headWord count ∷ (l ++ (raw ++ words))))
+        ∙ ap (λ (l : List ℕ). take level table ++ (count ∷ (l ++ (raw ++ words))))
         (heads-set (headsFor count) (headsFor count) 0 (i + 1) head own later (head-below count (own .tag)) (omega arith))
         ∙ relinked
       where
-        regroup : (words : List ℕ) → front ++ words ≡ take level table ++ (headWord count ∷ (heads ++ (raw ++ words)))
+        regroup : (words : List ℕ) → front ++ words ≡ take level table ++ (count ∷ (heads ++ (raw ++ words)))
         regroup words = simp append-assoc
 
         words-mean : itemWords (headsFor count) (i + 1) own later ≡ getD table at 0 ∷ getD table (at + 1) 0 ∷ group ∷ marks ∷ link ∷ []
         words-mean = words-of (headsFor count) (i + 1) own later (getD table at 0) (getD table (at + 1) 0) group marks link (unfold ownAt tagAt in
             refl) low g m l
 
-        relinked : take level table ++ (headWord count
+        relinked : take level table ++ (count
             ∷ (headsSince (headsFor count) (headsFor count) 0 (i + 1) (own ∷ later)
             ++ (raw ++ (getD table at 0 ∷ getD table (at + 1) 0 ∷ group ∷ marks ∷ link ∷ done)))) ≡ linkedFrom table level count i
         relinked = unfold linkedFrom itemsWords in rw (behind-on table level count i before, words-mean)
@@ -271,9 +271,6 @@ module _ (start table : List ℕ) (level count i marked : ℕ) (s : Linking star
   module _ (some : 0 < i) where
     abbrev item : ℕ
     item = itemsStart level count + 5 * (i - 1)
-
-    pub turn-within : item + 5 ≤ length table
-    turn-within = omega (arith, start-within start level count (s .room), s .kept, s .counted)
 
     one-more : i ≡ i - 1 + 1
     one-more = omega arith

@@ -11,53 +11,11 @@ use Rattle.dictionary_layout_rules.specs.Tabled.{mark-read}
 use Rattle.dictionary_layout_rules.specs.Layout.{Layout, end, field, group}
 use Rattle.dictionary_layout_rules.specs.Table.{mark}
 use Rattle.dictionary_tables_rules.specs.Table.{tagAt}
-use Rattle.dictionary_tables_rules.specs.Laid.{Own, ownCount, headsFor, partSize, innerSize, tableSize, ownItems, headWords, itemsWords, partWords, innerWords, levelWords}
+use Rattle.dictionary_tables_rules.specs.Laid.{Own, ownCount, partSize, innerSize, tableSize, ownItems, partWords, innerWords, levelWords}
+use Rattle.dictionary_tables_rules.specs.Tabled.{own-items-length, level-length}
 use Rattle.dictionary_pressing.specs.Linking.{ownAt, ownsFrom, itemsStart, linked}
-use Rattle.dictionary_pressing.specs.ChainLaws.{items-length}
-use Rattle.dictionary_pressing.specs.HeadLaws.{heads-length, heads-all, set-in}
+use Rattle.dictionary_pressing.specs.HeadLaws.{set-in}
 use Rattle.dictionary_pressing.specs.Pressing.{putItem, pressed, pressItems, rawItem, rawItems}
-
-own-length : (free : ℕ) (layout : Layout) → length (ownItems free layout) ≡ ownCount layout
-unfolding ownItems ownCount
-own-length free end = refl
-own-length free (field tag required rest) = omega (arith, own-length free rest)
-own-length free (group tag required inner rest) = omega (arith, own-length (free + tableSize inner) rest)
-
-heads-size : (left heads head : ℕ) (owns : List Own) → length (headWords left heads head owns) ≡ left
-heads-size left heads head owns = ap length (sym (heads-all left heads head owns)) ∙ heads-length left heads head 1 owns
-
-part-length : (owns : List Own) → length (partWords owns) ≡ partSize (length owns)
-unfolding partWords partSize
-part-length owns =
-    omega (
-      arith,
-      length-append (headWords (headsFor (length owns)) (headsFor (length owns)) 0 owns) (itemsWords (headsFor (length owns)) 1 owns),
-      heads-size (headsFor (length owns)) (headsFor (length owns)) 0 owns,
-      items-length (headsFor (length owns)) 1 owns,
-    )
-
-level-part : (free : ℕ) (layout : Layout) → length (partWords (ownItems free layout)) ≡ partSize (ownCount layout)
-level-part free layout = part-length (ownItems free layout) ∙ ap partSize (own-length free layout)
-
-inner-length : (free : ℕ) (layout : Layout) → length (innerWords free layout) ≡ innerSize layout
-unfolding innerWords innerSize
-inner-length free end = refl
-inner-length free (field tag required rest) = inner-length free rest
-inner-length free (group tag required inner rest) =
-    let at : ℕ = free + partSize (ownCount inner) in
-    omega (
-      arith,
-      length-append (partWords (ownItems at inner) ++ innerWords at inner) (innerWords (free + tableSize inner) rest),
-      length-append (partWords (ownItems at inner)) (innerWords at inner),
-      level-part at inner,
-      inner-length at inner,
-      inner-length (free + tableSize inner) rest,
-    )
-
-pub level-length : (level : ℕ) (layout : Layout) → length (levelWords level layout) ≡ tableSize layout
-level-length level layout =
-    let at : ℕ = level + partSize (ownCount layout) in
-    omega (arith, length-append (partWords (ownItems at layout)) (innerWords at layout), level-part at layout, inner-length at layout)
 
 raw-length : (owns : List Own) → length (rawItems owns) ≡ 5 * length owns
 unfolding rawItems rawItem
@@ -208,7 +166,7 @@ press-linked level layout table h =
     take-append-le level (take (itemsStart level n) table) (rawItems owns ++ body) (omega (arith, start-length, level-start))
     ∙ take-take level (itemsStart level n) table level-start in
     let read : ownsFrom (take (itemsStart level n) table ++ (rawItems owns ++ body)) (itemsStart level n) n ≡ owns =
-    raw-owns (take (itemsStart level n) table) body owns (itemsStart level n) n start-length (own-length (level + partSize n) layout) in
+    raw-owns (take (itemsStart level n) table) body owns (itemsStart level n) n start-length (own-items-length (level + partSize n) layout) in
     let behind : drop (level + partSize n) (take (itemsStart level n) table ++ (rawItems owns ++ body)) ≡ body =
     ap (λ (l : List ℕ). drop (level + partSize n) l) (sym (append-assoc (take (itemsStart level n) table) (rawItems owns) body))
     ∙ drop-at (take (itemsStart level n) table ++ rawItems owns) body (level + partSize n)
@@ -217,7 +175,7 @@ press-linked level layout table h =
       length-append (take (itemsStart level n) table) (rawItems owns),
       start-length,
       raw-length owns,
-      own-length (level + partSize n) layout,
+      own-items-length (level + partSize n) layout,
       start-part,
     )) in
     rw (written, front, read, behind)

@@ -1,17 +1,16 @@
 -- Rows that hold a layout, one item after the other: what a row says, where what follows stands, and how many a level has.
-use mathlib.Core.Path.{_≡_, refl, sym, ap, _∙_}
-use mathlib.Core.Bool.{Bool, true, false}
-use mathlib.Core.List.{List, [], _∷_, _++_, append-assoc}
-use Prim.Native.Nat.{ℕ, _+_, _*_, _/_, _≤_, _<_}
+use mathlib.Core.Path.{_≡_, refl, ap, _∙_}
+use mathlib.Core.Bool.{Bool}
+use mathlib.Core.List.{List, _∷_, _++_}
+use Prim.Native.Nat.{ℕ, _+_, _*_, _≤_, _<_}
 use native.Mathlib.Omega.{arith}
-use lib.ListN.{length, getD, length-append}
+use lib.ListN.{length, getD}
 use lib.Seq.{getD-append-add}
 use lib.Dec.{eqb}
 use Rattle.dictionary_layout_rules.specs.Layout.{Layout, end, field, group, items}
-use Rattle.dictionary_layout_rules.specs.Table.{mark, rowsFrom, tagAt, requiredAt, groupAt, linkAt, nextSibling, siblingsFrom, siblings, stopOf}
-use Rattle.dictionary_layout_rules.specs.TableLaws.{stop-level, walk-on, walk-end}
-use Rattle.dictionary_layout_rules.specs.Tabled.{RowsStand, ownRows, Tabled, mark-read, stands-length, level-rows}
-use Rattle.dictionary_layout_rules.specs.declared.Level.{Level}
+use Rattle.dictionary_layout_rules.specs.Table.{mark, rowsFrom, tagAt, requiredAt, groupAt, linkAt, nextSibling, siblingsFrom}
+use Rattle.dictionary_layout_rules.specs.TableLaws.{walk-on, walk-end}
+use Rattle.dictionary_layout_rules.specs.Tabled.{RowsStand, ownRows, Tabled, mark-read, own-rows}
 use Rattle.dictionary_tables_rules.specs.Laid.{ownCount}
 
 -- what a row says
@@ -55,13 +54,7 @@ own-rows-length at (group tag required inner rest) = omega (arith, own-rows-leng
 -- a level's rows are its own items
 pub rows-counted : (table : List ℕ) (first stop : ℕ) (layout : Layout) → Tabled table (record { first = first; end = stop }) layout →
     length (siblingsFrom table first stop) ≡ ownCount layout
-rows-counted table first stop layout t =
-    let level : Level = record { first = first; end = stop } in
-    let e : stopOf table level ≡ stop = stop-level table level (omega (arith, stands-length table first layout (t .stands), t .ends)) in
-    ap (λ (s : ℕ). length (siblingsFrom table first s)) (sym e) ∙ ap length (rows level) ∙ own-rows-length first layout
-  where
-    rows : (level : Level) → siblingsFrom table first (stopOf table (record { first = first; end = stop })) ≡ ownRows first layout
-    rows level = unfold siblings in level-rows table (record { first = first; end = stop }) layout t
+rows-counted table first stop layout t = ap length (own-rows table first stop layout (t .stands) (t .ends)) ∙ own-rows-length first layout
 
 -- a level's rows are counted one by one
 pub counted-on : (table : List ℕ) (at stop : ℕ) → at < stop →

@@ -12,8 +12,9 @@ use Rattle.field_rules.specs.Choice.{pick}
 use Rattle.dictionary_layout_rules.specs.Layout.{Layout, end, field, group, items}
 use Rattle.dictionary_layout_rules.specs.Table.{groupAt, linkAt, nextSibling, rowAt, Row, siblingsWithin, siblingsFrom}
 use Rattle.dictionary_layout_rules.specs.Tabled.{RowsStand, Tabled, field-rest, group-inner, group-rest}
-use Rattle.dictionary_tables_rules.specs.Laid.{ownCount, headsFor, partSize, innerSize, tableSize, tableOf}
-use Rattle.dictionary_pressing.specs.HeadLaws.{heads-many, heads-few, heads-most}
+use Rattle.dictionary_tables_rules.specs.Table.{headsFor}
+use Rattle.dictionary_tables_rules.specs.TableLaws.{heads-few, heads-many, heads-bounds}
+use Rattle.dictionary_tables_rules.specs.Laid.{ownCount, partSize, innerSize, tableSize, tableOf}
 use Rattle.dictionary_pressing.specs.Pressing.{pressed, Pressing, Pressable}
 use Rattle.dictionary_pressing.specs.RowsLaws.{rows-counted, field-says, group-says}
 
@@ -127,7 +128,7 @@ counted-most rows at stop = siblings-most (stop - at) rows at stop
 -- a part has few words to each item
 pub part-most : (count : ℕ) → partSize count ≤ 129 + 5 * count
 unfolding partSize
-part-most count = omega (arith, heads-most count)
+part-most count = omega (arith, heads-bounds count .1)
 
 part-bound : (count : ℕ) → partSize count ≤ 10 + 12 * count
 unfolding partSize

@@ -8,8 +8,9 @@ ghost use lib.ListN.{length, drop};
 ghost use Rattle.dictionary_layout_rules.specs.Layout.{Layout, items};
 ghost use Rattle.dictionary_layout_rules.specs.Tabled.{Tabled};
 ghost use Rattle.dictionary_layout_rules.specs.Table.{nextSibling, siblingsFrom};
-ghost use Rattle.dictionary_tables_rules.specs.Table.{tagAt};
-ghost use Rattle.dictionary_tables_rules.specs.Laid.{headsFor, partSize, tableSize, lastGroup, tableOf};
+ghost use Rattle.dictionary_tables_rules.specs.Table.{headsFor, tagAt};
+ghost use Rattle.dictionary_tables_rules.specs.Laid.{partSize, tableSize, lastGroup, tableOf};
+ghost use Rattle.dictionary_tables_rules.specs.Tags.{fieldsOf};
 ghost use Rattle.field_rules.specs.Choice.{pick};
 ghost use Rattle.dictionary_pressing.specs.Linking.{cleared, linked, linksPut, Chain};
 ghost use Rattle.dictionary_pressing.specs.Pressing.{putItem, Pressing, Pressed, Pressable};
@@ -40,12 +41,12 @@ fn heads_for(count: usize) -> usize
     8
 }
 
-// No item of the level is linked.
+// How many items the level has, none of them linked.
 fn clear_heads(table: &mut [u16], level: usize, count: usize)
-    requires { ⌜ level + partSize count ≤ length (now table) ⌝ }
+    requires { ⌜ (level + partSize count ≤ length (now table)) × (count < 65536) ⌝ }
     ensures { λ _. ⌜ now (table .exit) ≡ cleared (now (table .entry)) level count ⌝ }
 {
-    table[level] = (16 < count) as u16;
+    table[level] = count as u16;
     let heads = heads_for(count);
     let mut i: usize = 0;
     while i < heads {
@@ -250,4 +251,21 @@ pub fn press(rows: &[u32], count: usize, table: &mut [u16])
     ensures { λ _. ⌜ ((layout : Layout) → Tabled (now (rows .entry)) (record { first = 0; end = count }) layout → now (table .exit) ≡ tableOf layout ++ drop (tableSize layout) (now (table .entry))) ⌝ }
 {
     press_level(rows, 0, count, table, 0);
+}
+
+// Writes the table of a list of tags over the first words, and answers how many it has; the others stay.
+pub fn press_tags(tags: &[u32], table: &mut [u16]) -> usize
+    requires { ⌜ (length (now tags) ≤ 1024) × (tableSize (fieldsOf (now tags)) ≤ length (now table)) ⌝ }
+    ensures { λ r. ⌜ (now (table .exit) ≡ tableOf (fieldsOf (now (tags .entry))) ++ drop r (now (table .entry))) × (r ≡ tableSize (fieldsOf (now (tags .entry)))) ⌝ }
+{
+    let count = tags.len();
+    let mut slot = 1 + heads_for(count);
+    let mut next: usize = 0;
+    while next < count {
+        put_item(table, slot, tags[next], 0, false);
+        slot += STRIDE;
+        next += 1;
+    }
+    link_items(table, 0, count);
+    part_size(count)
 }

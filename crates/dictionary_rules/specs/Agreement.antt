@@ -9,8 +9,9 @@ use lib.ListN.{length, drop, replicate, length-append, length-drop, length-repli
 use lib.Dec.{eqb}
 use borrow.Author.Tests.{eqb-true, eqb-false}
 use Rattle.field_rules.specs.Choice.{pick}
-use Rattle.dictionary_chains.specs.Chain.{headWords, indexWords, keyOf, found, entered, numberAt}
-use Rattle.dictionary_chains.specs.ChainLaws.{Bounded, found-bounded, enter-length, enter-entry, enter-older, enter-bounded, enter-found, enter-elsewhere, clear-bounded, clear-found}
+use Rattle.dictionary_chains.specs.Chain.{headWords, indexWords, keyOf, entryAt, found, entered, numberAt}
+use Rattle.dictionary_chains.specs.ChainLaws.{enter-length, enter-bounded, enter-known, enter-found, enter-elsewhere, clear-bounded, clear-found}
+use Rattle.dictionary_chains.specs.TreeLaws.{Bounded}
 use Rattle.dictionary_chains.specs.declared.Table.{Table}
 use Rattle.dictionary_chains.specs.declared.Table.the-variants.{Tags, Components, MsgTypes}
 use Rattle.dictionary_chains.specs.declared.Entry.{Entry}
@@ -46,26 +47,31 @@ whole-component : (c : Component) → componentOf (componentEntry c) ≡ c
 unfolding componentOf componentEntry
 whole-component c = refl
 
--- a new entry changes no other answer
+-- an entry changes no answer but its own
 module _ (table : Table) (index : List ℕ) (e : Entry) (b : ℕ) (size : length index ≡ indexWords) (bound : Bounded index b) (early : e .place < 60000) (newer : b < numberAt (e .place)) where
-  number-some : numberAt (e .place) ≡ 0 → ⊥
-  number-some z = omega arith
-
   other-tag : (tag : ℕ) → (Tags ≡ table → tag ≡ keyOf table e → ⊥) → tagAt (entered table index e) tag ≡ tagAt index tag
   unfolding tagAt
-  other-tag tag apart = rw (enter-elsewhere table index e b size bound early newer Tags tag apart)
+  other-tag tag apart = rw (enter-elsewhere table index e b size bound early newer Tags tag apart .0)
 
   other-component : (number : ℕ) → (Components ≡ table → number ≡ keyOf table e → ⊥) → componentAt (entered table index e) number ≡ componentAt index number
   unfolding componentAt
   other-component number apart =
-      let old : found Components index number < numberAt (e .place) = omega (arith, found-bounded Components index number b bound) in
-      rw (enter-elsewhere table index e b size bound early newer Components number apart, enter-older table index e b size bound early newer (found Components index number) old)
+      let same = enter-elsewhere table index e b size bound early newer Components number apart in
+      rw (same .0, same .1)
 
   other-message : (msgType : ℕ) → (MsgTypes ≡ table → msgType ≡ keyOf table e → ⊥) → messageAt (entered table index e) msgType ≡ messageAt index msgType
   unfolding messageAt
   other-message msgType apart =
-      let old : found MsgTypes index msgType < numberAt (e .place) = omega (arith, found-bounded MsgTypes index msgType b bound) in
-      rw (enter-elsewhere table index e b size bound early newer MsgTypes msgType apart, enter-older table index e b size bound early newer (found MsgTypes index msgType) old)
+      let same = enter-elsewhere table index e b size bound early newer MsgTypes msgType apart in
+      rw (same .0, same .1)
+
+  -- what is found under its key is the entry
+  module _ (key : ℕ) (same : key ≡ keyOf table e) where
+    own-known : found table (entered table index e) key ≡ 0 → ⊥
+    own-known = rw same (enter-known table index e b size bound early newer)
+
+    own-entry : entryAt (entered table index e) (found table (entered table index e) key) ≡ e
+    own-entry = rw same (enter-found table index e b size bound early newer)
 
 not-components : Tags ≡ Components → ⊥
 not-components q = let z : _≡_ {A = ℕ} 0 1 = cc in omega arith
@@ -91,7 +97,7 @@ module _ (index : List ℕ) (names : Names) (b : ℕ) (a : Agrees index names b)
     where
       go : (t : ℕ) (s : Bool) → eqb t tag ≡ s → tagAt (entered Tags index (tagEntry place tag)) t ≡ pick s true (isKnown (names .tags) t)
       go t true q =
-          tag-known _ t (numberAt place) (ap (found Tags (entered Tags index (tagEntry place tag))) (eqb-true t tag q ∙ sym (tag-key place tag)) ∙ enter-found Tags index (tagEntry place tag) b (a .size) (a .bound) early newer) (number-some Tags index (tagEntry place tag) b (a .size) (a .bound) early newer)
+          tag-known _ t _ refl (own-known Tags index (tagEntry place tag) b (a .size) (a .bound) early newer t (eqb-true t tag q ∙ sym (tag-key place tag)))
       go t false q =
           other-tag Tags index (tagEntry place tag) b (a .size) (a .bound) early newer t (λ r k. eqb-false t tag q (k ∙ tag-key place tag)) ∙ a .tags t
 
@@ -112,8 +118,9 @@ module _ (index : List ℕ) (names : Names) (b : ℕ) (a : Agrees index names b)
 
       go : (n : ℕ) (s : Bool) → eqb n (c .number) ≡ s → componentAt (entered Components index (componentEntry c)) n ≡ pick s (Closed c) (componentIn (names .components) n)
       go n true q =
-          component-closed _ n (numberAt (c .place)) (ap (found Components (entered Components index (componentEntry c))) (eqb-true n (c .number) q ∙ sym (component-key c)) ∙ enter-found Components index (componentEntry c) b (a .size) (a .bound) early newer) (number-some Components index (componentEntry c) b (a .size) (a .bound) early newer)
-          ∙ ap (λ (x : Entry). Closed (componentOf x)) (enter-entry Components index (componentEntry c) b (a .size) (a .bound) early newer)
+          let same = eqb-true n (c .number) q ∙ sym (component-key c) in
+          component-closed _ n _ refl (own-known Components index (componentEntry c) b (a .size) (a .bound) early newer n same)
+          ∙ ap (λ (x : Entry). Closed (componentOf x)) (own-entry Components index (componentEntry c) b (a .size) (a .bound) early newer n same)
           ∙ ap Closed whole
       go n false q =
           other-component Components index (componentEntry c) b (a .size) (a .bound) early newer n (λ r k. eqb-false n (c .number) q (k ∙ component-key c)) ∙ a .components n
@@ -132,8 +139,9 @@ module _ (index : List ℕ) (names : Names) (b : ℕ) (a : Agrees index names b)
     where
       go : (m : ℕ) (s : Bool) → eqb m msgType ≡ s → messageAt (entered MsgTypes index (messageEntry place msgType)) m ≡ pick s (At place) (messageIn (names .messages) m)
       go m true q =
-          message-placed _ m (numberAt place) (ap (found MsgTypes (entered MsgTypes index (messageEntry place msgType))) (eqb-true m msgType q ∙ sym (message-key place msgType)) ∙ enter-found MsgTypes index (messageEntry place msgType) b (a .size) (a .bound) early newer) (number-some MsgTypes index (messageEntry place msgType) b (a .size) (a .bound) early newer)
-          ∙ ap (λ (x : Entry). At (x .place)) (enter-entry MsgTypes index (messageEntry place msgType) b (a .size) (a .bound) early newer)
+          let same = eqb-true m msgType q ∙ sym (message-key place msgType) in
+          message-placed _ m _ refl (own-known MsgTypes index (messageEntry place msgType) b (a .size) (a .bound) early newer m same)
+          ∙ ap (λ (x : Entry). At (x .place)) (own-entry MsgTypes index (messageEntry place msgType) b (a .size) (a .bound) early newer m same)
       go m false q =
           other-message MsgTypes index (messageEntry place msgType) b (a .size) (a .bound) early newer m (λ r k. eqb-false m msgType q (k ∙ message-key place msgType)) ∙ a .messages m
 

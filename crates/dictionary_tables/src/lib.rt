@@ -5,8 +5,10 @@ use dictionary_tables_rules::Item;
 use dictionary_tables_rules::Mark;
 ghost use mathlib.Core.Path.{_≡_};
 ghost use Prim.Native.Nat.{_+_, _*_, _≤_, _<_};
-ghost use lib.ListN.{length, getD};
-ghost use Rattle.dictionary_tables_rules.specs.Table.{headsAt, itemsAt, tagAt, itemOf, delimiterAt, markedBehind, markFrom};
+ghost use lib.ListN.{length};
+ghost use Rattle.dictionary_layout_rules.specs.Tree.{holdsTag};
+ghost use Rattle.dictionary_tables_rules.specs.Table.{headsAt, tagAt, itemOf, delimiterAt, markedBehind, markFrom};
+ghost use Rattle.dictionary_tables_rules.specs.Tags.{tagsFound};
 
 // Words to an item.
 const STRIDE: usize = 5;
@@ -22,10 +24,10 @@ fn heads_at(table: &[u16], level: usize) -> usize
     requires { ⌜ level < length (now table) ⌝ }
     ensures { λ r. ⌜ r ≡ headsAt (now (table .entry)) level ⌝ }
 {
-    if table[level] == 0 {
-        return 8;
+    if 16 < table[level] {
+        return 128;
     }
-    128
+    8
 }
 
 fn tag_at(table: &[u16], at: usize) -> u32
@@ -66,11 +68,24 @@ pub fn item_of(table: &[u16], level: usize, tag: u32) -> Item
     Item::Nowhere
 }
 
+// A tag is among those that a table stands for.
+pub fn holds(table: &[u16], tag: u32) -> bool
+    ensures { λ r. ⌜ r ≡ holdsTag tag (tagsFound (now (table .entry))) ⌝ }
+{
+    match item_of(table, 0, tag) {
+        Item::At(_, _) => true,
+        Item::Nowhere => false,
+    }
+}
+
 // The tag that opens each entry of a group.
 pub fn delimiter(table: &[u16], level: usize) -> FirstTag
     ensures { λ r. ⌜ r ≡ delimiterAt (now (table .entry)) level ⌝ }
 {
     if table.len() <= level {
+        return FirstTag::NoTag;
+    }
+    if table[level] == 0 {
         return FirstTag::NoTag;
     }
     let from = level + 1 + heads_at(table, level);
@@ -96,6 +111,9 @@ pub fn next_required(table: &[u16], level: usize, first: usize) -> Mark
     ensures { λ r. ⌜ r ≡ markFrom (now (table .entry)) level first ⌝ }
 {
     if table.len() <= level {
+        return Mark::NoMore;
+    }
+    if table[level] == 0 {
         return Mark::NoMore;
     }
     let from = level + 1 + heads_at(table, level);

@@ -2,13 +2,13 @@
 -- "If a tag stands twice in a layout, its position is the first, its group the last, and each required mark counts at its own place."
 use Prim.Native.Nat.{ℕ, zero, suc, _+_, _*_, _/_, _%_}
 use mathlib.Core.List.{List, [], _∷_, _++_}
-use mathlib.Core.Bool.{Bool, true, false}
+use mathlib.Core.Bool.{Bool}
 use lib.ListN.{length}
-use lib.Dec.{eqb, ltb}
+use lib.Dec.{eqb}
 use Rattle.field_rules.specs.Choice.{pick}
 use Rattle.dictionary_layout_rules.specs.Layout.{Layout, end, field, group}
 use Rattle.dictionary_layout_rules.specs.Table.{mark}
-use Rattle.dictionary_tables_rules.specs.Table.{itemStride, headCount}
+use Rattle.dictionary_tables_rules.specs.Table.{itemStride, headsFor}
 
 -- one of a level's own items, with where the level of its group starts
 pub record Own : Type 0 where
@@ -21,13 +21,6 @@ unfoldable pub ownCount : Layout → ℕ
 ownCount end = 0
 ownCount (field tag required rest) = 1 + ownCount rest
 ownCount (group tag required inner rest) = 1 + ownCount rest
-
--- the word that says how many heads so many items have
-unfoldable pub headWord : ℕ → ℕ
-headWord count = pick (ltb 16 count) 1 0
-
-unfoldable pub headsFor : ℕ → ℕ
-headsFor count = headCount (headWord count)
 
 -- words of a level's own part
 unfoldable pub partSize : ℕ → ℕ
@@ -80,7 +73,7 @@ headWords (suc left) heads head owns = firstUnder heads head 1 owns ∷ headWord
 -- a level's own part
 unfoldable pub partWords : List Own → List ℕ
 partWords owns =
-    headWord (length owns) ∷ (headWords (headsFor (length owns)) (headsFor (length owns)) 0 owns ++ itemsWords (headsFor (length owns)) 1 owns)
+    length owns ∷ (headWords (headsFor (length owns)) (headsFor (length owns)) 0 owns ++ itemsWords (headsFor (length owns)) 1 owns)
 
 -- the parts of the levels within, the first of which starts at `free`
 unfoldable pub innerWords : ℕ → Layout → List ℕ

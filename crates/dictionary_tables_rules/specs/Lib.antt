@@ -4,4 +4,6 @@ pub mod MarkLaws
 pub mod Laid
 pub mod PartLaws
 pub mod Tabled
+pub mod Tags
+pub mod TagsLaws
 pub mod Examples

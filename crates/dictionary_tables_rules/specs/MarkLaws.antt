@@ -5,7 +5,7 @@ use mathlib.Core.Bool.{Bool, true, false}
 use mathlib.Core.List.{List, [], _∷_}
 use Prim.Native.Nat.{ℕ, zero, suc, _+_, _-_, _/_, _%_, _≤_, _<_}
 use native.Mathlib.Omega.{arith}
-use lib.ListN.{length}
+use lib.ListN.{length, getD}
 use lib.Dec.{eqb, leb, ltb}
 use borrow.Author.Tests.{eq-eqb, ne-eqb, eqb-true, eqb-false, lt-ltb, le-ltb, leb-true, leb-false, ltb-true}
 use Rattle.field_rules.specs.Choice.{pick, pick-same}
@@ -84,62 +84,74 @@ module _ (table : List ℕ) (level : ℕ) where
   abbrev pub marksBehind : ℕ → ℕ
   marksBehind link = markedBehind link (markAt table (place link))
 
-  -- one step more than the fuel says
-  mark-more : (link : ℕ) → markFrom table level link ≡ markWithin (suc (length table)) table (itemsAt table level) link
+  -- a level without items has no marks
+  pub mark-empty : getD table level 0 ≡ 0 → (link : ℕ) → markFrom table level link ≡ NoMore
   unfolding markFrom
-  mark-more link = mark-fuel table (itemsAt table level) (suc (length table) - link) (suc (length table)) link (omega arith) (omega arith)
+  mark-empty e link = rw (eq-eqb _ _ e)
 
-  all-more : (link : ℕ) → requiredFrom table level link ≡ requiredWithin (suc (length table)) table (itemsAt table level) link
+  pub all-empty : getD table level 0 ≡ 0 → (link : ℕ) → requiredFrom table level link ≡ []
   unfolding requiredFrom
-  all-more link = all-fuel table (itemsAt table level) (suc (length table) - link) (suc (length table)) link (omega arith) (omega arith)
+  all-empty e link = rw (eq-eqb _ _ e)
 
-  -- behind an item one step less is enough
-  mark-behind : (link : ℕ) → markWithin (length table) table (itemsAt table level) (marksBehind link) ≡ markFrom table level (marksBehind link)
-  mark-behind link =
-      behind-either (λ (behind : ℕ). markWithin (length table) table (itemsAt table level) behind ≡ markFrom table level behind) link _
-      (mark-zero table (itemsAt table level) (length table) ∙ sym (mark-more 0 ∙ mark-zero table (itemsAt table level) (suc (length table))))
-      (λ behind rises. mark-fuel table (itemsAt table level) (length table) (suc (length table)) behind (omega arith) (omega arith) ∙ sym (mark-more behind))
+  module _ (filled : getD table level 0 ≡ 0 → ⊥) where
+    -- one step more than the fuel says
+    mark-more : (link : ℕ) → markFrom table level link ≡ markWithin (suc (length table)) table (itemsAt table level) link
+    unfolding markFrom
+    mark-more link =
+        rw (ne-eqb _ _ filled) (mark-fuel table (itemsAt table level) (suc (length table) - link) (suc (length table)) link (omega arith) (omega arith))
 
-  all-behind : (link : ℕ) → requiredWithin (length table) table (itemsAt table level) (marksBehind link) ≡ requiredFrom table level (marksBehind link)
-  all-behind link =
-      behind-either (λ (behind : ℕ). requiredWithin (length table) table (itemsAt table level) behind ≡ requiredFrom table level behind) link _
-      (all-zero table (itemsAt table level) (length table) ∙ sym (all-more 0 ∙ all-zero table (itemsAt table level) (suc (length table))))
-      (λ behind rises. all-fuel table (itemsAt table level) (length table) (suc (length table)) behind (omega arith) (omega arith) ∙ sym (all-more behind))
+    all-more : (link : ℕ) → requiredFrom table level link ≡ requiredWithin (suc (length table)) table (itemsAt table level) link
+    unfolding requiredFrom
+    all-more link =
+        rw (ne-eqb _ _ filled) (all-fuel table (itemsAt table level) (suc (length table) - link) (suc (length table)) link (omega arith) (omega arith))
 
-  module _ (link : ℕ) where
-    pub mark-none : link ≡ 0 → markFrom table level link ≡ NoMore
-    mark-none z = mark-more link ∙ unfold markWithin in rw (eq-eqb link 0 z)
+    -- behind an item one step less is enough
+    mark-behind : (link : ℕ) → markWithin (length table) table (itemsAt table level) (marksBehind link) ≡ markFrom table level (marksBehind link)
+    mark-behind link =
+        behind-either (λ (behind : ℕ). markWithin (length table) table (itemsAt table level) behind ≡ markFrom table level behind) link _
+        (mark-zero table (itemsAt table level) (length table) ∙ sym (mark-more 0 ∙ mark-zero table (itemsAt table level) (suc (length table))))
+        (λ behind rises. mark-fuel table (itemsAt table level) (length table) (suc (length table)) behind (omega arith) (omega arith) ∙ sym (mark-more behind))
 
-    pub all-none : link ≡ 0 → requiredFrom table level link ≡ []
-    all-none z = all-more link ∙ unfold requiredWithin in rw (eq-eqb link 0 z)
+    all-behind : (link : ℕ) → requiredWithin (length table) table (itemsAt table level) (marksBehind link) ≡ requiredFrom table level (marksBehind link)
+    all-behind link =
+        behind-either (λ (behind : ℕ). requiredWithin (length table) table (itemsAt table level) behind ≡ requiredFrom table level behind) link _
+        (all-zero table (itemsAt table level) (length table) ∙ sym (all-more 0 ∙ all-zero table (itemsAt table level) (suc (length table))))
+        (λ behind rises. all-fuel table (itemsAt table level) (length table) (suc (length table)) behind (omega arith) (omega arith) ∙ sym (all-more behind))
 
-    pub mark-past : length table < place link + 5 → markFrom table level link ≡ NoMore
-    mark-past h = mark-more link ∙ unfold markWithin in rw (item-past table (itemsAt table level) link h, pick-same)
+    module _ (link : ℕ) where
+      pub mark-none : link ≡ 0 → markFrom table level link ≡ NoMore
+      mark-none z = mark-more link ∙ unfold markWithin in rw (eq-eqb link 0 z)
 
-    pub all-past : length table < place link + 5 → requiredFrom table level link ≡ []
-    all-past h = all-more link ∙ unfold requiredWithin in rw (item-past table (itemsAt table level) link h, pick-same)
+      pub all-none : link ≡ 0 → requiredFrom table level link ≡ []
+      all-none z = all-more link ∙ unfold requiredWithin in rw (eq-eqb link 0 z)
 
-    module _ (some : link ≡ 0 → ⊥) (within : place link + 5 ≤ length table) where
-      pub mark-hit : markAt table (place link) % 2 ≡ 1 → markFrom table level link ≡ Required (tagAt table (place link)) (marksBehind link)
-      mark-hit e = mark-more link ∙ unfold markWithin in rw (ne-eqb link 0 some, item-lies table (itemsAt table level) link within, eq-eqb _ _ e)
+      pub mark-past : length table < place link + 5 → markFrom table level link ≡ NoMore
+      mark-past h = mark-more link ∙ unfold markWithin in rw (item-past table (itemsAt table level) link h, pick-same)
 
-      pub all-hit : markAt table (place link) % 2 ≡ 1 → requiredFrom table level link ≡ tagAt table (place link) ∷ requiredFrom table level (marksBehind link)
-      all-hit e =
-          all-more link
-          ∙ unfold requiredWithin in rw (ne-eqb link 0 some, item-lies table (itemsAt table level) link within, eq-eqb _ _ e)
-          (ap (λ (tags : List ℕ). tagAt table (place link) ∷ tags) (all-behind link))
+      pub all-past : length table < place link + 5 → requiredFrom table level link ≡ []
+      all-past h = all-more link ∙ unfold requiredWithin in rw (item-past table (itemsAt table level) link h, pick-same)
 
-      pub mark-on : (markAt table (place link) % 2 ≡ 1 → ⊥) → markFrom table level link ≡ markFrom table level (marksBehind link)
-      mark-on e =
-          mark-more link
-          ∙ unfold markWithin in rw (ne-eqb link 0 some, item-lies table (itemsAt table level) link within, ne-eqb _ _ e)
-          (mark-behind link)
+      module _ (some : link ≡ 0 → ⊥) (within : place link + 5 ≤ length table) where
+        pub mark-hit : markAt table (place link) % 2 ≡ 1 → markFrom table level link ≡ Required (tagAt table (place link)) (marksBehind link)
+        mark-hit e = mark-more link ∙ unfold markWithin in rw (ne-eqb link 0 some, item-lies table (itemsAt table level) link within, eq-eqb _ _ e)
 
-      pub all-on : (markAt table (place link) % 2 ≡ 1 → ⊥) → requiredFrom table level link ≡ requiredFrom table level (marksBehind link)
-      all-on e =
-          all-more link
-          ∙ unfold requiredWithin in rw (ne-eqb link 0 some, item-lies table (itemsAt table level) link within, ne-eqb _ _ e)
-          (all-behind link)
+        pub all-hit : markAt table (place link) % 2 ≡ 1 → requiredFrom table level link ≡ tagAt table (place link) ∷ requiredFrom table level (marksBehind link)
+        all-hit e =
+            all-more link
+            ∙ unfold requiredWithin in rw (ne-eqb link 0 some, item-lies table (itemsAt table level) link within, eq-eqb _ _ e)
+            (ap (λ (tags : List ℕ). tagAt table (place link) ∷ tags) (all-behind link))
+
+        pub mark-on : (markAt table (place link) % 2 ≡ 1 → ⊥) → markFrom table level link ≡ markFrom table level (marksBehind link)
+        mark-on e =
+            mark-more link
+            ∙ unfold markWithin in rw (ne-eqb link 0 some, item-lies table (itemsAt table level) link within, ne-eqb _ _ e)
+            (mark-behind link)
+
+        pub all-on : (markAt table (place link) % 2 ≡ 1 → ⊥) → requiredFrom table level link ≡ requiredFrom table level (marksBehind link)
+        all-on e =
+            all-more link
+            ∙ unfold requiredWithin in rw (ne-eqb link 0 some, item-lies table (itemsAt table level) link within, ne-eqb _ _ e)
+            (all-behind link)
 
 -- what an answer says of the required tags from a link on
 data Says (table : List ℕ) (level link : ℕ) : Mark → Type 0 where
@@ -153,34 +165,40 @@ module _ (table : List ℕ) (level : ℕ) where
   passed link behind NoMore e (no-more q) = no-more (e ∙ q)
   passed link behind (Required tag later) e (one-more q) = one-more (e ∙ q)
 
-  says-zero : Says table level 0 (markFrom table level 0)
-  says-zero = rw (mark-none table level 0 refl) (no-more (all-none table level 0 refl))
+  module _ (filled : getD table level 0 ≡ 0 → ⊥) where
+    says-none : (link : ℕ) → link ≡ 0 → Says table level link (markFrom table level link)
+    says-none link z = rw (mark-none table level filled link z) (no-more (all-none table level filled link z))
 
-  says-past : (link : ℕ) → length table < place table level link + 5 → Says table level link (markFrom table level link)
-  says-past link h = rw (mark-past table level link h) (no-more (all-past table level link h))
+    says-past : (link : ℕ) → length table < place table level link + 5 → Says table level link (markFrom table level link)
+    says-past link h = rw (mark-past table level filled link h) (no-more (all-past table level filled link h))
 
-  -- by what lies between the link and the table's end
-  says : (k link : ℕ) → length table < k + link → Says table level link (markFrom table level link)
-  says zero link h = says-past link (unfold itemAt in omega arith)
-  says (suc k) link h =
-      go (eqb link 0) refl (leb (place table level link + 5) (length table)) refl (eqb (markAt table (place table level link) % 2) 1) refl
-      (behind-either (λ (behind : ℕ). Says table level behind (markFrom table level behind)) link _ says-zero (λ behind rises. says k behind (omega arith)))
-    where
-      go : (none : Bool) → eqb link 0 ≡ none → (within : Bool) → leb (place table level link + 5) (length table) ≡ within →
-          (marked : Bool) → eqb (markAt table (place table level link) % 2) 1 ≡ marked →
-          Says table level (marksBehind table level link) (markFrom table level (marksBehind table level link)) →
-          Says table level link (markFrom table level link)
-      go true z within w marked m later = let none = eqb-true link 0 z in rw (mark-none table level link none) (no-more (all-none table level link none))
-      go false z false w marked m later = says-past link (leb-false _ _ w)
-      go false z true w true m later =
-          rw (mark-hit table level link (eqb-false _ _ z) (leb-true _ _ w) (eqb-true _ _ m))
-          (one-more (all-hit table level link (eqb-false _ _ z) (leb-true _ _ w) (eqb-true _ _ m)))
-      go false z true w false m later =
-          rw (mark-on table level link (eqb-false _ _ z) (leb-true _ _ w) (eqb-false _ _ m))
-          (passed link _ _ (all-on table level link (eqb-false _ _ z) (leb-true _ _ w) (eqb-false _ _ m)) later)
+    -- by what lies between the link and the table's end
+    says : (k link : ℕ) → length table < k + link → Says table level link (markFrom table level link)
+    says zero link h = says-past link (unfold itemAt in omega arith)
+    says (suc k) link h =
+        go (eqb link 0) refl (leb (place table level link + 5) (length table)) refl (eqb (markAt table (place table level link) % 2) 1) refl
+        (behind-either (λ (behind : ℕ). Says table level behind (markFrom table level behind)) link _ (says-none 0 refl)
+        (λ behind rises. says k behind (omega arith)))
+      where
+        go : (none : Bool) → eqb link 0 ≡ none → (within : Bool) → leb (place table level link + 5) (length table) ≡ within →
+            (marked : Bool) → eqb (markAt table (place table level link) % 2) 1 ≡ marked →
+            Says table level (marksBehind table level link) (markFrom table level (marksBehind table level link)) →
+            Says table level link (markFrom table level link)
+        go true z within w marked m later = says-none link (eqb-true link 0 z)
+        go false z false w marked m later = says-past link (leb-false _ _ w)
+        go false z true w true m later =
+            rw (mark-hit table level filled link (eqb-false _ _ z) (leb-true _ _ w) (eqb-true _ _ m))
+            (one-more (all-hit table level filled link (eqb-false _ _ z) (leb-true _ _ w) (eqb-true _ _ m)))
+        go false z true w false m later =
+            rw (mark-on table level filled link (eqb-false _ _ z) (leb-true _ _ w) (eqb-false _ _ m))
+            (passed link _ _ (all-on table level filled link (eqb-false _ _ z) (leb-true _ _ w) (eqb-false _ _ m)) later)
 
   says-all : (link : ℕ) → Says table level link (markFrom table level link)
-  says-all link = says (suc (length table)) link (omega arith)
+  says-all link = go (eqb (getD table level 0) 0) refl
+    where
+      go : (none : Bool) → eqb (getD table level 0) 0 ≡ none → Says table level link (markFrom table level link)
+      go true z = let none = eqb-true _ _ z in rw (mark-empty table level none link) (no-more (all-empty table level none link))
+      go false z = says (eqb-false _ _ z) (suc (length table)) link (omega arith)
 
   pub required-none : (link : ℕ) → markFrom table level link ≡ NoMore → requiredFrom table level link ≡ []
   required-none link e = go _ e (says-all link)

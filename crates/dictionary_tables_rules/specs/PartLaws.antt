@@ -15,10 +15,10 @@ use Rattle.field_rules.specs.Choice.{pick}
 use Rattle.dictionary_layout_rules.specs.Table.{mark}
 use Rattle.dictionary_layout_rules.specs.declared.FirstTag.{FirstTag}
 use Rattle.dictionary_layout_rules.specs.declared.FirstTag.the-variants.{First, NoTag}
-use Rattle.dictionary_tables_rules.specs.Table.{headCount, headsAt, itemsAt, itemAt, tagAt, groupAt, markAt, laterAt, followed, itemOf, delimiterAt, markedBehind, requiredFrom, requiredOf}
-use Rattle.dictionary_tables_rules.specs.TableLaws.{follow-none, follow-hit, follow-stop, follow-on, delimiter-some, delimiter-none}
-use Rattle.dictionary_tables_rules.specs.MarkLaws.{behind-rises, behind-ends, all-none, all-past, all-hit, all-on}
-use Rattle.dictionary_tables_rules.specs.Laid.{Own, headWord, headsFor, partSize, firstUnder, lastGroup, firstMarked, itemWords, itemsWords, headWords, partWords}
+use Rattle.dictionary_tables_rules.specs.Table.{headsFor, headsAt, itemsAt, itemAt, tagAt, groupAt, markAt, laterAt, followed, itemOf, delimiterAt, markedBehind, requiredFrom, requiredOf}
+use Rattle.dictionary_tables_rules.specs.TableLaws.{heads-bounds, follow-none, follow-hit, follow-stop, follow-on, delimiter-empty, delimiter-some}
+use Rattle.dictionary_tables_rules.specs.MarkLaws.{behind-rises, behind-ends, all-empty, all-none, all-hit, all-on}
+use Rattle.dictionary_tables_rules.specs.Laid.{Own, partSize, firstUnder, lastGroup, firstMarked, itemWords, itemsWords, headWords, partWords}
 use Rattle.dictionary_tables_rules.specs.declared.Item.{Item}
 use Rattle.dictionary_tables_rules.specs.declared.Item.the-variants.{At, Nowhere}
 
@@ -74,17 +74,9 @@ part-length owns = let heads = headsFor (length owns) in
 
 -- ===== heads and items are read where they were laid =====
 
-heads-bound : (count : ℕ) → 8 ≤ headsFor count
-unfolding headsFor headCount
-heads-bound count = go (eqb (headWord count) 0)
-  where
-    go : (t : Bool) → 8 ≤ pick t 8 128
-    go true = omega arith
-    go false = omega arith
-
 pub part-some : (count : ℕ) → 9 ≤ partSize count
 unfolding partSize
-part-some count = omega (arith, heads-bound count)
+part-some count = omega (arith, heads-bounds count .0)
 
 head-word : (left heads head : ℕ) (owns : List Own) (k : ℕ) → k < left → getD (headWords left heads head owns) k 0 ≡ firstUnder heads (head + k) 1 owns
 unfolding headWords
@@ -93,9 +85,9 @@ head-word (suc left) heads head owns zero h = ap (λ (n : ℕ). firstUnder heads
 head-word (suc left) heads head owns (suc k) h = head-word left heads (head + 1) owns k (omega arith) ∙ ap (λ (n : ℕ). firstUnder heads n 1 owns) (omega arith)
 
 -- the five words of an item
-record ItemRead (table : List ℕ) (at heads link : ℕ) (own : Own) (later : List Own) : Type 0 where
-  within : at + 5 ≤ length table
-  tag-read : tagAt table at ≡ own .tag
+pub record ItemRead (table : List ℕ) (at heads link : ℕ) (own : Own) (later : List Own) : Type 0 where
+  pub within : at + 5 ≤ length table
+  pub tag-read : tagAt table at ≡ own .tag
   group-read : groupAt table at ≡ lastGroup 0 (own .tag) (own ∷ later)
   mark-read : markAt table at ≡ 2 * firstMarked (link + 1) later + mark (own .required)
   later-read : laterAt table at ≡ firstUnder heads (own .tag % heads) (link + 1) later
@@ -116,13 +108,13 @@ item-read table at heads link own later s =
 -- the items from a position on: the first of them, and those behind it
 module _ (table : List ℕ) (from heads position : ℕ) (own : Own) (owns : List Own)
     (s : Stands table (from + 5 * position) (itemsWords heads (position + 1) (own ∷ owns))) where
-  item-first : ItemRead table (itemAt from (position + 1)) heads (position + 1) own owns
+  pub item-first : ItemRead table (itemAt from (position + 1)) heads (position + 1) own owns
   unfolding itemsWords itemAt
   item-first =
       let place : from + 5 * position ≡ from + 5 * (position + 1 - 1) = omega arith in
       item-read table _ heads (position + 1) own owns (rw place at (stands-first (itemWords heads (position + 1) own owns) _ s))
 
-  items-behind : Stands table (from + 5 * (position + 1)) (itemsWords heads (position + 1 + 1) owns)
+  pub items-behind : Stands table (from + 5 * (position + 1)) (itemsWords heads (position + 1 + 1) owns)
   unfolding itemsWords itemWords
   items-behind =
       let place : from + 5 * position + 5 ≡ from + 5 * (position + 1) = omega arith in
@@ -222,7 +214,7 @@ marks-behind link word next true e (inr h) = behind-rises link word (omega arith
 marks-behind link word next false e (inl z) = behind-ends link word (omega arith) ∙ sym z
 marks-behind link word next false e (inr h) = behind-rises link word (omega arith) ∙ omega arith
 
-module _ (table : List ℕ) (level heads : ℕ) where
+module _ (table : List ℕ) (level heads : ℕ) (filled : getD table level 0 ≡ 0 → ⊥) where
   -- asking from an item on gives its own tag, if it has the mark, and then those from the next mark on
   item-marks : (position : ℕ) (own : Own) (later : List Own) → ItemRead table (itemAt (itemsAt table level) (position + 1)) heads (position + 1) own later →
       requiredFrom table level (firstMarked (position + 1 + 1) later) ≡ requiredAmong later →
@@ -236,18 +228,18 @@ module _ (table : List ℕ) (level heads : ℕ) where
       go : (t : Bool) → own .required ≡ t → requiredFrom table level (position + 1) ≡ pick t (own .tag ∷ requiredAmong later) (requiredAmong later)
       go true t =
           let one : mark (own .required) ≡ 1 = ap mark t in
-          all-hit table level (position + 1) (λ z. omega arith) (r .within) (omega (arith, r .mark-read, one))
+          all-hit table level filled (position + 1) (λ z. omega arith) (r .within) (omega (arith, r .mark-read, one))
           ∙ rw (r .tag-read, behind, goes)
       go false t =
           let none : mark (own .required) ≡ 0 = ap mark t in
-          all-on table level (position + 1) (λ z. omega arith) (r .within) (λ e. omega (arith, r .mark-read, none))
+          all-on table level filled (position + 1) (λ z. omega arith) (r .within) (λ e. omega (arith, r .mark-read, none))
           ∙ rw (behind, goes)
 
   -- from the first mark on, a part's marks are those of its items
   marks : (position : ℕ) (owns : List Own) → Stands table (itemsAt table level + 5 * position) (itemsWords heads (position + 1) owns) →
       requiredFrom table level (firstMarked (position + 1) owns) ≡ requiredAmong owns
   unfolding firstMarked
-  marks position [] s = all-none table level 0 refl ∙ unfold requiredAmong in refl
+  marks position [] s = all-none table level filled 0 refl ∙ unfold requiredAmong in refl
   marks position (own ∷ owns) s = go (own .required) refl (marks (position + 1) owns (items-behind table (itemsAt table level) heads position own owns s))
     where
       go : (t : Bool) → own .required ≡ t → requiredFrom table level (firstMarked (position + 1 + 1) owns) ≡ requiredAmong owns →
@@ -262,13 +254,18 @@ firstAmong [] = NoTag
 firstAmong (own ∷ owns) = First (own .tag)
 
 module _ (table : List ℕ) (level : ℕ) (owns : List Own) (s : Stands table level (partWords owns)) where
+  -- a level's first word says how many items it has
+  count-read : getD table level 0 ≡ length owns
+  unfolding partWords
+  count-read = stands-word _ s level 0 (omega arith) (omega arith)
+
   pub heads-read : headsAt table level ≡ headsFor (length owns)
-  unfolding headsAt headsFor partWords
-  heads-read = ap headCount (stands-word _ s level 0 (omega arith) (omega arith))
+  unfolding headsAt
+  heads-read = ap headsFor count-read
 
   words-stand : Stands table (level + 1) (headWords (headsFor (length owns)) (headsFor (length owns)) 0 owns ++ itemsWords (headsFor (length owns)) 1 owns)
   unfolding partWords
-  words-stand = stands-second (headWord (length owns) ∷ []) _ s
+  words-stand = stands-second (length owns ∷ []) _ s
 
   head-read : (k : ℕ) → k < headsFor (length owns) → getD table (level + 1 + k) 0 ≡ firstUnder (headsFor (length owns)) k 1 owns
   head-read k h = let heads = headsFor (length owns) in
@@ -287,33 +284,29 @@ module _ (table : List ℕ) (level : ℕ) (owns : List Own) (s : Stands table le
   pub item-among : (tag : ℕ) → itemOf table level tag ≡ itemAmong tag 0 owns
   unfolding itemOf
   item-among tag = let heads = headsFor (length owns) in
-      rw (heads-read, head-read (tag % heads) (mod-lt tag (omega (arith, heads-bound (length owns)))))
+      rw (heads-read, head-read (tag % heads) (mod-lt tag (omega (arith, heads-bounds (length owns) .0))))
       (chain table (itemsAt table level) heads tag 0 owns items-stand)
 
--- what stands behind an empty part isn't taken for an item, if there is no room for one
-empty-items : (table : List ℕ) (level : ℕ) → Stands table level (partWords []) → itemsAt table level ≡ level + 9
-unfolding itemsAt headsFor headWord headCount
-empty-items table level s = omega (arith, heads-read table level [] s)
+filled : (table : List ℕ) (level : ℕ) (own : Own) (owns : List Own) → Stands table level (partWords (own ∷ owns)) → getD table level 0 ≡ 0 → ⊥
+filled table level own owns s e = omega (arith, count-read table level (own ∷ owns) s)
 
 first-place : (table : List ℕ) (level : ℕ) → itemAt (itemsAt table level) 1 ≡ itemsAt table level
 unfolding itemAt
 first-place table level = omega arith
 
-pub delimiter-among : (table : List ℕ) (level : ℕ) (owns : List Own) → Stands table level (partWords owns) →
-    (owns ≡ [] → length table < level + 14) → delimiterAt table level ≡ firstAmong owns
+pub delimiter-among : (table : List ℕ) (level : ℕ) (owns : List Own) → Stands table level (partWords owns) → delimiterAt table level ≡ firstAmong owns
 unfolding firstAmong
-delimiter-among table level [] s alone = delimiter-none table level (omega (arith, alone refl, empty-items table level s))
-delimiter-among table level (own ∷ owns) s alone =
+delimiter-among table level [] s = delimiter-empty table level (count-read table level [] s)
+delimiter-among table level (own ∷ owns) s =
     let r = item-first table (itemsAt table level) _ 0 own owns (items-stand table level (own ∷ owns) s) in
     let place = first-place table level in
-    delimiter-some table level (omega (arith, r .within, place)) ∙ ap First (ap (tagAt table) (sym place) ∙ r .tag-read)
+    delimiter-some table level (filled table level own owns s) (omega (arith, r .within, place)) ∙ ap First (ap (tagAt table) (sym place) ∙ r .tag-read)
 
-pub required-among : (table : List ℕ) (level : ℕ) (owns : List Own) → Stands table level (partWords owns) →
-    (owns ≡ [] → length table < level + 14) → requiredOf table level ≡ requiredAmong owns
-unfolding requiredOf
-required-among table level [] s alone =
-    all-past table level 1 (omega (arith, alone refl, empty-items table level s, first-place table level)) ∙ unfold requiredAmong in refl
-required-among table level (own ∷ owns) s alone =
+pub required-among : (table : List ℕ) (level : ℕ) (owns : List Own) → Stands table level (partWords owns) → requiredOf table level ≡ requiredAmong owns
+unfolding requiredOf requiredAmong
+required-among table level [] s = all-empty table level (count-read table level [] s) 1
+required-among table level (own ∷ owns) s =
     let stand = items-stand table level (own ∷ owns) s in
-    item-marks table level _ 0 own owns (item-first table (itemsAt table level) _ 0 own owns stand)
-    (marks table level _ 1 owns (items-behind table (itemsAt table level) _ 0 own owns stand))
+    let some = filled table level own owns s in
+    item-marks table level _ some 0 own owns (item-first table (itemsAt table level) _ 0 own owns stand)
+    (marks table level _ some 1 owns (items-behind table (itemsAt table level) _ 0 own owns stand))

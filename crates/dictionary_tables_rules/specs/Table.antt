@@ -1,10 +1,10 @@
--- The table that reading uses. Each level of a layout has a part in it: a word that says how many heads it has, the heads, and five words to
+-- The table that reading uses. Each level of a layout has a part in it: a word that says how many items it has, the heads, and five words to
 -- each of the level's own items: the low and the high half of its tag, where the level of its group starts, the required mark with the link to the
 -- next marked item, and the link to the next item that shares its head. A link is an item's position and one; 0 leads nowhere. Looking up has a meaning
 -- for every content: an item is looked at only where it lies in the table, and a link is followed only if it rises.
 use Prim.Native.Nat.{ℕ, zero, suc, _+_, _-_, _*_, _/_, _%_}
 use mathlib.Core.List.{List, [], _∷_}
-use mathlib.Core.Bool.{Bool, true, false}
+use mathlib.Core.Bool.{Bool}
 use lib.ListN.{length, getD}
 use lib.Dec.{eqb, leb, ltb}
 use Rattle.field_rules.specs.Choice.{pick}
@@ -26,12 +26,12 @@ fewHeads = 8
 abbrev pub manyHeads : ℕ
 manyHeads = 128
 
-unfoldable pub headCount : ℕ → ℕ
-headCount word = pick (eqb word 0) fewHeads manyHeads
+unfoldable pub headsFor : ℕ → ℕ
+headsFor count = pick (ltb 16 count) manyHeads fewHeads
 
 -- the heads stand behind a level's first word, and the items behind them
 unfoldable pub headsAt : List ℕ → ℕ → ℕ
-headsAt table level = headCount (getD table level 0)
+headsAt table level = headsFor (getD table level 0)
 
 unfoldable pub itemsAt : List ℕ → ℕ → ℕ
 itemsAt table level = level + 1 + headsAt table level
@@ -74,9 +74,11 @@ followed table from tag link = chased (suc (length table) - link) table from tag
 unfoldable pub itemOf : List ℕ → ℕ → ℕ → Item
 itemOf table level tag = followed table (itemsAt table level) tag (getD table (level + 1 + tag % headsAt table level) 0)
 
--- "the delimiter (the layout's first tag)"
+-- "the delimiter (the layout's first tag)": what stands behind a level without items is none of it
 unfoldable pub delimiterAt : List ℕ → ℕ → FirstTag
-delimiterAt table level = pick (lies table (itemsAt table level)) (First (tagAt table (itemsAt table level))) NoTag
+delimiterAt table level =
+    pick (eqb (getD table level 0) 0) NoTag
+    (pick (lies table (itemsAt table level)) (First (tagAt table (itemsAt table level))) NoTag)
 
 -- where the marks go on behind an item: a link that doesn't rise ends them
 unfoldable pub markedBehind : ℕ → ℕ → ℕ
@@ -88,13 +90,12 @@ requiredWithin zero table from link = []
 requiredWithin (suc fuel) table from link =
     pick (eqb link 0) []
     (pick (lies table (itemAt from link))
-    (pick (eqb (markAt table (itemAt from link) % 2) 1)
-    (tagAt table (itemAt from link) ∷ requiredWithin fuel table from (markedBehind link (markAt table (itemAt from link))))
+    (pick {A = List ℕ → List ℕ} (eqb (markAt table (itemAt from link) % 2) 1) (λ tags. tagAt table (itemAt from link) ∷ tags) (λ tags. tags)
     (requiredWithin fuel table from (markedBehind link (markAt table (itemAt from link)))))
     [])
 
 unfoldable pub requiredFrom : List ℕ → ℕ → ℕ → List ℕ
-requiredFrom table level link = requiredWithin (suc (length table) - link) table (itemsAt table level) link
+requiredFrom table level link = pick (eqb (getD table level 0) 0) [] (requiredWithin (suc (length table) - link) table (itemsAt table level) link)
 
 unfoldable pub requiredOf : List ℕ → ℕ → List ℕ
 requiredOf table level = requiredFrom table level 1
@@ -111,4 +112,4 @@ markWithin (suc fuel) table from link =
     NoMore)
 
 unfoldable pub markFrom : List ℕ → ℕ → ℕ → Mark
-markFrom table level link = markWithin (suc (length table) - link) table (itemsAt table level) link
+markFrom table level link = pick (eqb (getD table level 0) 0) NoMore (markWithin (suc (length table) - link) table (itemsAt table level) link)

@@ -1,44 +1,43 @@
 -- The laws of looking up: each way that a look-up goes at an item, for every content of the table.
 -- Links rise and items lie in the table, so the fuel never runs out; later proofs cite only these steps.
-use mathlib.Core.Path.{_≡_, refl, sym, ap, _∙_}
+use mathlib.Core.Path.{_≡_, refl, sym, _∙_}
 use mathlib.Core.Bool.{Bool, true, false}
 use mathlib.Core.List.{List}
 use Prim.Native.Nat.{ℕ, zero, suc, _+_, _-_, _*_, _%_, _≤_, _<_}
 use native.Mathlib.Omega.{arith}
 use lib.ListN.{length, getD, List·getD-eq-default}
-use lib.Dec.{eqb, ltb}
+use lib.Dec.{ltb}
 use borrow.Author.Tests.{eq-eqb, ne-eqb, lt-ltb, le-ltb, le-leb, lt-leb, ltb-true}
 use Rattle.field_rules.specs.Choice.{pick, pick-same}
 use Rattle.dictionary_layout_rules.specs.declared.FirstTag.the-variants.{First, NoTag}
-use Rattle.dictionary_tables_rules.specs.Table.{headCount, headsAt, itemsAt, itemAt, lies, tagAt, groupAt, laterAt, chased, followed, itemOf, delimiterAt}
-use Rattle.dictionary_tables_rules.specs.declared.Item.{Item}
+use Rattle.dictionary_tables_rules.specs.Table.{headsFor, headsAt, itemsAt, itemAt, lies, tagAt, groupAt, laterAt, chased, followed, itemOf, delimiterAt}
 use Rattle.dictionary_tables_rules.specs.declared.Item.the-variants.{At, Nowhere}
 
-pub heads-few : (table : List ℕ) (level : ℕ) → getD table level 0 ≡ 0 → headsAt table level ≡ 8
-unfolding headsAt headCount
-heads-few table level e = rw (eq-eqb _ _ e)
+pub heads-few : (count : ℕ) → count ≤ 16 → headsFor count ≡ 8
+unfolding headsFor
+heads-few count h = rw (le-ltb 16 count h)
 
-pub heads-many : (table : List ℕ) (level : ℕ) → (getD table level 0 ≡ 0 → ⊥) → headsAt table level ≡ 128
-unfolding headsAt headCount
-heads-many table level e = rw (ne-eqb _ _ e)
+pub heads-many : (count : ℕ) → 16 < count → headsFor count ≡ 128
+unfolding headsFor
+heads-many count h = rw (lt-ltb 16 count h)
 
-pub heads-bounds : (table : List ℕ) (level : ℕ) → (8 ≤ headsAt table level) × (headsAt table level ≤ 128)
-unfolding headsAt headCount
-heads-bounds table level = go (eqb (getD table level 0) 0)
+pub heads-bounds : (count : ℕ) → (8 ≤ headsFor count) × (headsFor count ≤ 128)
+unfolding headsFor
+heads-bounds count = go (ltb 16 count)
   where
-    go : (t : Bool) → (8 ≤ pick t 8 128) × (pick t 8 128 ≤ 128)
+    go : (t : Bool) → (8 ≤ pick t 128 8) × (pick t 128 8 ≤ 128)
     go true = (omega arith, omega arith)
     go false = (omega arith, omega arith)
+
+pub heads-at-bounds : (table : List ℕ) (level : ℕ) → (8 ≤ headsAt table level) × (headsAt table level ≤ 128)
+unfolding headsAt
+heads-at-bounds table level = heads-bounds (getD table level 0)
 
 -- the items stand behind the heads, whatever there is of the table
 module _ (table : List ℕ) (level : ℕ) where
   pub items-from : (heads : ℕ) → heads ≡ headsAt table level → level + 1 + heads ≡ itemsAt table level
   unfolding itemsAt
   items-from heads e = rw e
-
-  pub items-after : level + 9 ≤ itemsAt table level
-  unfolding itemsAt
-  items-after = omega (arith, heads-bounds table level .0)
 
 -- an item lies in the table or not, by where its link leads
 module _ (table : List ℕ) (from link : ℕ) where
@@ -106,10 +105,15 @@ module _ (table : List ℕ) (level : ℕ) where
   pub item-no-head : (tag : ℕ) → length table ≤ level + 1 + tag % headsAt table level → itemOf table level tag ≡ Nowhere
   item-no-head tag h = item-head tag ∙ follow-none table (itemsAt table level) tag _ (List·getD-eq-default table 0 h)
 
-  pub delimiter-some : itemsAt table level + 5 ≤ length table → delimiterAt table level ≡ First (tagAt table (itemsAt table level))
-  unfolding delimiterAt lies
-  delimiter-some h = rw (le-leb _ _ h)
+  pub delimiter-empty : getD table level 0 ≡ 0 → delimiterAt table level ≡ NoTag
+  unfolding delimiterAt
+  delimiter-empty e = rw (eq-eqb _ _ e)
 
   pub delimiter-none : length table < itemsAt table level + 5 → delimiterAt table level ≡ NoTag
   unfolding delimiterAt lies
-  delimiter-none h = rw (lt-leb _ _ h)
+  delimiter-none h = rw (lt-leb _ _ h, pick-same)
+
+  pub delimiter-some : (getD table level 0 ≡ 0 → ⊥) → itemsAt table level + 5 ≤ length table →
+      delimiterAt table level ≡ First (tagAt table (itemsAt table level))
+  unfolding delimiterAt lies
+  delimiter-some filled h = rw (ne-eqb _ _ filled, le-leb _ _ h)

@@ -1,9 +1,9 @@
 -- A table that holds a layout means it: each look-up answers what the layout says, and the group word of an item starts the level of the group
--- that the tag counts. What stands in the table before and after the level makes no difference, but for a level without items (`Alone`).
+-- that the tag counts. What stands in the table before and after the level makes no difference.
 use mathlib.Core.Path.{_≡_, refl, sym, ap, _∙_}
 use mathlib.Core.Bool.{Bool, true, false}
 use mathlib.Core.List.{List, [], _∷_, _++_, append-nil}
-use Prim.Native.Nat.{ℕ, _+_, _≤_, _<_}
+use Prim.Native.Nat.{ℕ, _+_}
 use native.Mathlib.Omega.{arith}
 use lib.ListN.{length, length-append}
 use lib.Dec.{eqb}
@@ -12,8 +12,8 @@ use Rattle.field_rules.specs.Choice.{pick, pick-same}
 use Rattle.dictionary_layout_rules.specs.Layout.{Layout, end, field, group, firstOf, positionFrom, positionIn, Group, none, entries, groupSince, groupOf, delimiterOf, requiredTags}
 use Rattle.dictionary_layout_rules.specs.declared.Position.{Position}
 use Rattle.dictionary_layout_rules.specs.declared.Position.the-variants as position
-use Rattle.dictionary_tables_rules.specs.Table.{headCount, itemOf, delimiterAt, requiredOf}
-use Rattle.dictionary_tables_rules.specs.Laid.{Own, ownCount, headWord, headsFor, partSize, innerSize, tableSize, ownItems, lastGroup, partWords, innerWords, levelWords, tableOf}
+use Rattle.dictionary_tables_rules.specs.Table.{itemOf, delimiterAt, requiredOf}
+use Rattle.dictionary_tables_rules.specs.Laid.{Own, ownCount, partSize, innerSize, tableSize, ownItems, lastGroup, partWords, innerWords, levelWords, tableOf}
 use Rattle.dictionary_tables_rules.specs.PartLaws.{Stands, stands-first, stands-second, part-length, part-some, itemAmong, requiredAmong, firstAmong, item-among, delimiter-among, required-among}
 use Rattle.dictionary_tables_rules.specs.declared.Item.{Item}
 use Rattle.dictionary_tables_rules.specs.declared.Item.the-variants.{At, Nowhere}
@@ -135,31 +135,6 @@ own-group table sofar was tag free (group t required inner rest) some s o =
     own-group table _ _ tag (free + tableSize inner) rest (λ z. some (omega arith))
     (rw place at (stands-second own (innerWords (free + tableSize inner) rest) s)) (rw (ne-eqb free 0 some) later)
 
--- nothing that could be taken for an item stands behind a level without items
-abbrev pub Alone : List ℕ → ℕ → Layout → Type 0
-Alone table level layout = layout ≡ end → length table < level + 14
-
-pub alone-filled : (table : List ℕ) (level : ℕ) (layout : Layout) → (layout ≡ end → ⊥) → Alone table level layout
-alone-filled table level layout filled e = absurd (filled e)
-
--- such as where the table ends with the level
-pub alone-last : (table : List ℕ) (level : ℕ) (layout : Layout) → length table ≤ level + tableSize layout → Alone table level layout
-unfolding innerSize ownCount partSize headsFor headWord headCount
-alone-last table level layout last e = omega (arith, ap tableSize e)
-
-pub alone-whole : (layout : Layout) → Alone (tableOf layout) 0 layout
-alone-whole layout = alone-last (tableOf layout) 0 layout (omega (arith, table-length layout))
-
-pub tabled-whole : (layout : Layout) → Tabled (tableOf layout) 0 layout
-unfolding tableOf
-tabled-whole layout = record { before = []; after = []; whole = sym (append-nil _); start = refl }
-
-own-none : (free : ℕ) (layout : Layout) → ownItems free layout ≡ [] → layout ≡ end
-unfolding ownItems
-own-none free end e = refl
-own-none free (field tag required rest) e = let z : _≡_ {A = ℕ} 0 1 = cc in absurd (omega arith)
-own-none free (group tag required inner rest) e = let z : _≡_ {A = ℕ} 0 1 = cc in absurd (omega arith)
-
 module _ (table : List ℕ) (level : ℕ) (layout : Layout) (tabled : Tabled table level layout) where
   abbrev free : ℕ
   free = level + partSize (ownCount layout)
@@ -182,8 +157,27 @@ module _ (table : List ℕ) (level : ℕ) (layout : Layout) (tabled : Tabled tab
       rw (item-among table level _ own-stands tag, among-group tag 0 (ownItems free layout))
       (own-group table 0 none tag free layout (λ z. omega (arith, part-some (ownCount layout))) inner-stands neither)
 
-  pub delimiter-means : Alone table level layout → delimiterAt table level ≡ delimiterOf layout
-  delimiter-means alone = delimiter-among table level _ own-stands (λ e. alone (own-none free layout e)) ∙ own-first free layout
+  pub delimiter-means : delimiterAt table level ≡ delimiterOf layout
+  delimiter-means = delimiter-among table level _ own-stands ∙ own-first free layout
 
-  pub required-means : Alone table level layout → requiredOf table level ≡ requiredTags layout
-  required-means alone = required-among table level _ own-stands (λ e. alone (own-none free layout e)) ∙ own-required free layout
+  pub required-means : requiredOf table level ≡ requiredTags layout
+  required-means = required-among table level _ own-stands ∙ own-required free layout
+
+-- a table that is just a layout's means it from its first word on
+pub tabled-whole : (layout : Layout) → Tabled (tableOf layout) 0 layout
+unfolding tableOf
+tabled-whole layout = record { before = []; after = []; whole = sym (append-nil _); start = refl }
+
+-- a group word of 0 counts no group, and another starts the level of one
+pub opens-none : {table : List ℕ} {level : ℕ} {found : Group} → Opens table level found → level ≡ 0 → found ≡ none
+opens-none neither z = refl
+opens-none (both some tabled) z = absurd (some z)
+
+pub record Opened (table : List ℕ) (level : ℕ) (found : Group) : Type 0 where
+  pub inner : Layout
+  pub is : found ≡ entries inner
+  pub tabled : Tabled table level inner
+
+pub opens-some : {table : List ℕ} {level : ℕ} {found : Group} → Opens table level found → (level ≡ 0 → ⊥) → Opened table level found
+opens-some neither some = absurd (some refl)
+opens-some (both {inner = inner} some tabled) filled = record { inner = inner; is = refl; tabled = tabled }

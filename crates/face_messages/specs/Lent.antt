@@ -1,10 +1,10 @@
 -- What a build leaves in the caller's records, and what is told of it.
 -- "A record holds part (1 header, 2 body, 3 trailer), depth, entry number .., tag, and place and length of the value", "all lent past them
 -- are zero", and where the rules leave them blank "as it was".
-use Prim.Native.Nat.{ℕ, zero, suc, _%_, _^_}
+use Prim.Native.Nat.{ℕ, zero, suc, _-_, _%_, _^_}
 use mathlib.Core.Bool.{Bool}
 use mathlib.Core.List.{List, [], _∷_, _++_}
-use lib.ListN.{drop, getD, replicate}
+use lib.ListN.{take, drop, getD, replicate}
 use lib.Dec.{leb, ltb}
 use Rattle.field_rules.specs.Choice.{pick}
 use Rattle.build_records.specs.declared.Record.{Record}
@@ -48,6 +48,10 @@ toldOf built = told (built .records) (valuesOf (built .answer))
 -- the records that words show, over so many of the lent ones; the rest of them stay
 unfoldable pub filled : List ℕ → ℕ → ℕ → List FieldRecord → List FieldRecord
 filled words shown written lent = table (fieldRecordAt words shown) written ++ drop written lent
+
+-- blank records over the lent ones, from one place on up to another; the rest of them stay
+unfoldable pub blanked : ℕ → ℕ → List FieldRecord → List FieldRecord
+blanked from written lent = take from lent ++ replicate (written - from) blankField ++ drop written lent
 
 -- the caller's records after a build
 unfoldable pub recordsLent : BuildOutcome → List FieldRecord → List FieldRecord

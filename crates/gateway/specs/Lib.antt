@@ -1,5 +1,6 @@
 pub mod MessageLaws
 pub mod FoundLaws
 pub mod Sets
+pub mod FillingLaws
 pub mod TakingLaws
 pub mod PreparingLaws

@@ -1,12 +1,12 @@
 // The dictionary's check, a dictionary prepared in the caller's memory, and the build over the caller's records.
 use face_messages::FieldRecord;
 ghost use mathlib.Core.Path.{_≡_};
-ghost use Prim.Native.Nat.{_≤_};
+ghost use Prim.Native.Nat.{_≤_, min};
 ghost use lib.ListN.{length, getD};
 ghost use Rattle.dictionary_rules.specs.Check.{checkOf, numberOfCheck, valuesOfCheck};
 ghost use Rattle.build_answers.specs.Answer.{numberOf, valuesOf};
 ghost use Rattle.face_told.specs.Told.{told};
-ghost use Rattle.face_messages.specs.Lent.{filled, builtFrom, builtOver, recordsLent};
+ghost use Rattle.face_messages.specs.Lent.{filled, blanked, builtFrom, builtOver, recordsLent};
 ghost use Rattle.dictionary_prepared.specs.Memory.{headWords, preparation, preparingOf, copyOf, memoryOf, numberOfPreparing, valueOfPreparing};
 
 // Checks a flat dictionary.
@@ -47,6 +47,35 @@ pub extern "C" fn gateway_prepare(
     dictionary_prepared::number_of(preparing)
 }
 
+fn least(one: usize, other: usize) -> usize
+    ensures { λ r. ⌜ r ≡ min one other ⌝ }
+{
+    if one < other {
+        return one;
+    }
+    other
+}
+
+// Writes blank records over the lent ones, from one place on up to another. Most of what is lent is blank: the loop has no branch and no call, so
+// that the compiler clears all of it at once.
+fn fill_blank(records: &mut [FieldRecord], from: usize, written: usize)
+    requires { ⌜ (from ≤ written) × (written ≤ length (now records)) ⌝ }
+    ensures { λ _. ⌜ now (records .exit) ≡ blanked from written (now (records .entry)) ⌝ }
+{
+    let mut i = from;
+    while i < written {
+        records[i] = FieldRecord {
+            part: 0,
+            depth: 0,
+            entry: 0,
+            tag: 0,
+            place: 0,
+            length: 0,
+        };
+        i += 1;
+    }
+}
+
 // Writes over so many of the lent records: those that the words show, and blank ones behind them.
 fn fill(
     records: &mut [FieldRecord],
@@ -57,11 +86,13 @@ fn fill(
     requires { ⌜ written ≤ length (now records) ⌝ }
     ensures { λ _. ⌜ now (records .exit) ≡ filled (now (words .entry)) shown written (now (records .entry)) ⌝ }
 {
+    let count = least(shown, written);
     let mut i: usize = 0;
-    while i < written {
+    while i < count {
         records[i] = face_messages::field_at(words, shown, i);
         i += 1;
     }
+    fill_blank(records, count, written);
 }
 
 // Builds a message from its bytes into the lent records, at least 1,024: those past the message's are blank, or all stay as they were.

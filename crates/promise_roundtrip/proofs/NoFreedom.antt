@@ -54,16 +54,6 @@ use Rattle.dictionary_prepared.proofs.is_prepared.Reads as of-dictionary-prepar
 use Rattle.dictionary_prepared.proofs.is_prepared.Kinds as in-dictionary-prepared-is-prepared
 use Rattle.dictionary_prepared.proofs.prepare.Reads as of-dictionary-prepared-prepare
 use Rattle.dictionary_prepared.proofs.prepare.Kinds as in-dictionary-prepared-prepare
-use Rattle.dictionary_layout.proofs.position_of.Reads as of-dictionary-layout-position-of
-use Rattle.dictionary_layout.proofs.position_of.Kinds as in-dictionary-layout-position-of
-use Rattle.dictionary_layout.proofs.group_of.Reads as of-dictionary-layout-group-of
-use Rattle.dictionary_layout.proofs.group_of.Kinds as in-dictionary-layout-group-of
-use Rattle.dictionary_layout.proofs.delimiter.Reads as of-dictionary-layout-delimiter
-use Rattle.dictionary_layout.proofs.delimiter.Kinds as in-dictionary-layout-delimiter
-use Rattle.dictionary_layout.proofs.next_required.Reads as of-dictionary-layout-next-required
-use Rattle.dictionary_layout.proofs.next_required.Kinds as in-dictionary-layout-next-required
-use Rattle.dictionary_layout.proofs.holds.Reads as of-dictionary-layout-holds
-use Rattle.dictionary_layout.proofs.holds.Kinds as in-dictionary-layout-holds
 use Rattle.builder.proofs.build.Reads as of-builder-build
 use Rattle.builder.proofs.build.Kinds as in-builder-build
 use Rattle.builder.proofs.build_prepared.Reads as of-builder-build-prepared
@@ -205,21 +195,6 @@ dictionary-prepared-is-prepared κs a x y left other p q = same p q
 
 pub dictionary-prepared-prepare : NoFreedom 3 in-dictionary-prepared-prepare.ps in-dictionary-prepared-prepare.r of-dictionary-prepared-prepare.Post (λ κs x y left other. (x ≡ y) × (now (left .1 .0) ≡ now (other .1 .0)) × (now (left .1 .1 .0) ≡ now (other .1 .1 .0)))
 dictionary-prepared-prepare κs a x y left other p q = let e = same p q in unfold preparingOf copyOf memoryOf in (ap preparingOf e, ap copyOf e, ap memoryOf e)
-
-pub dictionary-layout-position-of : NoFreedom 1 in-dictionary-layout-position-of.ps in-dictionary-layout-position-of.r of-dictionary-layout-position-of.Post (λ κs x y left other. x ≡ y)
-dictionary-layout-position-of κs a x y left other p q = same p q
-
-pub dictionary-layout-group-of : NoFreedom 1 in-dictionary-layout-group-of.ps in-dictionary-layout-group-of.r of-dictionary-layout-group-of.Post (λ κs x y left other. x ≡ y)
-dictionary-layout-group-of κs a x y left other p q = same p q
-
-pub dictionary-layout-delimiter : NoFreedom 1 in-dictionary-layout-delimiter.ps in-dictionary-layout-delimiter.r of-dictionary-layout-delimiter.Post (λ κs x y left other. x ≡ y)
-dictionary-layout-delimiter κs a x y left other p q = same p q
-
-pub dictionary-layout-next-required : NoFreedom 1 in-dictionary-layout-next-required.ps in-dictionary-layout-next-required.r of-dictionary-layout-next-required.Post (λ κs x y left other. x ≡ y)
-dictionary-layout-next-required κs a x y left other p q = same p q
-
-pub dictionary-layout-holds : NoFreedom 1 in-dictionary-layout-holds.ps in-dictionary-layout-holds.r of-dictionary-layout-holds.Post (λ κs x y left other. x ≡ y)
-dictionary-layout-holds κs a x y left other p q = same p q
 
 pub builder-build : NoFreedom 3 in-builder-build.ps in-builder-build.r of-builder-build.Post (λ κs x y left other. (x ≡ y) × (now (left .1 .1 .1 .1 .0) ≡ now (other .1 .1 .1 .1 .0)))
 builder-build κs a x y left other p q = let e = same p q in unfold builtTold in (ap builtOf e, ap (λ (o : BuildOutcome). o .words) e)

@@ -16,7 +16,7 @@ use Rattle.field_rules.specs.declared.Field.{Field}
 use Rattle.field_rules.specs.declared.FieldRead.the-variants.{Read}
 use Rattle.build_config.specs.declared.Config.{Config}
 use Rattle.dictionary_layout_rules.specs.Layout.{Layout}
-use Rattle.dictionary_layout_rules.specs.Tabled.{Tabled}
+use Rattle.dictionary_tables_rules.specs.Tabled.{Tabled}
 use Rattle.build_records.specs.declared.Record.{Record}
 use Rattle.build_group_rules.specs.Groups.{run, ended, walk}
 use Rattle.build_group_rules.specs.Alike.{OutcomeAlike}

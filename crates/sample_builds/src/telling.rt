@@ -86,6 +86,32 @@ fn same(built: Built, again: Built) -> bool {
 }
 
 // Builds again over memory that the dictionary was prepared in, if it can be; only where that is answered otherwise, it is said.
+fn compare_over(
+    message: &[u8],
+    config: Config,
+    dictionary: &[u8],
+    lent: usize,
+    built: Built,
+    words: &[u32; build_records::WORDS],
+    memory: &mut [u16],
+) {
+    let mut copy = [7u8; 60000];
+    let mut again = [7u32; build_records::WORDS];
+    let prepared = dictionary_prepared::prepare(dictionary, &mut copy[..], memory);
+    if dictionary_prepared::number_of(prepared) != 0 {
+        return;
+    }
+    let over = builder::build_prepared(message, config, &copy[..], memory, lent, &mut again);
+    if !same(built, over) {
+        saying::say(b" otherwise over prepared memory");
+        return;
+    }
+    if !same_words(words, &again) {
+        saying::say(b" other records over prepared memory");
+    }
+}
+
+// Once in the least memory, where each build lays its message's table, and once in memory with room for tables.
 fn compare_prepared(
     message: &[u8],
     config: Config,
@@ -94,21 +120,26 @@ fn compare_prepared(
     built: Built,
     words: &[u32; build_records::WORDS],
 ) {
-    let mut copy = [7u8; 60000];
-    let mut memory = [7u16; dictionary_prepared::HEAD];
-    let mut again = [7u32; build_records::WORDS];
-    let prepared = dictionary_prepared::prepare(dictionary, &mut copy[..], &mut memory[..]);
-    if dictionary_prepared::number_of(prepared) != 0 {
-        return;
-    }
-    let over = builder::build_prepared(message, config, &copy[..], &memory[..], lent, &mut again);
-    if !same(built, over) {
-        saying::say(b" otherwise over prepared memory");
-        return;
-    }
-    if !same_words(words, &again) {
-        saying::say(b" other records over prepared memory");
-    }
+    let mut least = [7u16; dictionary_prepared::HEAD];
+    let mut roomy = [7u16; 160000];
+    compare_over(
+        message,
+        config,
+        dictionary,
+        lent,
+        built,
+        words,
+        &mut least[..],
+    );
+    compare_over(
+        message,
+        config,
+        dictionary,
+        lent,
+        built,
+        words,
+        &mut roomy[..],
+    );
 }
 
 // Builds and tells, with the records where they are asked for.
@@ -148,7 +179,7 @@ pub fn prepared(config: Config, dictionary: &[u8], lent: usize, kind: u8) {
     let mut short_copy = [7u8; 61];
     let mut long_copy = [7u8; 60001];
     let mut memory = [7u16; dictionary_prepared::HEAD];
-    let mut short_memory = [7u16; 96152];
+    let mut short_memory = [7u16; 111153];
     match kind {
         b'c' => over(
             config,

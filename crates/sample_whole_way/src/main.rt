@@ -56,7 +56,8 @@ fn build(frame: &[u8], words: &mut [u32], values: &mut [u8]) {
     let config = build_config::config_of(1, SEPARATOR);
     let mut records = [0u32; build_records::WORDS];
     let mut copy = [0u8; 60000];
-    let mut memory = [0u16; dictionary_prepared::HEAD];
+    // Room for the dictionary's tables behind the head.
+    let mut memory = [0u16; 160000];
     let preparing = dictionary_prepared::prepare(
         &sample::DICTIONARY,
         &mut copy[..],

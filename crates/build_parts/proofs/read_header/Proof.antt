@@ -8,6 +8,7 @@ use lib.ListN.{length}
 use borrow.Author.Needs.{needs}
 use borrow.Author.Tests.{not-true, not-false}
 use Rattle.field_rules.specs.Fields.{fieldsFrom}
+use Rattle.dictionary_tables_rules.specs.Tags.{tagsFound}
 use Rattle.build_parts.specs.Parts.{partOf, partTold}
 use Rattle.build_parts.specs.PartLaws.{Taken, taken, none-before, stays-refused, stays-at}
 use Rattle.build_parts.specs.Header.{headerFrom}
@@ -16,7 +17,7 @@ use Rattle.build_parts.proofs.read_header.Statement.{statement}
 use Rattle.build_parts.proofs.read_header.Tie as tie
 
 abbrev Inv-loop : tie.InvT-loop
-Inv-loop message config header-tags words₀ at₀ room₀ records₀ words at room records = (length words ≡ length words₀) × (records + room ≤ records₀ + room₀) × (room ≤ room₀) × (headerFrom header-tags (fieldsFrom (config .mode) message at₀) room₀ (partOf 0 records₀ words₀) ≡ headerFrom header-tags (fieldsFrom (config .mode) message at) room (partOf 0 records words))
+Inv-loop message config header-tags words₀ at₀ room₀ records₀ words at room records = (length words ≡ length words₀) × (records + room ≤ records₀ + room₀) × (room ≤ room₀) × (headerFrom (tagsFound header-tags) (fieldsFrom (config .mode) message at₀) room₀ (partOf 0 records₀ words₀) ≡ headerFrom (tagsFound header-tags) (fieldsFrom (config .mode) message at) room (partOf 0 records words))
 
 abbrev μ-loop : tie.MeasureT-loop
 μ-loop message config header-tags words₀ at₀ room₀ records₀ words at room records = room

@@ -9,7 +9,7 @@ use Rattle.dictionary_chains.specs.Chain.{indexWords}
 use Rattle.dictionary_prepared.specs.MemoryLaws.{index-length, index-left, zero-passes}
 use Rattle.builder.specs.HeadedLaws.{bytes-of}
 use Rattle.builder.specs.ReadingLaws.{refused-dictionary, passing-dictionary, prepared-by}
-use Rattle.builder.specs.ThroughLaws.{through-means}
+use Rattle.builder.specs.ThroughLaws.{through-means, sound-none}
 use Rattle.builder.proofs.read_checked.Statement.{statement}
 use Rattle.builder.proofs.read_checked.Tie as tie
 
@@ -26,20 +26,24 @@ slice-aggregate-read-message : tie.Need-slice-aggregate-read-message
 slice-aggregate-read-message c = length-replicate {A = ℕ} indexWords 0 ∙ sym (sized (c .before))
 
 read-message-requires : tie.Need-read-message-requires
-read-message-requires c κs = let s = c .before .before .before .before .before .before .before .before .before in
-    (s .pre .0, s .pre .1, sized (c .before .before))
+read-message-requires c κs = let s = c .before .before .before .before .before .before .before .before .before .before in
+    (s .pre .0, s .pre .1, sized (c .before .before .before))
 
 returns-2 : tie.Need-returns-2
 returns-2 c = let r = c .before .before in
-    let e = r .before .before .before in
+    let e = r .before .before .before .before in
     let k = e .before in
     let b = k .before .before .before in
     let z = sym (k .number-of .ensures) ∙ e .if1 .left in
-    let p = prepared-by _ _ (k .before .prepare .ensures .1) z _ _ (length-replicate {A = ℕ} indexWords 0) (k .before .prepare .ensures .0) in
-    (r .read-message .ensures .0 ∙ through-means _ _ p (bytes-of _ (λ i. b .before .shared-slice-known2 .given i .fits)) _ (bytes-of _ (λ i. b .before .before .shared-slice-known .given i .fits)) _ ∙ passing-dictionary _ _ _ _ (k .before .prepare .ensures .1) z, r .read-message .ensures .1)
+    let p = prepared-by _ _ (k .before .prepare .ensures .1) z _ _ (length-replicate {A = ℕ} indexWords 0) (k .before .prepare .ensures .0) in (
+      r .read-message .ensures .0
+          ∙ through-means _ _ p (bytes-of _ (λ i. b .before .shared-slice-known2 .given i .fits)) _ (sound-none _ _) _ (bytes-of _ (λ i. b .before .before .shared-slice-known .given i .fits)) _
+          ∙ passing-dictionary _ _ _ _ (k .before .prepare .ensures .1) z,
+      r .read-message .ensures .1,
+    )
 
 pub read-checked-spec : {M : Type 1} → statement M
 read-checked-spec =
     tie.close
-    (tie.spec (λ c κs. search needs) (λ c κs. search needs) returns slice-aggregate-read-message read-message-requires
+    (tie.spec (λ c κs. search needs) (λ c κs. search needs) returns slice-aggregate-read-message (λ c. search needs) read-message-requires
     (λ c. search needs) returns-2)

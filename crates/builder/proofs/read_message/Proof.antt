@@ -1,51 +1,88 @@
--- `read_message` meets its contract: header and trailer tags are those that are listed, and each return cites the law of its way.
+-- `read_message` meets its contract: where tables of both tags are kept they are read by, and else the tags are listed.
 use mathlib.Core.Path.{_≡_, sym, _∙_}
+use Prim.Native.Nat.{_+_, _-_, _≤_, _<_, _^_}
 use native.Mathlib.Omega.{arith}
-use lib.Seq.{length-take-le}
-use Rattle.builder.specs.Through.{tagsThrough}
-use Rattle.builder.specs.ReadingLaws.{shown-few, whole-counts, read-refused, read-whole, read-stopped}
 use borrow.Author.Needs.{needs}
+use lib.ListN.{length}
+use Rattle.dictionary_directory.specs.DirectoryLaws.{tags-lie}
+use Rattle.builder.specs.ReadingLaws.{through-unkept, through-half, through-kept}
 use Rattle.builder.proofs.read_message.Statement.{statement}
 use Rattle.builder.proofs.read_message.Tie as tie
 
-array-share-prefix-header-tags : tie.Need-array-share-prefix-header-tags
-array-share-prefix-header-tags c = c .before .before .tags-of .ensures .1
+-- where the function was called
+abbrev called : tie.After-tags-at → tie.Start
+called c = c .before .before .before .before .before .before
 
-slice-aggregate-begin : tie.Need-slice-aggregate-begin
-slice-aggregate-begin c = sym (length-take-le _ _ (c .before .before .before .tags-of .ensures .1))
+long : (c : tie.Start) → length (c .args .tables .now) < 2 ^ 63
+long c = omega arith
 
-array-share-prefix-trailer-tags : tie.Need-array-share-prefix-trailer-tags
-array-share-prefix-trailer-tags c = c .before .before .before .before .before .before .before .before .before .tags-of2 .ensures .1
+header-lies : (c : tie.After-known-told) → c .before .header .given .0 .0 + c .before .header .given .0 .1 .0 ≤ length (called (c .before .before .before) .args .tables .now)
+header-lies c = tags-lie _ _ _ _ (sym (c .before .before .before .tags-at .ensures) ∙ c .before .header .given .1)
 
-slice-aggregate-read-headed : tie.Need-slice-aggregate-read-headed
-slice-aggregate-read-headed c = sym (length-take-le _ _ (c .before .before .before .before .before .before .before .before .before .before .tags-of2 .ensures .1))
+-- where the header's tags are kept, and the trailer's are asked for
+abbrev kept : tie.After-tags-at2 → tie.After-known-told
+kept c = c .before
 
-read-headed-requires : tie.Need-read-headed-requires
-unfolding tagsThrough
-read-headed-requires c κs = let s = c .before .before .before .before .before .before .before .before .before .before .before .before .before .before .before .before .before .before .before in
-    let b = c .before .before .before .before .before .before .before .before in
-    (s .pre .0, omega (arith, s .pre .1, b .begin .kept .1 .1 .1 .0), b .begin .ensures .1 .ends _ (c .before .before .before .before .headed .given .1), s .pre .2, c .before .before .before .before .before .before .before .before .before .before .before .tags-of2 .ensures .0)
+trailer-lies : (c : tie.After-known-told2) → c .before .trailer .given .0 .0 + c .before .trailer .given .0 .1 .0 ≤ length (called (kept (c .before .before .before) .before .before .before) .args .tables .now)
+trailer-lies c = tags-lie _ _ _ _ (sym (c .before .before .before .tags-at2 .ensures) ∙ c .before .trailer .given .1)
+
+read-listed-requires : tie.Need-read-listed-requires
+read-listed-requires c κs = called (c .before .before .before) .pre
 
 returns : tie.Need-returns
-unfolding tagsThrough
-returns c = (read-refused _ _ _ _ _ _ (c .before .before .before .before .before .before .before .before .before .before .tags-of .ensures .0) _ (c .before .before .before .before .before .begin .ensures .0) _ (c .before .answer .given .1) _, omega arith)
+returns c = let r = c .before .before in
+    (r .read-listed .ensures .0 ∙ through-unkept _ _ _ _ _ (sym (r .before .before .enum-told .given .1) ∙ r .before .before .before .before .tags-at .ensures), r .read-listed .ensures .1)
+
+read-listed-requires-2 : tie.Need-read-listed-requires-2
+read-listed-requires-2 c κs = called (kept (c .before .before .before) .before .before .before) .pre
 
 returns-2 : tie.Need-returns-2
-unfolding tagsThrough
-returns-2 c = let r = c .before .before .before .before .before .read-headed in
-    (read-whole _ _ _ _ _ _ (c .before .before .before .before .before .before .before .before .before .before .before .before .before .before .before .before .before .before .before .tags-of .ensures .0) _ (c .before .before .before .before .before .before .before .before .before .before .before .before .before .before .begin .ensures .0) _ (c .before .before .before .before .before .before .before .before .before .before .headed .given .1) _ _ (r .ensures .0) _ _ (c .before .stop .given .1), omega (arith, r .ensures .1, whole-counts _ _ _ (c .before .stop .given .1)))
+returns-2 c = let r = c .before .before in
+    let t = r .before .before .before .before in
+    let h = kept t in (
+      r .read-listed2 .ensures .0 ∙ through-half _ _ _ _ _ _ _ (sym (h .before .header .given .1) ∙ h .before .before .before .tags-at .ensures) (sym (r .before .before .enum-told2 .given .1) ∙ t .tags-at2 .ensures),
+      r .read-listed2 .ensures .1,
+    )
+
+add-read-by : tie.Need-add-read-by
+add-read-by c = let h = kept (c .before .before .before) in omega (arith, header-lies h, long (called (h .before .before .before)))
+
+mul-read-by : tie.Need-mul-read-by
+mul-read-by c = let h = kept (c .before .before .before) in omega (arith, header-lies h, long (called (h .before .before .before)))
+
+part-read-by-end : tie.Need-part-read-by-end
+part-read-by-end c = header-lies (kept (c .before .before .before))
+
+add-read-by-2 : tie.Need-add-read-by-2
+add-read-by-2 c = let t = c .before in omega (arith, trailer-lies t, long (called (kept (t .before .before .before) .before .before .before)))
+
+mul-read-by-2 : tie.Need-mul-read-by-2
+mul-read-by-2 c = let t = c .before in omega (arith, trailer-lies t, long (called (kept (t .before .before .before) .before .before .before)))
+
+part-read-by-end-2 : tie.Need-part-read-by-end-2
+part-read-by-end-2 c = trailer-lies (c .before)
+
+read-by-requires : tie.Need-read-by-requires
+read-by-requires c κs = called (kept (c .before .before .before .before .before .before) .before .before .before) .pre
 
 returns-3 : tie.Need-returns-3
-unfolding tagsThrough
-returns-3 c = let r = c .before .before .before .before .before .before .read-headed in
-    let b = c .before .before .before .before .before .before .before .before .before .before .before .before .before .before .before in
-    let ends = b .begin .ensures .1 .ends _ (c .before .before .before .before .before .before .before .before .before .before .before .headed .given .1) in
-    (read-stopped _ _ _ _ _ _ (c .before .before .before .before .before .before .before .before .before .before .before .before .before .before .before .before .before .before .before .before .tags-of .ensures .0) _ (b .begin .ensures .0) _ (c .before .before .before .before .before .before .before .before .before .before .before .headed .given .1) _ _ (r .ensures .0) _ (c .before .before .answer2 .given .1) _ (c .shown-with .ensures), omega (arith, shown-few _ _ _ (c .shown-with .ensures), ends .fits, b .begin .kept .1 .1 .1 .0, b .before .before .before .before .before .before .before .before .before .before .before .pre .1))
+returns-3 c = let r = c .before .before in
+    let t = r .before .before .before .before in
+    let h = kept (t .before .before .before) in
+    let from = h .before .header .given .0 .0 in
+    let size = h .before .header .given .0 .1 .0 in
+    let start = t .before .trailer .given .0 .0 in
+    let rest = t .before .trailer .given .0 .1 .0 in (
+      r .read-by .ensures .0
+          ∙ through-kept _ _ _ _ _ from size (sym (h .before .header .given .1) ∙ h .before .before .before .tags-at .ensures) start rest (sym (t .before .trailer .given .1) ∙ t .before .before .before .tags-at2 .ensures)
+          (from + size - from) (start + rest - start) (omega arith) (omega arith),
+      r .read-by .ensures .1,
+    )
 
 pub read-message-spec : {M : Type 1} → statement M
 read-message-spec =
     tie.close
-    (tie.spec (λ c κs. search needs) (λ c κs. search needs) array-share-prefix-header-tags slice-aggregate-begin
-    (λ c κs. search needs) (λ c. search needs) (λ c. search needs) array-share-prefix-trailer-tags
-    slice-aggregate-read-headed read-headed-requires (λ c. search needs) (λ c. search needs) (λ c κs. search needs)
-    (λ c. search needs) returns (λ c. search needs) returns-2 (λ c. search needs) returns-3)
+    (tie.spec (λ c κs. search needs) (λ c. search needs) (λ c. search needs) read-listed-requires (λ c. search needs) returns (λ c κs. search needs)
+    (λ c. search needs) (λ c. search needs) read-listed-requires-2 (λ c. search needs) returns-2 add-read-by mul-read-by (λ c. search needs)
+    (λ c. search needs) part-read-by-end add-read-by-2 mul-read-by-2 (λ c. search needs) (λ c. search needs) part-read-by-end-2 read-by-requires
+    (λ c. search needs) returns-3)

@@ -8,8 +8,8 @@ use borrow.Fn.Kinds.{In}
 use borrow.Fn.PlainCycle.{Measures, is, falls, and}
 use lib.ListN.{length}
 use Rattle.dictionary_tables_rules.specs.Laid.{ownCount, partSize}
+use Rattle.dictionary_tables_rules.specs.TableLaws.{heads-bounds}
 use Rattle.dictionary_pressing.specs.Linking.{linked}
-use Rattle.dictionary_pressing.specs.HeadLaws.{heads-most}
 use Rattle.dictionary_pressing.specs.Pressing.{Pressing, Forward}
 use Rattle.dictionary_pressing.specs.ForwardLaws.{pressing-within, pressing-count, pressing-few, forward-begin, forward-end, forward-field, forward-room, forward-link, forward-inside, forward-group}
 use Rattle.dictionary_pressing.proofs.press_level.Reads as press-level
@@ -81,7 +81,7 @@ press-level-add-slot : (t : ℕ) → press-level-lts.Need-add-slot (calls t) (pr
 press-level-add-slot t c = omega (arith, few t c)
 
 press-level-add-slot-2 : (t : ℕ) → press-level-lts.Need-add-slot-2 (calls t) (press-level-at t) press-level.Post press-level-Inv-loop press-level-μ-loop
-press-level-add-slot-2 t c = omega (arith, few t (c .before), c .heads-for .ensures, heads-most (c .before .own-count .result))
+press-level-add-slot-2 t c = omega (arith, few t (c .before), c .heads-for .ensures, heads-bounds (c .before .own-count .result) .1)
 
 press-level-part-size-requires : (t : ℕ) →
     press-level-lts.Need-part-size-requires (calls t) (press-level-at t) press-level.Post press-level-Inv-loop press-level-μ-loop

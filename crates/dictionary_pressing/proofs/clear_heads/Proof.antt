@@ -4,9 +4,9 @@ use Prim.Native.Nat.{_+_, _*_, _≤_, _<_, _-_}
 use native.Mathlib.Omega.{arith}
 use borrow.Author.Needs.{needs}
 use lib.ListN.{length, length-set}
-use Rattle.dictionary_tables_rules.specs.Laid.{headWord, headsFor, partSize}
+use Rattle.dictionary_tables_rules.specs.Table.{headsFor}
+use Rattle.dictionary_tables_rules.specs.Laid.{partSize}
 use Rattle.dictionary_pressing.specs.ClearLaws.{clearedTo, clear-none, clear-on, clear-all}
-use Rattle.dictionary_pressing.proofs.Stored.{stored-pick}
 use Rattle.dictionary_pressing.proofs.clear_heads.Statement.{statement}
 use Rattle.dictionary_pressing.proofs.clear_heads.Tie as tie
 
@@ -34,10 +34,9 @@ same-length : tie.Need-same-length Inv-loop μ-loop
 same-length c = c .before .loop .inv .2 ∙ simp length-set
 
 returns : tie.Need-returns Inv-loop μ-loop
-unfolding headWord
 returns c = let l = c .before in let a = l .before .before .before .args in
     let e : l .loop .i ≡ headsFor (a .count) = omega (arith, l .before .heads-for .ensures, c .loop-test .left) in
-    rw e at (l .loop .inv .3) ∙ rw stored-pick (clear-all _ _ _ (unfold partSize in omega (arith, l .before .before .before .pre)))
+    rw e at (l .loop .inv .3) ∙ clear-all _ _ _ (unfold partSize in omega (arith, l .before .before .before .pre .0))
 
 pub clear-heads-spec : {M : Type 1} → statement M
 clear-heads-spec =

@@ -9,9 +9,11 @@ use mir.Val.{boolByte}
 use mathlib.Core.List.{List}
 use lib.ListN.{length, getD}
 use lib.Dec.{eqb}
-use Rattle.dictionary_tables_rules.specs.Laid.{headsFor, partSize}
+use Rattle.dictionary_tables_rules.specs.Table.{headsFor}
+use Rattle.dictionary_tables_rules.specs.TableLaws.{heads-bounds}
+use Rattle.dictionary_tables_rules.specs.Laid.{partSize}
 use Rattle.dictionary_pressing.specs.Linking.{Linking, itemsStart, cleared, linked}
-use Rattle.dictionary_pressing.specs.HeadLaws.{heads-more, heads-mod}
+use Rattle.dictionary_pressing.specs.HeadLaws.{heads-mod}
 use Rattle.dictionary_pressing.specs.ClearLaws.{clear-again, clear-linked}
 use Rattle.dictionary_pressing.specs.LinkingLaws.{linking-start, linking-end, marked-few, turn-chain, turn}
 use Rattle.dictionary_pressing.proofs.Stored.{stored-mark}
@@ -43,7 +45,7 @@ loop-holds c = let k = c .before .before .before in let a = k .before .before .b
           ∙ ap (λ (l : List ℕ). cleared l (a .args .level) (a .args .count)) (sym (k .clear-heads .ensures))),
       omega (arith, c .heads-for .ensures),
       c .heads-for .ensures,
-      rw (c .heads-for .ensures) (heads-more (a .args .count)),
+      omega (arith, c .heads-for .ensures, heads-bounds (a .args .count) .0),
     )
 
 -- the mark of the item whose turn it is

@@ -2,15 +2,15 @@
 use native.Mathlib.Omega.{arith}
 use borrow.Author.Needs.{needs}
 use Rattle.dictionary_tables_rules.specs.Laid.{partSize}
-use Rattle.dictionary_pressing.specs.HeadLaws.{heads-most}
+use Rattle.dictionary_tables_rules.specs.TableLaws.{heads-bounds}
 use Rattle.dictionary_pressing.proofs.part_size.Statement.{statement}
 use Rattle.dictionary_pressing.proofs.part_size.Tie as tie
 
 add-result : tie.Need-add-result
-add-result c = omega (arith, heads-most (c .before .args .count), c .heads-for .ensures)
+add-result c = omega (arith, heads-bounds (c .before .args .count) .1, c .heads-for .ensures)
 
 add-result-2 : tie.Need-add-result-2
-add-result-2 c = omega (arith, heads-most (c .before .args .count), c .heads-for .ensures)
+add-result-2 c = omega (arith, heads-bounds (c .before .args .count) .1, c .heads-for .ensures)
 
 returns : tie.Need-returns
 unfolding partSize

@@ -7,7 +7,7 @@ use native.Mathlib.Nat.{mod-lt}
 use borrow.Author.Needs.{needs}
 use lib.ListN.{length}
 use Rattle.dictionary_tables_rules.specs.Table.{itemsAt, itemAt, tagAt, groupAt, laterAt, followed, itemOf}
-use Rattle.dictionary_tables_rules.specs.TableLaws.{heads-bounds, item-no-head, follow-none, follow-past, follow-hit, follow-stop, follow-on}
+use Rattle.dictionary_tables_rules.specs.TableLaws.{heads-at-bounds, item-no-head, follow-none, follow-past, follow-hit, follow-stop, follow-on}
 use Rattle.dictionary_tables.proofs.item_of.Statement.{statement}
 use Rattle.dictionary_tables.proofs.item_of.Tie as tie
 
@@ -23,7 +23,7 @@ returns c = sym (item-no-head _ _ _ (omega (arith, c .if1 .taken)))
 -- there are 8 heads or 128
 heads : (c : tie.After-heads-at Inv-loop μ-loop) → (8 ≤ c .heads-at .result) × (c .heads-at .result ≤ 128)
 heads c = let a = c .before .before .before .args in
-    let b = heads-bounds (a .table .now) (a .level) in
+    let b = heads-at-bounds (a .table .now) (a .level) in
     (omega (arith, b .0, c .heads-at .ensures), omega (arith, b .1, c .heads-at .ensures))
 
 rem-head : tie.Need-rem-head Inv-loop μ-loop

@@ -1,0 +1,56 @@
+-- `way_of` meets its contract. The invariant: following the way from the link on gives the whole way's end.
+-- The link rises with each turn, whatever the words hold.
+use mathlib.Core.Path.{_≡_, sym, ap, _∙_}
+use Prim.Native.Nat.{_+_, _-_, _%_}
+use native.Mathlib.Omega.{arith}
+use borrow.Author.Needs.{needs}
+use Rattle.dictionary_chains.specs.Chain.{entryStart, entryRoom, keyOf, entryAt, branchOf, followed, wayOf}
+use Rattle.dictionary_chains.specs.WordLaws.{head-small}
+use Rattle.dictionary_chains.specs.WayLaws.{link-rises, follow-none, follow-hit, follow-on}
+use Rattle.dictionary_chains.proofs.way_of.Statement.{statement}
+use Rattle.dictionary_chains.proofs.way_of.Tie as tie
+
+abbrev Inv-loop : tie.InvT-loop
+Inv-loop index table key cell₀ rest₀ link₀ cell rest link = wayOf table index key ≡ followed table index key cell rest link
+
+abbrev μ-loop : tie.MeasureT-loop
+μ-loop index table key cell₀ rest₀ link₀ cell rest link = entryRoom - link
+
+-- the key of the entry that is met
+met : (c : tie.After-key-of Inv-loop μ-loop) → let l = c .before .before .before in let a = l .before .before .before .before .args in
+    c .key-of .result ≡ keyOf (a .table) (entryAt (a .index .now) (l .loop .link))
+met c = c .key-of .ensures ∙ ap (keyOf _) (c .before .entry-at .ensures)
+
+link-at-requires : tie.Need-link-at-requires Inv-loop μ-loop
+link-at-requires c κs = (c .before .before .pre, omega (arith, head-small (c .before .before .args .table) (c .before .before .args .key), c .head-of .ensures))
+
+loop-holds : tie.Need-loop-holds Inv-loop μ-loop
+loop-holds c = unfold wayOf in rw (c .link-at .ensures, c .before .head-of .ensures)
+
+returns : tie.Need-returns Inv-loop μ-loop
+returns c = let k = c .before in let l = k .before .before .before in
+    sym (l .loop .inv ∙ follow-hit _ _ _ _ _ _ (k .before .before .loop-test .taken) (sym (met k) ∙ c .if1 .taken))
+
+link-at-requires-2 : tie.Need-link-at-requires-2 Inv-loop μ-loop
+link-at-requires-2 c κs = (c .before .before .before .before .before .before .before .before .pre, omega arith)
+
+loop-less : tie.Need-loop-less Inv-loop μ-loop
+loop-less c = let l = c .before .before .before .before .before in
+    let cell = entryStart (l .loop .link) + l .loop .rest % 2 in
+    let rises = link-rises (l .before .before .before .before .args .index .now) (l .loop .link) cell (c .before .before .before .before .loop-test .taken) in
+    omega (arith, c .link-at2 .ensures, rises)
+
+loop-again : tie.Need-loop-again Inv-loop μ-loop
+loop-again c = let k = c .before .before in let l = k .before .before .before in
+    l .loop .inv
+    ∙ follow-on _ _ _ _ _ _ (k .before .before .loop-test .taken) (λ e. c .before .if1 .left (met k ∙ e))
+    ∙ unfold branchOf in rw (c .link-at2 .ensures)
+
+returns-2 : tie.Need-returns-2 Inv-loop μ-loop
+returns-2 c = sym (c .before .loop .inv ∙ follow-none _ _ _ _ _ _ (c .loop-test .left))
+
+pub way-of-spec : {M : Type 1} → statement M
+way-of-spec =
+    tie.close
+    (tie.spec Inv-loop μ-loop (λ c κs. search needs) link-at-requires loop-holds (λ c κs. search needs) (λ c κs. search needs)
+    returns (λ c. search needs) (λ c. search needs) (λ c. search needs) link-at-requires-2 loop-less loop-again returns-2)

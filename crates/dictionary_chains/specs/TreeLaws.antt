@@ -1,0 +1,98 @@
+-- What makes trees of the words of an index: one word leads to each entry, and an entry lies on the way of its key. Two ways that come
+-- to one word are ways of one table, and of keys that are alike so far.
+use mathlib.Core.Path.{_≡_, refl, sym, ap, _∙_}
+use mathlib.Core.List.{List}
+use Prim.Native.Nat.{ℕ, zero, suc, _+_, _%_, _≤_, _<_}
+use native.Mathlib.Omega.{arith}
+use lib.ListN.{getD}
+use Rattle.dictionary_chains.specs.Chain.{headWords, entryStart, entryRoom, keyOf, wordAt, entryAt, linkAt, branchOf}
+use Rattle.dictionary_chains.specs.WordLaws.{head-small, head-table, head-slot}
+use Rattle.dictionary_chains.specs.WayLaws.{restAfter, Comes, starts, turns}
+use Rattle.dictionary_chains.specs.declared.Table.{Table}
+
+-- two keys hang in one tree, and take the same first turns
+unfoldable pub Alike : ℕ → ℕ → ℕ → Type 0
+Alike zero key other = key % 2048 ≡ other % 2048
+Alike (suc n) key other = Alike n key other × (restAfter n key % 2 ≡ restAfter n other % 2)
+
+-- entries up to b stand in trees: no link leads beyond b, no two words lead to one entry, and an entry's key is like every key whose way
+-- comes to it
+pub record Bounded (index : List ℕ) (b : ℕ) : Type 0 where
+  pub links : {t : Table} {key n low cell : ℕ} → Comes t index key n low cell → linkAt index low cell < entryRoom → linkAt index low cell ≤ b
+  pub own : {t u : Table} {key other n m low below cell place : ℕ} → Comes t index key n low cell → Comes u index other m below place
+      → linkAt index low cell < entryRoom → linkAt index low cell ≡ linkAt index below place → (t ≡ u) × (cell ≡ place)
+  pub keys : {t : Table} {key n low cell : ℕ} → Comes t index key n low cell → linkAt index low cell < entryRoom
+      → Alike n (keyOf t (entryAt index (linkAt index low cell))) key
+
+-- two ways at one word
+pub record Together (t u : Table) (key other n m low below : ℕ) : Type 0 where
+  pub table : t ≡ u
+  pub entry : low ≡ below
+  pub depth : n ≡ m
+  pub alike : Alike n key other
+
+-- a branch tells its entry and its side
+branch-entry : (n m r s : ℕ) → branchOf n r ≡ branchOf m s → n ≡ m
+unfolding branchOf
+branch-entry n m r s q = omega arith
+
+branch-side : (n m r s : ℕ) → branchOf n r ≡ branchOf m s → r % 2 ≡ s % 2
+unfolding branchOf
+branch-side n m r s q = omega arith
+
+branch-behind : (n r : ℕ) → headWords ≤ branchOf n r
+unfolding branchOf
+branch-behind n r = omega arith
+
+module _ {index : List ℕ} {b : ℕ} (bound : Bounded index b) where
+  pub more-bounded : (c : ℕ) → b ≤ c → Bounded index c
+  more-bounded c h = record { links = λ p g. omega (arith, bound .links p g); own = bound .own; keys = bound .keys }
+
+  pub together : {t u : Table} {key other n m low below cell place : ℕ} → Comes t index key n low cell → Comes u index other m below place
+      → cell ≡ place → Together t u key other n m low below
+  unfolding Alike
+  together {t} {u} {key} {other} starts starts q = record { table = head-table t u key other q; entry = refl; depth = refl; alike = head-slot t u key other q }
+  together {t} {key = key} {other = other} starts (turns {n = m} {low = below} {cell = place} p h) q =
+      absurd (omega (arith, head-small t key, branch-behind (linkAt index below place) (restAfter m other)))
+  together {u = u} {key = key} {other = other} (turns {n = n} {low = low} {cell = cell} p h) starts q =
+      absurd (omega (arith, head-small u other, branch-behind (linkAt index low cell) (restAfter n key)))
+  together {t} {u} {key} {other} (turns {n = n} {low = low} {cell = cell} p h) (turns {n = m} {low = below} {cell = place} r g) q =
+      let same = branch-entry (linkAt index low cell) (linkAt index below place) (restAfter n key) (restAfter m other) q in
+      let one = bound .own p r h same in
+      let before = together p r (one .1) in
+      let side = branch-side (linkAt index low cell) (linkAt index below place) (restAfter n key) (restAfter m other) q in
+      record {
+        table = one .0;
+        entry = same;
+        depth = ap suc (before .depth);
+        alike = (before .alike, side ∙ ap (λ (k : ℕ). restAfter k other % 2) (sym (before .depth)));
+      }
+
+  pub comes-bounded : {t : Table} {key n low cell : ℕ} → Comes t index key n low cell → low ≤ b
+  comes-bounded starts = omega arith
+  comes-bounded (turns p h) = bound .links p h
+
+  -- a word of a way lies before every newer entry
+  pub comes-before : {t : Table} {key n low cell : ℕ} → Comes t index key n low cell → (number : ℕ) → b < number → cell < entryStart number
+  unfolding branchOf
+  comes-before {t} {key} starts number h = omega (arith, head-small t key)
+  comes-before {key = key} (turns {n = n} p h) number g = omega (arith, bound .links p h)
+
+-- a word of a way holds nothing of an entry but a branch
+pub comes-apart : {t : Table} {index : List ℕ} {key n low cell : ℕ} → Comes t index key n low cell → (number k : ℕ) → 2 ≤ k → k < 7
+    → entryStart number + k ≡ cell → ⊥
+unfolding branchOf
+comes-apart {t} {key = key} starts number k h l q = omega (arith, head-small t key)
+comes-apart (turns p g) number k h l q = omega arith
+
+-- the same words are the same entry and the same link
+pub same-entry : (i j : List ℕ) (number : ℕ) → ((k : ℕ) → 2 ≤ k → k < 7 → getD i (entryStart number + k) 0 ≡ getD j (entryStart number + k) 0)
+    → entryAt i number ≡ entryAt j number
+unfolding entryAt wordAt
+same-entry i j number same =
+    rw (same 2 (omega arith) (omega arith), same 3 (omega arith) (omega arith), same 4 (omega arith) (omega arith))
+    (rw (same 5 (omega arith) (omega arith), same 6 (omega arith) (omega arith)))
+
+pub same-link : (i j : List ℕ) (low cell : ℕ) → getD i cell 0 ≡ getD j cell 0 → linkAt i low cell ≡ linkAt j low cell
+unfolding linkAt
+same-link i j low cell q = rw q

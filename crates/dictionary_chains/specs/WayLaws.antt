@@ -1,0 +1,191 @@
+-- The laws of a way: what a turn gives, that `followed` looks at entries enough, and that a way leads from word to word over links
+-- that rise.
+use mathlib.Core.Path.{_≡_, refl, sym, ap, _∙_}
+use mathlib.Core.Bool.{Bool, true, false}
+use mathlib.Core.List.{List}
+use Prim.Native.Nat.{ℕ, zero, suc, _+_, _/_, _≤_, _<_}
+use native.Mathlib.Omega.{arith}
+use lib.ListN.{getD}
+use lib.Dec.{eqb, leb, ltb}
+use borrow.Author.Tests.{eq-eqb, ne-eqb, eqb-true, eqb-false, le-ltb, lt-ltb, ltb-true, ltb-false, le-leb, lt-leb, leb-false}
+use Rattle.field_rules.specs.Choice.{pick}
+use Rattle.dictionary_chains.specs.Chain.{entryRoom, keyOf, headOf, entryAt, linkAt, branchOf, ends, climbed, followed, wayOf}
+use Rattle.dictionary_chains.specs.declared.Table.{Table}
+use Rattle.dictionary_chains.specs.declared.Way.{Way}
+
+module _ (index : List ℕ) (low cell : ℕ) where
+  pub link-none : getD index cell 0 ≤ low → linkAt index low cell ≡ entryRoom
+  unfolding linkAt
+  link-none h = rw (le-leb (getD index cell 0) low h)
+
+  pub link-some : low < getD index cell 0 → linkAt index low cell ≡ getD index cell 0
+  unfolding linkAt
+  link-some h = rw (lt-leb (getD index cell 0) low h)
+
+  pub link-rises : low < entryRoom → low < linkAt index low cell
+  unfolding linkAt
+  link-rises h = go (leb (getD index cell 0) low) refl
+    where
+      go : (t : Bool) → leb (getD index cell 0) low ≡ t → low < pick t entryRoom (getD index cell 0)
+      go true q = h
+      go false q = omega (arith, leb-false (getD index cell 0) low q)
+
+-- what a link can lead to: no entry, the key's, or another's
+pub data Meets (table : Table) (index : List ℕ) (key link : ℕ) : Type 0 where
+  nothing : entryRoom ≤ link → Meets table index key link
+  itself : link < entryRoom → keyOf table (entryAt index link) ≡ key → Meets table index key link
+  another : link < entryRoom → (keyOf table (entryAt index link) ≡ key → ⊥) → Meets table index key link
+
+module _ (table : Table) (index : List ℕ) (key : ℕ) where
+  pub meets : (link : ℕ) → Meets table index key link
+  meets link = go (ltb link entryRoom) refl (eqb (keyOf table (entryAt index link)) key) refl
+    where
+      go : (t : Bool) → ltb link entryRoom ≡ t → (s : Bool) → eqb (keyOf table (entryAt index link)) key ≡ s → Meets table index key link
+      go false q s r = nothing (ltb-false link entryRoom q)
+      go true q true r = itself (ltb-true link entryRoom q) (eqb-true _ _ r)
+      go true q false r = another (ltb-true link entryRoom q) (eqb-false _ _ r)
+
+  pub climb-none : (looks cell rest link : ℕ) → entryRoom ≤ link → climbed looks table index key cell rest link ≡ ends cell 0
+  unfolding climbed
+  climb-none zero cell rest link h = refl
+  climb-none (suc looks) cell rest link h = rw (le-ltb link entryRoom h)
+
+  pub climb-hit : (looks cell rest link : ℕ) → link < entryRoom → keyOf table (entryAt index link) ≡ key
+      → climbed (suc looks) table index key cell rest link ≡ ends cell link
+  unfolding climbed
+  climb-hit looks cell rest link h e = rw (lt-ltb link entryRoom h, eq-eqb _ _ e)
+
+  pub climb-on : (looks cell rest link : ℕ) → link < entryRoom → (keyOf table (entryAt index link) ≡ key → ⊥)
+      → climbed (suc looks) table index key cell rest link
+      ≡ climbed looks table index key (branchOf link rest) (rest / 2) (linkAt index link (branchOf link rest))
+  unfolding climbed
+  climb-on looks cell rest link h e = rw (lt-ltb link entryRoom h, ne-eqb _ _ e)
+
+  -- links rise, so as many looks as there are entries above the link are enough
+  enough : (k l cell rest link : ℕ) → entryRoom ≤ link + k → entryRoom ≤ link + l
+      → climbed k table index key cell rest link ≡ climbed l table index key cell rest link
+  enough zero l cell rest link h g = climb-none zero cell rest link (omega arith) ∙ sym (climb-none l cell rest link (omega arith))
+  enough (suc k) zero cell rest link h g = climb-none (suc k) cell rest link (omega arith) ∙ sym (climb-none zero cell rest link (omega arith))
+  enough (suc k) (suc l) cell rest link h g = go (meets link) (enough k l (branchOf link rest) (rest / 2) next)
+    where
+      next : ℕ
+      next = linkAt index link (branchOf link rest)
+
+      go : Meets table index key link
+          → (entryRoom ≤ next + k → entryRoom ≤ next + l
+          → climbed k table index key (branchOf link rest) (rest / 2) next ≡ climbed l table index key (branchOf link rest) (rest / 2) next)
+          → climbed (suc k) table index key cell rest link ≡ climbed (suc l) table index key cell rest link
+      go (nothing z) later = climb-none (suc k) cell rest link z ∙ sym (climb-none (suc l) cell rest link z)
+      go (itself b e) later = climb-hit k cell rest link b e ∙ sym (climb-hit l cell rest link b e)
+      go (another b e) later =
+          let rises = link-rises index link (branchOf link rest) b in
+          climb-on k cell rest link b e ∙ later (omega arith) (omega arith) ∙ sym (climb-on l cell rest link b e)
+
+  module _ (cell rest link : ℕ) where
+    pub follow-none : entryRoom ≤ link → followed table index key cell rest link ≡ ends cell 0
+    unfolding followed
+    follow-none h = climb-none entryRoom cell rest link h
+
+    pub follow-hit : link < entryRoom → keyOf table (entryAt index link) ≡ key → followed table index key cell rest link ≡ ends cell link
+    unfolding followed
+    follow-hit h e = enough entryRoom (suc entryRoom) cell rest link (omega arith) (omega arith) ∙ climb-hit entryRoom cell rest link h e
+
+    pub follow-on : link < entryRoom → (keyOf table (entryAt index link) ≡ key → ⊥)
+        → followed table index key cell rest link ≡ followed table index key (branchOf link rest) (rest / 2) (linkAt index link (branchOf link rest))
+    unfolding followed
+    follow-on h e = enough entryRoom (suc entryRoom) cell rest link (omega arith) (omega arith) ∙ climb-on entryRoom cell rest link h e
+
+-- what is left of a key after so many turns
+unfoldable pub restAfter : ℕ → ℕ → ℕ
+restAfter zero key = key / 2048
+restAfter (suc turns) key = restAfter turns key / 2
+
+-- the way on from a word that is come to after so many turns, from the entry that it belongs to
+abbrev pub wayFrom : Table → List ℕ → ℕ → ℕ → ℕ → ℕ → Way
+wayFrom table index key n low cell = followed table index key cell (restAfter n key) (linkAt index low cell)
+
+abbrev pub numberOf : Way → ℕ
+numberOf way = way .number
+
+-- a way comes to a word after so many turns, from the entry that the word belongs to, or 0 for a head
+pub data Comes (table : Table) (index : List ℕ) (key : ℕ) : ℕ → ℕ → ℕ → Type 0 where
+  starts : Comes table index key 0 0 (headOf table key)
+  turns : {n low cell : ℕ} → Comes table index key n low cell → linkAt index low cell < entryRoom
+      → Comes table index key (suc n) (linkAt index low cell) (branchOf (linkAt index low cell) (restAfter n key))
+
+-- how a way goes on from a word: it ends there, without the key or with it, or it takes a turn
+pub data Climbs (table : Table) (index : List ℕ) (key : ℕ) : ℕ → ℕ → ℕ → Type 0 where
+  stops : {n low cell : ℕ} → entryRoom ≤ linkAt index low cell → Climbs table index key n low cell
+  hits : {n low cell : ℕ} → linkAt index low cell < entryRoom → keyOf table (entryAt index (linkAt index low cell)) ≡ key → Climbs table index key n low cell
+  goes : {n low cell : ℕ} → linkAt index low cell < entryRoom → (keyOf table (entryAt index (linkAt index low cell)) ≡ key → ⊥)
+      → Climbs table index key (suc n) (linkAt index low cell) (branchOf (linkAt index low cell) (restAfter n key))
+      → Climbs table index key n low cell
+
+-- where a way ends: at a word that leads to no entry, or at one that leads to the key's
+pub data Ends (table : Table) (index : List ℕ) (key : ℕ) : Way → Type 0 where
+  free : {n low cell : ℕ} → Comes table index key n low cell → entryRoom ≤ linkAt index low cell → Ends table index key (ends cell 0)
+  taken : {n low cell : ℕ} → Comes table index key n low cell → linkAt index low cell < entryRoom
+      → keyOf table (entryAt index (linkAt index low cell)) ≡ key → Ends table index key (ends cell (linkAt index low cell))
+
+module _ (table : Table) (index : List ℕ) (key : ℕ) where
+  climbs-in : (left n low cell : ℕ) → entryRoom ≤ linkAt index low cell + left → Climbs table index key n low cell
+  climbs-in zero n low cell h = let none : entryRoom ≤ linkAt index low cell = omega arith in stops none
+  climbs-in (suc left) n low cell h = go (meets table index key (linkAt index low cell)) (climbs-in left (suc n) (linkAt index low cell) next)
+    where
+      next : ℕ
+      next = branchOf (linkAt index low cell) (restAfter n key)
+
+      go : Meets table index key (linkAt index low cell)
+          → (entryRoom ≤ linkAt index (linkAt index low cell) next + left → Climbs table index key (suc n) (linkAt index low cell) next)
+          → Climbs table index key n low cell
+      go (nothing z) later = stops z
+      go (itself b e) later = hits b e
+      go (another b e) later = goes b e (later (omega (arith, link-rises index (linkAt index low cell) next b)))
+
+  -- links rise, so every way ends
+  pub climbs : (n low cell : ℕ) → Climbs table index key n low cell
+  climbs n low cell = climbs-in entryRoom n low cell (omega arith)
+
+  module _ (n low cell : ℕ) where
+    pub from-none : entryRoom ≤ linkAt index low cell → wayFrom table index key n low cell ≡ ends cell 0
+    from-none h = follow-none table index key cell (restAfter n key) (linkAt index low cell) h
+
+    pub from-hit : linkAt index low cell < entryRoom → keyOf table (entryAt index (linkAt index low cell)) ≡ key
+        → wayFrom table index key n low cell ≡ ends cell (linkAt index low cell)
+    from-hit h e = follow-hit table index key cell (restAfter n key) (linkAt index low cell) h e
+
+    pub from-on : linkAt index low cell < entryRoom → (keyOf table (entryAt index (linkAt index low cell)) ≡ key → ⊥)
+        → wayFrom table index key n low cell ≡ wayFrom table index key (suc n) (linkAt index low cell) (branchOf (linkAt index low cell) (restAfter n key))
+    unfolding restAfter
+    from-on h e = follow-on table index key cell (restAfter n key) (linkAt index low cell) h e
+
+-- in an array where a word leads to the same entry, with the same key, the way goes on as it did
+module _ (table : Table) (index after : List ℕ) (key n low cell : ℕ) (link : linkAt after low cell ≡ linkAt index low cell)
+    (same : keyOf table (entryAt after (linkAt index low cell)) ≡ keyOf table (entryAt index (linkAt index low cell)))
+    (leads : linkAt index low cell < entryRoom) where
+  same-now : keyOf table (entryAt after (linkAt after low cell)) ≡ keyOf table (entryAt index (linkAt index low cell))
+  same-now = rw link same
+
+  pub same-hit : keyOf table (entryAt index (linkAt index low cell)) ≡ key → wayFrom table after key n low cell ≡ wayFrom table index key n low cell
+  same-hit e = from-hit table after key n low cell (rw link leads) (same-now ∙ e) ∙ ap (ends cell) link ∙ sym (from-hit table index key n low cell leads e)
+
+  pub same-turn : (keyOf table (entryAt index (linkAt index low cell)) ≡ key → ⊥)
+      → wayFrom table after key n low cell ≡ wayFrom table after key (suc n) (linkAt index low cell) (branchOf (linkAt index low cell) (restAfter n key))
+  same-turn e =
+      from-on table after key n low cell (rw link leads) (λ q. e (sym same-now ∙ q))
+      ∙ ap (λ (l : ℕ). wayFrom table after key (suc n) l (branchOf l (restAfter n key))) link
+
+module _ {table : Table} {index : List ℕ} {key : ℕ} where
+  pub comes-low : {n low cell : ℕ} → Comes table index key n low cell → low < entryRoom
+  comes-low starts = omega arith
+  comes-low (turns p h) = h
+
+  comes-end : {n low cell : ℕ} → Comes table index key n low cell → Climbs table index key n low cell
+      → Ends table index key (wayFrom table index key n low cell)
+  comes-end {n} {low} {cell} p (stops z) = rw (from-none table index key n low cell z) (free p z)
+  comes-end {n} {low} {cell} p (hits b e) = rw (from-hit table index key n low cell b e) (taken p b e)
+  comes-end {n} {low} {cell} p (goes b e c) = rw (from-on table index key n low cell b e) (comes-end (turns p b) c)
+
+  pub way-ends : Ends table index key (wayOf table index key)
+  unfolding wayOf restAfter
+  way-ends = comes-end starts (climbs table index key 0 0 (headOf table key))
