@@ -1,4 +1,4 @@
-// Says how much stack each export on a message takes: it is called on a stack that was painted before, over memory that needs most.
+// Says how much stack each export takes: it is called on a stack that was painted before, over memory that needs most.
 #include <pthread.h>
 #include <stdint.h>
 #include <stdio.h>
@@ -22,6 +22,12 @@ uint32_t gateway_find_field(const uint32_t *, size_t, const uint8_t *, size_t, s
 uint32_t gateway_encode(uint32_t *, size_t, uint8_t *, size_t, uint8_t *, size_t, uint8_t, uint32_t *);
 uint32_t gateway_take_over(const void *, size_t, size_t, const uint8_t *, size_t, uint32_t *, size_t, uint8_t *, size_t, uint32_t *);
 
+uint32_t gateway_check(const uint8_t *, size_t, uint32_t *);
+uint32_t gateway_prepare(const uint8_t *, size_t, uint8_t *, size_t, uint16_t *, size_t, uint32_t *);
+uint32_t gateway_prepared_words(void);
+uint32_t gateway_build(const uint8_t *, size_t, uint8_t, uint32_t, const uint8_t *, size_t, void *, size_t, uint32_t *);
+uint32_t gateway_build_prepared(const uint8_t *, size_t, uint8_t, uint32_t, const uint8_t *, size_t, const uint16_t *, size_t, void *, size_t, uint32_t *);
+
 struct record { uint8_t part, depth; uint16_t entry; uint32_t tag; uint16_t place, length; };
 
 static uint32_t words[WORDS], run_words[WORDS], out[4];
@@ -44,7 +50,53 @@ static void prepare(void) {
     for (int i = 0; i < 1024; i++) records[i] = (struct record){i ? 2 : 1, 0, 0, i ? 100 + i : 8, 0, 1};
 }
 
+// a dictionary whose header, trailer and message D each hold a field; deep: 1,022 components more, each holding a field and the one before, under D
+#define BYTES 60000
+#define ROOM 524288
+struct dictionary { uint8_t bytes[BYTES], copy[BYTES]; size_t length; uint16_t memory[ROOM]; size_t lent; };
+static struct dictionary flat, deep, roomy;
+static const uint8_t order[] = "8=FIX.4.4\0019=5\00135=D\00110=183\001";
+
+static void put(struct dictionary *d, const void *record, size_t length) {
+    memcpy(d->bytes + d->length, record, length);
+    d->length += length;
+}
+
+static void field(struct dictionary *d, uint8_t tag) { put(d, (uint8_t[]){4, tag, 0, 0, 0, 0}, 6); }
+
+static void component(struct dictionary *d, uint16_t number) {
+    put(d, (uint8_t[]){2, number & 255, number >> 8}, 3);
+    field(d, number > 1 ? 9 : number ? 10 : 8);
+    if (number > 2) put(d, (uint8_t[]){5, (number - 1) & 255, (number - 1) >> 8, 0}, 4);
+    put(d, (uint8_t[]){7}, 1);
+}
+
+static void make(struct dictionary *d, uint16_t components, size_t lent) {
+    for (uint8_t tag = 8; tag < 11; tag++) put(d, (uint8_t[]){1, tag, 0, 0, 0}, 5);
+    for (uint16_t i = 0; i < components; i++) component(d, i);
+    put(d, (uint8_t[]){3, 'D', 0, 0, 0, 0, 0, 0, 0}, 9);
+    put(d, (uint8_t[]){5, (components - 1) & 255, (components - 1) >> 8, 0, 7}, 5);
+    d->lent = lent;
+}
+
+static uint32_t built(const struct dictionary *d) {
+    return gateway_build(order, sizeof order - 1, 1, 1, d->bytes, d->length, records, 1024, out);
+}
+static uint32_t set_up(struct dictionary *d) { return gateway_prepare(d->bytes, d->length, d->copy, BYTES, d->memory, d->lent, out); }
+static uint32_t built_over(const struct dictionary *d) {
+    return gateway_build_prepared(order, sizeof order - 1, 1, 1, d->copy, BYTES, d->memory, d->lent, records, 1024, out);
+}
+
 static uint32_t none(void) { return 0; }
+static uint32_t check_deep(void) { return gateway_check(deep.bytes, deep.length, out); }
+static uint32_t build_flat(void) { return built(&flat); }
+static uint32_t build_deep(void) { return built(&deep); }
+static uint32_t prepare_flat(void) { return set_up(&flat); }
+static uint32_t prepare_roomy(void) { return set_up(&roomy); }
+static uint32_t prepare_deep(void) { return set_up(&deep); }
+static uint32_t over_roomy(void) { return built_over(&roomy); }
+static uint32_t over_flat(void) { return built_over(&flat); }
+static uint32_t over_deep(void) { return built_over(&deep); }
 static uint32_t store(void) { return gateway_store(MESSAGE, 2, 5001, x, 1, out); }
 static uint32_t store_count(void) { return gateway_store(MESSAGE, 2, 79, x, 1, out); }
 static uint32_t take_out(void) { return gateway_remove(MESSAGE, 2, 5001, out); }
@@ -78,11 +130,16 @@ int main(void) {
     struct { const char *name; uint32_t (*work)(void); } calls[] = {
         {"store", store}, {"store, a run moves", store_count}, {"remove", take_out}, {"find", find}, {"encode", encode}, {"hang", hang},
         {"hang_last", hang_last}, {"add_entry", add_entry}, {"store_last", store_last}, {"take_over", take_over},
+        {"check", check_deep}, {"build", build_flat}, {"build, deep", build_deep}, {"prepare", prepare_flat}, {"prepare, tables", prepare_roomy},
+        {"prepare, deep", prepare_deep}, {"build over tables", over_roomy}, {"build over the least", over_flat}, {"the same, deep", over_deep},
     };
     prepare();
+    make(&flat, 3, gateway_prepared_words());
+    make(&roomy, 3, ROOM);
+    make(&deep, 1024, gateway_prepared_words());
     size_t thread = used(none);
     for (size_t i = 0; i < sizeof calls / sizeof *calls; i++) {
         size_t bytes = used(calls[i].work);
-        printf("%-20s answers %2u, %6zu bytes of stack\n", calls[i].name, answer, bytes - thread);
+        printf("%-22s answers %2u, %6zu bytes of stack\n", calls[i].name, answer, bytes - thread);
     }
 }
