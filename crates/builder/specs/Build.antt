@@ -1,8 +1,8 @@
 -- The build: "22, 23, 20, 30 to 37 of its dictionary (no records), then reads". For every message, dictionary, separator, setting and
 -- number of lent records: the answer, the records that are shown, and what is written over the lent ones.
-use Prim.Native.Nat.{ℕ, _-_}
+use Prim.Native.Nat.{ℕ, _-_, _*_}
 use mathlib.Core.List.{List, [], _++_}
-use lib.ListN.{length, replicate}
+use lib.ListN.{length, take, replicate}
 use lib.Dec.{eqb, ltb}
 use Rattle.field_rules.specs.Choice.{pick}
 use Rattle.field_rules.specs.Separator.{isRefusedSeparator}
@@ -10,7 +10,7 @@ use Rattle.build_config.specs.declared.Config.{Config}
 use Rattle.dictionary_rules.specs.Check.{checkOf, numberOfCheck}
 use Rattle.dictionary_rules.specs.declared.Checked.{Checked}
 use Rattle.dictionary_meaning_rules.specs.Meaning.{dictionaryOf}
-use Rattle.build_records.specs.Records.{laid, recordWords}
+use Rattle.build_records.specs.Records.{laid, recordWords, stride}
 use Rattle.build_records.specs.declared.Record.{Record}
 use Rattle.build_answers.specs.declared.Answer.{Answer}
 use Rattle.build_answers.specs.declared.Answer.the-variants.{Valid, TooLong as MessageTooLong, InvalidSeparator, TooFewRecords, BadDictionary}
@@ -63,3 +63,7 @@ firstRefusal message config lent =
 -- what the code answers, with the words that it leaves
 unfoldable pub builtTold : Built → List ℕ → BuildOutcome
 builtTold b words = record { answer = b .answer; stop = b .stop; records = b .records; written = b .written; words = words }
+
+-- the words as they are shown, of those that the code leaves: zeros behind the records, or all as they stand where nothing is written
+unfoldable pub shownWords : Built → List ℕ → List ℕ
+shownWords b words = pick (eqb (b .written) 0) words (take (stride * b .records) words ++ replicate (recordWords - stride * b .records) 0)

@@ -6,7 +6,7 @@ use mathlib.Core.List.{List, [], _∷_, _++_}
 use Prim.Native.Nat.{ℕ, suc, _+_, _-_, _*_, _≤_, _<_}
 use native.Mathlib.Omega.{arith}
 use lib.ListN.{length, take, drop, replicate, length-append, length-drop}
-use lib.Seq.{take-at}
+use lib.Seq.{take-at, length-take-le}
 use lib.Dec.{eqb, leb, ltb}
 use borrow.Author.Tests.{eq-eqb, ne-eqb, le-ltb, lt-ltb, ltb-false}
 use Rattle.dictionary_chains.specs.Chain.{indexWords}
@@ -41,7 +41,9 @@ use Rattle.build_rules.specs.Beginning.{startOf, msgTypeRecord}
 use Rattle.build_rules.specs.Message.{Outcome, shownWith, refusal, messageRead}
 use Rattle.builder.specs.Reading.{finishTold, finishCounts}
 use Rattle.builder.specs.Reading.{startTold, Prepared, shownCount, readTold}
-use Rattle.builder.specs.Build.{untouched, shown, judged, checkedRead, firstRefusal, buildOf, builtTold}
+use Rattle.builder.specs.declared.Read.{Read}
+use Rattle.builder.specs.declared.Built.{Built}
+use Rattle.builder.specs.Build.{untouched, shown, shownWords, judged, checkedRead, firstRefusal, buildOf, builtTold}
 use Rattle.builder.specs.Through.{afterPlaced, afterStart, messageBy, messageListed, messageKept, messageThrough}
 use Rattle.dictionary_prepared.specs.MemoryLaws.{zero-passes}
 use Rattle.builder.specs.BuildLaws.{blanked, part-count, check-refuses, check-reads}
@@ -210,7 +212,49 @@ reads-short message config lent first is z = go (isRefusedSeparator (config .mod
     go false false true e q = absurd (omega arith)
     go false false false e q = ltb-false 8192 (length message) e
 
+-- and what is written over is not nothing
+pub reads-lent : (message : List ℕ) (config : Config) (lent : ℕ) (first : Answer) → first ≡ firstRefusal message config lent → numberOf first ≡ 0 → 1024 ≤ lent
+unfolding firstRefusal numberOf
+reads-lent message config lent first is z = go (isRefusedSeparator (config .mode .separator)) (ltb lent 1024) (ltb 8192 (length message)) refl (sym (ap numberOf is) ∙ z)
+  where
+    go : (x few y : Bool) → ltb lent 1024 ≡ few → numberOf (pick x InvalidSeparator (pick few TooFewRecords (pick y TooLong Valid))) ≡ 0 → 1024 ≤ lent
+    go true few y e q = absurd (omega arith)
+    go false true y e q = absurd (omega arith)
+    go false false y e q = ltb-false lent 1024 e
+
 -- the records that were read, and blank ones behind them
 pub shows-read : (lent : ℕ) (answer : Answer) (stop : Stop) (n : ℕ) (words : List ℕ) → length words ≡ recordWords → n ≤ recordRoom → (out : Outcome) → readTold (record { answer = answer; stop = stop; records = n }) words ≡ out → builtTold (record { answer = answer; stop = stop; records = n; written = lent }) (take (stride * n) words ++ replicate (recordWords - stride * n) 0) ≡ shown lent out
 unfolding readTold builtTold shown
 shows-read lent answer stop n words size few out e = rw (← e, part-count words n size few, blanked words n size few)
+
+-- ===== words that are left as they were behind the records =====
+
+module _ (b : Built) (words : List ℕ) where
+  -- nothing is written, or all that is lent
+  pub stays-shown : b .written ≡ 0 → shownWords b words ≡ words
+  unfolding shownWords
+  stays-shown e = rw (eq-eqb (b .written) 0 e)
+
+  pub blanks-shown : (b .written ≡ 0 → ⊥) → shownWords b words ≡ take (stride * b .records) words ++ replicate (recordWords - stride * b .records) 0
+  unfolding shownWords
+  blanks-shown n = rw (ne-eqb (b .written) 0 n)
+
+  -- nothing was read, or what was read is shown
+  pub told-untouched : (answer : Answer) → b ≡ record { answer = answer; stop = Nowhere; records = 0; written = 0 } → builtTold b (shownWords b words) ≡ untouched answer words
+  unfolding builtTold shownWords untouched
+  told-untouched answer e = rw e
+
+  pub told-read : (read : Read) (lent : ℕ) → b ≡ record { answer = read .answer; stop = read .stop; records = read .records; written = lent } → 1024 ≤ lent → read .records ≤ recordRoom → length words ≡ recordWords → builtTold b (shownWords b words) ≡ shown lent (readTold read words)
+  told-read read lent e many few size =
+      ap (builtTold b) (blanks-shown (λ none. absurd (omega (arith, ap (λ (c : Built). c .written) e))))
+      ∙ ap (λ (c : Built). builtTold c (take (stride * c .records) words ++ replicate (recordWords - stride * c .records) 0)) e
+      ∙ shows-read lent (read .answer) (read .stop) (read .records) words size few _ refl
+
+  -- the records that are shown stand in them already
+  pub shown-front : b .records ≤ recordRoom → length words ≡ recordWords → take (stride * b .records) (shownWords b words) ≡ take (stride * b .records) words
+  unfolding shownWords
+  shown-front few size = go (eqb (b .written) 0)
+    where
+      go : (none : Bool) → take (stride * b .records) (pick none words (take (stride * b .records) words ++ replicate (recordWords - stride * b .records) 0)) ≡ take (stride * b .records) words
+      go true = refl
+      go false = take-at (take (stride * b .records) words) (replicate (recordWords - stride * b .records) 0) (stride * b .records) (length-take-le (stride * b .records) words (omega arith))

@@ -22,7 +22,7 @@ ghost use Rattle.dictionary_tables_rules.specs.Tags.{tagsFound};
 ghost use Rattle.build_parts.specs.Parts.{partOf};
 ghost use Rattle.build_rules.specs.Beginning.{verifiedRecords, startOf};
 ghost use Rattle.builder.specs.Reading.{VerifiedInside, startTold, Begins, readTold};
-ghost use Rattle.builder.specs.Build.{shown, checkedRead, firstRefusal, buildOf, builtTold};
+ghost use Rattle.builder.specs.Build.{shown, shownWords, checkedRead, firstRefusal, buildOf, builtTold};
 ghost use Rattle.builder.specs.Through.{messageBy, messageListed, messageThrough, buildOver};
 ghost use Rattle.dictionary_rules.specs.Check.{checkOf};
 
@@ -244,21 +244,27 @@ fn untouched(answer: Answer) -> Built
     }
 }
 
+// What was read, as the answer of a build that writes over all that are lent.
+fn answered(read: Read, lent: usize) -> Built
+    ensures { λ r. ⌜ r ≡ record { answer = read .answer; stop = read .stop; records = read .records; written = lent } ⌝ }
+{
+    let answer = read.answer;
+    let stop = read.stop;
+    Built {
+        answer,
+        stop,
+        records: read.records,
+        written: lent,
+    }
+}
+
 // What was read, shown: blank records behind its own, over all that are lent.
 fn show(read: Read, lent: usize, words: &mut [u32]) -> Built
     requires { ⌜ (length (now words) ≡ recordWords) × (read .records ≤ recordRoom) ⌝ }
     ensures { λ r. ⌜ builtTold r (now (words .exit)) ≡ shown lent (readTold read (now (words .entry))) ⌝ }
 {
-    let answer = read.answer;
-    let stop = read.stop;
-    let count = read.records;
-    showing::blank(words, count);
-    Built {
-        answer,
-        stop,
-        records: count,
-        written: lent,
-    }
+    showing::blank(words, read.records);
+    answered(read, lent)
 }
 
 // What is refused before anything is read: 22, 23, 20. Valid: nothing is.
@@ -297,8 +303,9 @@ pub fn build(
     show(read, lent, records)
 }
 
-// Builds a message as `build` does, over memory that a dictionary was prepared in. It takes no dictionary and checks none.
-pub fn build_prepared(
+// Builds a message over memory that a dictionary was prepared in. What the words hold behind the records that are shown is left to the caller, who
+// may look at these alone.
+pub fn build_unblanked(
     message: &[u8],
     config: Config,
     copy: &[u8],
@@ -306,7 +313,8 @@ pub fn build_prepared(
     lent: usize,
     words: &mut [u32; build_records::WORDS],
 ) -> Built
-    ensures { λ r. ⌜ builtTold r (now (words .exit)) ≡ buildOver (now (message .entry)) config (now (copy .entry)) (now (memory .entry)) lent (now (words .entry)) ⌝ }
+    ensures { λ r. ⌜ builtTold r (shownWords r (now (words .exit))) ≡ buildOver (now (message .entry)) config (now (copy .entry)) (now (memory .entry)) lent (now (words .entry)) ⌝ }
+    ensures { λ r. ⌜ (r .records ≤ recordRoom) × (length (now (words .exit)) ≡ recordWords) ⌝ }
 {
     let records = &mut words[..];
     if !dictionary_prepared::is_prepared(copy, memory) {
@@ -320,5 +328,23 @@ pub fn build_prepared(
     let index = &memory[dictionary_prepared::FRONT..dictionary_prepared::HEAD];
     let tables = &memory[dictionary_prepared::HEAD..];
     let read = read_message(message, config, &copy[..size], index, tables, records);
-    show(read, lent, records)
+    answered(read, lent)
+}
+
+// Builds a message as `build` does, over memory that a dictionary was prepared in. It takes no dictionary and checks none.
+pub fn build_prepared(
+    message: &[u8],
+    config: Config,
+    copy: &[u8],
+    memory: &[u16],
+    lent: usize,
+    words: &mut [u32; build_records::WORDS],
+) -> Built
+    ensures { λ r. ⌜ builtTold r (now (words .exit)) ≡ buildOver (now (message .entry)) config (now (copy .entry)) (now (memory .entry)) lent (now (words .entry)) ⌝ }
+{
+    let built = build_unblanked(message, config, copy, memory, lent, words);
+    if built.written != 0 {
+        showing::blank(&mut words[..], built.records);
+    }
+    built
 }

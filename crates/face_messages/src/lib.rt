@@ -112,7 +112,8 @@ pub fn build(
     )
 }
 
-// Builds a message over memory that a dictionary was prepared in, and tells the answer.
+// Builds a message over memory that a dictionary was prepared in, and tells the answer. Of the words only the records that are shown are the
+// caller's to read.
 pub fn build_prepared(
     message: &[u8],
     separator: u8,
@@ -124,12 +125,12 @@ pub fn build_prepared(
     out: &mut [u32; 4],
 ) -> Shown
     ensures { λ r. ⌜ (r ≡ shownOf (buildOver (now (message .entry)) (configOf settings separator) (now (copy .entry)) (now (memory .entry)) lent (now (words .entry))))
-        × (now (words .exit) ≡ buildOver (now (message .entry)) (configOf settings separator) (now (copy .entry)) (now (memory .entry)) lent (now (words .entry)) .words)
+        × (take (stride * r .records) (now (words .exit)) ≡ take (stride * r .records) (buildOver (now (message .entry)) (configOf settings separator) (now (copy .entry)) (now (memory .entry)) lent (now (words .entry)) .words))
         × (now (out .exit) ≡ toldOf (buildOver (now (message .entry)) (configOf settings separator) (now (copy .entry)) (now (memory .entry)) lent (now (words .entry)))) ⌝ }
 {
     let config = build_config::config_of(settings, separator);
     tell_built(
-        builder::build_prepared(message, config, copy, memory, lent, words),
+        builder::build_unblanked(message, config, copy, memory, lent, words),
         out,
     )
 }

@@ -6,9 +6,9 @@ use Rattle.builder.proofs.show.Statement.{statement}
 use Rattle.builder.proofs.show.Tie as tie
 
 returns : tie.Need-returns
-returns c = let b = c .before .before in
+returns c = let b = c .before .before .before in
     let s = b .before .before .before in
-    rw (b .blank .ensures) (shows-read _ _ _ _ _ (s .pre .0) (s .pre .1) _ refl)
+    rw (c .answered .ensures, b .blank .ensures) (shows-read _ _ _ _ _ (s .pre .0) (s .pre .1) _ refl)
 
 pub show-spec : {M : Type 1} → statement M
-show-spec = tie.close (tie.spec (λ c κs. search needs) (λ c. search needs) returns)
+show-spec = tie.close (tie.spec (λ c κs. search needs) (λ c κs. search needs) (λ c. search needs) returns)

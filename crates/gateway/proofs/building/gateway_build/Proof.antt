@@ -11,7 +11,7 @@ use Rattle.gateway.proofs.Words.{Words, at, Blank, to-blank, lent-mut, 
 use Rattle.builder.specs.Build.{BuildOutcome, buildOf}
 use Rattle.build_config.specs.Settings.{configOf}
 use Rattle.face_messages.specs.Lent.{filled, builtFrom}
-use Rattle.face_messages.specs.LentLaws.{written-lent, Said, Reads, said-within, said-reads}
+use Rattle.face_messages.specs.LentLaws.{written-lent, SaidWhole, Reads, said-whole, said-within, said-reads}
 use Rattle.face_messages.specs.declared.FieldRecord.{FieldRecord}
 use Rattle.face_messages.specs.declared.Shown.{Shown}
 use Rattle.face_messages.proofs.FieldRecord as T
@@ -84,16 +84,16 @@ module _ {M : Type 1} (𝓤 : URA M) (H : Heap 𝓤) (A : Atoms 𝓤) (W : Given
   abbrev over : List ℕ → BuildOutcome
   over cs = buildOf (now s) (configOf settings separator) (now d) len cs
 
-  within : (cs : List ℕ) (r : Shown) (zs os : List ℕ) → Said (over cs) r zs os → r .written ≤ len
-  within cs r zs os e = said-within (over cs) r zs os e len (written-lent (now s) (configOf settings separator) (now d) len cs)
+  within : (cs : List ℕ) (r : Shown) (zs os : List ℕ) → SaidWhole (over cs) r zs os → r .written ≤ len
+  within cs r zs os e = said-within (over cs) r zs os (said-whole (over cs) r zs os e) len (written-lent (now s) (configOf settings separator) (now d) len cs)
 
   abbrev end : BuildOutcome
   end = builtFrom (now s) separator settings (now d) len
 
   -- what the entry says, of the three contracts
-  joined : (cs zs os : List ℕ) (r : Shown) (us : List FieldRecord) → cs ≡ replicate recordWords 0 → Said (over cs) r zs os → us ≡ filled zs (r .records) (r .written) (now x) → Reads end (now x) (r .number) us os
+  joined : (cs zs os : List ℕ) (r : Shown) (us : List FieldRecord) → cs ≡ replicate recordWords 0 → SaidWhole (over cs) r zs os → us ≡ filled zs (r .records) (r .written) (now x) → Reads end (now x) (r .number) us os
   unfolding builtFrom
-  joined cs zs os r us e₁ e₂ e₃ = said-reads end r zs os (subst (λ (ws : List ℕ). Said (over ws) r zs os) e₁ e₂) (now x) us e₃
+  joined cs zs os r us e₁ e₂ e₃ = said-reads end r zs os (said-whole end r zs os (subst (λ (ws : List ℕ). SaidWhole (over ws) r zs os) e₁ e₂)) (now x) us e₃
 
   exits : (k : ℕ) (us : List FieldRecord) (os : List ℕ) → k < 2 ^ 32 → length us ≡ len → Reads end (now x) k us os
       → ent 𝓤 (⋆ 𝓤 H A (‵ (flft κ q) ∷ ‵ (flft κ₁ q₁) ∷ ‵ (flft κ₂ q₂) ∷ ‵ (flft κ₃ q₃) ∷ ‵ Own ∷ ‵ Own₁ ∷ ‵ (finally T.the-row (x .name) us) ∷ ‵ (fres (y .name) (Four .coded .code os)) ∷ [])) (Post (vint w32 k))
@@ -127,7 +127,7 @@ module _ {M : Type 1} (𝓤 : URA M) (H : Heap 𝓤) (A : Atoms 𝓤) (W : Given
         nothing ! $ move ! (1 ∷ 0 ∷ []) $ join ! $ move ! (12 ∷ 0 ∷ []) $ join ! $ move ! (2 ∷ 0 ∷ []) $ join ! $ move ! (2 ∷ 0 ∷ []) $ join ! $ nothing ! $ move ! (7 ∷ 0 ∷ []) $ fjoin ! $ move ! (8 ∷ 0 ∷ []) $ fjoin ! $ owned ! usize (Is usize) (uint-makes 𝓤 H A W w64) len _ (refl, room .0) $ fjoin ! $ move ! (3 ∷ 0 ∷ []) $ fjoin ! $ owned ! u32 (Is u32) (uint-makes 𝓤 H A W w32) settings _ (refl, settings-fits) $ fjoin ! $ owned ! u8 (Is u8) (uint-makes 𝓤 H A W w8) separator _ (refl, separator-fits) $ fjoin ! $ move ! (4 ∷ 0 ∷ []) $ fjoin ! $
         move ! (1 ∷ 0 ∷ []) $ use2 W (raw (Build 𝓤 H A at-mem run .pre (to-build l₇ ν δ cs))) (asked 𝓤 H A core.ended (core.clauses 𝓤 H A at-mem run) (to-build l₇ ν δ cs) (id⊢ 𝓤 (emp 𝓤))) $
         calls-at ! fm (Build 𝓤 H A at-mem run) known-build (to-build l₇ ν δ cs) (and-then ! (load ! (from ! (stop !)) (look ! 35 refl)) (and-then ! (load ! (from ! (stop !)) (look ! 33 refl)) (and-then ! (load ! (from ! (stop !)) (look ! 31 refl)) (and-then ! (load ! (from ! (stop !)) (look ! 29 refl)) (and-then ! (load ! (from ! (stop !)) (look ! 18 refl)) (and-then ! (load ! (from ! (stop !)) (look ! 16 refl)) (and-then ! (load ! (from ! (stop !)) (look ! 14 refl)) (no-more !)))))))) (λ u₈.
-        answered 𝓤 H A core.ended (core.clauses 𝓤 H A at-mem run) (to-build l₇ ν δ cs) ! tt u₈ (λ r ws. heard ! (Said (over cs) r (ws .1 .1 .1 .1 .1 .0) (ws .1 .1 .1 .1 .1 .1 .0)) (λ e₂. fsplit ! $ drop ! $ fsplit ! $ drop ! $ fsplit ! $ drop ! $ fsplit ! $ drop ! $ fsplit ! $ drop ! $ fsplit ! $ move ! (1 ∷ []) $ fsplit ! $ move ! (1 ∷ []) $ drop ! $
+        answered 𝓤 H A core.ended (core.clauses 𝓤 H A at-mem run) (to-build l₇ ν δ cs) ! tt u₈ (λ r ws. heard ! (SaidWhole (over cs) r (ws .1 .1 .1 .1 .1 .0) (ws .1 .1 .1 .1 .1 .1 .0)) (λ e₂. fsplit ! $ drop ! $ fsplit ! $ drop ! $ fsplit ! $ drop ! $ fsplit ! $ drop ! $ fsplit ! $ drop ! $ fsplit ! $ move ! (1 ∷ []) $ fsplit ! $ move ! (1 ∷ []) $ drop ! $
         move ! (2 ∷ []) $ peeks ! D.the-row (Is D.the-row) (shows 𝓤 H A D.the-row) r (u₈ ∷ []) (λ is₂.
         land ! (from ! (stop !)) (init ! 25 refl (LL.lawful D.the-type D′.the-laws 𝓤 H A W .typed r _ is₂ .0)) $ rewrite ! 25 (λ (z : Val). ‵ (fat fullShare D′.mir l₈ 0 z)) (ap only (LL.tells D.the-type D′.the-laws r (u₈ ∷ []) is₂)) refl $ drop ! $
         -- the lifetime is ended, and the local comes back
