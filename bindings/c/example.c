@@ -1,6 +1,6 @@
 /* One sample on its whole way: a damaged stream, the hunting framer, a build over a prepared dictionary, an encoding, a change, an encoding again; and
- * what a plain build answers, and what the settings word decides. Each line that is printed is held against what must come; the exit code is 1 where
- * one differs. */
+ * what a build over less memory and a plain build answer, and what the settings word decides. Each line that is printed is held against what must
+ * come; the exit code is 1 where one differs. */
 #include "tinkoraba.h"
 
 #include <stdio.h>
@@ -23,9 +23,10 @@ static const uint8_t DICTIONARY[] = {
     3, 'D', 0, 0, 0, 0, 0, 0, 0, 4, 38, 0, 0, 0, 0, 4, 58, 0, 0, 0, 0, 7,
 };
 
-/* What the dictionary is prepared in. It is only read by the builds. */
+/* What the dictionary is prepared in, with room for its tables and in the least memory. It is only read by the builds. */
 static uint8_t copy[sizeof DICTIONARY];
-static uint16_t memory[TINKORABA_PREPARED_WORDS];
+static uint16_t memory[TINKORABA_PREPARED_ROOM];
+static uint16_t least[TINKORABA_PREPARED_WORDS];
 
 static int failures = 0;
 
@@ -62,6 +63,11 @@ static void record(const FieldRecord *field, const uint8_t *message, const char 
     line(text, expected);
 }
 
+static void alike(const FieldRecord *others, const FieldRecord *records, uint32_t filled, size_t count) {
+    number("its records", filled, (uint32_t)count);
+    line(memcmp(others, records, TINKORABA_RECORDS * sizeof *records) == 0 ? "records alike" : "records not alike", "records alike");
+}
+
 static void sizes(void) {
     number("records", gateway_most_records(), TINKORABA_RECORDS);
     number("message bytes", gateway_most_message_bytes(), TINKORABA_MESSAGE_BYTES);
@@ -71,25 +77,30 @@ static void sizes(void) {
     number("prepared words", gateway_prepared_words(), TINKORABA_PREPARED_WORDS);
 }
 
-static uint32_t prepare(size_t dictionary_length, size_t memory_count) {
+static uint32_t prepare(size_t dictionary_length, uint16_t *words, size_t count) {
     uint32_t out[4];
-    return gateway_prepare(DICTIONARY, dictionary_length, copy, sizeof copy, memory, memory_count, out);
+    return gateway_prepare(DICTIONARY, dictionary_length, copy, sizeof copy, words, count, out);
 }
 
-/* A build over what is prepared. */
+/* A build over what is prepared in so many words. */
+static uint32_t build_over(const uint16_t *words, size_t count, const uint8_t *message, size_t length, FieldRecord *records, uint32_t out[4]) {
+    return gateway_build_prepared(message, length, TINKORABA_SOH, TINKORABA_VALIDATE, copy, sizeof copy, words, count, records, TINKORABA_RECORDS,
+                                  out);
+}
+
 static uint32_t build(const uint8_t *message, size_t length, FieldRecord *records, uint32_t out[4]) {
-    return gateway_build_prepared(message, length, TINKORABA_SOH, TINKORABA_VALIDATE, copy, sizeof copy, memory, TINKORABA_PREPARED_WORDS, records,
-                                  TINKORABA_RECORDS, out);
+    return build_over(memory, TINKORABA_PREPARED_ROOM, message, length, records, out);
 }
 
 /* Once for all builds; what is refused prepares nothing. */
 static void prepared(void) {
     static FieldRecord records[TINKORABA_RECORDS];
     uint32_t out[4];
-    number("prepare in a word too few answers", prepare(sizeof DICTIONARY, TINKORABA_PREPARED_WORDS - 1), TINKORABA_NO_ROOM);
-    number("prepare of a cut dictionary answers", prepare(sizeof DICTIONARY - 1, TINKORABA_PREPARED_WORDS), TINKORABA_DICTIONARY_BAD_RECORD);
+    number("prepare in a word too few answers", prepare(sizeof DICTIONARY, memory, TINKORABA_PREPARED_WORDS - 1), TINKORABA_NO_ROOM);
+    number("prepare of a cut dictionary answers", prepare(sizeof DICTIONARY - 1, memory, TINKORABA_PREPARED_ROOM), TINKORABA_DICTIONARY_BAD_RECORD);
     number("build with nothing prepared answers", build((const uint8_t *)WITH_5001, sizeof WITH_5001 - 1, records, out), TINKORABA_NO_MESSAGE);
-    number("prepare answers", prepare(sizeof DICTIONARY, TINKORABA_PREPARED_WORDS), TINKORABA_VALID);
+    number("prepare answers", prepare(sizeof DICTIONARY, memory, TINKORABA_PREPARED_ROOM), TINKORABA_VALID);
+    number("prepare in the least memory answers", prepare(sizeof DICTIONARY, least, TINKORABA_PREPARED_WORDS), TINKORABA_VALID);
 }
 
 static size_t hunted(uint8_t *frame) {
@@ -114,14 +125,21 @@ static size_t built(const uint8_t *frame, size_t length, FieldRecord *records) {
     return out[0];
 }
 
+/* Memory without room for tables: a build over it takes longer and fills the same records. */
+static void built_over_the_least(const uint8_t *frame, size_t length, const FieldRecord *records, size_t count) {
+    static FieldRecord others[TINKORABA_RECORDS];
+    uint32_t out[4];
+    number("build over the least memory answers", build_over(least, TINKORABA_PREPARED_WORDS, frame, length, others, out), TINKORABA_VALID);
+    alike(others, records, out[0], count);
+}
+
 /* A plain build is given the dictionary and checks it each time; it fills the same records. */
 static void built_plainly(const uint8_t *frame, size_t length, const FieldRecord *records, size_t count) {
     static FieldRecord others[TINKORABA_RECORDS];
     uint32_t out[4];
     uint32_t answer = gateway_build(frame, length, TINKORABA_SOH, TINKORABA_VALIDATE, DICTIONARY, sizeof DICTIONARY, others, TINKORABA_RECORDS, out);
     number("plain build answers", answer, TINKORABA_VALID);
-    number("plain build's records", out[0], (uint32_t)count);
-    line(memcmp(others, records, sizeof others) == 0 ? "records alike" : "records not alike", "records alike");
+    alike(others, records, out[0], count);
 }
 
 static uint32_t built_with(uint32_t settings) {
@@ -172,6 +190,7 @@ int main(void) {
     size_t length = hunted(frame);
     prepared();
     size_t count = built(frame, length, records);
+    built_over_the_least(frame, length, records, count);
     built_plainly(frame, length, records, count);
     changed(records, count, frame, length);
     settings();

@@ -26,7 +26,8 @@ extern "C" {
 #define TINKORABA_MESSAGE_BYTES 8192     /* the longest message or encoding; the output of a take, at least */
 #define TINKORABA_STORE_BYTES 16384      /* a framer's store, exactly */
 #define TINKORABA_DICTIONARY_BYTES 60000 /* the longest flat dictionary */
-#define TINKORABA_PREPARED_WORDS 96153   /* the words of memory that a dictionary is prepared in, at least */
+#define TINKORABA_PREPARED_WORDS 111154  /* the words of memory that a dictionary is prepared in, at least */
+#define TINKORABA_PREPARED_ROOM 524288   /* words that hold the tables of FIX 4.4 and of FIX 5.0 SP1 whole: builds are then short */
 #define TINKORABA_WORDS 8205             /* the words of a lent message or draft, exactly */
 #define TINKORABA_VALUES 8192            /* the value bytes of a lent message or draft, exactly */
 
@@ -119,7 +120,12 @@ uint32_t gateway_check(const uint8_t *dictionary, size_t dictionary_length, uint
 
 /* Checks a flat dictionary and prepares it, once for many builds: its records in the copy, of at least as many bytes as it has, and what they name in
  * the memory, of at least TINKORABA_PREPARED_WORDS words. 0; 23, looked for first, where one of these is too short; or 30 to 37 as gateway_check
- * answers them. On a refusal both are as they were. The dictionary isn't needed afterwards: what was prepared has no pointer to it. */
+ * answers them. On a refusal both are as they were. The dictionary isn't needed afterwards: what was prepared has no pointer to it.
+ *
+ * More words are for a directory and for tables that builds read through: those of the header's tags, of the trailer's and of each message, as many
+ * as have room. A build of a message without a table lays it anew from the copy and drops it afterwards. So more memory makes builds shorter and
+ * changes no answer; words that are not taken stay as they were. TINKORABA_PREPARED_ROOM words, 1 MB, are enough for all tables of FIX 4.4 or of
+ * FIX 5.0 SP1. */
 uint32_t gateway_prepare(const uint8_t *dictionary, size_t dictionary_length, uint8_t *copy, size_t copy_length, uint16_t *memory,
                          size_t memory_count, uint32_t out[4]);
 

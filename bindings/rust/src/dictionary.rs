@@ -4,11 +4,14 @@ use crate::raw::Out;
 use crate::{raw, Config, Error, FieldRecord};
 use std::fmt;
 
+/// The words of memory that a dictionary is prepared in: they hold the tables of FIX 4.4 and of FIX 5.0 SP1 whole.
+const ROOM: usize = 524_288;
+
 /// A flat dictionary that passed its check, prepared for builds.
 ///
 /// It is checked and prepared once, when it is made: a gateway doesn't start with a bad one, and no build checks it again. Builds only read it, so
-/// that any number of threads share one without a lock. Beside a copy of its bytes it holds some 190 KB of what they name: share it rather than
-/// clone it.
+/// that any number of threads share one without a lock. Beside a copy of its bytes it holds 1 MB: what they name, and the tables of its messages that
+/// builds read through. The library needs less, but each build of a message whose table has no room lays it anew. Share it rather than clone it.
 ///
 /// ```
 /// use tinkoraba::{build, Config, Dictionary, Error, Flaw, Records};
@@ -41,8 +44,8 @@ impl Dictionary {
     pub fn new(bytes: impl Into<Vec<u8>>) -> Result<Self, Error> {
         let bytes = bytes.into();
         // SAFETY: it takes nothing.
-        let words = unsafe { raw::gateway_prepared_words() } as usize;
-        let (mut copy, mut memory, mut out) = (vec![0; bytes.len()], vec![0; words], [0; 4]);
+        let least = unsafe { raw::gateway_prepared_words() } as usize;
+        let (mut copy, mut memory, mut out) = (vec![0; bytes.len()], vec![0; ROOM.max(least)], [0; 4]);
         // SAFETY: each pointer goes with the length of what it comes from, copy and memory are borrowed for writing alone, and `out` has its size.
         let number =
             unsafe { raw::gateway_prepare(bytes.as_ptr(), bytes.len(), copy.as_mut_ptr(), copy.len(), memory.as_mut_ptr(), memory.len(), &mut out) };

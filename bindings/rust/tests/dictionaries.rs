@@ -1,8 +1,16 @@
-//! Dictionaries: what is prepared once serves every thread, and a bad one is refused as its check refuses it.
+//! Dictionaries: what is prepared once serves every thread, in much memory or little, and a bad one is refused as its check refuses it.
+/// The exports as the crate declares them: it gives no other memory to a dictionary than what it chose.
+#[allow(dead_code)]
+#[path = "../src/raw.rs"]
+mod raw;
 mod shared;
 
 use shared::whole;
-use tinkoraba::{build, Config, Dictionary, DictionaryWriter, Error, FieldRecord, Flaw, Records};
+use tinkoraba::{build, Config, Dictionary, DictionaryWriter, Error, FieldRecord, Flaw, Records, RECORDS, SOH};
+
+/// Orders with groups, the header alone, and two that are refused, with their numbers.
+const FIELDS: [(&str, u32); 5] =
+    [("35=D|38=600|58=x|", 0), ("35=0|", 0), ("35=D|78=2|79=a|80=1|79=b|80=2|", 0), ("35=D|78=1|79=a|", 4), ("35=D|59=0|", 1)];
 
 /// Known tags, header and trailer.
 fn begun() -> DictionaryWriter {
@@ -23,15 +31,45 @@ fn built(bytes: &[u8], dictionary: &Dictionary, records: &mut Records) -> (u32, 
     }
 }
 
+/// The number and the records of a build over a dictionary that is prepared in the least memory, where no table has room.
+fn built_over_the_least(bytes: &[u8], flat: &[u8]) -> (u32, Vec<FieldRecord>) {
+    // SAFETY: it takes nothing.
+    let words = unsafe { raw::gateway_prepared_words() } as usize;
+    let (mut copy, mut memory, mut out) = (vec![0; flat.len()], vec![0; words], [0; 4]);
+    let mut records = vec![FieldRecord::default(); RECORDS];
+    let settings = Config::default().settings.word();
+    // SAFETY: each pointer goes with the length of what it comes from, what is written to is borrowed for that alone, and `out` has its size.
+    let (prepared, number) = unsafe {
+        let prepared = raw::gateway_prepare(flat.as_ptr(), flat.len(), copy.as_mut_ptr(), copy.len(), memory.as_mut_ptr(), words, &mut out);
+        let (lent, copied, kept) = (records.as_mut_ptr(), copy.as_ptr(), memory.as_ptr());
+        let number =
+            raw::gateway_build_prepared(bytes.as_ptr(), bytes.len(), SOH, settings, copied, copy.len(), kept, words, lent, records.len(), &mut out);
+        (prepared, number)
+    };
+    assert_eq!(prepared, 0, "it passes its check");
+    records.truncate(out[0] as usize);
+    (number, records)
+}
+
+#[test]
+fn the_least_memory_answers_the_same() {
+    let dictionary = orders();
+    for (fields, number) in FIELDS {
+        let bytes = whole(fields);
+        let answer = built(&bytes, &dictionary, &mut Records::new());
+        assert_eq!((answer.0, &answer), (number, &built_over_the_least(&bytes, dictionary.as_bytes())), "{fields}");
+    }
+}
+
 fn serves_threads<T: Send + Sync>(_: &T) {}
 
 #[test]
 fn threads_build_from_one_dictionary() {
     let dictionary = orders();
     serves_threads(&dictionary);
-    let messages = ["35=D|38=600|58=x|", "35=0|", "35=D|78=2|79=a|80=1|79=b|80=2|", "35=D|78=1|79=a|", "35=D|59=0|"].map(whole);
+    let messages = FIELDS.map(|(fields, _)| whole(fields));
     let alone: Vec<_> = messages.iter().map(|bytes| built(bytes, &dictionary, &mut Records::new())).collect();
-    assert_eq!(alone.iter().map(|answer| answer.0).collect::<Vec<_>>(), [0, 0, 0, 4, 1]);
+    assert_eq!(alone.iter().map(|answer| answer.0).collect::<Vec<_>>(), FIELDS.map(|(_, number)| number));
     std::thread::scope(|scope| {
         for thread in 0..2 {
             let (dictionary, messages, alone) = (&dictionary, &messages, &alone);

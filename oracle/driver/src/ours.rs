@@ -2,6 +2,8 @@
 #[cfg(feature = "library")]
 mod any_content;
 #[cfg(feature = "library")]
+mod directory;
+#[cfg(feature = "library")]
 mod exports;
 #[cfg(feature = "library")]
 mod forms;

@@ -1,5 +1,7 @@
 //! Memory that no dictionary was prepared in: with a right stamp every content is answered, without one nothing is built.
+use super::directory::{Block, DIRECTORY};
 use super::exports::PREPARED_WORDS;
+use super::forms::SIZES;
 use super::prepared::Prepared;
 use crate::generate::random::Random;
 use crate::protocol::Reading;
@@ -10,9 +12,15 @@ pub const STAMP: [u16; 2] = [18_758, 12_632];
 /// One build of so many is also made over such memory.
 const ONE_OF: usize = 64;
 
+/// What memory of any words has more than the least: nothing, too little for a directory, and room behind one.
+const MORE: [usize; 3] = [0, 77, DIRECTORY + 3_000];
+
 /// Fewer words of prepared memory than this, and fewer bytes of its copy, are changed behind the stamp: with many nothing is found any more.
 const CHANGED_WORDS: [usize; 3] = [3, 12, 200];
 const CHANGED_BYTES: [usize; 3] = [1, 3, 20];
+
+/// How deep components double that claim items and add none: work that doubled with them would take over a second.
+const DOUBLED: u16 = 26;
 
 /// Numbers for such memory, now and then: drawn from the request, so that it meets the same memory again.
 pub fn drawn(reading: &Reading) -> Option<Random> {
@@ -21,12 +29,17 @@ pub fn drawn(reading: &Reading) -> Option<Random> {
     (random.below(ONE_OF) == 0).then_some(random)
 }
 
-/// Memory with the stamp and a length that fits: of any words and bytes; of words that are places in the dictionary; or prepared and then changed.
-pub fn stamped(random: &mut Random, dictionary: &[u8], kept: Option<&Prepared>) -> Prepared {
-    let mut made = match (random.below(8), kept) {
+/// Memory with the stamp and a length that fits: of any words and bytes; of words that are places in the dictionary; of components that claim what
+/// they don't hold; or prepared and then changed.
+pub fn stamped(random: &mut Random, dictionary: &[u8], reading: &Reading, kept: Option<&[Prepared; SIZES]>) -> Prepared {
+    let mut made = match (random.below(16), kept) {
         (0, _) => any(random),
-        (1, _) | (_, None) => Prepared { memory: words(random, dictionary.len() + 1), copy: dictionary.to_vec() },
-        (_, Some(kept)) => changed(random, kept),
+        (1, _) => doubling(reading),
+        (2..=3, _) | (_, None) => Prepared { memory: words(random, dictionary.len() + 1), copy: dictionary.to_vec() },
+        (_, Some(kept)) => {
+            let made = random.of(kept);
+            changed(random, made)
+        }
     };
     made.memory[..2].copy_from_slice(&STAMP);
     let whole = made.copy.len().min(usize::from(u16::MAX));
@@ -46,8 +59,28 @@ pub fn unstamped(random: &mut Random, kept: Option<&Prepared>) -> Prepared {
     made
 }
 
+/// Memory of a prepared dictionary in which tables can't be found: every word of the directory leads to another block, the blocks say that they are
+/// others', or the memory ends before them. What is read is then laid from the copy, and the answer is the same.
+pub fn astray(random: &mut Random, kept: &Prepared) -> Prepared {
+    let mut made = kept.clone();
+    let blocks = kept.blocks().unwrap_or_default();
+    match random.below(3) {
+        0 => (1..blocks.len()).for_each(|at| made.memory.swap(blocks[at - 1].word, blocks[at].word)),
+        1 => blocks.iter().for_each(|block| made.memory[block.words.start + 1] ^= 1 << random.below(16)),
+        _ => {
+            let from = random.of(&[PREPARED_WORDS, PREPARED_WORDS + DIRECTORY]);
+            let end = from + random.below(kept.used() - from);
+            // The cut words are still there: who reads past the end must not find the tables.
+            made.memory[end..].fill(0);
+            made.memory.truncate(end);
+        }
+    }
+    made
+}
+
 fn words(random: &mut Random, below: usize) -> Vec<u16> {
-    (0..PREPARED_WORDS).map(|_| random.below(below) as u16).collect()
+    let count = PREPARED_WORDS + random.of(&MORE);
+    (0..count).map(|_| random.below(below) as u16).collect()
 }
 
 fn any(random: &mut Random) -> Prepared {
@@ -55,22 +88,92 @@ fn any(random: &mut Random) -> Prepared {
     Prepared { copy: (0..bytes).map(|_| random.byte()).collect(), memory: words(random, 1 << 16) }
 }
 
-/// Words that say something are changed for others of them, for places in the dictionary or for any word; in the copy kinds of records come up anew.
-fn changed(random: &mut Random, kept: &Prepared) -> Prepared {
-    let mut made = kept.clone();
-    let said: Vec<usize> = (3..PREPARED_WORDS).filter(|at| kept.memory[*at] > 0).collect();
-    let (words, bytes) = (random.of(&CHANGED_WORDS), random.of(&CHANGED_BYTES));
-    for _ in 0..random.below(words) {
-        let word = match random.below(3) {
-            0 => kept.memory[random.of(&said)],
-            1 => random.below(kept.copy.len()) as u16,
-            _ => random.next() as u16,
-        };
-        made.memory[random.of(&said)] = word;
-    }
-    for _ in 0..random.below(bytes) {
-        let at = random.below(made.copy.len());
-        made.copy[at] = if random.chance(70) { random.below(8) as u8 } else { random.byte() };
+/// Prepared memory, changed in its copy and in what the records name, or in directory and tables; in the copy kinds of records come up anew.
+fn changed(random: &mut Random, mut made: Prepared) -> Prepared {
+    match made.blocks() {
+        Ok(blocks) if blocks.len() > 1 && random.chance(70) => {
+            for _ in 0..1 + random.below(3) {
+                change_tables(random, &mut made.memory, &blocks);
+            }
+        }
+        _ => {
+            change_words(random, &mut made.memory, 3..PREPARED_WORDS, made.copy.len());
+            let bytes = random.of(&CHANGED_BYTES);
+            for _ in 0..random.below(bytes) {
+                let at = random.below(made.copy.len());
+                made.copy[at] = if random.chance(70) { random.below(8) as u8 } else { random.byte() };
+            }
+        }
     }
     made
+}
+
+/// Words that say something are changed for others of them, for small ones, or for any word.
+fn change_words(random: &mut Random, memory: &mut [u16], among: std::ops::Range<usize>, small: usize) {
+    let said: Vec<usize> = among.filter(|at| memory[*at] > 0).collect();
+    if said.is_empty() {
+        return;
+    }
+    let words = random.of(&CHANGED_WORDS);
+    for _ in 0..random.below(words) {
+        let word = match random.below(3) {
+            0 => memory[random.of(&said)],
+            1 => random.below(small) as u16,
+            _ => random.next() as u16,
+        };
+        memory[random.of(&said)] = word;
+    }
+}
+
+/// Changes what directory and blocks say: a table's own words; where a block stands, with or without whose it is; its size; and all of a table.
+fn change_tables(random: &mut Random, memory: &mut [u16], blocks: &[Block]) {
+    let (one, other) = (random.of(blocks), random.of(blocks));
+    let (start, table) = (one.words.start, one.words.start + 2..one.words.end);
+    let (any, fits) = (random.next() as u16, (memory.len() - table.start).min(usize::from(u16::MAX)) as u16);
+    match random.below(8) {
+        0..=2 => change_words(random, memory, table.clone(), table.len()),
+        3 => memory.swap(one.word, other.word),
+        4 => {
+            memory.swap(one.word, other.word);
+            memory.swap(start + 1, other.words.start + 1);
+        }
+        5 => memory[start] = random.of(&[any, fits, fits.saturating_add(1), u16::MAX]),
+        6 => memory[start + 1] = random.of(&[any, memory[other.words.start + 1]]),
+        _ => {
+            let below = random.of(&[table.len(), 1 << 16]);
+            table.for_each(|at| memory[at] = random.below(below) as u16);
+        }
+    }
+}
+
+fn item(number: u16) -> Vec<u8> {
+    [&[5], &number.to_le_bytes()[..], &[0]].concat()
+}
+
+fn field(tag: u32) -> Vec<u8> {
+    [&[4], &tag.to_le_bytes()[..], &[0]].concat()
+}
+
+/// Memory of a sound dictionary beside a copy in which each component holds the one before twice and none has a field: what the memory says of their
+/// items isn't so. The message that is read has such a layout.
+fn doubling(reading: &Reading) -> Prepared {
+    let mut values = reading.message.split(|byte| *byte == reading.separator).filter_map(|field| field.strip_prefix(b"35="));
+    let mut name = values.next().filter(|name| (1..=8).contains(&name.len()) && !name.contains(&0)).unwrap_or(b"0").to_vec();
+    name.resize(8, 0);
+    let written = |sound: bool| {
+        let last = |tag| if sound { field(tag) } else { vec![7; 6] };
+        let mut bytes: Vec<u8> = [8u32, 9, 10, 35].iter().flat_map(|tag| [&[1], &tag.to_le_bytes()[..]].concat()).collect();
+        let mut component = |number: u16, items: &[Vec<u8>]| bytes.extend([&[2], &number.to_le_bytes()[..], &items.concat(), &[7]].concat());
+        component(0, &[field(8), field(9), field(35)]);
+        component(1, &[field(10)]);
+        component(2, &[]);
+        component(3, &[last(8)]);
+        (4..4 + DOUBLED).for_each(|number| component(number, &[item(number - 1), item(if sound { 2 } else { number - 1 }), last(8)]));
+        bytes.extend([&[3], &name[..], &item(3 + DOUBLED), &[7]].concat());
+        bytes
+    };
+    let sound = written(true);
+    let mut made = Prepared::room(sound.len(), 0);
+    made.prepare(&sound);
+    Prepared { copy: written(false), ..made }
 }

@@ -1,4 +1,5 @@
 //! A dictionary prepared in memory that is lent, and builds over it.
+pub use super::exports::PREPARED_WORDS;
 use super::exports::*;
 use super::library::{Built, UNTOUCHED};
 use crate::protocol::Reading;
@@ -11,9 +12,9 @@ pub struct Prepared {
 }
 
 impl Prepared {
-    /// Room for a dictionary of so many bytes, with some bytes and words more than it needs. Nothing is prepared there.
+    /// Room for a dictionary of so many bytes, with so many words of memory more than the least. Nothing is prepared there.
     pub fn room(bytes: usize, more: usize) -> Self {
-        Self { copy: vec![UNTOUCHED as u8; bytes + more], memory: vec![UNTOUCHED as u16; PREPARED_WORDS + more] }
+        Self { copy: vec![UNTOUCHED as u8; bytes], memory: vec![UNTOUCHED as u16; PREPARED_WORDS + more] }
     }
 
     pub fn prepare(&mut self, dictionary: &[u8]) -> (u32, Out) {
