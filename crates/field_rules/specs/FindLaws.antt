@@ -75,3 +75,25 @@ find-joins b k (x ∷ before) after (also n a) = rw (ne-eqb _ _ n) (find-joins b
 -- a place that was found lies in the list
 pub find-in : (b : ℕ) (s : List ℕ) (q : ℕ) → findIn b 0 s ≡ At q → q < length s
 find-in b s q h = let sp = find-splits b s q h in omega (arith, simp length-append at (ap length (sp .whole)), sp .size)
+
+-- where the list's first element stands decides nothing but the number of the place
+module _ (b k : ℕ) (s : List ℕ) where
+  pub find-behind : (q : ℕ) → findIn b k s ≡ At q → k ≤ q
+  find-behind q h = omega (arith, splits-from b k s q h .1)
+
+  pub find-moved : (q : ℕ) → findIn b k s ≡ At q → findIn b 0 s ≡ At (q - k)
+  find-moved q h =
+      let i = splits-from b k s q h in
+      let sp : Splits b s (i .0) = i .2 in
+      ap (findIn b 0) (sp .whole) ∙ find-joins b 0 (sp .before) (sp .after) (sp .absent) ∙ ap At (omega (arith, i .1, sp .size))
+
+  pub find-moved-none : findIn b k s ≡ Nothing → findIn b 0 s ≡ Nothing
+  find-moved-none h = go (findIn b 0 s) refl
+    where
+      go : (f : Found) → findIn b 0 s ≡ f → f ≡ Nothing
+      go Nothing e = refl
+      go (At p) e =
+          let sp = find-splits b s p e in
+          let found : findIn b k s ≡ At (k + length (sp .before)) = ap (findIn b k) (sp .whole) ∙ find-joins b k (sp .before) (sp .after) (sp .absent) in
+          let z : _≡_ {A = ℕ} 0 1 = cc in
+          absurd (omega arith)

@@ -10,11 +10,11 @@ returns c = sym (tag-none _ (sym (c .before .before .number-of .ensures) ∙ c .
 
 returns-2 : tie.Need-returns-2
 returns-2 c =
-    sym (tag-zero _ _ (sym (c .before .before .before .before .number-of .ensures) ∙ c .before .before .tag .given .1) (c .if1 .taken))
+    sym (tag-zero _ _ (sym (c .before .before .before .before .number-of .ensures) ∙ c .before .before .worth .given .1) (c .if1 .taken))
 
 returns-3 : tie.Need-returns-3
 returns-3 c =
-    sym (tag-good _ _ (sym (c .before .before .before .before .number-of .ensures) ∙ c .before .before .tag .given .1) (c .if1 .left))
+    sym (tag-good _ _ (sym (c .before .before .before .before .number-of .ensures) ∙ c .before .before .worth .given .1) (c .if1 .left))
 
 pub tag-of-spec : {M : Type 1} → statement M
 tag-of-spec =
