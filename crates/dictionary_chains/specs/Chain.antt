@@ -1,6 +1,7 @@
 -- The index: three heads tables of 2,048 words, then entries of seven words: its two branches, the place of its record, and four
 -- words of its table. Keys that share a head hang in one tree, which branches by the bits of what is left of them. Entry 0 is none.
 use Prim.Native.Nat.{ℕ, zero, suc, _+_, _*_, _/_, _%_}
+use mathlib.Core.Bool.{Bool, false}
 use mathlib.Core.List.{List}
 use lib.ListN.{getD, set}
 use lib.Dec.{eqb, leb, ltb}
@@ -67,21 +68,34 @@ branchOf number rest = entryStart number + rest % 2
 abbrev pub ends : ℕ → ℕ → Way
 ends cell number = record { cell = cell; number = number }
 
--- from a link on, looking at so many entries at most
-unfoldable pub climbed : ℕ → Table → List ℕ → ℕ → ℕ → ℕ → ℕ → Way
-climbed zero table index key cell rest link = ends cell 0
-climbed (suc looks) table index key cell rest link =
+-- keys of 64 bits are below this
+abbrev pub keyRoom : ℕ
+keyRoom = 18446744073709551616
+
+-- eleven bits of a key choose its head, and each of the others a turn
+abbrev pub mostTurns : ℕ
+mostTurns = 53
+
+-- keys of 64 bits that share a head and took so many turns together are the same: an entry with another key was never entered there
+unfoldable pub strayed : ℕ → ℕ → ℕ → Bool
+strayed turns met key = pick (leb mostTurns turns) (pick (ltb met keyRoom) (ltb key keyRoom) false) false
+
+-- from a link on that is come to after so many turns, looking at so many entries at most
+unfoldable pub climbed : ℕ → Table → List ℕ → ℕ → ℕ → ℕ → ℕ → ℕ → Way
+climbed zero table index key turns cell rest link = ends cell 0
+climbed (suc looks) table index key turns cell rest link =
     pick (ltb link entryRoom)
     (pick (eqb (keyOf table (entryAt index link)) key) (ends cell link)
-    (climbed looks table index key (branchOf link rest) (rest / 2) (linkAt index link (branchOf link rest))))
+    (pick (strayed turns (keyOf table (entryAt index link)) key) (ends cell 0)
+    (climbed looks table index key (suc turns) (branchOf link rest) (rest / 2) (linkAt index link (branchOf link rest)))))
     (ends cell 0)
 
 -- no way passes more entries than there are
-unfoldable pub followed : Table → List ℕ → ℕ → ℕ → ℕ → ℕ → Way
-followed table index key cell rest link = climbed entryRoom table index key cell rest link
+unfoldable pub followed : Table → List ℕ → ℕ → ℕ → ℕ → ℕ → ℕ → Way
+followed table index key turns cell rest link = climbed entryRoom table index key turns cell rest link
 
 unfoldable pub wayOf : Table → List ℕ → ℕ → Way
-wayOf table index key = followed table index key (headOf table key) (key / 2048) (linkAt index 0 (headOf table key))
+wayOf table index key = followed table index key 0 (headOf table key) (key / 2048) (linkAt index 0 (headOf table key))
 
 -- the number of the entry with a key, and 0 where there is none
 unfoldable pub found : Table → List ℕ → ℕ → ℕ

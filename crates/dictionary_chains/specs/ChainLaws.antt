@@ -10,8 +10,8 @@ use lib.Seq.{drop-cons, set-at, append-snoc}
 use borrow.Author.Tests.{eq-eqb, ne-eqb, le-leb, lt-leb}
 use Rattle.dictionary_chains.specs.Chain.{headWords, entryStart, entryRoom, indexWords, keyOf, headOf, entryAt, linkAt, branchOf, ends, wayOf, found, written, branched, numberAt, enteredAt, entered}
 use Rattle.dictionary_chains.specs.WordLaws.{head-small, written-length, written-other, written-entry, branched-length, branched-cell, branched-other, branched-branch}
-use Rattle.dictionary_chains.specs.WayLaws.{link-none, link-rises, numberOf, Comes, starts, turns, Ends, free, taken, way-ends, comes-low}
-use Rattle.dictionary_chains.specs.TreeLaws.{Bounded, more-bounded, comes-before}
+use Rattle.dictionary_chains.specs.WayLaws.{link-none, link-rises, numberOf, Comes, starts, turns, Ends, free, taken, astray, way-ends, comes-low}
+use Rattle.dictionary_chains.specs.TreeLaws.{Bounded, more-bounded, never-strays, comes-before}
 use Rattle.dictionary_chains.specs.GrowLaws.{Grows, older-entry, grows-bounded, grows-way, grows-elsewhere}
 use Rattle.dictionary_chains.specs.RenewLaws.{Renews, renews-some, renews-bounded, renews-way, renews-other}
 use Rattle.dictionary_chains.specs.declared.Table.{Table}
@@ -31,6 +31,7 @@ module _ (table : Table) (index : List ℕ) (key : ℕ) where
       go : (w : Way) → Ends table index key w → w .cell < indexWords
       go w (free p h) = comes-small p
       go w (taken p h e) = comes-small p
+      go w (astray p h e s) = comes-small p
 
   -- and a number that is found is that of an entry
   pub found-small : found table index key < entryRoom
@@ -40,6 +41,7 @@ module _ (table : Table) (index : List ℕ) (key : ℕ) where
       go : (w : Way) → Ends table index key w → w .number < entryRoom
       go w (free p h) = omega arith
       go w (taken p h e) = h
+      go w (astray p h e s) = omega arith
 
   pub found-bounded : (b : ℕ) → Bounded index b → found table index key ≤ b
   unfolding found
@@ -48,6 +50,7 @@ module _ (table : Table) (index : List ℕ) (key : ℕ) where
       go : (w : Way) → Ends table index key w → w .number ≤ b
       go w (free p h) = omega arith
       go w (taken p h e) = bound .links p h
+      go w (astray p h e s) = omega arith
 
 module _ (table : Table) (index : List ℕ) (e : Entry) where
   pub entered-late : 60000 ≤ e .place → entered table index e ≡ index
@@ -126,6 +129,7 @@ module _ (table : Table) (index : List ℕ) (e : Entry) (b : ℕ) (size : length
             mine = ap (keyOf table) mine;
           } in
           rw (entered-again table index e early w way some) (renewed renews way (written-length index old e) mine)
+      go w way (astray p h other s) = absurd (never-strays bound p h other s)
 
   pub enter-length : length (entered table index e) ≡ indexWords
   enter-length = go entering

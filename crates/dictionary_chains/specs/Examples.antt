@@ -4,7 +4,7 @@ use mathlib.Core.Path.{_≡_, refl}
 use mathlib.Core.List.{List, [], _∷_, map}
 use Prim.Native.Nat.{ℕ, _+_, _/_, _%_}
 use lib.ListN.{take, drop, set, replicate}
-use Rattle.dictionary_chains.specs.Chain.{entryStart, entryRoom, indexWords, keyOf, rankOf, headOf, wordAt, entryAt, linkAt, branchOf, climbed, followed, wayOf, found, written, branched, numberAt, enteredAt, entered}
+use Rattle.dictionary_chains.specs.Chain.{entryStart, entryRoom, indexWords, keyOf, rankOf, headOf, wordAt, entryAt, linkAt, branchOf, strayed, climbed, followed, wayOf, found, written, branched, numberAt, enteredAt, entered}
 use Rattle.dictionary_chains.specs.declared.Table.the-variants.{Tags, Components}
 use Rattle.dictionary_chains.specs.declared.Entry.{Entry}
 
@@ -41,5 +41,5 @@ trees : told (entered Tags (entered Tags (entered Tags (entered Tags (replicate 
       0 ∷ 4 ∷ 40 ∷ 2053 ∷ [],
       4 ∷ 0 ∷ 0 ∷ 0 ∷ 0 ∷ [],
     )
-unfolding entered enteredAt written branched numberAt found wayOf followed climbed linkAt branchOf entryAt wordAt keyOf headOf rankOf
+unfolding entered enteredAt written branched numberAt found wayOf followed climbed strayed linkAt branchOf entryAt wordAt keyOf headOf rankOf
 trees = refl

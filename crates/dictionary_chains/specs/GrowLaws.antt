@@ -8,8 +8,8 @@ use native.Mathlib.Omega.{arith}
 use lib.ListN.{getD}
 use lib.Dec.{eqb}
 use borrow.Author.Tests.{eqb-true, eqb-false}
-use Rattle.dictionary_chains.specs.Chain.{entryStart, entryRoom, keyOf, headOf, entryAt, linkAt, branchOf, ends, wayOf, found}
-use Rattle.dictionary_chains.specs.WayLaws.{link-none, link-some, link-rises, restAfter, numberOf, wayFrom, Comes, starts, turns, Climbs, stops, hits, goes, climbs, from-none, from-hit, from-on, same-hit, same-turn, comes-low}
+use Rattle.dictionary_chains.specs.Chain.{entryStart, entryRoom, keyOf, headOf, entryAt, linkAt, branchOf, ends, strayed, wayOf, found}
+use Rattle.dictionary_chains.specs.WayLaws.{link-none, link-some, link-rises, restAfter, numberOf, wayFrom, Comes, starts, turns, Climbs, stops, hits, strays, goes, climbs, from-none, from-hit, from-stray, from-on, same-hit, same-stray, same-turn, comes-low}
 use Rattle.dictionary_chains.specs.TreeLaws.{Alike, Bounded, together, comes-bounded, comes-before, comes-apart, same-entry, same-link}
 use Rattle.dictionary_chains.specs.declared.Table.{Table}
 use Rattle.dictionary_chains.specs.declared.Way.{Way}
@@ -121,12 +121,15 @@ module _ {table : Table} {index after : List ℕ} {key b n low cell number : ℕ
   arrives {m} {below} {place} p (hits h e) end =
       let link : linkAt index below place ≡ 0 = ap numberOf (sym (from-hit table index key m below place h e) ∙ end) in
       absurd (omega (arith, link-rises index below place (comes-low p)))
-  arrives {m} {below} {place} p (goes h e c) end = go (step p) (arrives (turns p h) c (sym (from-on table index key m below place h e) ∙ end))
+  arrives {m} {below} {place} p (strays h e s) end =
+      let here : place ≡ cell = ap (λ (w : Way). w .cell) (sym (from-stray table index key m below place h e s) ∙ end) in
+      absurd (omega (arith, no-way-on p here))
+  arrives {m} {below} {place} p (goes h e s c) end = go (step p) (arrives (turns p h) c (sym (from-on table index key m below place h e s) ∙ end))
     where
       go : Seen table key m below place
           → wayFrom table after key (suc m) (linkAt index below place) (branchOf (linkAt index below place) (restAfter m key)) ≡ ends cell number
           → wayFrom table after key m below place ≡ ends cell number
-      go (old q f) later = same-turn table index after key m below place f (keys-kept p h) h e ∙ later
+      go (old q f) later = same-turn table index after key m below place f (keys-kept p h) h e s ∙ later
       go (new q here f) later = absurd (omega (arith, no-way-on p here))
 
   -- and under any other key, and in another table, what was found before
@@ -134,19 +137,32 @@ module _ {table : Table} {index after : List ℕ} {key b n low cell number : ℕ
       → numberOf (wayFrom t after k m below place) ≡ numberOf (wayFrom t index k m below place)
   elsewhere {t} {k} {m} {below} {place} apart p (stops z) = go (step p) ∙ sym (ap numberOf (from-none t index k m below place z))
     where
+      -- a way with another key ends at the new entry, or behind it
+      passed : (s : Bool) → strayed m (keyOf t (entryAt after (linkAt after below place))) k ≡ s → linkAt after below place ≡ number
+          → (keyOf t (entryAt after (linkAt after below place)) ≡ k → ⊥) → numberOf (wayFrom t after k m below place) ≡ 0
+      passed true q e other = ap numberOf (from-stray t after k m below place (rw e (g .fits)) other q)
+      passed false q e other =
+          let link = linkAt after below place in
+          ap numberOf (from-on t after k m below place (rw e (g .fits)) other q)
+          ∙ ap numberOf (from-none t after k (suc m) link (branchOf link (restAfter m k)) (omega (arith, leads-nowhere link (restAfter m k) e)))
+
       go : Seen t k m below place → numberOf (wayFrom t after k m below place) ≡ 0
       go (old q e) = ap numberOf (from-none t after k m below place (rw e z))
       go (new q here e) =
           let link = linkAt after below place in
           let other : keyOf t (entryAt after link) ≡ k → ⊥ = λ r. apart (together (g .bound) p (g .end) here .table) (sym (rw e at r) ∙ key-here p here) in
-          ap numberOf (from-on t after k m below place (rw e (g .fits)) other)
-          ∙ ap numberOf (from-none t after k (suc m) link (branchOf link (restAfter m k)) (omega (arith, leads-nowhere link (restAfter m k) e)))
+          passed (strayed m (keyOf t (entryAt after link)) k) refl e other
   elsewhere {t} {k} {m} {below} {place} apart p (hits h e) = go (step p)
     where
       go : Seen t k m below place → numberOf (wayFrom t after k m below place) ≡ numberOf (wayFrom t index k m below place)
       go (old q f) = ap numberOf (same-hit t index after k m below place f (keys-kept p h) h e)
       go (new q here f) = absurd (omega (arith, no-way-on p here))
-  elsewhere {t} {k} {m} {below} {place} apart p (goes h e c) = go (step p) (elsewhere apart (turns p h) c)
+  elsewhere {t} {k} {m} {below} {place} apart p (strays h e s) = go (step p)
+    where
+      go : Seen t k m below place → numberOf (wayFrom t after k m below place) ≡ numberOf (wayFrom t index k m below place)
+      go (old q f) = ap numberOf (same-stray t index after k m below place f (keys-kept p h) h e s)
+      go (new q here f) = absurd (omega (arith, no-way-on p here))
+  elsewhere {t} {k} {m} {below} {place} apart p (goes h e s c) = go (step p) (elsewhere apart (turns p h) c)
     where
       link : ℕ
       link = linkAt index below place
@@ -157,7 +173,7 @@ module _ {table : Table} {index after : List ℕ} {key b n low cell number : ℕ
       go : Seen t k m below place → numberOf (wayFrom t after k (suc m) link next) ≡ numberOf (wayFrom t index k (suc m) link next)
           → numberOf (wayFrom t after k m below place) ≡ numberOf (wayFrom t index k m below place)
       go (old q f) later =
-          ap numberOf (same-turn t index after k m below place f (keys-kept p h) h e) ∙ later ∙ sym (ap numberOf (from-on t index k m below place h e))
+          ap numberOf (same-turn t index after k m below place f (keys-kept p h) h e s) ∙ later ∙ sym (ap numberOf (from-on t index k m below place h e s))
       go (new q here f) later = absurd (omega (arith, no-way-on p here))
 
   pub grows-way : wayOf table index key ≡ ends cell 0 → wayOf table after key ≡ ends cell number

@@ -8,7 +8,7 @@ use lib.ListN.{getD}
 use lib.Dec.{eqb}
 use borrow.Author.Tests.{eqb-true, eqb-false}
 use Rattle.dictionary_chains.specs.Chain.{entryStart, entryRoom, keyOf, headOf, entryAt, linkAt, wayOf, found}
-use Rattle.dictionary_chains.specs.WayLaws.{link-rises, restAfter, wayFrom, Comes, starts, turns, Climbs, stops, hits, goes, climbs, Ends, free, taken, way-ends, from-none, from-on, same-hit, same-turn, comes-low}
+use Rattle.dictionary_chains.specs.WayLaws.{link-rises, restAfter, wayFrom, Comes, starts, turns, Climbs, stops, hits, strays, goes, climbs, Ends, free, taken, astray, way-ends, from-none, from-on, same-hit, same-stray, same-turn, comes-low}
 use Rattle.dictionary_chains.specs.TreeLaws.{Bounded, comes-apart, same-entry, same-link}
 use Rattle.dictionary_chains.specs.declared.Table.{Table}
 use Rattle.dictionary_chains.specs.declared.Way.{Way}
@@ -60,8 +60,9 @@ module _ {table : Table} {index after : List ℕ} {key b n low cell number : ℕ
   same-way {t} {k} {m} {below} {place} p (stops z) =
       from-none t after k m below place (rw (links-kept p) z) ∙ sym (from-none t index k m below place z)
   same-way {t} {k} {m} {below} {place} p (hits h e) = same-hit t index after k m below place (links-kept p) (keys-kept p) h e
-  same-way {t} {k} {m} {below} {place} p (goes h e c) =
-      same-turn t index after k m below place (links-kept p) (keys-kept p) h e ∙ same-way (turns p h) c ∙ sym (from-on t index k m below place h e)
+  same-way {t} {k} {m} {below} {place} p (strays h e s) = same-stray t index after k m below place (links-kept p) (keys-kept p) h e s
+  same-way {t} {k} {m} {below} {place} p (goes h e s c) =
+      same-turn t index after k m below place (links-kept p) (keys-kept p) h e s ∙ same-way (turns p h) c ∙ sym (from-on t index k m below place h e s)
 
   pub renews-way : (t : Table) (k : ℕ) → wayOf t after k ≡ wayOf t index k
   unfolding wayOf restAfter
@@ -77,5 +78,6 @@ module _ {table : Table} {index after : List ℕ} {key b n low cell number : ℕ
     where
       go : (w : Way) → Ends t index k w → entryAt after (w .number) ≡ entryAt index (w .number)
       go w (free p h) = other-entry 0 (λ q. omega (arith, renews-some))
+      go w (astray p h e s) = other-entry 0 (λ q. omega (arith, renews-some))
       go w (taken {low = below} {cell = place} p h e) =
           other-entry (linkAt index below place) (λ q. let one = one-table p q in apart one (sym e ∙ rw (q, one) (r .was)))

@@ -1,13 +1,16 @@
 -- What makes trees of the words of an index: one word leads to each entry, and an entry lies on the way of its key. Two ways that come
 -- to one word are ways of one table, and of keys that are alike so far.
 use mathlib.Core.Path.{_≡_, refl, sym, ap, _∙_}
+use mathlib.Core.Bool.{true}
 use mathlib.Core.List.{List}
-use Prim.Native.Nat.{ℕ, zero, suc, _+_, _%_, _≤_, _<_}
+use Prim.Native.Nat.{ℕ, zero, suc, _+_, _/_, _%_, _≤_, _<_, _^_}
+use native.Mathlib.Nat.{two-pow-succ}
 use native.Mathlib.Omega.{arith}
 use lib.ListN.{getD}
-use Rattle.dictionary_chains.specs.Chain.{headWords, entryStart, entryRoom, keyOf, wordAt, entryAt, linkAt, branchOf}
+use lib.Pow.{pow-mono}
+use Rattle.dictionary_chains.specs.Chain.{headWords, entryStart, entryRoom, keyRoom, mostTurns, keyOf, wordAt, entryAt, linkAt, branchOf, strayed}
 use Rattle.dictionary_chains.specs.WordLaws.{head-small, head-table, head-slot}
-use Rattle.dictionary_chains.specs.WayLaws.{restAfter, Comes, starts, turns}
+use Rattle.dictionary_chains.specs.WayLaws.{strayed-facts, restAfter, Comes, starts, turns}
 use Rattle.dictionary_chains.specs.declared.Table.{Table}
 
 -- two keys hang in one tree, and take the same first turns
@@ -77,6 +80,29 @@ module _ {index : List ℕ} {b : ℕ} (bound : Bounded index b) where
   unfolding branchOf
   comes-before {t} {key} starts number h = omega (arith, head-small t key)
   comes-before {key = key} (turns {n = n} p h) number g = omega (arith, bound .links p h)
+
+-- what is left of a key becomes less with each turn
+rest-small : (n k whole key : ℕ) → n + k ≡ whole → key / 2048 < 2 ^ whole → restAfter n key < 2 ^ k
+unfolding restAfter
+rest-small zero k whole key e h = let same : k ≡ whole = omega arith in rw same h
+rest-small (suc n) k whole key e h = omega (arith, rest-small n (suc k) whole key (omega arith) h, two-pow-succ k)
+
+none-left : (n key : ℕ) → mostTurns ≤ n → key < keyRoom → restAfter n key ≡ 0
+none-left n key late small = omega (arith, rest-small n 0 n key (omega arith) (omega (arith, pow-mono late)))
+
+-- keys that are alike in every bit are the same
+alike-same : (n key other : ℕ) → Alike n key other → restAfter n key ≡ restAfter n other → key ≡ other
+unfolding Alike restAfter
+alike-same zero key other a e = omega arith
+alike-same (suc n) key other a e = alike-same n key other (a .0) (omega (arith, a .1))
+
+-- so no way strays in trees: an entry that it comes to after all turns has its key
+pub never-strays : {t : Table} {index : List ℕ} {b key n low cell : ℕ} → Bounded index b → Comes t index key n low cell → linkAt index low cell < entryRoom
+    → (keyOf t (entryAt index (linkAt index low cell)) ≡ key → ⊥) → strayed n (keyOf t (entryAt index (linkAt index low cell))) key ≡ true → ⊥
+never-strays {t} {index} {key = key} {n = n} {low = low} {cell = cell} bound p h other s =
+    let met = keyOf t (entryAt index (linkAt index low cell)) in
+    let facts = strayed-facts n met key s in
+    other (alike-same n met key (bound .keys p h) (none-left n met (facts .0) (facts .1) ∙ sym (none-left n key (facts .0) (facts .2))))
 
 -- a word of a way holds nothing of an entry but a branch
 pub comes-apart : {t : Table} {index : List ℕ} {key n low cell : ℕ} → Comes t index key n low cell → (number k : ℕ) → 2 ≤ k → k < 7

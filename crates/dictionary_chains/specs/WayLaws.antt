@@ -7,9 +7,9 @@ use Prim.Native.Nat.{ℕ, zero, suc, _+_, _/_, _≤_, _<_}
 use native.Mathlib.Omega.{arith}
 use lib.ListN.{getD}
 use lib.Dec.{eqb, leb, ltb}
-use borrow.Author.Tests.{eq-eqb, ne-eqb, eqb-true, eqb-false, le-ltb, lt-ltb, ltb-true, ltb-false, le-leb, lt-leb, leb-false}
+use borrow.Author.Tests.{eq-eqb, ne-eqb, eqb-true, eqb-false, le-ltb, lt-ltb, ltb-true, ltb-false, le-leb, lt-leb, leb-true, leb-false}
 use Rattle.field_rules.specs.Choice.{pick}
-use Rattle.dictionary_chains.specs.Chain.{entryRoom, keyOf, headOf, entryAt, linkAt, branchOf, ends, climbed, followed, wayOf}
+use Rattle.dictionary_chains.specs.Chain.{entryRoom, keyRoom, mostTurns, keyOf, headOf, entryAt, linkAt, branchOf, ends, strayed, climbed, followed, wayOf}
 use Rattle.dictionary_chains.specs.declared.Table.{Table}
 use Rattle.dictionary_chains.specs.declared.Way.{Way}
 
@@ -30,70 +30,113 @@ module _ (index : List ℕ) (low cell : ℕ) where
       go true q = h
       go false q = omega (arith, leb-false (getD index cell 0) low q)
 
--- what a link can lead to: no entry, the key's, or another's
-pub data Meets (table : Table) (index : List ℕ) (key link : ℕ) : Type 0 where
-  nothing : entryRoom ≤ link → Meets table index key link
-  itself : link < entryRoom → keyOf table (entryAt index link) ≡ key → Meets table index key link
-  another : link < entryRoom → (keyOf table (entryAt index link) ≡ key → ⊥) → Meets table index key link
+module _ (turns met key : ℕ) where
+  pub strayed-facts : strayed turns met key ≡ true → (mostTurns ≤ turns) × (met < keyRoom) × (key < keyRoom)
+  unfolding strayed
+  strayed-facts = go (leb mostTurns turns) refl (ltb met keyRoom) refl (ltb key keyRoom) refl
+    where
+      go : (a : Bool) → leb mostTurns turns ≡ a → (b : Bool) → ltb met keyRoom ≡ b → (c : Bool) → ltb key keyRoom ≡ c
+          → pick a (pick b c false) false ≡ true → (mostTurns ≤ turns) × (met < keyRoom) × (key < keyRoom)
+      go true p true q true r h = (leb-true _ _ p, ltb-true _ _ q, ltb-true _ _ r)
+      go true p true q false r h = let z : _≡_ {A = ℕ} 0 1 = cc in absurd (omega arith)
+      go true p false q c r h = let z : _≡_ {A = ℕ} 0 1 = cc in absurd (omega arith)
+      go false p b q c r h = let z : _≡_ {A = ℕ} 0 1 = cc in absurd (omega arith)
+
+  pub strayed-late : mostTurns ≤ turns → met < keyRoom → key < keyRoom → strayed turns met key ≡ true
+  unfolding strayed
+  strayed-late h m k = rw (le-leb mostTurns turns h, lt-ltb met keyRoom m, lt-ltb key keyRoom k)
+
+  pub strayed-early : turns < mostTurns → strayed turns met key ≡ false
+  unfolding strayed
+  strayed-early h = rw (lt-leb mostTurns turns h)
+
+-- what a link can lead to after so many turns: no entry, the key's, one that was never entered there, or another's
+pub data Meets (table : Table) (index : List ℕ) (key turns link : ℕ) : Type 0 where
+  nothing : entryRoom ≤ link → Meets table index key turns link
+  itself : link < entryRoom → keyOf table (entryAt index link) ≡ key → Meets table index key turns link
+  stranger : link < entryRoom → (keyOf table (entryAt index link) ≡ key → ⊥) → strayed turns (keyOf table (entryAt index link)) key ≡ true
+      → Meets table index key turns link
+  another : link < entryRoom → (keyOf table (entryAt index link) ≡ key → ⊥) → strayed turns (keyOf table (entryAt index link)) key ≡ false
+      → Meets table index key turns link
 
 module _ (table : Table) (index : List ℕ) (key : ℕ) where
-  pub meets : (link : ℕ) → Meets table index key link
-  meets link = go (ltb link entryRoom) refl (eqb (keyOf table (entryAt index link)) key) refl
+  pub meets : (turns link : ℕ) → Meets table index key turns link
+  meets turns link = go (ltb link entryRoom) refl (eqb met key) refl (strayed turns met key) refl
     where
-      go : (t : Bool) → ltb link entryRoom ≡ t → (s : Bool) → eqb (keyOf table (entryAt index link)) key ≡ s → Meets table index key link
-      go false q s r = nothing (ltb-false link entryRoom q)
-      go true q true r = itself (ltb-true link entryRoom q) (eqb-true _ _ r)
-      go true q false r = another (ltb-true link entryRoom q) (eqb-false _ _ r)
+      met : ℕ
+      met = keyOf table (entryAt index link)
 
-  pub climb-none : (looks cell rest link : ℕ) → entryRoom ≤ link → climbed looks table index key cell rest link ≡ ends cell 0
-  unfolding climbed
-  climb-none zero cell rest link h = refl
-  climb-none (suc looks) cell rest link h = rw (le-ltb link entryRoom h)
+      go : (t : Bool) → ltb link entryRoom ≡ t → (s : Bool) → eqb met key ≡ s → (r : Bool) → strayed turns met key ≡ r → Meets table index key turns link
+      go false q s e r l = nothing (ltb-false link entryRoom q)
+      go true q true e r l = itself (ltb-true link entryRoom q) (eqb-true _ _ e)
+      go true q false e true l = stranger (ltb-true link entryRoom q) (eqb-false _ _ e) l
+      go true q false e false l = another (ltb-true link entryRoom q) (eqb-false _ _ e) l
 
-  pub climb-hit : (looks cell rest link : ℕ) → link < entryRoom → keyOf table (entryAt index link) ≡ key
-      → climbed (suc looks) table index key cell rest link ≡ ends cell link
+  pub climb-none : (looks turns cell rest link : ℕ) → entryRoom ≤ link → climbed looks table index key turns cell rest link ≡ ends cell 0
   unfolding climbed
-  climb-hit looks cell rest link h e = rw (lt-ltb link entryRoom h, eq-eqb _ _ e)
+  climb-none zero turns cell rest link h = refl
+  climb-none (suc looks) turns cell rest link h = rw (le-ltb link entryRoom h)
 
-  pub climb-on : (looks cell rest link : ℕ) → link < entryRoom → (keyOf table (entryAt index link) ≡ key → ⊥)
-      → climbed (suc looks) table index key cell rest link
-      ≡ climbed looks table index key (branchOf link rest) (rest / 2) (linkAt index link (branchOf link rest))
+  pub climb-hit : (looks turns cell rest link : ℕ) → link < entryRoom → keyOf table (entryAt index link) ≡ key
+      → climbed (suc looks) table index key turns cell rest link ≡ ends cell link
   unfolding climbed
-  climb-on looks cell rest link h e = rw (lt-ltb link entryRoom h, ne-eqb _ _ e)
+  climb-hit looks turns cell rest link h e = rw (lt-ltb link entryRoom h, eq-eqb _ _ e)
+
+  pub climb-stray : (looks turns cell rest link : ℕ) → link < entryRoom → (keyOf table (entryAt index link) ≡ key → ⊥)
+      → strayed turns (keyOf table (entryAt index link)) key ≡ true → climbed (suc looks) table index key turns cell rest link ≡ ends cell 0
+  unfolding climbed
+  climb-stray looks turns cell rest link h e s = rw (lt-ltb link entryRoom h, ne-eqb _ _ e, s)
+
+  pub climb-on : (looks turns cell rest link : ℕ) → link < entryRoom → (keyOf table (entryAt index link) ≡ key → ⊥)
+      → strayed turns (keyOf table (entryAt index link)) key ≡ false
+      → climbed (suc looks) table index key turns cell rest link
+      ≡ climbed looks table index key (suc turns) (branchOf link rest) (rest / 2) (linkAt index link (branchOf link rest))
+  unfolding climbed
+  climb-on looks turns cell rest link h e s = rw (lt-ltb link entryRoom h, ne-eqb _ _ e, s)
 
   -- links rise, so as many looks as there are entries above the link are enough
-  enough : (k l cell rest link : ℕ) → entryRoom ≤ link + k → entryRoom ≤ link + l
-      → climbed k table index key cell rest link ≡ climbed l table index key cell rest link
-  enough zero l cell rest link h g = climb-none zero cell rest link (omega arith) ∙ sym (climb-none l cell rest link (omega arith))
-  enough (suc k) zero cell rest link h g = climb-none (suc k) cell rest link (omega arith) ∙ sym (climb-none zero cell rest link (omega arith))
-  enough (suc k) (suc l) cell rest link h g = go (meets link) (enough k l (branchOf link rest) (rest / 2) next)
+  enough : (k l turns cell rest link : ℕ) → entryRoom ≤ link + k → entryRoom ≤ link + l
+      → climbed k table index key turns cell rest link ≡ climbed l table index key turns cell rest link
+  enough zero l turns cell rest link h g = climb-none zero turns cell rest link (omega arith) ∙ sym (climb-none l turns cell rest link (omega arith))
+  enough (suc k) zero turns cell rest link h g =
+      climb-none (suc k) turns cell rest link (omega arith) ∙ sym (climb-none zero turns cell rest link (omega arith))
+  enough (suc k) (suc l) turns cell rest link h g = go (meets turns link) (enough k l (suc turns) (branchOf link rest) (rest / 2) next)
     where
       next : ℕ
       next = linkAt index link (branchOf link rest)
 
-      go : Meets table index key link
+      go : Meets table index key turns link
           → (entryRoom ≤ next + k → entryRoom ≤ next + l
-          → climbed k table index key (branchOf link rest) (rest / 2) next ≡ climbed l table index key (branchOf link rest) (rest / 2) next)
-          → climbed (suc k) table index key cell rest link ≡ climbed (suc l) table index key cell rest link
-      go (nothing z) later = climb-none (suc k) cell rest link z ∙ sym (climb-none (suc l) cell rest link z)
-      go (itself b e) later = climb-hit k cell rest link b e ∙ sym (climb-hit l cell rest link b e)
-      go (another b e) later =
+          → climbed k table index key (suc turns) (branchOf link rest) (rest / 2) next
+          ≡ climbed l table index key (suc turns) (branchOf link rest) (rest / 2) next)
+          → climbed (suc k) table index key turns cell rest link ≡ climbed (suc l) table index key turns cell rest link
+      go (nothing z) later = climb-none (suc k) turns cell rest link z ∙ sym (climb-none (suc l) turns cell rest link z)
+      go (itself b e) later = climb-hit k turns cell rest link b e ∙ sym (climb-hit l turns cell rest link b e)
+      go (stranger b e s) later = climb-stray k turns cell rest link b e s ∙ sym (climb-stray l turns cell rest link b e s)
+      go (another b e s) later =
           let rises = link-rises index link (branchOf link rest) b in
-          climb-on k cell rest link b e ∙ later (omega arith) (omega arith) ∙ sym (climb-on l cell rest link b e)
+          climb-on k turns cell rest link b e s ∙ later (omega arith) (omega arith) ∙ sym (climb-on l turns cell rest link b e s)
 
-  module _ (cell rest link : ℕ) where
-    pub follow-none : entryRoom ≤ link → followed table index key cell rest link ≡ ends cell 0
+  module _ (turns cell rest link : ℕ) where
+    one-more : followed table index key turns cell rest link ≡ climbed (suc entryRoom) table index key turns cell rest link
     unfolding followed
-    follow-none h = climb-none entryRoom cell rest link h
+    one-more = enough entryRoom (suc entryRoom) turns cell rest link (omega arith) (omega arith)
 
-    pub follow-hit : link < entryRoom → keyOf table (entryAt index link) ≡ key → followed table index key cell rest link ≡ ends cell link
-    unfolding followed
-    follow-hit h e = enough entryRoom (suc entryRoom) cell rest link (omega arith) (omega arith) ∙ climb-hit entryRoom cell rest link h e
+    pub follow-none : entryRoom ≤ link → followed table index key turns cell rest link ≡ ends cell 0
+    follow-none h = one-more ∙ climb-none (suc entryRoom) turns cell rest link h
 
-    pub follow-on : link < entryRoom → (keyOf table (entryAt index link) ≡ key → ⊥)
-        → followed table index key cell rest link ≡ followed table index key (branchOf link rest) (rest / 2) (linkAt index link (branchOf link rest))
+    pub follow-hit : link < entryRoom → keyOf table (entryAt index link) ≡ key → followed table index key turns cell rest link ≡ ends cell link
+    follow-hit h e = one-more ∙ climb-hit entryRoom turns cell rest link h e
+
+    pub follow-stray : link < entryRoom → (keyOf table (entryAt index link) ≡ key → ⊥) → strayed turns (keyOf table (entryAt index link)) key ≡ true
+        → followed table index key turns cell rest link ≡ ends cell 0
+    follow-stray h e s = one-more ∙ climb-stray entryRoom turns cell rest link h e s
+
+    pub follow-on : link < entryRoom → (keyOf table (entryAt index link) ≡ key → ⊥) → strayed turns (keyOf table (entryAt index link)) key ≡ false
+        → followed table index key turns cell rest link
+        ≡ followed table index key (suc turns) (branchOf link rest) (rest / 2) (linkAt index link (branchOf link rest))
     unfolding followed
-    follow-on h e = enough entryRoom (suc entryRoom) cell rest link (omega arith) (omega arith) ∙ climb-on entryRoom cell rest link h e
+    follow-on h e s = one-more ∙ climb-on entryRoom turns cell rest link h e s
 
 -- what is left of a key after so many turns
 unfoldable pub restAfter : ℕ → ℕ → ℕ
@@ -102,7 +145,7 @@ restAfter (suc turns) key = restAfter turns key / 2
 
 -- the way on from a word that is come to after so many turns, from the entry that it belongs to
 abbrev pub wayFrom : Table → List ℕ → ℕ → ℕ → ℕ → ℕ → Way
-wayFrom table index key n low cell = followed table index key cell (restAfter n key) (linkAt index low cell)
+wayFrom table index key n low cell = followed table index key n cell (restAfter n key) (linkAt index low cell)
 
 abbrev pub numberOf : Way → ℕ
 numberOf way = way .number
@@ -113,34 +156,41 @@ pub data Comes (table : Table) (index : List ℕ) (key : ℕ) : ℕ → ℕ → 
   turns : {n low cell : ℕ} → Comes table index key n low cell → linkAt index low cell < entryRoom
       → Comes table index key (suc n) (linkAt index low cell) (branchOf (linkAt index low cell) (restAfter n key))
 
--- how a way goes on from a word: it ends there, without the key or with it, or it takes a turn
+-- how a way goes on from a word: it ends there, without the key, with it or astray, or it takes a turn
 pub data Climbs (table : Table) (index : List ℕ) (key : ℕ) : ℕ → ℕ → ℕ → Type 0 where
   stops : {n low cell : ℕ} → entryRoom ≤ linkAt index low cell → Climbs table index key n low cell
   hits : {n low cell : ℕ} → linkAt index low cell < entryRoom → keyOf table (entryAt index (linkAt index low cell)) ≡ key → Climbs table index key n low cell
+  strays : {n low cell : ℕ} → linkAt index low cell < entryRoom → (keyOf table (entryAt index (linkAt index low cell)) ≡ key → ⊥)
+      → strayed n (keyOf table (entryAt index (linkAt index low cell))) key ≡ true → Climbs table index key n low cell
   goes : {n low cell : ℕ} → linkAt index low cell < entryRoom → (keyOf table (entryAt index (linkAt index low cell)) ≡ key → ⊥)
+      → strayed n (keyOf table (entryAt index (linkAt index low cell))) key ≡ false
       → Climbs table index key (suc n) (linkAt index low cell) (branchOf (linkAt index low cell) (restAfter n key))
       → Climbs table index key n low cell
 
--- where a way ends: at a word that leads to no entry, or at one that leads to the key's
+-- where a way ends: at a word that leads to no entry, at one that leads to the key's, or at one that leads astray
 pub data Ends (table : Table) (index : List ℕ) (key : ℕ) : Way → Type 0 where
   free : {n low cell : ℕ} → Comes table index key n low cell → entryRoom ≤ linkAt index low cell → Ends table index key (ends cell 0)
   taken : {n low cell : ℕ} → Comes table index key n low cell → linkAt index low cell < entryRoom
       → keyOf table (entryAt index (linkAt index low cell)) ≡ key → Ends table index key (ends cell (linkAt index low cell))
+  astray : {n low cell : ℕ} → Comes table index key n low cell → linkAt index low cell < entryRoom
+      → (keyOf table (entryAt index (linkAt index low cell)) ≡ key → ⊥) → strayed n (keyOf table (entryAt index (linkAt index low cell))) key ≡ true
+      → Ends table index key (ends cell 0)
 
 module _ (table : Table) (index : List ℕ) (key : ℕ) where
   climbs-in : (left n low cell : ℕ) → entryRoom ≤ linkAt index low cell + left → Climbs table index key n low cell
   climbs-in zero n low cell h = let none : entryRoom ≤ linkAt index low cell = omega arith in stops none
-  climbs-in (suc left) n low cell h = go (meets table index key (linkAt index low cell)) (climbs-in left (suc n) (linkAt index low cell) next)
+  climbs-in (suc left) n low cell h = go (meets table index key n (linkAt index low cell)) (climbs-in left (suc n) (linkAt index low cell) next)
     where
       next : ℕ
       next = branchOf (linkAt index low cell) (restAfter n key)
 
-      go : Meets table index key (linkAt index low cell)
+      go : Meets table index key n (linkAt index low cell)
           → (entryRoom ≤ linkAt index (linkAt index low cell) next + left → Climbs table index key (suc n) (linkAt index low cell) next)
           → Climbs table index key n low cell
       go (nothing z) later = stops z
       go (itself b e) later = hits b e
-      go (another b e) later = goes b e (later (omega (arith, link-rises index (linkAt index low cell) next b)))
+      go (stranger b e s) later = strays b e s
+      go (another b e s) later = goes b e s (later (omega (arith, link-rises index (linkAt index low cell) next b)))
 
   -- links rise, so every way ends
   pub climbs : (n low cell : ℕ) → Climbs table index key n low cell
@@ -148,16 +198,21 @@ module _ (table : Table) (index : List ℕ) (key : ℕ) where
 
   module _ (n low cell : ℕ) where
     pub from-none : entryRoom ≤ linkAt index low cell → wayFrom table index key n low cell ≡ ends cell 0
-    from-none h = follow-none table index key cell (restAfter n key) (linkAt index low cell) h
+    from-none h = follow-none table index key n cell (restAfter n key) (linkAt index low cell) h
 
     pub from-hit : linkAt index low cell < entryRoom → keyOf table (entryAt index (linkAt index low cell)) ≡ key
         → wayFrom table index key n low cell ≡ ends cell (linkAt index low cell)
-    from-hit h e = follow-hit table index key cell (restAfter n key) (linkAt index low cell) h e
+    from-hit h e = follow-hit table index key n cell (restAfter n key) (linkAt index low cell) h e
+
+    pub from-stray : linkAt index low cell < entryRoom → (keyOf table (entryAt index (linkAt index low cell)) ≡ key → ⊥)
+        → strayed n (keyOf table (entryAt index (linkAt index low cell))) key ≡ true → wayFrom table index key n low cell ≡ ends cell 0
+    from-stray h e s = follow-stray table index key n cell (restAfter n key) (linkAt index low cell) h e s
 
     pub from-on : linkAt index low cell < entryRoom → (keyOf table (entryAt index (linkAt index low cell)) ≡ key → ⊥)
+        → strayed n (keyOf table (entryAt index (linkAt index low cell))) key ≡ false
         → wayFrom table index key n low cell ≡ wayFrom table index key (suc n) (linkAt index low cell) (branchOf (linkAt index low cell) (restAfter n key))
     unfolding restAfter
-    from-on h e = follow-on table index key cell (restAfter n key) (linkAt index low cell) h e
+    from-on h e s = follow-on table index key n cell (restAfter n key) (linkAt index low cell) h e s
 
 -- in an array where a word leads to the same entry, with the same key, the way goes on as it did
 module _ (table : Table) (index after : List ℕ) (key n low cell : ℕ) (link : linkAt after low cell ≡ linkAt index low cell)
@@ -169,10 +224,15 @@ module _ (table : Table) (index after : List ℕ) (key n low cell : ℕ) (link :
   pub same-hit : keyOf table (entryAt index (linkAt index low cell)) ≡ key → wayFrom table after key n low cell ≡ wayFrom table index key n low cell
   same-hit e = from-hit table after key n low cell (rw link leads) (same-now ∙ e) ∙ ap (ends cell) link ∙ sym (from-hit table index key n low cell leads e)
 
-  pub same-turn : (keyOf table (entryAt index (linkAt index low cell)) ≡ key → ⊥)
+  pub same-stray : (keyOf table (entryAt index (linkAt index low cell)) ≡ key → ⊥) → strayed n (keyOf table (entryAt index (linkAt index low cell))) key ≡ true
+      → wayFrom table after key n low cell ≡ wayFrom table index key n low cell
+  same-stray e s =
+      from-stray table after key n low cell (rw link leads) (λ q. e (sym same-now ∙ q)) (rw same-now s) ∙ sym (from-stray table index key n low cell leads e s)
+
+  pub same-turn : (keyOf table (entryAt index (linkAt index low cell)) ≡ key → ⊥) → strayed n (keyOf table (entryAt index (linkAt index low cell))) key ≡ false
       → wayFrom table after key n low cell ≡ wayFrom table after key (suc n) (linkAt index low cell) (branchOf (linkAt index low cell) (restAfter n key))
-  same-turn e =
-      from-on table after key n low cell (rw link leads) (λ q. e (sym same-now ∙ q))
+  same-turn e s =
+      from-on table after key n low cell (rw link leads) (λ q. e (sym same-now ∙ q)) (rw same-now s)
       ∙ ap (λ (l : ℕ). wayFrom table after key (suc n) l (branchOf l (restAfter n key))) link
 
 module _ {table : Table} {index : List ℕ} {key : ℕ} where
@@ -184,7 +244,8 @@ module _ {table : Table} {index : List ℕ} {key : ℕ} where
       → Ends table index key (wayFrom table index key n low cell)
   comes-end {n} {low} {cell} p (stops z) = rw (from-none table index key n low cell z) (free p z)
   comes-end {n} {low} {cell} p (hits b e) = rw (from-hit table index key n low cell b e) (taken p b e)
-  comes-end {n} {low} {cell} p (goes b e c) = rw (from-on table index key n low cell b e) (comes-end (turns p b) c)
+  comes-end {n} {low} {cell} p (strays b e s) = rw (from-stray table index key n low cell b e s) (astray p b e s)
+  comes-end {n} {low} {cell} p (goes b e s c) = rw (from-on table index key n low cell b e s) (comes-end (turns p b) c)
 
   pub way-ends : Ends table index key (wayOf table index key)
   unfolding wayOf restAfter

@@ -1,5 +1,6 @@
 // dictionary_chains: what a dictionary is looked up by. Three tables (known tags, closed components, MsgTypes) share the entries of one lent
-// array, in trees that branch by the bits of a key. It reads no dictionary bytes, and demands nothing of the array: only links that rise are followed.
+// array, in trees that branch by the bits of a key. It reads no dictionary bytes, and demands nothing of the array: only links that rise are
+// followed, and no look-up follows more than 54, whatever the array holds.
 ghost use mathlib.Core.Path.{_≡_};
 ghost use mathlib.Core.List.{_++_};
 ghost use Prim.Native.Nat.{_<_};
@@ -14,6 +15,9 @@ const STRIDE: usize = 7;
 
 // Entries, entry 0 among them.
 const ENTRY_ROOM: usize = 15001;
+
+// The turns of a way: a key has 64 bits, and eleven of them choose its head.
+const MOST_TURNS: usize = 53;
 
 // Words of an index.
 pub const WORDS: usize = HEAD_WORDS + STRIDE * ENTRY_ROOM;
@@ -103,11 +107,17 @@ fn way_of(index: &[u16], table: Table, key: u64) -> Way
 {
     let mut cell = head_of(table, key);
     let mut rest = key / 2048;
+    let mut turns: usize = 0;
     let mut link = link_at(index, 0, cell);
     while link < ENTRY_ROOM {
         if key_of(table, entry_at(index, link)) == key {
             return Way { cell, number: link };
         }
+        // The keys share a head and every turn: had this one been entered here, it would be the same.
+        if turns >= MOST_TURNS {
+            return Way { cell, number: 0 };
+        }
+        turns += 1;
         cell = HEAD_WORDS + STRIDE * link + (rest % 2) as usize;
         rest = rest / 2;
         link = link_at(index, link, cell);

@@ -1,20 +1,21 @@
--- `way_of` meets its contract. The invariant: following the way from the link on gives the whole way's end.
--- The link rises with each turn, whatever the words hold.
+-- `way_of` meets its contract. The invariant: following the way from the link on gives the whole way's end. The measure: the turns that
+-- are left, so the loop is run 54 times at most. Keys have 64 bits here, so one that is met after all turns and is another has strayed.
 use mathlib.Core.Path.{_≡_, sym, ap, _∙_}
-use Prim.Native.Nat.{_+_, _-_, _%_}
+use Prim.Native.Nat.{_-_}
+use native.Mathlib.Numerals.{add-one}
 use native.Mathlib.Omega.{arith}
 use borrow.Author.Needs.{needs}
-use Rattle.dictionary_chains.specs.Chain.{entryStart, entryRoom, keyOf, entryAt, branchOf, followed, wayOf}
+use Rattle.dictionary_chains.specs.Chain.{mostTurns, keyOf, entryAt, branchOf, followed, wayOf}
 use Rattle.dictionary_chains.specs.WordLaws.{head-small}
-use Rattle.dictionary_chains.specs.WayLaws.{link-rises, follow-none, follow-hit, follow-on}
+use Rattle.dictionary_chains.specs.WayLaws.{strayed-late, strayed-early, follow-none, follow-hit, follow-stray, follow-on}
 use Rattle.dictionary_chains.proofs.way_of.Statement.{statement}
 use Rattle.dictionary_chains.proofs.way_of.Tie as tie
 
 abbrev Inv-loop : tie.InvT-loop
-Inv-loop index table key cell₀ rest₀ link₀ cell rest link = wayOf table index key ≡ followed table index key cell rest link
+Inv-loop index table key cell₀ rest₀ turns₀ link₀ cell rest turns link = wayOf table index key ≡ followed table index key turns cell rest link
 
 abbrev μ-loop : tie.MeasureT-loop
-μ-loop index table key cell₀ rest₀ link₀ cell rest link = entryRoom - link
+μ-loop index table key cell₀ rest₀ turns₀ link₀ cell rest turns link = mostTurns - turns
 
 -- the key of the entry that is met
 met : (c : tie.After-key-of Inv-loop μ-loop) → let l = c .before .before .before in let a = l .before .before .before .before .args in
@@ -22,35 +23,37 @@ met : (c : tie.After-key-of Inv-loop μ-loop) → let l = c .before .before .bef
 met c = c .key-of .ensures ∙ ap (keyOf _) (c .before .entry-at .ensures)
 
 link-at-requires : tie.Need-link-at-requires Inv-loop μ-loop
-link-at-requires c κs = (c .before .before .pre, omega (arith, head-small (c .before .before .args .table) (c .before .before .args .key), c .head-of .ensures))
+link-at-requires c κs = let a = c .before .before .args in
+    (c .before .before .pre, omega (arith, head-small (a .table) (a .key), c .head-of .ensures))
 
 loop-holds : tie.Need-loop-holds Inv-loop μ-loop
 loop-holds c = unfold wayOf in rw (c .link-at .ensures, c .before .head-of .ensures)
 
 returns : tie.Need-returns Inv-loop μ-loop
 returns c = let k = c .before in let l = k .before .before .before in
-    sym (l .loop .inv ∙ follow-hit _ _ _ _ _ _ (k .before .before .loop-test .taken) (sym (met k) ∙ c .if1 .taken))
-
-link-at-requires-2 : tie.Need-link-at-requires-2 Inv-loop μ-loop
-link-at-requires-2 c κs = (c .before .before .before .before .before .before .before .before .pre, omega arith)
-
-loop-less : tie.Need-loop-less Inv-loop μ-loop
-loop-less c = let l = c .before .before .before .before .before in
-    let cell = entryStart (l .loop .link) + l .loop .rest % 2 in
-    let rises = link-rises (l .before .before .before .before .args .index .now) (l .loop .link) cell (c .before .before .before .before .loop-test .taken) in
-    omega (arith, c .link-at2 .ensures, rises)
-
-loop-again : tie.Need-loop-again Inv-loop μ-loop
-loop-again c = let k = c .before .before in let l = k .before .before .before in
-    l .loop .inv
-    ∙ follow-on _ _ _ _ _ _ (k .before .before .loop-test .taken) (λ e. c .before .if1 .left (met k ∙ e))
-    ∙ unfold branchOf in rw (c .link-at2 .ensures)
+    sym (l .loop .inv ∙ follow-hit _ _ _ _ _ _ _ (k .before .before .loop-test .taken) (sym (met k) ∙ c .if1 .taken))
 
 returns-2 : tie.Need-returns-2 Inv-loop μ-loop
-returns-2 c = sym (c .before .loop .inv ∙ follow-none _ _ _ _ _ _ (c .loop-test .left))
+returns-2 c = let k = c .before .before in let l = k .before .before .before in
+    sym (l .loop .inv
+    ∙ follow-stray _ _ _ _ _ _ _ (k .before .before .loop-test .taken) (λ e. c .before .if1 .left (met k ∙ e))
+    (strayed-late _ _ _ (c .if2 .taken) (omega (arith, met k)) (omega arith)))
+
+link-at-requires-2 : tie.Need-link-at-requires-2 Inv-loop μ-loop
+link-at-requires-2 c κs = (c .before .before .before .before .before .before .before .before .before .pre, omega arith)
+
+loop-again : tie.Need-loop-again Inv-loop μ-loop
+loop-again c = let k = c .before .before .before in let l = k .before .before .before in
+    l .loop .inv
+    ∙ follow-on _ _ _ _ _ _ _ (k .before .before .loop-test .taken) (λ e. c .before .before .if1 .left (met k ∙ e)) (strayed-early _ _ _ (omega arith))
+    ∙ unfold branchOf in rw (c .link-at2 .ensures, add-one)
+
+returns-3 : tie.Need-returns-3 Inv-loop μ-loop
+returns-3 c = sym (c .before .loop .inv ∙ follow-none _ _ _ _ _ _ _ (c .loop-test .left))
 
 pub way-of-spec : {M : Type 1} → statement M
 way-of-spec =
     tie.close
     (tie.spec Inv-loop μ-loop (λ c κs. search needs) link-at-requires loop-holds (λ c κs. search needs) (λ c κs. search needs)
-    returns (λ c. search needs) (λ c. search needs) (λ c. search needs) link-at-requires-2 loop-less loop-again returns-2)
+    returns returns-2 (λ c. search needs) (λ c. search needs) (λ c. search needs) (λ c. search needs)
+    link-at-requires-2 (λ c. search needs) loop-again returns-3)
