@@ -166,9 +166,9 @@ layTables d index tables =
 
 -- ===== a table by itself =====
 
--- words of the largest table
+-- words of the largest table: nine, and 14 to each of 1,024 items
 abbrev pub tableWords : ℕ
-tableWords = 22538
+tableWords = 14345
 
 -- words of the largest table of tags
 abbrev pub tagWords : ℕ

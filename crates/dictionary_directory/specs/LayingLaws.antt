@@ -43,14 +43,14 @@ module _ (rows : List ℕ) (count : ℕ) (l : LaidAs rows count) where
   pub held-few : items (layoutIn rows count) ≤ 1024
   held-few = subst (λ (x : Layout). items x ≤ 1024) (sym held) (l .limit)
 
-  pub held-small : tableSize (layoutIn rows count) < 65536
-  held-small = omega (arith, size-bound (layoutIn rows count), held-few)
-
   pub held-fits : tableSize (layoutIn rows count) ≤ tableWords
-  held-fits = omega (arith, size-bound (layoutIn rows count), held-few)
+  held-fits = rw held (omega (arith, size-bound (l .filled), l .limit))
+
+  pub held-small : tableSize (layoutIn rows count) < 65536
+  held-small = omega (arith, held-fits)
 
   pub held-pressable : (words : ℕ) → tableSize (layoutIn rows count) ≤ words → Pressable rows count words
-  held-pressable words room = record { layout = layoutIn rows count; tabled = held-tabled; few = held-few; room = room }
+  held-pressable words room = record { layout = layoutIn rows count; tabled = held-tabled; room = room; small = held-small }
 
 -- two words stored behind others
 set-pair : (p : List ℕ) (x y : ℕ) (rest : List ℕ) (a b n : ℕ) → length p ≡ n →

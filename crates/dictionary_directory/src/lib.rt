@@ -34,8 +34,8 @@ const TAGS: usize = 15000;
 // Bytes of the longest dictionary.
 const LONGEST: usize = 60000;
 
-// Words of the largest table.
-pub const TABLE_WORDS: usize = 22538;
+// Words of the largest table: nine, and 14 to each of 1,024 items.
+pub const TABLE_WORDS: usize = 14345;
 
 // Words of the largest table of tags.
 pub const TAG_WORDS: usize = 5249;

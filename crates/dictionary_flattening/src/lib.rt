@@ -50,7 +50,8 @@ fn put_row(table: &mut [u32], row: usize, tag: u32, required: bool, is_group: bo
 }
 
 // The items from a place on up to their close. A group's entries and a component's items are laid by the same function, the open
-// depth falling. A component that adds no row breaks off: else forged content could make the work double with each level.
+// depth falling. A component that adds no row breaks off: else forged content could make the work double with each level. So does a
+// group without one: else its table could take more words to an item than any that passes the check.
 fn lay_items(
     bytes: &[u8],
     index: &[u16],
@@ -94,6 +95,10 @@ fn lay_items(
                 ) else {
                     return Laid::Broken;
                 };
+                // "group closes empty after flattening" is refused by the check, so only forged content has such a group.
+                if end <= row + 1 {
+                    return Laid::Broken;
+                }
                 put_row(table, row, tag, required, true, end);
                 at = after;
                 row = end;

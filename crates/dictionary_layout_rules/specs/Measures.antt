@@ -102,6 +102,12 @@ filled-followed none-at-end n = n
 filled-followed (none-after-field m) n = none-after-field (filled-followed m n)
 filled-followed (none-in-group some inner m) n = none-in-group some inner (filled-followed m n)
 
+pub filled-after : (a : Layout) {b : Layout} → NoEmptyGroup (followedBy a b) → NoEmptyGroup b
+unfolding followedBy
+filled-after end n = n
+filled-after (field tag required rest) (none-after-field n) = filled-after rest n
+filled-after (group tag required inner rest) (none-in-group some m n) = filled-after rest n
+
 pub bounded-closed : {layout : Layout} → Bounded layout → BoundedSoFar 0 layout
 bounded-closed b = record { shallow = b .shallow; few = b .few; filled = filled (b .filled) }
 

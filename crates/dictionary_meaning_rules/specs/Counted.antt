@@ -107,6 +107,12 @@ items-none end e = refl
 items-none (field tag required rest) e = absurd (omega arith)
 items-none (group tag required inner rest) e = absurd (omega arith)
 
+pub items-some : (layout : Layout) → (layout ≡ end → ⊥) → 1 ≤ items layout
+unfolding items
+items-some end some = absurd (some refl)
+items-some (field tag required rest) some = omega arith
+items-some (group tag required inner rest) some = omega arith
+
 -- a level that names an empty component first means what the rest means
 flat-empty : (defined : List Defined) (number : ℕ) (required : Bool) (rest : Items) → items (layoutOf defined number) ≡ 0 → flat defined (componentThen number required rest) ≡ flat defined rest
 unfolding expanded flattened followedBy

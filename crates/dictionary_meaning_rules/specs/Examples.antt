@@ -42,6 +42,10 @@ abbrev joined : List (List ℕ) → List ℕ
 joined [] = 7 ∷ []
 joined (part ∷ parts) = part ++ joined parts
 
+-- opens group 78
+abbrev opening : List ℕ
+opening = 6 ∷ (tag 78 ++ (1 ∷ []))
+
 -- component 3 is empty; component 2 holds 79 and 80; component 4 holds 3 and 2, so it stands for 2
 abbrev dictionary : List ℕ
 dictionary =
@@ -51,7 +55,7 @@ dictionary =
     ++ (joined ((2 ∷ 1 ∷ 0 ∷ []) ∷ field 10 1 ∷ [])
     ++ (joined ((2 ∷ 2 ∷ 0 ∷ []) ∷ field 79 1 ∷ field 80 0 ∷ [])
     ++ (joined ((2 ∷ 4 ∷ 0 ∷ []) ∷ item 3 1 ∷ item 2 0 ∷ [])
-    ++ joined ((3 ∷ 68 ∷ 0 ∷ 0 ∷ 0 ∷ 0 ∷ 0 ∷ 0 ∷ 0 ∷ []) ∷ field 38 0 ∷ (6 ∷ (tag 78 ++ (1 ∷ []))) ∷ joined (item 4 1 ∷ []) ∷ item 4 1 ∷ field 58 0 ∷ []))))))
+    ++ joined ((3 ∷ 68 ∷ 0 ∷ 0 ∷ 0 ∷ 0 ∷ 0 ∷ 0 ∷ 0 ∷ []) ∷ field 38 0 ∷ opening ∷ joined (item 4 1 ∷ []) ∷ item 4 1 ∷ field 58 0 ∷ []))))))
 
 abbrev fourth : Nodes
 fourth = componentItem true nothing (componentItem false (fieldItem 79 true (fieldItem 80 false nothing)) nothing)
@@ -107,6 +111,13 @@ rows = refl
 forged : layItems 3 dictionary (componentIn (record { number = 4; place = 35; items = 2; depth = 0; stands = 4 } ∷ [])) 117 4 (replicate 32 9) ≡ laying Broken (replicate 32 9)
 unfolding layItems itemsFrom itemsWithin onRead onRecord onComponent afterComponent standsAt expanding behindOpening componentIn recordAt recordFrom withKind withBody recordBody recordBodyLength componentBody withMark zeroFilled lowFirst
 forged = refl
+
+-- a group that holds nothing, or an empty component only, breaks the laying off too; one that holds 79 is laid
+grouped : map (λ (inner : List (List ℕ)). layItems 3 (joined (opening ∷ joined inner ∷ [])) (componentIn components) 0 0 (replicate 8 9))
+    ([] ∷ (item 3 1 ∷ []) ∷ (field 79 1 ∷ []) ∷ []) ≡
+    laying Broken (replicate 8 9) ∷ laying Broken (replicate 8 9) ∷ laying (Upto 14 2) (78 ∷ 1 ∷ 1 ∷ 2 ∷ 79 ∷ 1 ∷ 0 ∷ 2 ∷ []) ∷ []
+unfolding layItems itemsFrom itemsWithin onRead onRecord onComponent afterGroup putRow standsAt expanding componentIn mark recordAt recordFrom withKind withBody recordBody recordBodyLength fieldBody componentBody groupBody withTag withMark zeroFilled lowFirst
+grouped = refl
 
 -- a MsgType is compared with its length
 names : map nameOf (bytes "D" ∷ bytes "AE" ∷ (68 ∷ 0 ∷ []) ∷ (0 ∷ 68 ∷ []) ∷ [] ∷ bytes "12345678" ∷ bytes "123456789" ∷ []) ≡ Named 68 ∷ Named 17729 ∷ Unnamed ∷ Unnamed ∷ Unnamed ∷ Named 4050765991979987505 ∷ Unnamed ∷ []

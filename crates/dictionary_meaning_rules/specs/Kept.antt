@@ -43,7 +43,11 @@ module _ (inner rest : Step) (within : Keeping inner) (goes : Keeping rest) wher
   group-keeps : (row tag : ℕ) (required : Bool) (outcome : Laying) → length (tableOf (afterGroup rest row tag required outcome)) ≡ length (tableOf outcome)
   unfolding afterGroup tableOf
   group-keeps row tag required (laying Broken table) = refl
-  group-keeps row tag required (laying (Upto after end) table) = goes after end (putRow table row tag required true end) ∙ put-length table row tag required true end
+  group-keeps row tag required (laying (Upto after end) table) = go (leb end (row + 1))
+    where
+      go : (empty : Bool) → length (tableOf (pick empty (laying Broken table) (rest after end (putRow table row tag required true end)))) ≡ length table
+      go true = refl
+      go false = goes after end (putRow table row tag required true end) ∙ put-length table row tag required true end
 
   component-keeps : (next row : ℕ) (table : List ℕ) (stands : Expansion) → length (tableOf (onComponent inner rest next row table stands)) ≡ length table
   unfolding onComponent afterComponent tableOf

@@ -39,16 +39,17 @@ pub data Lays (bytes : List ℕ) (components : ℕ → Looked) (number : ℕ) (l
   lays-nothing : standsAt components number ≡ NoItems → layout ≡ end → Lays bytes components number layout
   lays-items : {place : ℕ} → standsAt components number ≡ ItemsAt place → 1 ≤ items layout → Layable bytes components place layout → Lays bytes components number layout
 
--- every component that items name is laid
+-- what items mean, flattened
+abbrev pub flat : List Defined → Items → Layout
+flat defined written = flattened (expanded defined written)
+
+-- every component that items name is laid, and no group is empty
 pub data AllLay (bytes : List ℕ) (components : ℕ → Looked) (defined : List Defined) : Items → Type 0 where
   all-close : AllLay bytes components defined closed
   all-field : {tag : ℕ} {required : Bool} {rest : Items} → AllLay bytes components defined rest → AllLay bytes components defined (fieldThen tag required rest)
   all-component : {number : ℕ} {required : Bool} {rest : Items} → Lays bytes components number (layoutOf defined number) → AllLay bytes components defined rest → AllLay bytes components defined (componentThen number required rest)
-  all-group : {tag : ℕ} {required : Bool} {inner rest : Items} → AllLay bytes components defined inner → AllLay bytes components defined rest → AllLay bytes components defined (groupThen tag required inner rest)
-
--- what items mean, flattened
-abbrev pub flat : List Defined → Items → Layout
-flat defined written = flattened (expanded defined written)
+  all-group : {tag : ℕ} {required : Bool} {inner rest : Items} → 1 ≤ items (flat defined inner) → AllLay bytes components defined inner →
+      AllLay bytes components defined rest → AllLay bytes components defined (groupThen tag required inner rest)
 
 -- the depth is enough for what lies directly within a level
 pub data Room (defined : List Defined) (depth : ℕ) : Items → Type 0 where
@@ -139,10 +140,10 @@ module _ (bytes : List ℕ) (components : ℕ → Looked) (defined : List Define
       ∙ laid-field defined after row table tag required rest
   lay-level {at} {after} (reads-component {next} {number} {required} {rest} e r) (all-component l a) depth (room-component n m) row table h =
       component-level at next after number required rest depth e l n (lay-level r a depth m) row table h
-  lay-level {at} {after} (reads-group {next} {upto} {tag} {required} {inner} {rest} e i r) (all-group b a) depth (room-group n m) row table h =
+  lay-level {at} {after} (reads-group {next} {upto} {tag} {required} {inner} {rest} e i r) (all-group some b a) depth (room-group n m) row table h =
       let c = count-group defined tag required inner rest in
       let within : layItems depth bytes components next (row + 1) table ≡ laidFrom upto (row + 1) (flat defined inner) table = lay-down bytes components next (row + 1) table depth (λ z. absurd (omega arith)) ∙ lay-level i b (depth - 1) (room-any defined (depth - 1) inner (omega arith)) (row + 1) table (omega arith) in
-      lay-group (layItems depth bytes components) bytes components (lay-advances depth bytes components) at row table tag required next upto (row + 1 + items (flat defined inner)) (written (row + 1) (flat defined inner) table) e (omega arith) within
+      lay-group (layItems depth bytes components) bytes components (lay-advances depth bytes components) at row table tag required next upto (row + 1 + items (flat defined inner)) (written (row + 1) (flat defined inner) table) e (omega arith) within (omega arith)
       ∙ lay-level r a depth m (row + 1 + items (flat defined inner)) (putRow (written (row + 1) (flat defined inner) table) row tag required true (row + 1 + items (flat defined inner))) (omega arith)
       ∙ laid-group defined after row table tag required inner rest
 

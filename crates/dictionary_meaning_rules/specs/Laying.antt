@@ -1,6 +1,6 @@
 -- Flattening as the code does it: one record at a time, each item into the next free row of the table. Whatever bytes, index and table
--- hold, this has an outcome: items that can't be read, a table that is full, a component without a row, or a depth that is used up
--- make it broken.
+-- hold, this has an outcome: items that can't be read, a table that is full, a group or a component without a row, or a depth that is
+-- used up make it broken.
 use Prim.Native.Nat.{ℕ, zero, suc, _+_, _-_, _*_}
 use mathlib.Core.List.{List}
 use mathlib.Core.Bool.{Bool, true, false}
@@ -47,10 +47,11 @@ unfoldable pub putRow : List ℕ → ℕ → ℕ → Bool → Bool → ℕ → L
 putRow table row tag required isGroup link =
     set (set (set (set table (4 * row) tag) (4 * row + 1) (mark required)) (4 * row + 2) (mark isGroup)) (4 * row + 3) link
 
--- a group's row is written once its entries are
+-- a group's row is written once its entries are; "group closes empty after flattening" is refused (34), so only forged content has one
 unfoldable pub afterGroup : Step → ℕ → ℕ → Bool → Laying → Laying
 afterGroup rest row tag required (laying Broken table) = laying Broken table
-afterGroup rest row tag required (laying (Upto after end) table) = rest after end (putRow table row tag required true end)
+afterGroup rest row tag required (laying (Upto after end) table) =
+    pick (leb end (row + 1)) (laying Broken table) (rest after end (putRow table row tag required true end))
 
 -- "Components are flattened in place"; a component that has items adds a row, so that what is laid grows with each step down
 unfoldable pub afterComponent : Step → ℕ → ℕ → Laying → Laying

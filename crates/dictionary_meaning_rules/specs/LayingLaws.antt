@@ -43,7 +43,11 @@ module _ (limit : ℕ) (inner : Step) (rises : Advancing limit inner) (rest : St
   after-group-advances : (at row : ℕ) (outcome : Laying) (tag : ℕ) (required : Bool) → Advances limit at row outcome → Advances limit at row (afterGroup rest row tag required outcome)
   unfolding afterGroup
   after-group-advances at row (laying Broken table) tag required breaks = breaks
-  after-group-advances at row (laying (Upto after end) table) tag required (reaches a b c d) = later a c (goes after end _ d)
+  after-group-advances at row (laying (Upto after end) table) tag required (reaches a b c d) = go (leb end (row + 1))
+    where
+      go : (empty : Bool) → Advances limit at row (pick empty (laying Broken table) (rest after end (putRow table row tag required true end)))
+      go true = breaks
+      go false = later a c (goes after end _ d)
 
   after-component-advances : (at row next place : ℕ) (outcome : Laying) → at < next → Advances limit place row outcome → Advances limit at row (afterComponent rest next row outcome)
   unfolding afterComponent
@@ -100,7 +104,8 @@ module _ (limit : ℕ) (inner : Step) (rises : Advancing limit inner) (rest othe
   after-group-agrees : (row tag upto : ℕ) (required : Bool) (outcome : Laying) → Advances limit from upto outcome → afterGroup rest row tag required outcome ≡ afterGroup other row tag required outcome
   unfolding afterGroup
   after-group-agrees row tag upto required (laying Broken table) breaks = refl
-  after-group-agrees row tag upto required (laying (Upto after end) table) (reaches a b c d) = agree after end _ (omega arith)
+  after-group-agrees row tag upto required (laying (Upto after end) table) (reaches a b c d) =
+      rw (agree after end (putRow table row tag required true end) (omega arith))
 
   after-component-agrees : (row : ℕ) (outcome : Laying) → afterComponent rest from row outcome ≡ afterComponent other from row outcome
   unfolding afterComponent
@@ -181,9 +186,16 @@ module _ (inner : Step) (bytes : List ℕ) (components : ℕ → Looked) (rises 
       unfolding onRecord
       lay-group-full e h = items-step _ _ e ∙ rw (le-leb _ _ h)
 
-      pub lay-group : (after end : ℕ) (within : List ℕ) → recordAt bytes at ≡ Whole (OpensGroup tag required) next → row < 1024 → inner next (row + 1) table ≡ laying (Upto after end) within → here ≡ goOn after end (putRow within row tag required true end)
+      pub lay-group : (after end : ℕ) (within : List ℕ) → recordAt bytes at ≡ Whole (OpensGroup tag required) next → row < 1024 →
+          inner next (row + 1) table ≡ laying (Upto after end) within → row + 1 < end →
+          here ≡ goOn after end (putRow within row tag required true end)
       unfolding onRecord afterGroup
-      lay-group after end within e h i = items-step _ _ e ∙ rw (lt-leb _ _ h, i)
+      lay-group after end within e h i some = items-step _ _ e ∙ rw (lt-leb _ _ h, i, lt-leb _ _ some)
+
+      pub lay-group-empty : (after end : ℕ) (within : List ℕ) → recordAt bytes at ≡ Whole (OpensGroup tag required) next → row < 1024 →
+          inner next (row + 1) table ≡ laying (Upto after end) within → end ≤ row + 1 → here ≡ laying Broken within
+      unfolding onRecord afterGroup
+      lay-group-empty after end within e h i none = items-step _ _ e ∙ rw (lt-leb _ _ h, i, le-leb _ _ none)
 
       pub lay-group-broken : (within : List ℕ) → recordAt bytes at ≡ Whole (OpensGroup tag required) next → row < 1024 → inner next (row + 1) table ≡ laying Broken within → here ≡ laying Broken within
       unfolding onRecord afterGroup

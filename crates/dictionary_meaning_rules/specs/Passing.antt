@@ -12,6 +12,7 @@ use borrow.Author.Tests.{eq-eqb, ne-eqb, eqb-true, eqb-false}
 use Rattle.field_rules.specs.Choice.{pick}
 use Rattle.dictionary_layout_rules.specs.Layout.{Layout, end, items}
 use Rattle.dictionary_layout_rules.specs.Tree.{Nodes, flattened}
+use Rattle.dictionary_layout_rules.specs.Measures.{NoEmptyGroup, none-after-field, none-in-group, filled-after}
 use Rattle.dictionary_rules.specs.Records.{Records, ends, bad, whole, recordsFrom}
 use Rattle.dictionary_rules.specs.Step.{opens, standsFor, depthOf}
 use Rattle.dictionary_rules.specs.Names.{Names, named}
@@ -28,7 +29,7 @@ use Rattle.dictionary_meaning_rules.specs.Laying.{behindOpening, standsA
 use Rattle.dictionary_meaning_rules.specs.LayingLaws.{stands-empty, stands-behind, stands-somewhere}
 use Rattle.dictionary_meaning_rules.specs.Meaning.{Items, closed, fieldThen, componentThen, groupThen, innermost, levelsOf, Defined, nodesOf, expanded}
 use Rattle.dictionary_meaning_rules.specs.Layable.{Reads, Layable, layoutOf, flat, Lays, lays-nothing, lays-items, AllLay, all-close, all-field, all-component, all-group, Room, level-layable, room-any}
-use Rattle.dictionary_meaning_rules.specs.Counted.{Agrees, agrees-close, agrees-field, agrees-component, agrees-group, countOf, heldFrom, count-agrees, items-none, Single, empty-none, only-one, room-proper}
+use Rattle.dictionary_meaning_rules.specs.Counted.{Agrees, agrees-close, agrees-field, agrees-component, agrees-group, countOf, heldFrom, count-agrees, items-none, items-some, Single, empty-none, only-one, room-proper}
 use Rattle.dictionary_meaning_rules.specs.Steps.{noteOf}
 use Rattle.dictionary_meaning_rules.specs.declared.Expansion.the-variants.{ItemsAt, NoItems}
 use Rattle.dictionary_meaning_rules.specs.Inside.{lookIn, Resolved, resolved-close, resolved-field, resolved-component, resolved-group, AllResolved, none-resolved, one-resolved, ReadsAll, no-level, one-level, countAll, heldAll, Closing}
@@ -60,11 +61,12 @@ module _ (bytes : List ℕ) (components : ℕ → Looked) (names : Names) (defin
   agrees-known (resolved-component {number} c e r) = agrees-component c e (known number c e .count) (agrees-known r)
   agrees-known (resolved-group i r) = agrees-group (agrees-known i) (agrees-known r)
 
-  pub lay-known : {level : Items} → Resolved (lookIn names) level → AllLay bytes components defined level
-  lay-known resolved-close = all-close
-  lay-known (resolved-field r) = all-field (lay-known r)
-  lay-known (resolved-component {number} c e r) = all-component (known number c e .lays) (lay-known r)
-  lay-known (resolved-group i r) = all-group (lay-known i) (lay-known r)
+  pub lay-known : {level : Items} → Resolved (lookIn names) level → NoEmptyGroup (flat defined level) → AllLay bytes components defined level
+  unfolding expanded flattened
+  lay-known resolved-close n = all-close
+  lay-known (resolved-field r) (none-after-field n) = all-field (lay-known r n)
+  lay-known (resolved-component {number} c e r) n = all-component (known number c e .lays) (lay-known r (filled-after (layoutOf defined number) n))
+  lay-known (resolved-group i r) (none-in-group some m n) = all-group (items-some _ some) (lay-known i m) (lay-known r n)
 
 -- something that closes without a group has one level
 pub record OneLevel (bytes : List ℕ) (names : Names) (at : ℕ) (rs : Records) (after : ℕ) (rest : Records) (last : Open) : Type 0 where
@@ -96,7 +98,8 @@ stands-alike components a b c d p q x y s =
     stands-behind components a c p x ∙ ap (λ (number : ℕ). behindOpening (components number)) s ∙ sym (stands-behind components b d q y)
 
 -- a component that has just closed
-module _ (bytes : List ℕ) (components : ℕ → Looked) (names : Names) (defined : List Defined) (known : Known bytes components names defined) (number : ℕ) (c : Component) (looked : components number ≡ Closed c) (at after : ℕ) (level : Items) (reads : Reads bytes at level after) (resolved : Resolved (lookIn names) level) where
+module _ (bytes : List ℕ) (components : ℕ → Looked) (names : Names) (defined : List Defined) (known : Known bytes components names defined) (number : ℕ) (c : Component) (looked : components number ≡ Closed c) (at after : ℕ) (level : Items) (reads : Reads bytes at level after) (resolved : Resolved (lookIn names) level)
+    (filled : NoEmptyGroup (flat defined level)) where
   abbrev agreeing : Agrees (lookIn names) defined level
   agreeing = agrees-known bytes components names defined known resolved
 
@@ -105,13 +108,9 @@ module _ (bytes : List ℕ) (components : ℕ → Looked) (names : Names) (defin
   several-lays e s p z n =
       let here : components (c .stands) ≡ Closed c = ap components s ∙ looked in
       let stands : standsAt components number ≡ ItemsAt at = stands-somewhere components number c c looked z here ∙ ap ItemsAt p in
-      let filled = has-items (c .items) z n in
-      lays-items stands filled (level-layable bytes components defined reads (lay-known bytes components names defined known resolved)
+      lays-items stands (items-some (flat defined level) (λ q. z (n ∙ ap items q ∙ items-end)))
+      (level-layable bytes components defined reads (lay-known bytes components names defined known resolved filled)
       (λ depth h. room-proper (lookIn names) defined depth agreeing e (omega arith) (omega arith)))
-    where
-      has-items : (k : ℕ) → (k ≡ 0 → ⊥) → k ≡ items (flat defined level) → 1 ≤ items (flat defined level)
-      has-items zero z n = absurd (z refl)
-      has-items (suc k) z n = omega arith
 
   -- one that holds another only is laid as that one
   only-lays : (s : ℕ) → heldFrom (lookIn names) Empty level ≡ Only s → c .stands ≡ s → (c .items ≡ 0 → ⊥) → Lays bytes components number (flat defined level)

@@ -26,6 +26,7 @@ use Rattle.dictionary_rules.specs.declared.State.the-variants.{TopLevel}
 use Rattle.dictionary_meaning_rules.specs.Meaning.{declarationsOf, definedAfter, nodesOf}
 use Rattle.dictionary_meaning_rules.specs.Named.{Standard, standard}
 use Rattle.dictionary_meaning_rules.specs.Passing.{KnownAs}
+use Rattle.dictionary_meaning_rules.specs.TreeBounds.{passes-kept}
 use Rattle.dictionary_meaning_rules.specs.Tables.{layoutNumbered, MessageAs, Meant, meant}
 
 whole-outcome : {S : Type 0} (x : CheckOutcome S) (checked : Checked) → answerOf x ≡ checked → x ≡ outcome checked (storeOf x)
@@ -57,7 +58,8 @@ module _ (d : List ℕ) (passes : checkOf d ≡ Passes) where
     agreeing = prepared-names d index size short
 
     pub dictionary-meant : Meant d (componentAt made) (storeOf (readOf d)) noNames [] (declarationsOf (recordsFrom d 0))
-    dictionary-meant = meant d (componentAt made) (storeOf (readOf d)) (λ number c e. agreeing .1 .components number ∙ e) (recordsFrom d 0) 0 refl reads-passing
+    dictionary-meant =
+        meant d (componentAt made) (storeOf (readOf d)) (λ number c e. agreeing .1 .components number ∙ e) (recordsFrom d 0) 0 refl reads-passing (passes-kept d passes)
 
     -- a message that the index finds is laid as the layout of its number
     pub message-laid : (msgType place : ℕ) → messageAt made msgType ≡ At place → (layout : Layout) × (layoutNumbered [] (declarationsOf (recordsFrom d 0)) msgType ≡ laidOut layout) × MessageAs d (componentAt made) place layout

@@ -10,6 +10,7 @@ use borrow.Author.Tests.{eq-eqb, ne-eqb, eqb-true, eqb-false}
 use Rattle.field_rules.specs.Choice.{pick}
 use Rattle.dictionary_layout_rules.specs.Layout.{Layout, end, items}
 use Rattle.dictionary_layout_rules.specs.Tree.{flattened, Choice, noMessage, laidOut}
+use Rattle.dictionary_layout_rules.specs.Measures.{NoEmptyGroup}
 use Rattle.dictionary_rules.specs.Record.{recordAt}
 use Rattle.dictionary_rules.specs.Records.{Records, ends, bad, whole, recordsFrom}
 use Rattle.dictionary_rules.specs.RecordsLaws.{record-lies}
@@ -38,6 +39,7 @@ use Rattle.dictionary_meaning_rules.specs.Steps.{Passing, noteOf, tag-go
 use Rattle.dictionary_meaning_rules.specs.Inside.{Next, next-of, sizeOf, lookIn, Closing, closes-inside}
 use Rattle.dictionary_meaning_rules.specs.Named.{placeIn, Kept, kept, component-new, component-old, message-new, message-old}
 use Rattle.dictionary_meaning_rules.specs.Passing.{KnownAs, Known, agrees-known, lay-known, OneLevel, one-level-of, closed-lays}
+use Rattle.dictionary_meaning_rules.specs.TreeBounds.{KeptFrom, kept-tag, kept-component, kept-message}
 use Rattle.dictionary_meaning_rules.specs.declared.Laid.the-variants.{Upto, Broken}
 
 -- the layout of the message that has a number among declarations
@@ -87,10 +89,12 @@ known-more bytes components names defined c level known new number d e = go (eqb
 
 module _ (bytes : List ℕ) (components : ℕ → Looked) (final : Names) (sure : (number : ℕ) (c : Component) → lookIn final number ≡ Closed c → components number ≡ Closed c) where
   -- a component that opens at a place and closes
-  component-known : (names : Names) (defined : List Defined) (number place at : ℕ) (rs : Records) → Known bytes components names defined → lookIn names number ≡ Missing → at ≡ place + 3 → (c : Closing bytes final names at rs (opens (OfComponent number) place)) → Kept (named names (noteOf (c .last) (c .last .owner))) final →
+  component-known : (names : Names) (defined : List Defined) (number place at : ℕ) (rs : Records) → Known bytes components names defined →
+      NoEmptyGroup (flat defined (innermost (levelsOf rs))) → lookIn names number ≡ Missing → at ≡ place + 3 →
+      (c : Closing bytes final names at rs (opens (OfComponent number) place)) → Kept (named names (noteOf (c .last) (c .last .owner))) final →
       Known bytes components (named names (noteOf (c .last) (c .last .owner))) (definedBy defined (component number (innermost (levelsOf rs))))
   unfolding opens noteOf
-  component-known names defined number place at rs known missing next c keeps =
+  component-known names defined number place at rs known filled missing next c keeps =
       let o = one-level-of bytes final names at rs (OfComponent number) place c in
       let closing : Component = record { number = number; place = c .last .place; items = c .last .items; depth = c .last .depth; stands = standsFor number (c .last .held) } in
       let note : noteOf (c .last) (c .last .owner) ≡ ClosesComponent closing = ap (noteOf (c .last)) (c .owner) in
@@ -100,22 +104,24 @@ module _ (bytes : List ℕ) (components : ℕ → Looked) (final : Names) (sure 
       let stands : c .last .place + 3 ≡ at = omega (arith, c .place) in
       rw (note, o .inner) (known-more bytes components names defined closing (o .level) known (record {
         count = count;
-        lays = closed-lays bytes components names defined known number closing looked at (c .after) (o .level) (o .reads) (o .resolved) count (ap (standsFor number) (o .held)) stands;
+        lays = closed-lays bytes components names defined known number closing looked at (c .after) (o .level) (o .reads) (o .resolved) (rw (o .inner) at filled) count (ap (standsFor number) (o .held)) stands;
         limit = o .limit;
         looked = looked;
         own = record { level = o .level; after = c .after; before = defined; reads = subst (λ (x : ℕ). Reads bytes x (o .level) (c .after)) (sym stands) (o .reads); same = refl };
       }))
 
   -- a message that opens at a place and closes
-  message-known : (names : Names) (defined : List Defined) (place at : ℕ) (rs : Records) → Known bytes components names defined → at ≡ place + 9 → (c : Closing bytes final names at rs (opens OfMessage place)) → MessageAs bytes components place (flat defined (innermost (levelsOf rs)))
-  message-known names defined place at rs known next c =
+  message-known : (names : Names) (defined : List Defined) (place at : ℕ) (rs : Records) → Known bytes components names defined →
+      NoEmptyGroup (flat defined (innermost (levelsOf rs))) → at ≡ place + 9 → (c : Closing bytes final names at rs (opens OfMessage place)) →
+      MessageAs bytes components place (flat defined (innermost (levelsOf rs)))
+  message-known names defined place at rs known filled next c =
       let o = one-level-of bytes final names at rs OfMessage place c in
       let count : c .last .items ≡ items (flat defined (o .level)) = o .count ∙ count-agrees (lookIn names) defined (agrees-known bytes components names defined known (o .resolved)) in
       let limit : items (flat defined (o .level)) ≤ 1024 = omega (arith, o .limit) in
       let reads : Reads bytes (place + 9) (o .level) (c .after) = subst (λ (x : ℕ). Reads bytes x (o .level) (c .after)) next (o .reads) in
       rw (o .inner) (record {
         limit = limit;
-        laid = λ table. (c .after, lay-down bytes components (place + 9) 0 table 2050 (λ z. absurd (omega arith)) ∙ lay-level bytes components defined reads (lay-known bytes components names defined known (o .resolved)) 2049 (room-any defined 2049 (o .level) (omega arith)) 0 table (omega arith) ∙ ap (λ (n : ℕ). laying (Upto (c .after) n) (written 0 (flat defined (o .level)) table)) (omega arith));
+        laid = λ table. (c .after, lay-down bytes components (place + 9) 0 table 2050 (λ z. absurd (omega arith)) ∙ lay-level bytes components defined reads (lay-known bytes components names defined known (o .resolved) (rw (o .inner) at filled)) 2049 (room-any defined 2049 (o .level) (omega arith)) 0 table (omega arith) ∙ ap (λ (n : ℕ). laying (Upto (c .after) n) (written 0 (flat defined (o .level)) table)) (omega arith));
       })
 
   abbrev Here : Names → List Defined → Records → Type 0
@@ -186,28 +192,34 @@ module _ (bytes : List ℕ) (components : ℕ → Looked) (final : Names) (sure 
   unfolding noteOf named
   note-components names o e = rw e
 
-  meant-step : (rs : Records) (at : ℕ) (names : Names) (defined : List Defined) → ((fewer : Records) (there : ℕ) (later : Names) (more : List Defined) → sizeOf fewer < sizeOf rs → recordsFrom bytes there ≡ fewer → Passing final fewer TopLevel later → Known bytes components later more → Here later more fewer) → recordsFrom bytes at ≡ rs → Passing final rs TopLevel names → Known bytes components names defined → Here names defined rs
+  meant-step : (rs : Records) (at : ℕ) (names : Names) (defined : List Defined) →
+      ((fewer : Records) (there : ℕ) (later : Names) (more : List Defined) → sizeOf fewer < sizeOf rs → recordsFrom bytes there ≡ fewer → Passing final fewer TopLevel later → Known bytes components later more → KeptFrom more (declarationsOf fewer) → Here later more fewer) →
+      recordsFrom bytes at ≡ rs → Passing final rs TopLevel names → Known bytes components names defined → KeptFrom defined (declarationsOf rs) →
+      Here names defined rs
   unfolding declarationsOf sizeOf bytesOf
-  meant-step (ends size) at names defined again e p known = end-meant names defined (end-passes final names size p .0) known
-  meant-step (bad place) at names defined again e p known = bad-stops final names place TopLevel p
-  meant-step (whole place (FieldItem tag required) rest) at names defined again e p known = field-stops final place rest names tag required p
-  meant-step (whole place (ComponentItem number required) rest) at names defined again e p known = item-stops final place rest names number required p
-  meant-step (whole place (OpensGroup tag required) rest) at names defined again e p known = group-stops final place rest names tag required p
-  meant-step (whole place Closes rest) at names defined again e p known = close-stops final place rest names p
-  meant-step (whole place (KnownTag tag) rest) at names defined again e p known =
+  meant-step (ends size) at names defined again e p known bounds = end-meant names defined (end-passes final names size p .0) known
+  meant-step (bad place) at names defined again e p known bounds = bad-stops final names place TopLevel p
+  meant-step (whole place (FieldItem tag required) rest) at names defined again e p known bounds = field-stops final place rest names tag required p
+  meant-step (whole place (ComponentItem number required) rest) at names defined again e p known bounds = item-stops final place rest names number required p
+  meant-step (whole place (OpensGroup tag required) rest) at names defined again e p known bounds = group-stops final place rest names tag required p
+  meant-step (whole place Closes rest) at names defined again e p known bounds = close-stops final place rest names p
+  meant-step (whole place (KnownTag tag) rest) at names defined again e p known bounds =
       let n = next-of bytes at place (KnownTag tag) rest e in
       let g = tag-goes final place rest names tag p in
-      tag-meant names (g .later) defined tag (declarationsOf rest) (g .messages) (again rest (n .next) (g .later) defined (omega arith) (n .there) (g .passes) (known-as names (g .later) defined (g .components) known))
-  meant-step (whole place (OpensComponent number) rest) at names defined again e p known =
+      tag-meant names (g .later) defined tag (declarationsOf rest) (g .messages) (again rest (n .next) (g .later) defined (omega arith) (n .there) (g .passes) (known-as names (g .later) defined (g .components) known) (kept-tag defined (declarationsOf rest) tag bounds))
+  meant-step (whole place (OpensComponent number) rest) at names defined again e p known bounds =
       let n = next-of bytes at place (OpensComponent number) rest e in
       let g = component-opens final place rest names number p in
       let lies = record-lies bytes at (OpensComponent number) (n .next) (n .read) in
       let c = closes-inside bytes final names rest (n .next) (opens (OfComponent number) place) (n .there) (g .1) in
       let later : Names = named names (noteOf (c .last) (c .last .owner)) in
-      rw (c .declared) (component-meant names later defined number (innermost (levelsOf rest)) (declarationsOf (c .rest)) (note-messages names (c .last) (c .last .owner))
-      (again (c .rest) (c .after) later (definedBy defined (component number (innermost (levelsOf rest)))) (omega (arith, c .fewer)) (c .there) (c .passes)
-      (component-known names defined number place (n .next) rest known (g .0) (omega (arith, lies .behind, n .here)) c (kept bytes final (c .rest) (c .after) later (c .there) (c .passes)))))
-  meant-step (whole place (OpensMessage msgType) rest) at names defined again e p known =
+      let level : Items = innermost (levelsOf rest) in
+      let b = kept-component defined (declarationsOf rest) number level bounds in
+      rw (c .declared) (component-meant names later defined number level (declarationsOf (c .rest)) (note-messages names (c .last) (c .last .owner))
+      (again (c .rest) (c .after) later (definedBy defined (component number level)) (omega (arith, c .fewer)) (c .there) (c .passes)
+      (component-known names defined number place (n .next) rest known (b .0 .filled) (g .0) (omega (arith, lies .behind, n .here)) c (kept bytes final (c .rest) (c .after) later (c .there) (c .passes)))
+      (rw (c .declared) at b .1)))
+  meant-step (whole place (OpensMessage msgType) rest) at names defined again e p known bounds =
       let n = next-of bytes at place (OpensMessage msgType) rest e in
       let g = message-opens final place rest names msgType p in
       let lies = record-lies bytes at (OpensMessage msgType) (n .next) (n .read) in
@@ -215,17 +227,21 @@ module _ (bytes : List ℕ) (components : ℕ → Looked) (final : Names) (sure 
       let known-here : Known bytes components named-here defined = known-as names named-here defined (unfold named in refl) known in
       let c = closes-inside bytes final named-here rest (n .next) (opens OfMessage place) (n .there) (g .1) in
       let later : Names = named named-here (noteOf (c .last) (c .last .owner)) in
-      rw (c .declared) (message-meant names later defined place msgType (innermost (levelsOf rest)) (declarationsOf (c .rest)) (note-messages named-here (c .last) (c .last .owner)) (kept bytes final (c .rest) (c .after) later (c .there) (c .passes))
-      (message-known named-here defined place (n .next) rest known-here (omega (arith, lies .behind, n .here)) c)
-      (again (c .rest) (c .after) later defined (omega (arith, c .fewer)) (c .there) (c .passes) (known-as named-here later defined (note-components named-here (c .last) (unfold opens in c .owner)) known-here)))
+      let level : Items = innermost (levelsOf rest) in
+      let b = kept-message defined (declarationsOf rest) msgType level bounds in
+      rw (c .declared) (message-meant names later defined place msgType level (declarationsOf (c .rest)) (note-messages named-here (c .last) (c .last .owner)) (kept bytes final (c .rest) (c .after) later (c .there) (c .passes))
+      (message-known named-here defined place (n .next) rest known-here (b .0 .filled) (omega (arith, lies .behind, n .here)) c)
+      (again (c .rest) (c .after) later defined (omega (arith, c .fewer)) (c .there) (c .passes) (known-as named-here later defined (note-components named-here (c .last) (unfold opens in c .owner)) known-here) (rw (c .declared) at b .1)))
 
-  meant-within : (fuel : ℕ) (rs : Records) (at : ℕ) (names : Names) (defined : List Defined) → sizeOf rs < fuel → recordsFrom bytes at ≡ rs → Passing final rs TopLevel names → Known bytes components names defined → Here names defined rs
-  meant-within zero rs at names defined h e p known = absurd (omega arith)
-  meant-within (suc fuel) rs at names defined h e p known =
-      meant-step rs at names defined (λ fewer there later more l q w k. meant-within fuel fewer there later more (omega arith) q w k) e p known
+  meant-within : (fuel : ℕ) (rs : Records) (at : ℕ) (names : Names) (defined : List Defined) → sizeOf rs < fuel → recordsFrom bytes at ≡ rs →
+      Passing final rs TopLevel names → Known bytes components names defined → KeptFrom defined (declarationsOf rs) → Here names defined rs
+  meant-within zero rs at names defined h e p known bounds = absurd (omega arith)
+  meant-within (suc fuel) rs at names defined h e p known bounds =
+      meant-step rs at names defined (λ fewer there later more l q w k b. meant-within fuel fewer there later more (omega arith) q w k b) e p known bounds
 
-  pub meant : (rs : Records) (at : ℕ) → recordsFrom bytes at ≡ rs → Passing final rs TopLevel noNames → Meant bytes components final noNames [] (declarationsOf rs)
-  meant rs at e p = meant-within (suc (sizeOf rs)) rs at noNames [] (omega arith) e p (λ number c q. nothing-yet number c q)
+  pub meant : (rs : Records) (at : ℕ) → recordsFrom bytes at ≡ rs → Passing final rs TopLevel noNames → KeptFrom [] (declarationsOf rs) →
+      Meant bytes components final noNames [] (declarationsOf rs)
+  meant rs at e p bounds = meant-within (suc (sizeOf rs)) rs at noNames [] (omega arith) e p (λ number c q. nothing-yet number c q) bounds
     where
       nothing-yet : (number : ℕ) (c : Component) → lookIn noNames number ≡ Closed c → KnownAs bytes components number c (nodesOf [] number)
       nothing-yet number c q = let none : lookIn noNames number ≡ Missing = (unfold noNames componentIn in refl) in let z : _≡_ {A = ℕ} 0 1 = cc in absurd (omega arith)

@@ -24,7 +24,7 @@ use Rattle.dictionary_rules.specs.declared.Checked.the-variants.{Passes, TooLon
 use Rattle.dictionary_rules.specs.declared.Component.{Component}
 use Rattle.dictionary_rules.specs.declared.Looked.the-variants.{Closed, Missing}
 use Rattle.dictionary_rules.specs.declared.State.the-variants.{TopLevel}
-use Rattle.dictionary_meaning_rules.specs.Meaning.{Declaration, knownTag, component, message, declarationsOf, Defined, definedBy, definedAfter, messageIn, messagesFrom, meaningOf, dictionaryOf}
+use Rattle.dictionary_meaning_rules.specs.Meaning.{Items, Declaration, knownTag, component, message, declarationsOf, Defined, definedBy, definedAfter, messageIn, messagesFrom, meaningOf, dictionaryOf}
 use Rattle.dictionary_meaning_rules.specs.Layable.{layoutOf, flat}
 use Rattle.dictionary_meaning_rules.specs.Inside.{lookIn}
 use Rattle.dictionary_meaning_rules.specs.ClosedOff.{openAfter, openOf, recordsAfter, layoutsBy, layoutsAfter, layoutsOf, takenFrom, taken, AllBounded, latest-bounded, Latest, latest, KeepsBounds, ClosesEmpty, FiveDeep, NestsTooDeep, OverThousand, HoldsTooMany}
@@ -56,6 +56,30 @@ read-stay [] defined read e = e
 read-stay (knownTag tag ∷ declarations) defined read e = read-stay declarations defined read e
 read-stay (component number level ∷ declarations) defined read e = others-bounded (read-stay declarations (definedBy defined (component number level)) (flat defined level ∷ read) e)
 read-stay (message msgType level ∷ declarations) defined read e = others-bounded (read-stay declarations (definedBy defined (message msgType level)) (flat defined level ∷ read) e)
+
+-- declarations keep the bounds that come after components and after whatever was read
+pub record KeptFrom (defined : List Defined) (declarations : List Declaration) : Type 0 where
+  pub read : List Layout
+  pub each : Each Bounded (layoutsAfter defined read declarations)
+
+module _ (defined : List Defined) (declarations : List Declaration) where
+  pub kept-tag : (tag : ℕ) → KeptFrom defined (knownTag tag ∷ declarations) → KeptFrom defined declarations
+  unfolding layoutsAfter layoutsBy definedBy
+  kept-tag tag k = record { read = k .read; each = k .each }
+
+  pub kept-component : (number : ℕ) (level : Items) → KeptFrom defined (component number level ∷ declarations) →
+      Bounded (flat defined level) × KeptFrom (definedBy defined (component number level)) declarations
+  unfolding layoutsAfter layoutsBy
+  kept-component number level k =
+      let more : List Layout = flat defined level ∷ k .read in
+      (first-bounded (read-stay declarations (definedBy defined (component number level)) more (k .each)), record { read = more; each = k .each })
+
+  pub kept-message : (msgType : ℕ) (level : Items) → KeptFrom defined (message msgType level ∷ declarations) →
+      Bounded (flat defined level) × KeptFrom defined declarations
+  unfolding layoutsAfter layoutsBy definedBy
+  kept-message msgType level k =
+      let more : List Layout = flat defined level ∷ k .read in
+      (first-bounded (read-stay declarations defined more (k .each)), record { read = more; each = k .each })
 
 components-bounded : (declarations : List Declaration) (defined : List Defined) (read : List Layout) → Each Bounded (layoutsAfter defined read declarations) → Each Bounded (map componentLayout defined) → Each Bounded (map componentLayout (definedAfter defined declarations))
 unfolding layoutsAfter layoutsBy definedAfter definedBy
@@ -108,13 +132,22 @@ module _ (bytes : List ℕ) where
       subst (λ (x : Checked). Verdict 0 (recordsFrom bytes 0) layoutsOf (takenFrom (recordsFrom bytes 0) TopLevel noNames) x) (by-records checked other e) (verdict (recordsFrom bytes 0) TopLevel noNames layoutsOf nothing-yet)
 
   -- a dictionary that passes keeps the bounds
-  pub passes-bounded : checkOf bytes ≡ Passes → AllKeepBounds bytes
-  passes-bounded e = go (of-answer Passes (λ q. let z : _≡_ {A = ℕ} 0 1 = cc in absurd (omega arith)) e)
+  passes-each : checkOf bytes ≡ Passes → Each Bounded (layoutsAfter [] [] (declarationsOf (recordsFrom bytes 0)))
+  passes-each e = go (of-answer Passes (λ q. let z : _≡_ {A = ℕ} 0 1 = cc in absurd (omega arith)) e)
     where
-      go : Verdict 0 (recordsFrom bytes 0) layoutsOf (taken bytes) Passes → AllKeepBounds bytes
-      go (it-passes each) =
-          let all : Each Bounded (layoutsAfter [] [] (declarationsOf (recordsFrom bytes 0))) = (unfold layoutsOf in each) in
-          record { components = components-bounded (declarationsOf (recordsFrom bytes 0)) [] [] all each-none; messages = unfold dictionaryOf meaningOf in messages-bounded (declarationsOf (recordsFrom bytes 0)) [] [] all }
+      go : Verdict 0 (recordsFrom bytes 0) layoutsOf (taken bytes) Passes → Each Bounded (layoutsAfter [] [] (declarationsOf (recordsFrom bytes 0)))
+      go (it-passes each) = unfold layoutsOf in each
+
+  pub passes-kept : checkOf bytes ≡ Passes → KeptFrom [] (declarationsOf (recordsFrom bytes 0))
+  passes-kept e = record { read = []; each = passes-each e }
+
+  pub passes-bounded : checkOf bytes ≡ Passes → AllKeepBounds bytes
+  passes-bounded e =
+      let all = passes-each e in
+      record {
+        components = components-bounded (declarationsOf (recordsFrom bytes 0)) [] [] all each-none;
+        messages = unfold dictionaryOf meaningOf in messages-bounded (declarationsOf (recordsFrom bytes 0)) [] [] all;
+      }
 
   -- 34
   pub empty-first : (tag : ℕ) → checkOf bytes ≡ EmptyGroup tag → ClosesEmpty bytes tag

@@ -59,9 +59,9 @@ pub record Forward (rows start table : List ℕ) (first stop level at slot free 
   pub kept : length table ≡ length start
   pub sofar : pressItems (itemsStart level (ownCount layout)) (level + partSize (ownCount layout)) layout start ≡ pressItems slot free rest table
 
--- Rows hold a layout of no more items than a dictionary may have, and so many words have room for its table.
+-- Rows hold a layout, and so many words have room for its table, each of which a word can lead to.
 pub record Pressable (rows : List ℕ) (count words : ℕ) : Type 0 where
   pub layout : Layout
   pub tabled : Tabled rows (record { first = 0; end = count }) layout
-  pub few : items layout ≤ 1024
   pub room : tableSize layout ≤ words
+  pub small : tableSize layout < 65536

@@ -1,5 +1,5 @@
 -- How many words a table has, by the rows alone: each group among them has a level, and each level a part.
--- So two layouts that the same rows hold have tables of one size, and that of 1,024 items is far below 65,536 words.
+-- So two layouts that the same rows hold have tables of one size. Where no group is empty, a table has 14 words at the most to each item.
 use mathlib.Core.Path.{_≡_, refl, sym, ap, _∙_}
 use mathlib.Core.Bool.{Bool, true, false}
 use mathlib.Core.List.{List, [], _∷_, _++_}
@@ -10,6 +10,7 @@ use lib.Dec.{eqb, ltb}
 use borrow.Author.Tests.{eq-eqb, ne-eqb, lt-ltb, le-ltb, ltb-true, ltb-false}
 use Rattle.field_rules.specs.Choice.{pick}
 use Rattle.dictionary_layout_rules.specs.Layout.{Layout, end, field, group, items}
+use Rattle.dictionary_layout_rules.specs.Measures.{NoEmptyGroup, none-at-end, none-after-field, none-in-group}
 use Rattle.dictionary_layout_rules.specs.Table.{groupAt, linkAt, nextSibling, rowAt, Row, siblingsWithin, siblingsFrom}
 use Rattle.dictionary_layout_rules.specs.Tabled.{RowsStand, Tabled, field-rest, group-inner, group-rest}
 use Rattle.dictionary_tables_rules.specs.Table.{headsFor}
@@ -130,30 +131,38 @@ pub part-most : (count : ℕ) → partSize count ≤ 129 + 5 * count
 unfolding partSize
 part-most count = omega (arith, heads-bounds count .1)
 
-part-bound : (count : ℕ) → partSize count ≤ 10 + 12 * count
+-- nine words where a level has no item, and else no more than 14 to each of its own
+part-bound : (count : ℕ) → partSize count ≤ 14 * count + (9 - 9 * count)
 unfolding partSize
 part-bound count = go (ltb 16 count) refl
   where
-    go : (t : Bool) → ltb 16 count ≡ t → 1 + headsFor count + 5 * count ≤ 10 + 12 * count
+    go : (t : Bool) → ltb 16 count ≡ t → 1 + headsFor count + 5 * count ≤ 14 * count + (9 - 9 * count)
     go true e = omega (arith, heads-many count (ltb-true 16 count e), ltb-true 16 count e)
     go false e = omega (arith, heads-few count (ltb-false 16 count e))
 
-inner-bound : (layout : Layout) → innerSize layout + 12 * ownCount layout ≤ 22 * items layout
+own-some : (layout : Layout) → (layout ≡ end → ⊥) → 1 ≤ ownCount layout
+unfolding ownCount
+own-some end some = absurd (some refl)
+own-some (field tag required rest) some = omega arith
+own-some (group tag required inner rest) some = omega arith
+
+inner-bound : {layout : Layout} → NoEmptyGroup layout → innerSize layout + 14 * ownCount layout ≤ 14 * items layout
 unfolding innerSize ownCount items
-inner-bound end = omega arith
-inner-bound (field tag required rest) = omega (arith, inner-bound rest)
-inner-bound (group tag required inner rest) = omega (arith, inner-bound inner, inner-bound rest, part-bound (ownCount inner))
+inner-bound none-at-end = omega arith
+inner-bound (none-after-field more) = omega (arith, inner-bound more)
+inner-bound (none-in-group {inner} some within more) =
+    omega (arith, inner-bound within, inner-bound more, own-some inner some, part-bound (ownCount inner))
 
 -- so a table has few words to each item of all levels
-pub size-bound : (layout : Layout) → tableSize layout ≤ 10 + 22 * items layout
-size-bound layout = omega (arith, inner-bound layout, part-bound (ownCount layout))
+pub size-bound : {layout : Layout} → NoEmptyGroup layout → tableSize layout ≤ 9 + 14 * items layout
+size-bound {layout} filled = omega (arith, inner-bound filled, part-bound (ownCount layout))
 
 -- what can be pressed is a level from the table's first word on, whichever layout the rows are said to hold
 module _ (rows : List ℕ) (count words : ℕ) (p : Pressable rows count words) where
   pub pressable-level : (layout : Layout) → Tabled rows (record { first = 0; end = count }) layout → Pressing rows 0 count words 0
   pressable-level layout t =
       let same : tableSize layout ≡ tableSize (p .layout) = sym (size-rows rows count layout t) ∙ size-rows rows count (p .layout) (p .tabled) in
-      record { layout = layout; tabled = t; room = omega (arith, p .room); small = omega (arith, size-bound (p .layout), p .few) }
+      record { layout = layout; tabled = t; room = omega (arith, p .room); small = omega (arith, p .small) }
 
   pub pressable-as : (layout : Layout) (t : Tabled rows (record { first = 0; end = count }) layout) → pressable-level layout t .layout ≡ layout
   unfolding pressable-level

@@ -17,7 +17,7 @@ use Rattle.dictionary_rules.specs.declared.Record.{Record}
 use Rattle.dictionary_rules.specs.declared.Record.the-variants.{FieldItem, ComponentItem, OpensGroup, Closes}
 use Rattle.dictionary_rules.specs.declared.RecordRead.the-variants.{Whole}
 use Rattle.dictionary_meaning_rules.specs.Laying.{Laying, laying, standsAt, putRow, itemsFrom, layItems}
-use Rattle.dictionary_meaning_rules.specs.LayingLaws.{Advances, lay-advances, lay-field, lay-field-full, lay-group, lay-group-broken, lay-group-full, lay-empty, lay-component, lay-component-broken, lay-component-still, lay-close, lay-deep, lay-down, put-length}
+use Rattle.dictionary_meaning_rules.specs.LayingLaws.{Advances, lay-advances, lay-field, lay-field-full, lay-group, lay-group-broken, lay-group-empty, lay-group-full, lay-empty, lay-component, lay-component-broken, lay-component-still, lay-close, lay-deep, lay-down, put-length}
 use Rattle.dictionary_meaning_rules.specs.declared.Laid.{Laid}
 use Rattle.dictionary_meaning_rules.specs.declared.Laid.the-variants.{Upto, Broken}
 use Rattle.dictionary_meaning_rules.specs.declared.Expansion.the-variants.{ItemsAt, NoItems}
@@ -111,14 +111,17 @@ group-reached : (t : ℕ) (c : lay-items-lts.After-known-told4 (calls t) (lay-it
     (k .before .«record» .given .0 .1 .0 < c .before .after .given .0 .0) × (c .before .after .given .0 .0 ≤ length (a .bytes .now)) × (h .loop .row + 1 ≤ c .before .after .given .0 .1 .0) × (c .before .after .given .0 .1 .0 ≤ 1024)
 group-reached t c = reached (lay-advances _ _ _ _ _ _ (omega (arith, c .before .before .before .before .before .before .before .if3 .left))) (group-laid t c)
 
+lay-items-returns-6 : (t : ℕ) → lay-items-lts.Need-returns-6 (calls t) (lay-items-at t) lay-items.Post lay-items-Inv-loop lay-items-μ-loop
+lay-items-returns-6 t c = sym (c .before .before .before .before .before .before .before .before .before .before .before .before .before .before .before .before .loop .inv .2 ∙ lay-group-empty _ _ _ (lay-advances _ _ _) _ _ _ _ _ _ _ _ _ (group-here t (c .before .before .before .before .before .before .before .before .before)) (c .before .before .before .before .before .before .before .before .if3 .left) (group-laid t (c .before)) (c .if4 .taken))
+
 lay-items-put-row-requires-2 : (t : ℕ) → lay-items-lts.Need-put-row-requires-2 (calls t) (lay-items-at t) lay-items.Post lay-items-Inv-loop lay-items-μ-loop
-lay-items-put-row-requires-2 t c κs = omega (arith, group-reached t (c .before), c .before .before .before .before .before .before .before .before .if3 .left, c .before .before .before .before .before .before .lay-items .kept .1 .1 .0)
+lay-items-put-row-requires-2 t c κs = omega (arith, group-reached t (c .before .before), c .before .before .before .before .before .before .before .before .before .if3 .left, c .before .before .before .before .before .before .before .lay-items .kept .1 .1 .0)
 
 lay-items-loop-less-2 : (t : ℕ) → lay-items-lts.Need-loop-less-2 (calls t) (lay-items-at t) lay-items.Post lay-items-Inv-loop lay-items-μ-loop
-lay-items-loop-less-2 t c = omega (arith, group-reached t (c .before .before .before .before), read-rises t (c .before .before .before .before .before .before .before .before .before .before .before .before .before .before .before))
+lay-items-loop-less-2 t c = omega (arith, group-reached t (c .before .before .before .before .before), read-rises t (c .before .before .before .before .before .before .before .before .before .before .before .before .before .before .before .before))
 
 lay-items-loop-again-2 : (t : ℕ) → lay-items-lts.Need-loop-again-2 (calls t) (lay-items-at t) lay-items.Post lay-items-Inv-loop lay-items-μ-loop
-lay-items-loop-again-2 t c = (group-reached t (c .before .before .before .before) .3, c .before .before .put-row2 .kept .0 ∙ c .before .before .before .before .before .before .before .before .before .lay-items .kept .1 .1 .0 ∙ c .before .before .before .before .before .before .before .before .before .before .before .before .before .before .before .before .before .before .before .loop .inv .1, c .before .before .before .before .before .before .before .before .before .before .before .before .before .before .before .before .before .before .before .loop .inv .2 ∙ lay-group _ _ _ (lay-advances _ _ _) _ _ _ _ _ _ _ _ _ (group-here t (c .before .before .before .before .before .before .before .before .before .before .before .before)) (c .before .before .before .before .before .before .before .before .before .before .before .if3 .left) (group-laid t (c .before .before .before .before)) ∙ rw (c .before .before .put-row2 .ensures))
+lay-items-loop-again-2 t c = (group-reached t (c .before .before .before .before .before) .3, c .before .before .put-row2 .kept .0 ∙ c .before .before .before .before .before .before .before .before .before .before .lay-items .kept .1 .1 .0 ∙ c .before .before .before .before .before .before .before .before .before .before .before .before .before .before .before .before .before .before .before .before .loop .inv .1, c .before .before .before .before .before .before .before .before .before .before .before .before .before .before .before .before .before .before .before .before .loop .inv .2 ∙ lay-group _ _ _ (lay-advances _ _ _) _ _ _ _ _ _ _ _ _ (group-here t (c .before .before .before .before .before .before .before .before .before .before .before .before .before)) (c .before .before .before .before .before .before .before .before .before .before .before .before .if3 .left) (group-laid t (c .before .before .before .before .before)) (c .before .before .before .before .if4 .left) ∙ rw (c .before .before .put-row2 .ensures))
 
 component-here : (t : ℕ) (c : lay-items-lts.After-known-told5 (calls t) (lay-items-at t) lay-items.Post lay-items-Inv-loop lay-items-μ-loop) → let k = c .before .before .before in let h = k .before .before .before .before in let a = h .before .before .before .before .before .args in
     (required : Bool) × (recordAt (a .bytes .now) (h .loop .at) ≡ Whole (ComponentItem (c .before .record4 .given .0 .0) required) (k .before .«record» .given .0 .1 .0))
@@ -135,21 +138,21 @@ component-within t c = c .lay-items2 .ensures
 component-at : (t : ℕ) (c : lay-items-lts.After-lay-items2 (calls t) (lay-items-at t) lay-items.Post lay-items-Inv-loop lay-items-μ-loop) → let a = c .before .before .before .before .before .before .before .before .before .before .before .before .before .before .before .before .before .before .args in standsAt (componentAt (a .index .now)) (c .before .before .before .before .before .before .before .record4 .given .0 .0) ≡ ItemsAt (c .before .before .before .place .given .0 .0)
 component-at t c = sym (stands-here t (c .before .before .before .before .before)) ∙ c .before .before .before .place .given .1
 
-lay-items-returns-6 : (t : ℕ) → lay-items-lts.Need-returns-6 (calls t) (lay-items-at t) lay-items.Post lay-items-Inv-loop lay-items-μ-loop
-lay-items-returns-6 t c = sym (c .before .before .before .before .before .before .before .before .before .before .before .before .before .before .before .before .before .loop .inv .2 ∙ lay-component-broken _ _ _ (lay-advances _ _ _) _ _ _ _ _ _ (component-here t (c .before .before .before .before .before .before .before .before .before .before) .1) _ _ (component-at t (c .before .before .before .before)) (laid-as (component-within t (c .before .before .before .before)) (c .enum-told2 .given .1)))
+lay-items-returns-7 : (t : ℕ) → lay-items-lts.Need-returns-7 (calls t) (lay-items-at t) lay-items.Post lay-items-Inv-loop lay-items-μ-loop
+lay-items-returns-7 t c = sym (c .before .before .before .before .before .before .before .before .before .before .before .before .before .before .before .before .before .loop .inv .2 ∙ lay-component-broken _ _ _ (lay-advances _ _ _) _ _ _ _ _ _ (component-here t (c .before .before .before .before .before .before .before .before .before .before) .1) _ _ (component-at t (c .before .before .before .before)) (laid-as (component-within t (c .before .before .before .before)) (c .enum-told2 .given .1)))
 
 component-laid : (t : ℕ) (c : lay-items-lts.After-known-told7 (calls t) (lay-items-at t) lay-items.Post lay-items-Inv-loop lay-items-μ-loop) → let h = c .before .before .before .before .before .before .before .before .before .before .before .before .before .before .before .before .before .before in let a = h .before .before .before .before .before .args in
     (after : ℕ) × (layItems (a .depth - 1) (a .bytes .now) (componentAt (a .index .now)) (c .before .before .before .before .before .before .before .before .place .given .0 .0) (h .loop .row) (h .loop .table) ≡ laying (Upto after (c .before .end .given .0 .1 .0)) (c .before .before .before .before .before .lay-items2 .last .1 .1 .0))
 component-laid t c = (_, laid-as (component-within t (c .before .before .before .before .before)) (c .before .end .given .1))
 
-lay-items-returns-7 : (t : ℕ) → lay-items-lts.Need-returns-7 (calls t) (lay-items-at t) lay-items.Post lay-items-Inv-loop lay-items-μ-loop
-lay-items-returns-7 t c = sym (c .before .before .before .before .before .before .before .before .before .before .before .before .before .before .before .before .before .before .before .loop .inv .2 ∙ lay-component-still _ _ _ (lay-advances _ _ _) _ _ _ _ _ _ (component-here t (c .before .before .before .before .before .before .before .before .before .before .before .before) .1) _ _ _ _ (component-at t (c .before .before .before .before .before .before)) (component-laid t (c .before) .1) (c .if4 .taken))
+lay-items-returns-8 : (t : ℕ) → lay-items-lts.Need-returns-8 (calls t) (lay-items-at t) lay-items.Post lay-items-Inv-loop lay-items-μ-loop
+lay-items-returns-8 t c = sym (c .before .before .before .before .before .before .before .before .before .before .before .before .before .before .before .before .before .before .before .loop .inv .2 ∙ lay-component-still _ _ _ (lay-advances _ _ _) _ _ _ _ _ _ (component-here t (c .before .before .before .before .before .before .before .before .before .before .before .before) .1) _ _ _ _ (component-at t (c .before .before .before .before .before .before)) (component-laid t (c .before) .1) (c .if5 .taken))
 
 lay-items-loop-less-3 : (t : ℕ) → lay-items-lts.Need-loop-less-3 (calls t) (lay-items-at t) lay-items.Post lay-items-Inv-loop lay-items-μ-loop
 lay-items-loop-less-3 t c = omega (arith, read-rises t (c .before .before .before .before .before .before .before .before .before .before .before .before .before .before .before))
 
 lay-items-loop-again-3 : (t : ℕ) → lay-items-lts.Need-loop-again-3 (calls t) (lay-items-at t) lay-items.Post lay-items-Inv-loop lay-items-μ-loop
-lay-items-loop-again-3 t c = (reached (lay-advances _ _ _ _ _ _ (c .before .before .before .before .before .before .before .before .before .before .before .before .before .before .before .before .before .before .before .loop .inv .0)) (component-laid t (c .before) .1) .3, c .before .before .before .before .before .before .lay-items2 .kept .1 .1 .0 ∙ c .before .before .before .before .before .before .before .before .before .before .before .before .before .before .before .before .before .before .before .loop .inv .1, c .before .before .before .before .before .before .before .before .before .before .before .before .before .before .before .before .before .before .before .loop .inv .2 ∙ lay-component _ _ _ (lay-advances _ _ _) _ _ _ _ _ _ (component-here t (c .before .before .before .before .before .before .before .before .before .before .before .before) .1) _ _ _ _ (component-at t (c .before .before .before .before .before .before)) (component-laid t (c .before) .1) (c .if4 .left))
+lay-items-loop-again-3 t c = (reached (lay-advances _ _ _ _ _ _ (c .before .before .before .before .before .before .before .before .before .before .before .before .before .before .before .before .before .before .before .loop .inv .0)) (component-laid t (c .before) .1) .3, c .before .before .before .before .before .before .lay-items2 .kept .1 .1 .0 ∙ c .before .before .before .before .before .before .before .before .before .before .before .before .before .before .before .before .before .before .before .loop .inv .1, c .before .before .before .before .before .before .before .before .before .before .before .before .before .before .before .before .before .before .before .loop .inv .2 ∙ lay-component _ _ _ (lay-advances _ _ _) _ _ _ _ _ _ (component-here t (c .before .before .before .before .before .before .before .before .before .before .before .before) .1) _ _ _ _ (component-at t (c .before .before .before .before .before .before)) (component-laid t (c .before) .1) (c .if5 .left))
 
 lay-items-loop-less-4 : (t : ℕ) → lay-items-lts.Need-loop-less-4 (calls t) (lay-items-at t) lay-items.Post lay-items-Inv-loop lay-items-μ-loop
 lay-items-loop-less-4 t c = omega (arith, read-rises t (c .before .before .before .before .before .before))
@@ -157,11 +160,11 @@ lay-items-loop-less-4 t c = omega (arith, read-rises t (c .before .before .befor
 lay-items-loop-again-4 : (t : ℕ) → lay-items-lts.Need-loop-again-4 (calls t) (lay-items-at t) lay-items.Post lay-items-Inv-loop lay-items-μ-loop
 lay-items-loop-again-4 t c = (c .before .before .before .before .before .before .before .before .before .before .loop .inv .0, c .before .before .before .before .before .before .before .before .before .before .loop .inv .1, c .before .before .before .before .before .before .before .before .before .before .loop .inv .2 ∙ lay-empty _ _ _ (lay-advances _ _ _) _ _ _ _ _ _ (component-here t (c .before .before .before) .1) (sym (stands-here t (c .before .before)) ∙ c .enum-told3 .given .1))
 
-lay-items-returns-8 : (t : ℕ) → lay-items-lts.Need-returns-8 (calls t) (lay-items-at t) lay-items.Post lay-items-Inv-loop lay-items-μ-loop
-lay-items-returns-8 t c = sym (c .before .before .before .before .before .before .loop .inv .2 ∙ lay-close _ _ _ (lay-advances _ _ _) _ _ _ _ (read-as (read-here t (c .before .before)) (c .enum-told4 .given .1)))
-
 lay-items-returns-9 : (t : ℕ) → lay-items-lts.Need-returns-9 (calls t) (lay-items-at t) lay-items.Post lay-items-Inv-loop lay-items-μ-loop
-lay-items-returns-9 t c = sym (c .before .before .before .before .before .loop .inv .2 ∙ top-level _ _ _ (lay-advances _ _ _) _ _ _ _ _ (read-here t (c .before)) (c .match2 .keys5))
+lay-items-returns-9 t c = sym (c .before .before .before .before .before .before .loop .inv .2 ∙ lay-close _ _ _ (lay-advances _ _ _) _ _ _ _ (read-as (read-here t (c .before .before)) (c .enum-told4 .given .1)))
+
+lay-items-returns-10 : (t : ℕ) → lay-items-lts.Need-returns-10 (calls t) (lay-items-at t) lay-items.Post lay-items-Inv-loop lay-items-μ-loop
+lay-items-returns-10 t c = sym (c .before .before .before .before .before .loop .inv .2 ∙ top-level _ _ _ (lay-advances _ _ _) _ _ _ _ _ (read-here t (c .before)) (c .match2 .keys5))
 
 pub +lay-items-spec : {M : Type 1} → statement M
 +lay-items-spec = close μ-lay-items λ t. lay-items-lts.spec (calls t)
@@ -170,9 +173,9 @@ pub +lay-items-spec : {M : Type 1} → statement M
     (λ c. search needs) (lay-items-returns-3 t) (λ c. search needs) (λ c κs. search needs) (λ c. search needs)
     (lay-items-loop-less t) (lay-items-loop-again t) (λ c. search needs) (λ c. search needs) (lay-items-returns-4 t)
     (λ c. search needs) (λ c. search needs) (λ c κs. omega arith) (λ c. search needs) (λ c. search needs)
-    (λ c. search needs) (lay-items-returns-5 t) (lay-items-put-row-requires-2 t) (lay-items-loop-less-2 t)
+    (λ c. search needs) (lay-items-returns-5 t) (λ c. search needs) (λ c. search needs) (lay-items-returns-6 t) (lay-items-put-row-requires-2 t) (lay-items-loop-less-2 t)
     (lay-items-loop-again-2 t) (λ c. search needs) (λ c κs. search needs) (λ c. search needs) (λ c. search needs)
-    (λ c κs. omega arith) (λ c. search needs) (λ c. search needs) (λ c. search needs) (lay-items-returns-6 t)
-    (λ c. search needs) (lay-items-returns-7 t) (λ c. search needs) (lay-items-loop-less-3 t) (lay-items-loop-again-3 t) (lay-items-loop-less-4 t)
-    (lay-items-loop-again-4 t) (λ c. search needs) (λ c. search needs) (lay-items-returns-8 t) (λ c. search needs)
-    (lay-items-returns-9 t)
+    (λ c κs. omega arith) (λ c. search needs) (λ c. search needs) (λ c. search needs) (lay-items-returns-7 t)
+    (λ c. search needs) (lay-items-returns-8 t) (λ c. search needs) (lay-items-loop-less-3 t) (lay-items-loop-again-3 t) (lay-items-loop-less-4 t)
+    (lay-items-loop-again-4 t) (λ c. search needs) (λ c. search needs) (lay-items-returns-9 t) (λ c. search needs)
+    (lay-items-returns-10 t)
