@@ -1,6 +1,7 @@
--- The index: three heads tables of 2,048 words, then entries of seven words: its two branches, the place of its record, and four
--- words of its table. Keys that share a head hang in one tree, which branches by the bits of what is left of them. Entry 0 is none.
-use Prim.Native.Nat.{ℕ, zero, suc, _+_, _*_, _/_, _%_}
+-- The index: three heads tables of 2,048 words, then entries of six words: its two branches, and four words of its table. An entry's
+-- number says the place of its record. Keys that share a head hang in one tree, which branches by the bits of what is left of them.
+-- Entry 0 is none.
+use Prim.Native.Nat.{ℕ, zero, suc, _+_, _-_, _*_, _/_, _%_}
 use mathlib.Core.Bool.{Bool, false}
 use mathlib.Core.List.{List}
 use lib.ListN.{getD, set}
@@ -15,17 +16,21 @@ use Rattle.dictionary_chains.specs.declared.Way.{Way}
 abbrev pub headWords : ℕ
 headWords = 6144
 
--- an entry of a number starts here
+-- an entry of a number starts here: six words behind that of a number four below
 abbrev pub entryStart : ℕ → ℕ
-entryStart number = headWords + 7 * number
+entryStart number = headWords + number + number / 2
 
--- entries, entry 0 among them: places below 60,000 give numbers up to 15,000
+-- an entry is numbered by its record's place: no two top-level records start within four bytes, so no two entries share a word, nor one with entry 0
+unfoldable pub numberAt : ℕ → ℕ
+numberAt place = place + 4
+
+-- numbers are below this: places are below 60,000
 abbrev pub entryRoom : ℕ
-entryRoom = 15001
+entryRoom = 60004
 
 -- words of an index
 abbrev pub indexWords : ℕ
-indexWords = 111151
+indexWords = 96154
 
 -- a tag is two words, a component's number one, a MsgType four, low word first
 unfoldable pub keyOf : Table → Entry → ℕ
@@ -48,11 +53,11 @@ wordAt index number k = getD index (entryStart number + k) 0
 unfoldable pub entryAt : List ℕ → ℕ → Entry
 entryAt index number =
     record {
-      place = wordAt index number 2;
-      first = wordAt index number 3;
-      second = wordAt index number 4;
-      third = wordAt index number 5;
-      fourth = wordAt index number 6;
+      place = number - 4;
+      first = wordAt index number 2;
+      second = wordAt index number 3;
+      third = wordAt index number 4;
+      fourth = wordAt index number 5;
     }
 
 -- the entry that a word leads to, `entryRoom` where it leads to none: its link must rise above the entry that the word belongs to,
@@ -104,23 +109,19 @@ found table index key = wayOf table index key .number
 -- what an entry holds beside its branches
 unfoldable pub written : List ℕ → ℕ → Entry → List ℕ
 written index number e =
-    set (set (set (set (set index (entryStart number + 2) (e .place)) (entryStart number + 3) (e .first)) (entryStart number + 4) (e .second))
-    (entryStart number + 5) (e .third)) (entryStart number + 6) (e .fourth)
+    set (set (set (set index (entryStart number + 2) (e .first)) (entryStart number + 3) (e .second)) (entryStart number + 4) (e .third))
+    (entryStart number + 5) (e .fourth)
 
 -- a word leads to a new entry, that has no branches yet
 unfoldable pub branched : List ℕ → ℕ → ℕ → List ℕ
 branched index cell number = set (set (set index (entryStart number) 0) (entryStart number + 1) 0) cell number
 
--- an entry is numbered by its record's place: no two top-level records start within four bytes
-unfoldable pub numberAt : ℕ → ℕ
-numberAt place = place / 4 + 1
-
--- a key that was entered before keeps its entry
+-- a key that was entered before keeps its entry as it is
 unfoldable pub enteredAt : List ℕ → Way → Entry → List ℕ
 enteredAt index way e =
     pick (eqb (way .number) 0)
     (written (branched index (way .cell) (numberAt (e .place))) (numberAt (e .place)) e)
-    (written index (way .number) e)
+    index
 
 unfoldable pub entered : Table → List ℕ → Entry → List ℕ
 entered table index e = pick (leb 60000 (e .place)) index (enteredAt index (wayOf table index (keyOf table e)) e)

@@ -7,13 +7,14 @@ use native.Mathlib.Numerals.{add-one}
 use native.Mathlib.Omega.{arith}
 use lib.ListN.{length, getD, set, drop, replicate, length-replicate, getD-replicate, replicate-append-replicate, List·getD-append}
 use lib.Seq.{drop-cons, set-at, append-snoc}
+use lib.Dec.{leb}
 use borrow.Author.Tests.{eq-eqb, ne-eqb, le-leb, lt-leb}
+use Rattle.field_rules.specs.Choice.{pick-same}
 use Rattle.dictionary_chains.specs.Chain.{headWords, entryStart, entryRoom, indexWords, keyOf, headOf, entryAt, linkAt, branchOf, ends, wayOf, found, written, branched, numberAt, enteredAt, entered}
 use Rattle.dictionary_chains.specs.WordLaws.{head-small, written-length, written-other, written-entry, branched-length, branched-cell, branched-other, branched-branch}
 use Rattle.dictionary_chains.specs.WayLaws.{link-none, link-rises, numberOf, Comes, starts, turns, Ends, free, taken, astray, way-ends, comes-low}
-use Rattle.dictionary_chains.specs.TreeLaws.{Bounded, more-bounded, never-strays, comes-before}
+use Rattle.dictionary_chains.specs.TreeLaws.{Stands, none, reached, equal, Bounded, more-bounded, stands-bounded, never-strays, comes-before}
 use Rattle.dictionary_chains.specs.GrowLaws.{Grows, older-entry, grows-bounded, grows-way, grows-elsewhere}
-use Rattle.dictionary_chains.specs.RenewLaws.{Renews, renews-some, renews-bounded, renews-way, renews-other}
 use Rattle.dictionary_chains.specs.declared.Table.{Table}
 use Rattle.dictionary_chains.specs.declared.Entry.{Entry}
 use Rattle.dictionary_chains.specs.declared.Way.{Way}
@@ -43,14 +44,14 @@ module _ (table : Table) (index : List ℕ) (key : ℕ) where
       go w (taken p h e) = h
       go w (astray p h e s) = omega arith
 
-  pub found-bounded : (b : ℕ) → Bounded index b → found table index key ≤ b
+  pub found-stands : Stands index (found table index key)
   unfolding found
-  found-bounded b bound = go (wayOf table index key) way-ends
+  found-stands = go (wayOf table index key) way-ends
     where
-      go : (w : Way) → Ends table index key w → w .number ≤ b
-      go w (free p h) = omega arith
-      go w (taken p h e) = bound .links p h
-      go w (astray p h e s) = omega arith
+      go : (w : Way) → Ends table index key w → Stands index (w .number)
+      go w (free p h) = none
+      go w (taken p h e) = reached p h
+      go w (astray p h e s) = none
 
 module _ (table : Table) (index : List ℕ) (e : Entry) where
   pub entered-late : 60000 ≤ e .place → entered table index e ≡ index
@@ -63,19 +64,18 @@ module _ (table : Table) (index : List ℕ) (e : Entry) where
   unfolding entered enteredAt
   entered-new h way w z = rw (lt-leb 60000 (e .place) h, w, eq-eqb (way .number) 0 z)
 
-  -- an entry of a key that was entered before
-  pub entered-again : e .place < 60000 → (way : Way) → wayOf table index (keyOf table e) ≡ way → (way .number ≡ 0 → ⊥)
-      → entered table index e ≡ written index (way .number) e
+  -- a key that was entered before
+  pub entered-again : (way : Way) → wayOf table index (keyOf table e) ≡ way → (way .number ≡ 0 → ⊥) → entered table index e ≡ index
   unfolding entered enteredAt
-  entered-again h way w z = rw (lt-leb 60000 (e .place) h, w, ne-eqb (way .number) 0 z)
+  entered-again way w z = rw (w, ne-eqb (way .number) 0 z) (pick-same (leb 60000 (e .place)) index)
 
-branch-apart : (number rest k : ℕ) → 2 ≤ k → k < 7 → branchOf number rest ≡ entryStart number + k → ⊥
+branch-apart : (number rest k : ℕ) → 2 ≤ k → k < 6 → branchOf number rest ≡ entryStart number + k → ⊥
 unfolding branchOf
-branch-apart number rest k two seven q = omega arith
+branch-apart number rest k two six q = omega arith
 
 -- an entry newer than all that the array holds
 module _ (table : Table) (index : List ℕ) (e : Entry) (b : ℕ) (size : length index ≡ indexWords) (bound : Bounded index b)
-    (early : e .place < 60000) (newer : b < numberAt (e .place)) where
+    (early : e .place < 60000) (newer : b + 4 ≤ numberAt (e .place)) where
   abbrev number : ℕ
   number = numberAt (e .place)
 
@@ -83,12 +83,15 @@ module _ (table : Table) (index : List ℕ) (e : Entry) (b : ℕ) (size : length
   unfolding numberAt
   number-small = omega arith
 
-  -- it stands behind the word where its key's way ended, or in place of the entry there
+  -- it stands behind the word where its key's way ended, or its key was entered before
   data Entering (after : List ℕ) : Type 0 where
     grown : {n low cell : ℕ} → Grows table index after (keyOf table e) b n low cell number → wayOf table index (keyOf table e) ≡ ends cell 0
         → length after ≡ length index → entryAt after number ≡ e → Entering after
-    renewed : {n low cell old : ℕ} → Renews table index after (keyOf table e) b n low cell old → wayOf table index (keyOf table e) ≡ ends cell old
-        → length after ≡ length index → entryAt after old ≡ e → Entering after
+    kept : (found table index (keyOf table e) ≡ 0 → ⊥) → after ≡ index → Entering after
+
+  known : (way : Way) → wayOf table index (keyOf table e) ≡ way → (way .number ≡ 0 → ⊥) → found table index (keyOf table e) ≡ 0 → ⊥
+  unfolding found
+  known way w some z = some (sym (ap numberOf w) ∙ z)
 
   entering : Entering (entered table index e)
   entering = go (wayOf table index (keyOf table e)) refl way-ends
@@ -97,38 +100,27 @@ module _ (table : Table) (index : List ℕ) (e : Entry) (b : ℕ) (size : length
       go w way (free {n = n} {low = low} {cell = cell} p vacant) =
           let behind = comes-before bound p number newer in
           let row = branched index cell number in
-          let long : entryStart number + 7 ≤ length row = omega (arith, number-small, branched-length index cell number behind) in
-          let mine = written-entry row number e long in
+          let long : entryStart number + 6 ≤ length row = omega (arith, number-small, branched-length index cell number behind) in
+          let mine = written-entry row number e long refl in
           let grows : Grows table index (written row number e) (keyOf table e) b n low cell number = record {
             bound = bound;
             end = p;
             vacant = vacant;
             newer = newer;
             fits = number-small;
-            leads = written-other row number e cell (λ k two seven q. omega arith) ∙ branched-cell index cell number behind (omega (arith, number-small));
+            leads = written-other row number e cell (λ k two six q. omega arith) ∙ branched-cell index cell number behind (omega (arith, number-small));
             bare = λ rest.
                 written-other row number e (branchOf number rest) (branch-apart number rest)
                 ∙ branched-branch index cell number behind rest (omega (arith, number-small));
             words = λ i before other.
-                written-other row number e i (λ k two seven q. omega arith)
+                written-other row number e i (λ k two six q. omega arith)
                 ∙ branched-other index cell number behind i other (λ k two q. omega arith);
             mine = ap (keyOf table) mine;
           } in
           rw (entered-new table index e early w way refl) (grown grows way (written-length row number e ∙ branched-length index cell number behind) mine)
-      go w way (taken {n = n} {low = low} {cell = cell} p leads was) =
-          let old = linkAt index low cell in
-          let some : old ≡ 0 → ⊥ = λ z. omega (arith, link-rises index low cell (comes-low p)) in
-          let mine = written-entry index old e (omega arith) in
-          let renews : Renews table index (written index old e) (keyOf table e) b n low cell old = record {
-            bound = bound;
-            end = p;
-            leads = refl;
-            fits = leads;
-            words = written-other index old e;
-            was = was;
-            mine = ap (keyOf table) mine;
-          } in
-          rw (entered-again table index e early w way some) (renewed renews way (written-length index old e) mine)
+      go w way (taken {low = low} {cell = cell} p leads was) =
+          let some : linkAt index low cell ≡ 0 → ⊥ = λ z. omega (arith, link-rises index low cell (comes-low p)) in
+          kept (known w way some) (entered-again table index e w way some)
       go w way (astray p h other s) = absurd (never-strays bound p h other s)
 
   pub enter-length : length (entered table index e) ≡ indexWords
@@ -136,14 +128,14 @@ module _ (table : Table) (index : List ℕ) (e : Entry) (b : ℕ) (size : length
     where
       go : Entering (entered table index e) → length (entered table index e) ≡ indexWords
       go (grown g way long mine) = long ∙ size
-      go (renewed r way long mine) = long ∙ size
+      go (kept before still) = ap length still ∙ size
 
   pub enter-bounded : Bounded (entered table index e) (numberAt (e .place))
   enter-bounded = go entering
     where
       go : Entering (entered table index e) → Bounded (entered table index e) (numberAt (e .place))
       go (grown g way long mine) = grows-bounded g
-      go (renewed r way long mine) = more-bounded (renews-bounded r) (numberAt (e .place)) (omega arith)
+      go (kept before still) = rw still (more-bounded bound (numberAt (e .place)) (omega arith))
 
   -- the entry is found under its key
   pub enter-known : found table (entered table index e) (keyOf table e) ≡ 0 → ⊥
@@ -152,15 +144,16 @@ module _ (table : Table) (index : List ℕ) (e : Entry) (b : ℕ) (size : length
     where
       go : Entering (entered table index e) → ⊥
       go (grown g way long mine) = omega (arith, ap numberOf (grows-way g way))
-      go (renewed r way long mine) = omega (arith, ap numberOf (renews-way r table (keyOf table e) ∙ way), renews-some r)
+      go (kept before still) = before (rw still at z)
 
-  pub enter-found : entryAt (entered table index e) (found table (entered table index e) (keyOf table e)) ≡ e
+  -- as it was entered, where its key is new
+  pub enter-found : found table index (keyOf table e) ≡ 0 → entryAt (entered table index e) (found table (entered table index e) (keyOf table e)) ≡ e
   unfolding found
-  enter-found = go entering
+  enter-found new = go entering
     where
       go : Entering (entered table index e) → entryAt (entered table index e) (found table (entered table index e) (keyOf table e)) ≡ e
       go (grown g way long mine) = ap (λ (w : Way). entryAt (entered table index e) (w .number)) (grows-way g way) ∙ mine
-      go (renewed r way long mine) = ap (λ (w : Way). entryAt (entered table index e) (w .number)) (renews-way r table (keyOf table e) ∙ way) ∙ mine
+      go (kept before still) = absurd (before new)
 
   -- and under any other key, and in another table, what was found before
   pub enter-elsewhere : (t : Table) (key : ℕ) → (t ≡ table → key ≡ keyOf table e → ⊥)
@@ -171,8 +164,8 @@ module _ (table : Table) (index : List ℕ) (e : Entry) (b : ℕ) (size : length
       go : Entering (entered table index e)
           → (found t (entered table index e) key ≡ found t index key)
           × (entryAt (entered table index e) (found t index key) ≡ entryAt index (found t index key))
-      go (grown g way long mine) = (grows-elsewhere g t key apart, older-entry g (found t index key) (omega (arith, found-bounded t index key b bound)))
-      go (renewed r way long mine) = (unfold found in ap numberOf (renews-way r t key), renews-other r t key apart)
+      go (grown g way long mine) = (grows-elsewhere g t key apart, older-entry g (found-stands t index key))
+      go (kept before still) = (rw still, rw still)
 
 -- an array without heads holds nothing
 module _ (index : List ℕ) (empty : (h : ℕ) → h < headWords → getD index h 0 ≡ 0) where
@@ -186,7 +179,12 @@ module _ (index : List ℕ) (empty : (h : ℕ) → h < headWords → getD index 
         links = λ p h. absurd (omega (arith, no-link p));
         own = λ p q h same. absurd (omega (arith, no-link p));
         keys = λ p h. absurd (omega (arith, no-link p));
+        apart = λ s r. equal (nothing s ∙ sym (nothing r));
       }
+    where
+      nothing : {n : ℕ} → Stands index n → n ≡ 0
+      nothing none = refl
+      nothing (reached p h) = absurd (omega (arith, no-link p))
 
 module _ (rest : List ℕ) where
   pub clear-bounded : Bounded (replicate headWords 0 ++ rest) 0
@@ -195,7 +193,7 @@ module _ (rest : List ℕ) where
       (λ h low. List·getD-append (replicate headWords 0) rest 0 h (rw length-replicate low) ∙ getD-replicate {A = ℕ} headWords h 0 0 low)
 
   pub clear-found : (table : Table) (key : ℕ) → found table (replicate headWords 0 ++ rest) key ≡ 0
-  clear-found table key = omega (arith, found-bounded table (replicate headWords 0 ++ rest) key 0 clear-bounded)
+  clear-found table key = omega (arith, stands-bounded clear-bounded (found-stands table (replicate headWords 0 ++ rest) key))
 
 -- clearing one word more
 pub clear-step : (index : List ℕ) (i : ℕ) → i < length index → set (replicate i 0 ++ drop i index) i 0 ≡ replicate (i + 1) 0 ++ drop (i + 1) index

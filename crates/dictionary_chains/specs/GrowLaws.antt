@@ -1,6 +1,7 @@
 -- A new entry behind the word where the way of its key ended: it is found under its key, every other way ends as before, and what
 -- stood in trees still does.
 use mathlib.Core.Path.{_≡_, refl, sym, ap, _∙_}
+use mathlib.Core.Logic.{_⊎_, inl, inr}
 use mathlib.Core.Bool.{Bool, true, false}
 use mathlib.Core.List.{List}
 use Prim.Native.Nat.{ℕ, suc, _+_, _≤_, _<_}
@@ -10,7 +11,7 @@ use lib.Dec.{eqb}
 use borrow.Author.Tests.{eqb-true, eqb-false}
 use Rattle.dictionary_chains.specs.Chain.{entryStart, entryRoom, keyOf, headOf, entryAt, linkAt, branchOf, ends, strayed, wayOf, found}
 use Rattle.dictionary_chains.specs.WayLaws.{link-none, link-some, link-rises, restAfter, numberOf, wayFrom, Comes, starts, turns, Climbs, stops, hits, strays, goes, climbs, from-none, from-hit, from-stray, from-on, same-hit, same-stray, same-turn, comes-low}
-use Rattle.dictionary_chains.specs.TreeLaws.{Alike, Bounded, together, comes-bounded, comes-before, comes-apart, same-entry, same-link}
+use Rattle.dictionary_chains.specs.TreeLaws.{Alike, Stands, none, reached, stands-as, Apart, equal, lower, higher, Bounded, together, stands-bounded, comes-bounded, comes-before, comes-apart, same-entry, same-link}
 use Rattle.dictionary_chains.specs.declared.Table.{Table}
 use Rattle.dictionary_chains.specs.declared.Way.{Way}
 
@@ -19,7 +20,7 @@ pub record Grows (table : Table) (index after : List ℕ) (key b n low cell numb
   pub bound : Bounded index b
   pub end : Comes table index key n low cell
   pub vacant : entryRoom ≤ linkAt index low cell
-  pub newer : b < number
+  pub newer : b + 4 ≤ number
   pub fits : number < entryRoom
   pub leads : getD after cell 0 ≡ number
   pub bare : (rest : ℕ) → getD after (branchOf number rest) 0 ≡ 0
@@ -28,8 +29,11 @@ pub record Grows (table : Table) (index after : List ℕ) (key b n low cell numb
 
 module _ {table : Table} {index after : List ℕ} {key b n low cell number : ℕ} (g : Grows table index after key b n low cell number) where
   -- an older entry stays as it was
-  pub older-entry : (m : ℕ) → m < number → entryAt after m ≡ entryAt index m
-  older-entry m h = same-entry after index m (λ k two seven. g .words (entryStart m + k) (omega arith) (comes-apart (g .end) m k two seven))
+  pub older-entry : {m : ℕ} → Stands index m → entryAt after m ≡ entryAt index m
+  older-entry {m} s =
+      let old = stands-bounded (g .bound) s in
+      let new = g .newer in
+      same-entry after index m (λ k two six. g .words (entryStart m + k) (omega arith) (comes-apart (g .bound) (g .end) s k two six))
 
   -- what a word leads to that an old way comes to
   data Seen (t : Table) (k m below place : ℕ) : Type 0 where
@@ -79,8 +83,25 @@ module _ {table : Table} {index after : List ℕ} {key b n low cell number : ℕ
         links = λ p h. bounded p h (seen p h);
         own = λ p q h same. single p q h same (seen p h) (seen q (rw same at h));
         keys = λ p h. alike p h (seen p h);
+        apart = λ s r. parted (stood s) (stood r);
       }
     where
+      -- what stands is old or new, and what is new shares no word with what is old
+      stood : {m : ℕ} → Stands after m → Stands index m ⊎ (m ≡ number)
+      stood none = inl none
+      stood (reached p h) = known h (seen p h)
+        where
+          known : {t : Table} {k m below place : ℕ} → linkAt after below place < entryRoom → Seen t k m below place
+              → Stands index (linkAt after below place) ⊎ (linkAt after below place ≡ number)
+          known h (old q e) = inl (stands-as (sym e) (reached q (rw e at h)))
+          known h (new q here e) = inr e
+
+      parted : {m d : ℕ} → Stands index m ⊎ (m ≡ number) → Stands index d ⊎ (d ≡ number) → Apart m d
+      parted (inl s) (inl r) = g .bound .apart s r
+      parted (inl s) (inr e) = lower (omega (arith, stands-bounded (g .bound) s, g .newer))
+      parted (inr e) (inl r) = higher (omega (arith, stands-bounded (g .bound) r, g .newer))
+      parted (inr e) (inr f) = equal (e ∙ sym f)
+
       bounded : {t : Table} {k m below place : ℕ} → Comes t after k m below place → linkAt after below place < entryRoom → Seen t k m below place
           → linkAt after below place ≤ number
       bounded p h (old q e) = omega (arith, g .bound .links q (rw e at h), g .newer)
@@ -97,7 +118,7 @@ module _ {table : Table} {index after : List ℕ} {key b n low cell number : ℕ
       alike : {t : Table} {k m below place : ℕ} → Comes t after k m below place → linkAt after below place < entryRoom → Seen t k m below place
           → Alike m (keyOf t (entryAt after (linkAt after below place))) k
       alike {below = below} {place = place} p h (old x e) =
-          rw (e, older-entry (linkAt index below place) (omega (arith, g .bound .links x (rw e at h), g .newer))) (g .bound .keys x (rw e at h))
+          rw (e, older-entry (reached x (rw e at h))) (g .bound .keys x (rw e at h))
       alike p h (new x here e) =
           let both = together (g .bound) (g .end) x (sym here) in
           rw (e, key-here x here) (rw (both .depth) at (both .alike))
@@ -109,7 +130,7 @@ module _ {table : Table} {index after : List ℕ} {key b n low cell number : ℕ
   -- an old link leads to the key that it led to
   keys-kept : {t : Table} {k m below place : ℕ} → Comes t index k m below place → linkAt index below place < entryRoom
       → keyOf t (entryAt after (linkAt index below place)) ≡ keyOf t (entryAt index (linkAt index below place))
-  keys-kept {t} {below = below} {place = place} p h = ap (keyOf t) (older-entry (linkAt index below place) (omega (arith, g .bound .links p h, g .newer)))
+  keys-kept {t} p h = ap (keyOf t) (older-entry (reached p h))
 
   -- the new entry is found under its key
   arrives : {m below place : ℕ} → Comes table index key m below place → Climbs table index key m below place

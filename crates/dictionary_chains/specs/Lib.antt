@@ -3,7 +3,6 @@ pub mod WordLaws
 pub mod WayLaws
 pub mod TreeLaws
 pub mod GrowLaws
-pub mod RenewLaws
 pub mod ChainLaws
 pub mod TurnLaws
 pub mod Examples

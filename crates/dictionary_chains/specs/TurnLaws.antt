@@ -14,10 +14,10 @@ use Rattle.dictionary_chains.specs.declared.Table.the-variants.{Tags, Co
 -- a key that is made of words has 64 bits
 entry-small : (table : Table) (index : List ℕ) → ((i : ℕ) → getD index i 0 < 65536) → (number : ℕ) → keyOf table (entryAt index number) < keyRoom
 unfolding keyOf entryAt wordAt
-entry-small Tags index words number = omega (arith, words (entryStart number + 3), words (entryStart number + 4))
-entry-small Components index words number = omega (arith, words (entryStart number + 3))
+entry-small Tags index words number = omega (arith, words (entryStart number + 2), words (entryStart number + 3))
+entry-small Components index words number = omega (arith, words (entryStart number + 2))
 entry-small MsgTypes index words number =
-    omega (arith, words (entryStart number + 3), words (entryStart number + 4), words (entryStart number + 5), words (entryStart number + 6))
+    omega (arith, words (entryStart number + 2), words (entryStart number + 3), words (entryStart number + 4), words (entryStart number + 5))
 
 module _ (table : Table) (index : List ℕ) (key n low cell : ℕ) where
   abbrev link : ℕ

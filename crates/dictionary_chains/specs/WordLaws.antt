@@ -2,13 +2,13 @@
 use mathlib.Core.Path.{_≡_, refl, sym, ap, _∙_}
 use mathlib.Core.Bool.{Bool, true, false}
 use mathlib.Core.List.{List, [], _∷_, _++_, append-assoc}
-use Prim.Native.Nat.{ℕ, suc, _+_, _%_, _≤_, _<_}
+use Prim.Native.Nat.{ℕ, suc, _+_, _-_, _%_, _≤_, _<_}
 use native.Mathlib.Omega.{arith}
 use lib.ListN.{length, getD, set, take, drop, length-set}
 use lib.Seq.{sets-eq, length-take-le, getD-append-add, getD-set-same, getD-set-other}
 use lib.Dec.{eqb}
 use borrow.Author.Tests.{eqb-true, eqb-false}
-use Rattle.dictionary_chains.specs.Chain.{headWords, entryStart, rankOf, headOf, wordAt, entryAt, branchOf, written, branched}
+use Rattle.dictionary_chains.specs.Chain.{headWords, entryStart, numberAt, rankOf, headOf, wordAt, entryAt, branchOf, written, branched}
 use Rattle.dictionary_chains.specs.declared.Table.{Table}
 use Rattle.dictionary_chains.specs.declared.Table.the-variants.{Tags, Components, MsgTypes}
 use Rattle.dictionary_chains.specs.declared.Entry.{Entry}
@@ -48,47 +48,45 @@ module _ (index : List ℕ) (number : ℕ) (e : Entry) where
   unfolding written
   written-length = simp length-set
 
-  pub written-other : (i : ℕ) → ((k : ℕ) → 2 ≤ k → k < 7 → i ≡ entryStart number + k → ⊥) → getD (written index number e) i 0 ≡ getD index i 0
+  pub written-other : (i : ℕ) → ((k : ℕ) → 2 ≤ k → k < 6 → i ≡ entryStart number + k → ⊥) → getD (written index number e) i 0 ≡ getD index i 0
   unfolding written
   written-other i apart =
-      let placed = set index (entryStart number + 2) (e .place) in
-      let once = set placed (entryStart number + 3) (e .first) in
-      let twice = set once (entryStart number + 4) (e .second) in
-      let thrice = set twice (entryStart number + 5) (e .third) in
-      getD-set-other thrice (entryStart number + 6) i (e .fourth) 0 (apart 6 (omega arith) (omega arith))
-      ∙ getD-set-other twice (entryStart number + 5) i (e .third) 0 (apart 5 (omega arith) (omega arith))
-      ∙ getD-set-other once (entryStart number + 4) i (e .second) 0 (apart 4 (omega arith) (omega arith))
-      ∙ getD-set-other placed (entryStart number + 3) i (e .first) 0 (apart 3 (omega arith) (omega arith))
-      ∙ getD-set-other index (entryStart number + 2) i (e .place) 0 (apart 2 (omega arith) (omega arith))
+      let once = set index (entryStart number + 2) (e .first) in
+      let twice = set once (entryStart number + 3) (e .second) in
+      let thrice = set twice (entryStart number + 4) (e .third) in
+      getD-set-other thrice (entryStart number + 5) i (e .fourth) 0 (apart 5 (omega arith) (omega arith))
+      ∙ getD-set-other twice (entryStart number + 4) i (e .third) 0 (apart 4 (omega arith) (omega arith))
+      ∙ getD-set-other once (entryStart number + 3) i (e .second) 0 (apart 3 (omega arith) (omega arith))
+      ∙ getD-set-other index (entryStart number + 2) i (e .first) 0 (apart 2 (omega arith) (omega arith))
 
   abbrev words : List ℕ
-  words = e .place ∷ e .first ∷ e .second ∷ e .third ∷ e .fourth ∷ []
+  words = e .first ∷ e .second ∷ e .third ∷ e .fourth ∷ []
 
   -- the words of an entry, as a part of the array
-  written-part : entryStart number + 7 ≤ length index
-      → written index number e ≡ take (entryStart number + 2) index ++ (words ++ drop (entryStart number + 7) index)
+  written-part : entryStart number + 6 ≤ length index
+      → written index number e ≡ take (entryStart number + 2) index ++ (words ++ drop (entryStart number + 6) index)
   unfolding written
   written-part h =
       let at = entryStart number + 2 in
       let a : entryStart number + 3 ≡ suc at = omega arith in
       let b : entryStart number + 4 ≡ suc (suc at) = omega arith in
       let c : entryStart number + 5 ≡ suc (suc (suc at)) = omega arith in
-      let d : entryStart number + 6 ≡ suc (suc (suc (suc at))) = omega arith in
-      let f : entryStart number + 7 ≡ at + 5 = omega arith in
-      rw (a, b, c, d, f) (sets-eq words index at (omega arith) ∙ append-assoc (take at index) words (drop (at + 5) index))
+      let d : entryStart number + 6 ≡ at + 4 = omega arith in
+      rw (a, b, c, d) (sets-eq words index at (omega arith) ∙ append-assoc (take at index) words (drop (at + 4) index))
 
-  pub written-entry : entryStart number + 7 ≤ length index → entryAt (written index number e) number ≡ e
-  unfolding entryAt wordAt
-  written-entry h =
-      rw (word 0 (entryStart number + 2) (omega arith), word 1 (entryStart number + 3) (omega arith), word 2 (entryStart number + 4) (omega arith))
-      (rw (word 3 (entryStart number + 5) (omega arith), word 4 (entryStart number + 6) (omega arith)))
+  pub written-entry : entryStart number + 6 ≤ length index → number ≡ numberAt (e .place) → entryAt (written index number e) number ≡ e
+  unfolding entryAt wordAt numberAt
+  written-entry h own =
+      let place : number - 4 ≡ e .place = omega arith in
+      rw (place, word 0 (entryStart number + 2) (omega arith), word 1 (entryStart number + 3) (omega arith))
+      (rw (word 2 (entryStart number + 4) (omega arith), word 3 (entryStart number + 5) (omega arith)))
     where
-      word : (k i : ℕ) → i ≡ entryStart number + 2 + k → getD (written index number e) i 0 ≡ getD (words ++ drop (entryStart number + 7) index) k 0
+      word : (k i : ℕ) → i ≡ entryStart number + 2 + k → getD (written index number e) i 0 ≡ getD (words ++ drop (entryStart number + 6) index) k 0
       word k i q =
           let size : entryStart number + 2 ≡ length (take (entryStart number + 2) index) = sym (length-take-le (entryStart number + 2) index (omega arith)) in
           rw (written-part h, q)
-          (ap (λ (n : ℕ). getD (take (entryStart number + 2) index ++ (words ++ drop (entryStart number + 7) index)) (n + k) 0) size
-          ∙ getD-append-add (take (entryStart number + 2) index) (words ++ drop (entryStart number + 7) index) k 0)
+          (ap (λ (n : ℕ). getD (take (entryStart number + 2) index ++ (words ++ drop (entryStart number + 6) index)) (n + k) 0) size
+          ∙ getD-append-add (take (entryStart number + 2) index) (words ++ drop (entryStart number + 6) index) k 0)
 
 -- a new entry behind the word that leads to it
 module _ (index : List ℕ) (cell number : ℕ) (behind : cell < entryStart number) where

@@ -10,17 +10,14 @@ ghost use Rattle.dictionary_chains.specs.Chain.{entryRoom, headWords, in
 // Words of heads, 2,048 to each table.
 const HEAD_WORDS: usize = 6144;
 
-// Words to an entry.
-const STRIDE: usize = 7;
-
-// Entries, entry 0 among them.
-const ENTRY_ROOM: usize = 15001;
+// The numbers of entries are below this.
+const ENTRY_ROOM: usize = 60004;
 
 // The turns of a way: a key has 64 bits, and eleven of them choose its head.
 const MOST_TURNS: usize = 53;
 
-// Words of an index.
-pub const WORDS: usize = HEAD_WORDS + STRIDE * ENTRY_ROOM;
+// Words of an index: it ends behind the entry of the last number.
+pub const WORDS: usize = HEAD_WORDS + 3 * ENTRY_ROOM / 2 + 4;
 
 pub enum Table {
     Tags,
@@ -79,13 +76,14 @@ pub fn entry_at(index: &[u16], number: usize) -> Entry
     requires { ⌜ (length (now index) ≡ indexWords) × (number < entryRoom) ⌝ }
     ensures { λ r. ⌜ r ≡ entryAt (now (index .entry)) number ⌝ }
 {
-    let at = HEAD_WORDS + STRIDE * number;
+    let at = HEAD_WORDS + number + number / 2;
+    let place = if number < 4 { 0 } else { number - 4 };
     Entry {
-        place: index[at + 2],
-        first: index[at + 3],
-        second: index[at + 4],
-        third: index[at + 5],
-        fourth: index[at + 6],
+        place: place as u16,
+        first: index[at + 2],
+        second: index[at + 3],
+        third: index[at + 4],
+        fourth: index[at + 5],
     }
 }
 
@@ -118,7 +116,7 @@ fn way_of(index: &[u16], table: Table, key: u64) -> Way
             return Way { cell, number: 0 };
         }
         turns += 1;
-        cell = HEAD_WORDS + STRIDE * link + (rest % 2) as usize;
+        cell = HEAD_WORDS + link + link / 2 + (rest % 2) as usize;
         rest = rest / 2;
         link = link_at(index, link, cell);
     }
@@ -134,20 +132,19 @@ pub fn find(index: &[u16], table: Table, key: u64) -> usize
     way.number
 }
 
-// Writes what an entry holds. Its branches stay.
+// Writes the four words of an entry that are its table's. Its branches stay.
 fn write(index: &mut [u16], number: usize, entry: Entry)
     requires { ⌜ (length (now index) ≡ indexWords) × (number < entryRoom) ⌝ }
     ensures { λ _. ⌜ now (index .exit) ≡ written (now (index .entry)) number entry ⌝ }
 {
-    let at = HEAD_WORDS + STRIDE * number;
-    index[at + 2] = entry.place;
-    index[at + 3] = entry.first;
-    index[at + 4] = entry.second;
-    index[at + 5] = entry.third;
-    index[at + 6] = entry.fourth;
+    let at = HEAD_WORDS + number + number / 2;
+    index[at + 2] = entry.first;
+    index[at + 3] = entry.second;
+    index[at + 4] = entry.third;
+    index[at + 5] = entry.fourth;
 }
 
-// Enters what a top-level record makes known. A new entry's number comes from its place, so that newer entries have higher numbers.
+// Enters what a top-level record makes known, unless its key was entered before. The number says the place, so newer entries have higher numbers.
 pub fn enter(index: &mut [u16], table: Table, entry: Entry)
     requires { ⌜ length (now index) ≡ indexWords ⌝ }
     ensures { λ _. ⌜ now (index .exit) ≡ entered table (now (index .entry)) entry ⌝ }
@@ -157,15 +154,15 @@ pub fn enter(index: &mut [u16], table: Table, entry: Entry)
         return;
     }
     let way = way_of(index, table, key_of(table, entry));
-    let mut number = way.number;
-    if number == 0 {
-        number = place / 4 + 1;
-        let at = HEAD_WORDS + STRIDE * number;
-        let cell = way.cell;
-        index[at] = 0;
-        index[at + 1] = 0;
-        index[cell] = number as u16;
+    if way.number != 0 {
+        return;
     }
+    let number = place + 4;
+    let at = HEAD_WORDS + number + number / 2;
+    let cell = way.cell;
+    index[at] = 0;
+    index[at + 1] = 0;
+    index[cell] = number as u16;
     write(index, number, entry);
 }
 

@@ -60,7 +60,7 @@ dictionary = component 0 8 ++ (component 1 10 ++ (3 ∷ 68 ∷ 0 ∷ 0 ∷ 0 ∷
 
 -- an index that names both components: their heads stand behind those of the tags, and their entries by their places
 abbrev index : List ℕ
-index = replicate 2048 0 ++ (1 ∷ 3 ∷ (replicate 4101 0 ++ (0 ∷ 0 ∷ 0 ∷ 0 ∷ 1 ∷ 0 ∷ 0 ∷ (replicate 7 0 ++ (0 ∷ 0 ∷ 10 ∷ 1 ∷ 1 ∷ 0 ∷ 0 ∷ [])))))
+index = replicate 2048 0 ++ (4 ∷ 14 ∷ (replicate 4100 0 ++ (0 ∷ 0 ∷ 0 ∷ 1 ∷ 0 ∷ 0 ∷ (replicate 9 0 ++ (0 ∷ 0 ∷ 1 ∷ 1 ∷ 0 ∷ 0 ∷ [])))))
 
 abbrev headerTable : List ℕ
 headerTable = 1 ∷ 1 ∷ 0 ∷ 0 ∷ 0 ∷ 0 ∷ 0 ∷ 0 ∷ 0 ∷ 8 ∷ 0 ∷ 0 ∷ 0 ∷ 0 ∷ []

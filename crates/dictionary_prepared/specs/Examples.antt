@@ -25,7 +25,7 @@ lowFirst (word ∷ words) = word % 256 ∷ word / 256 ∷ lowFirst words
 stamp : lowFirst (firstStamp ∷ secondStamp ∷ []) ≡ bytes "FIX1"
 stamp = refl
 
-words : headWords ≡ 111154
+words : headWords ≡ 96157
 words = refl
 
 -- the stamp, the length, the index
@@ -48,15 +48,15 @@ abbrev memory : List ℕ → ℕ → List ℕ
 memory front count = front ++ replicate count 0
 
 -- prepared: a copy as long as it says, or longer; more words than are used
-standing : map (isPrepared (7 ∷ 8 ∷ [])) (memory (18758 ∷ 12632 ∷ 2 ∷ []) 111151 ∷ memory (18758 ∷ 12632 ∷ 0 ∷ []) 111151
-    ∷ memory (18758 ∷ 12632 ∷ 1 ∷ []) 111152 ∷ [])
+standing : map (isPrepared (7 ∷ 8 ∷ [])) (memory (18758 ∷ 12632 ∷ 2 ∷ []) 96154 ∷ memory (18758 ∷ 12632 ∷ 0 ∷ []) 96154
+    ∷ memory (18758 ∷ 12632 ∷ 1 ∷ []) 96155 ∷ [])
     ≡ true ∷ true ∷ true ∷ []
 unfolding isPrepared
 standing = refl
 
 -- not prepared: a word too few; another first word; another second word; a copy that is shorter; zeros; nothing
-fallen : map (isPrepared (7 ∷ 8 ∷ [])) (memory (18758 ∷ 12632 ∷ 2 ∷ []) 111150 ∷ memory (18759 ∷ 12632 ∷ 2 ∷ []) 111151
-    ∷ memory (18758 ∷ 12633 ∷ 2 ∷ []) 111151 ∷ memory (18758 ∷ 12632 ∷ 3 ∷ []) 111151 ∷ memory [] 111154 ∷ [] ∷ [])
+fallen : map (isPrepared (7 ∷ 8 ∷ [])) (memory (18758 ∷ 12632 ∷ 2 ∷ []) 96153 ∷ memory (18759 ∷ 12632 ∷ 2 ∷ []) 96154
+    ∷ memory (18758 ∷ 12633 ∷ 2 ∷ []) 96154 ∷ memory (18758 ∷ 12632 ∷ 3 ∷ []) 96154 ∷ memory [] 96157 ∷ [] ∷ [])
     ≡ false ∷ false ∷ false ∷ false ∷ false ∷ false ∷ []
 unfolding isPrepared
 fallen = refl
@@ -70,7 +70,7 @@ abbrev told : Preparation → ℕ × List ℕ × List ℕ
 told (prepared p copy words) = (numberOfPreparing p, copy, take 3 words)
 
 -- what passes is copied and headed; what is refused leaves both
-checked : map (λ (c : Checked). told (byCheck least (replicate 10 9) (replicate 111154 5) c)) (Passes ∷ Twice 3 ∷ [])
+checked : map (λ (c : Checked). told (byCheck least (replicate 10 9) (replicate 96157 5) c)) (Passes ∷ Twice 3 ∷ [])
     ≡ (0, least ++ (9 ∷ 9 ∷ []), 18758 ∷ 12632 ∷ 8 ∷ []) ∷ (36, replicate 10 9, 5 ∷ 5 ∷ 5 ∷ []) ∷ []
 unfolding byCheck memoryFor headFor numberOfPreparing numberOfCheck
 checked = refl
@@ -81,7 +81,7 @@ Row = List ℕ × List ℕ × ℕ
 
 -- "less than the dictionary's length and a fixed head is 23, before 30 to 37": the empty dictionary is refused by 32
 answered : map (λ (row : Row). told (preparation (row .0) (row .1) (replicate (row .2) 5)))
-    (([], [], 111153) ∷ (least, replicate 8 9, 111153) ∷ (least, replicate 7 9, 111154) ∷ ([], [], 111154) ∷ [])
+    (([], [], 96156) ∷ (least, replicate 8 9, 96156) ∷ (least, replicate 7 9, 96157) ∷ ([], [], 96157) ∷ [])
     ≡ (23, [], 5 ∷ 5 ∷ 5 ∷ []) ∷ (23, replicate 8 9, 5 ∷ 5 ∷ 5 ∷ []) ∷ (23, replicate 7 9, 5 ∷ 5 ∷ 5 ∷ []) ∷ (32, [], 5 ∷ 5 ∷ 5 ∷ []) ∷ []
 unfolding preparation byCheck numberOfPreparing numberOfCheck checkOf readOf answerOf tooLong walked recordsFrom recordsWithin atEnd present looksIn componentIn noNames
 answered = refl

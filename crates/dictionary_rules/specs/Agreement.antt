@@ -3,7 +3,7 @@
 use mathlib.Core.Path.{_≡_, refl, sym, ap, _∙_}
 use mathlib.Core.Bool.{Bool, true, false}
 use mathlib.Core.List.{List, _++_}
-use Prim.Native.Nat.{ℕ, _+_, _<_}
+use Prim.Native.Nat.{ℕ, _+_, _≤_, _<_}
 use native.Mathlib.Omega.{arith}
 use lib.ListN.{length, drop, replicate, length-append, length-drop, length-replicate}
 use lib.Dec.{eqb}
@@ -16,10 +16,10 @@ use Rattle.dictionary_chains.specs.declared.Table.{Table}
 use Rattle.dictionary_chains.specs.declared.Table.the-variants.{Tags, Components, MsgTypes}
 use Rattle.dictionary_chains.specs.declared.Entry.{Entry}
 use Rattle.dictionary_rules.specs.Index.{tagEntry, componentEntry, messageEntry, componentOf, tagAt, componentAt, messageAt, noted}
-use Rattle.dictionary_rules.specs.IndexLaws.{tag-unknown, tag-known, component-missing, component-closed, message-nowhere, message-placed}
+use Rattle.dictionary_rules.specs.IndexLaws.{tag-unknown, tag-known, component-missing, component-closed, missing-new, message-nowhere, message-placed, nowhere-new}
 use Rattle.dictionary_rules.specs.declared.Component.{Component}
-use Rattle.dictionary_rules.specs.declared.Looked.the-variants.{Closed}
-use Rattle.dictionary_rules.specs.declared.Placed.the-variants.{At}
+use Rattle.dictionary_rules.specs.declared.Looked.the-variants.{Closed, Missing}
+use Rattle.dictionary_rules.specs.declared.Placed.the-variants.{At, Nowhere}
 use Rattle.dictionary_rules.specs.declared.Note.the-variants.{KnowsTag, ClosesComponent, NamesMessage}
 use Rattle.dictionary_rules.specs.Names.{Names, isKnown, componentIn, messageIn, named, noNames}
 
@@ -48,7 +48,7 @@ unfolding componentOf componentEntry
 whole-component c = refl
 
 -- an entry changes no answer but its own
-module _ (table : Table) (index : List ℕ) (e : Entry) (b : ℕ) (size : length index ≡ indexWords) (bound : Bounded index b) (early : e .place < 60000) (newer : b < numberAt (e .place)) where
+module _ (table : Table) (index : List ℕ) (e : Entry) (b : ℕ) (size : length index ≡ indexWords) (bound : Bounded index b) (early : e .place < 60000) (newer : b + 4 ≤ numberAt (e .place)) where
   other-tag : (tag : ℕ) → (Tags ≡ table → tag ≡ keyOf table e → ⊥) → tagAt (entered table index e) tag ≡ tagAt index tag
   unfolding tagAt
   other-tag tag apart = rw (enter-elsewhere table index e b size bound early newer Tags tag apart .0)
@@ -65,13 +65,13 @@ module _ (table : Table) (index : List ℕ) (e : Entry) (b : ℕ) (size : length
       let same = enter-elsewhere table index e b size bound early newer MsgTypes msgType apart in
       rw (same .0, same .1)
 
-  -- what is found under its key is the entry
+  -- what is found under its key is the entry, where the key is new
   module _ (key : ℕ) (same : key ≡ keyOf table e) where
     own-known : found table (entered table index e) key ≡ 0 → ⊥
     own-known = rw same (enter-known table index e b size bound early newer)
 
-    own-entry : entryAt (entered table index e) (found table (entered table index e) key) ≡ e
-    own-entry = rw same (enter-found table index e b size bound early newer)
+    own-entry : found table index key ≡ 0 → entryAt (entered table index e) (found table (entered table index e) key) ≡ e
+    own-entry new = rw same (enter-found table index e b size bound early newer (rw same at new))
 
 not-components : Tags ≡ Components → ⊥
 not-components q = let z : _≡_ {A = ℕ} 0 1 = cc in omega arith
@@ -83,7 +83,7 @@ components-messages : Components ≡ MsgTypes → ⊥
 components-messages q = let z : _≡_ {A = ℕ} 0 1 = cc in omega arith
 
 module _ (index : List ℕ) (names : Names) (b : ℕ) (a : Agrees index names b) where
-  pub knows-tag : (place tag : ℕ) → place < 60000 → b < numberAt place → Agrees (noted index (KnowsTag place tag)) (named names (KnowsTag place tag)) (numberAt place)
+  pub knows-tag : (place tag : ℕ) → place < 60000 → b + 4 ≤ numberAt place → Agrees (noted index (KnowsTag place tag)) (named names (KnowsTag place tag)) (numberAt place)
   unfolding noted named tagEntry isKnown
   knows-tag place tag early newer =
       let e = tagEntry place tag in
@@ -101,9 +101,10 @@ module _ (index : List ℕ) (names : Names) (b : ℕ) (a : Agrees index names b)
       go t false q =
           other-tag Tags index (tagEntry place tag) b (a .size) (a .bound) early newer t (λ r k. eqb-false t tag q (k ∙ tag-key place tag)) ∙ a .tags t
 
-  pub closes-component : (c : Component) → c .place < 60000 → b < numberAt (c .place) → Agrees (noted index (ClosesComponent c)) (named names (ClosesComponent c)) (numberAt (c .place))
+  pub closes-component : (c : Component) → c .place < 60000 → b + 4 ≤ numberAt (c .place) → componentIn (names .components) (c .number) ≡ Missing
+      → Agrees (noted index (ClosesComponent c)) (named names (ClosesComponent c)) (numberAt (c .place))
   unfolding noted named componentEntry componentIn
-  closes-component c early newer =
+  closes-component c early newer missing =
       let e = componentEntry c in
       record {
         size = enter-length Components index e b (a .size) (a .bound) early newer;
@@ -113,6 +114,9 @@ module _ (index : List ℕ) (names : Names) (b : ℕ) (a : Agrees index names b)
         messages = λ m. other-message Components index e b (a .size) (a .bound) early newer m (λ q k. components-messages (sym q)) ∙ a .messages m;
       }
     where
+      new : (n : ℕ) → n ≡ c .number → found Components index n ≡ 0
+      new n e = rw e (missing-new index (c .number) (a .components (c .number) ∙ missing))
+
       whole : componentOf (componentEntry c) ≡ c
       whole = whole-component c
 
@@ -120,14 +124,16 @@ module _ (index : List ℕ) (names : Names) (b : ℕ) (a : Agrees index names b)
       go n true q =
           let same = eqb-true n (c .number) q ∙ sym (component-key c) in
           component-closed _ n _ refl (own-known Components index (componentEntry c) b (a .size) (a .bound) early newer n same)
-          ∙ ap (λ (x : Entry). Closed (componentOf x)) (own-entry Components index (componentEntry c) b (a .size) (a .bound) early newer n same)
+          ∙ ap (λ (x : Entry). Closed (componentOf x))
+          (own-entry Components index (componentEntry c) b (a .size) (a .bound) early newer n same (new n (eqb-true n (c .number) q)))
           ∙ ap Closed whole
       go n false q =
           other-component Components index (componentEntry c) b (a .size) (a .bound) early newer n (λ r k. eqb-false n (c .number) q (k ∙ component-key c)) ∙ a .components n
 
-  pub names-message : (place msgType : ℕ) → place < 60000 → b < numberAt place → Agrees (noted index (NamesMessage place msgType)) (named names (NamesMessage place msgType)) (numberAt place)
+  pub names-message : (place msgType : ℕ) → place < 60000 → b + 4 ≤ numberAt place → messageIn (names .messages) msgType ≡ Nowhere
+      → Agrees (noted index (NamesMessage place msgType)) (named names (NamesMessage place msgType)) (numberAt place)
   unfolding noted named messageEntry messageIn
-  names-message place msgType early newer =
+  names-message place msgType early newer nowhere =
       let e = messageEntry place msgType in
       record {
         size = enter-length MsgTypes index e b (a .size) (a .bound) early newer;
@@ -137,11 +143,15 @@ module _ (index : List ℕ) (names : Names) (b : ℕ) (a : Agrees index names b)
         messages = λ m. go m (eqb m msgType) refl;
       }
     where
+      new : (m : ℕ) → m ≡ msgType → found MsgTypes index m ≡ 0
+      new m e = rw e (nowhere-new index msgType (a .messages msgType ∙ nowhere))
+
       go : (m : ℕ) (s : Bool) → eqb m msgType ≡ s → messageAt (entered MsgTypes index (messageEntry place msgType)) m ≡ pick s (At place) (messageIn (names .messages) m)
       go m true q =
           let same = eqb-true m msgType q ∙ sym (message-key place msgType) in
           message-placed _ m _ refl (own-known MsgTypes index (messageEntry place msgType) b (a .size) (a .bound) early newer m same)
-          ∙ ap (λ (x : Entry). At (x .place)) (own-entry MsgTypes index (messageEntry place msgType) b (a .size) (a .bound) early newer m same)
+          ∙ ap (λ (x : Entry). At (x .place))
+          (own-entry MsgTypes index (messageEntry place msgType) b (a .size) (a .bound) early newer m same (new m (eqb-true m msgType q)))
       go m false q =
           other-message MsgTypes index (messageEntry place msgType) b (a .size) (a .bound) early newer m (λ r k. eqb-false m msgType q (k ∙ message-key place msgType)) ∙ a .messages m
 

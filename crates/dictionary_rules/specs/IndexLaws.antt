@@ -1,9 +1,11 @@
 -- The laws of the index: what a look-up gives, and that it answers as the names do.
-use mathlib.Core.Path.{_≡_}
-use mathlib.Core.Bool.{true, false}
+use mathlib.Core.Path.{_≡_, refl}
+use mathlib.Core.Bool.{Bool, true, false}
 use mathlib.Core.List.{List}
 use Prim.Native.Nat.{ℕ}
-use borrow.Author.Tests.{eq-eqb, ne-eqb}
+use native.Mathlib.Omega.{arith}
+use lib.Dec.{eqb}
+use borrow.Author.Tests.{eq-eqb, ne-eqb, eqb-true, eqb-false}
 use Rattle.dictionary_chains.specs.Chain.{entryAt, found}
 use Rattle.dictionary_chains.specs.declared.Table.the-variants.{Tags, Components, MsgTypes}
 use Rattle.dictionary_rules.specs.Index.{componentOf, tagAt, lookedAs, componentAt, placedAs, messageAt}
@@ -27,6 +29,15 @@ module _ (index : List ℕ) (key : ℕ) where
   unfolding componentAt lookedAs
   component-closed n e z = rw (e, ne-eqb n 0 z)
 
+  pub missing-new : componentAt index key ≡ Missing → found Components index key ≡ 0
+  missing-new m = go (eqb (found Components index key) 0) refl
+    where
+      go : (t : Bool) → eqb (found Components index key) 0 ≡ t → found Components index key ≡ 0
+      go true q = eqb-true _ _ q
+      go false q =
+          let other = component-closed (found Components index key) refl (eqb-false _ _ q) in
+          let z : _≡_ {A = ℕ} 0 1 = cc in absurd (omega arith)
+
   pub message-nowhere : found MsgTypes index key ≡ 0 → messageAt index key ≡ Nowhere
   unfolding messageAt placedAs
   message-nowhere z = rw (eq-eqb (found MsgTypes index key) 0 z)
@@ -34,3 +45,12 @@ module _ (index : List ℕ) (key : ℕ) where
   pub message-placed : (n : ℕ) → found MsgTypes index key ≡ n → (n ≡ 0 → ⊥) → messageAt index key ≡ At (entryAt index n .place)
   unfolding messageAt placedAs
   message-placed n e z = rw (e, ne-eqb n 0 z)
+
+  pub nowhere-new : messageAt index key ≡ Nowhere → found MsgTypes index key ≡ 0
+  nowhere-new m = go (eqb (found MsgTypes index key) 0) refl
+    where
+      go : (t : Bool) → eqb (found MsgTypes index key) 0 ≡ t → found MsgTypes index key ≡ 0
+      go true q = eqb-true _ _ q
+      go false q =
+          let other = message-placed (found MsgTypes index key) refl (eqb-false _ _ q) in
+          let z : _≡_ {A = ℕ} 0 1 = cc in absurd (omega arith)

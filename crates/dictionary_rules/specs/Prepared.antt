@@ -36,7 +36,7 @@ use Rattle.dictionary_rules.specs.declared.Note.{Note}
 use Rattle.dictionary_rules.specs.declared.Note.the-variants.{Unchanged, KnowsTag, ClosesComponent, NamesMessage}
 use Rattle.dictionary_rules.specs.declared.Step.{Step}
 use Rattle.dictionary_rules.specs.declared.Step.the-variants.{Refuses, Goes}
-use Rattle.dictionary_rules.specs.Names.{Looks, Names, looksIn, named, noNames}
+use Rattle.dictionary_rules.specs.Names.{Names, isKnown, componentIn, messageIn, looksIn, named, noNames}
 
 -- a step looks up one thing at most, so it is the same where the answers are
 module _ (index : List ℕ) (names : Names) (b : ℕ) (a : Agrees index names b) where
@@ -58,48 +58,55 @@ module _ (index : List ℕ) (names : Names) (b : ℕ) (a : Agrees index names b)
   same-end TopLevel size = rw (a .components 0, a .components 1)
   same-end (Inside o) size = refl
 
--- what is open at a place leaves room for its own entry: no entry is newer than b
-abbrev ReadyFor : Owner → ℕ → ℕ → ℕ → Type 0
-ReadyFor (OfComponent number) opening b place = (opening < 60000) × (4 * b ≤ opening) × (opening + 3 ≤ place)
-ReadyFor OfMessage opening b place = 4 * b ≤ place
+-- what is open at a place leaves room for its own entry, and a component that is open is not named yet: no entry is newer than b
+abbrev ReadyFor : Names → Owner → ℕ → ℕ → ℕ → Type 0
+ReadyFor names (OfComponent number) opening b place =
+    (opening < 60000) × (b ≤ opening) × (opening + 3 ≤ place) × (componentIn (names .components) number ≡ Missing)
+ReadyFor names OfMessage opening b place = b ≤ place
 
-abbrev Ready : State → ℕ → ℕ → Type 0
-Ready TopLevel b place = 4 * b ≤ place
-Ready (Inside o) b place = ReadyFor (o .owner) (o .place) b place
+abbrev Ready : Names → State → ℕ → ℕ → Type 0
+Ready names TopLevel b place = b ≤ place
+Ready names (Inside o) b place = ReadyFor names (o .owner) (o .place) b place
 
-abbrev After : State → Note → ℕ → ℕ → Type 0
-After state Unchanged b next = Ready state b next
-After state (KnowsTag place tag) b next = (place < 60000) × (b < numberAt place) × Ready state (numberAt place) next
-After state (ClosesComponent c) b next = (c .place < 60000) × (b < numberAt (c .place)) × Ready state (numberAt (c .place)) next
-After state (NamesMessage place msgType) b next = (place < 60000) × (b < numberAt place) × Ready state (numberAt place) next
+-- what is noted is newer than every entry, and names what had no name
+abbrev After : Names → State → Note → ℕ → ℕ → Type 0
+After names state Unchanged b next = Ready names state b next
+After names state (KnowsTag place tag) b next =
+    (place < 60000) × (b + 4 ≤ numberAt place) × Ready (named names (KnowsTag place tag)) state (numberAt place) next
+After names state (ClosesComponent c) b next =
+    (c .place < 60000) × (b + 4 ≤ numberAt (c .place)) × Ready (named names (ClosesComponent c)) state (numberAt (c .place)) next
+    × (componentIn (names .components) (c .number) ≡ Missing)
+After names state (NamesMessage place msgType) b next =
+    (place < 60000) × (b + 4 ≤ numberAt place) × Ready (named names (NamesMessage place msgType)) state (numberAt place) next
+    × (messageIn (names .messages) msgType ≡ Nowhere)
 
-abbrev Fine : ℕ → ℕ → Step → Type 0
-Fine b next (Refuses checked) = Unit {0}
-Fine b next (Goes state note) = After state note b next
+abbrev Fine : Names → ℕ → ℕ → Step → Type 0
+Fine names b next (Refuses checked) = Unit {0}
+Fine names b next (Goes state note) = After names state note b next
 
-later : (owner : Owner) (opening b place next : ℕ) → place ≤ next → ReadyFor owner opening b place → ReadyFor owner opening b next
-later (OfComponent number) opening b place next h r = (r .0, r .1, omega (arith, r .2))
-later OfMessage opening b place next h r = omega (arith, r)
+later : (names : Names) (owner : Owner) (opening b place next : ℕ) → place ≤ next → ReadyFor names owner opening b place → ReadyFor names owner opening b next
+later names (OfComponent number) opening b place next h r = (r .0, r .1, omega (arith, r .2), r .3)
+later names OfMessage opening b place next h r = omega (arith, r)
 
-fine-refuses : (t : Bool) (checked : Checked) (step : Step) (b next : ℕ) → Fine b next step → Fine b next (pick t (Refuses checked) step)
-fine-refuses true checked step b next f = tt
-fine-refuses false checked step b next f = f
+module _ (names : Names) (place b : ℕ) where
+  fine-refuses : (t : Bool) (checked : Checked) (step : Step) (next : ℕ) → Fine names b next step → Fine names b next (pick t (Refuses checked) step)
+  fine-refuses true checked step next f = tt
+  fine-refuses false checked step next f = f
 
-fine-known : (t : Bool) (checked : Checked) (step : Step) (b next : ℕ) → Fine b next step → Fine b next (pick t step (Refuses checked))
-fine-known true checked step b next f = f
-fine-known false checked step b next f = tt
+  fine-known : (t : Bool) (checked : Checked) (step : Step) (next : ℕ) → Fine names b next step → Fine names b next (pick t step (Refuses checked))
+  fine-known true checked step next f = f
+  fine-known false checked step next f = tt
 
-module _ (place b : ℕ) where
-  fine-owner : (o : Open) (owner : Owner) → ReadyFor owner (o .place) b place → Fine b (place + 1) (closesOwner o owner)
+  fine-owner : (o : Open) (owner : Owner) → ReadyFor names owner (o .place) b place → Fine names b (place + 1) (closesOwner o owner)
   unfolding closesOwner numberAt
-  fine-owner o (OfComponent number) r = (r .0, omega (arith, r .1), omega (arith, r .1, r .2))
+  fine-owner o (OfComponent number) r = (r .0, omega (arith, r .1), omega (arith, r .1, r .2), r .3)
   fine-owner o OfMessage r = omega (arith, r)
 
-  fine-group : (o : Open) (g : Group) (groups : Groups) → ReadyFor (o .owner) (o .place) b place → Fine b (place + 1) (closesGroup o g groups)
+  fine-group : (o : Open) (g : Group) (groups : Groups) → ReadyFor names (o .owner) (o .place) b place → Fine names b (place + 1) (closesGroup o g groups)
   unfolding closesGroup notEmpty grown
-  fine-group o g groups r = fine-refuses (eqb (o .items) (g .since)) _ _ b (place + 1) (later (o .owner) (o .place) b place (place + 1) (omega arith) r)
+  fine-group o g groups r = fine-refuses (eqb (o .items) (g .since)) _ _ (place + 1) (later names (o .owner) (o .place) b place (place + 1) (omega arith) r)
 
-  fine-close : (o : Open) (groups : Groups) → ReadyFor (o .owner) (o .place) b place → Fine b (place + 1) (closesInnermost o groups)
+  fine-close : (o : Open) (groups : Groups) → ReadyFor names (o .owner) (o .place) b place → Fine names b (place + 1) (closesInnermost o groups)
   unfolding closesInnermost
   fine-close o NoGroup r = fine-owner o (o .owner) r
   fine-close o (OneGroup x) r = fine-group o x _ r
@@ -107,60 +114,60 @@ module _ (place b : ℕ) where
   fine-close o (ThreeGroups x y z) r = fine-group o x _ r
   fine-close o (FourGroups x y z w) r = fine-group o x _ r
 
-  fine-item : (o : Open) (looked : Looked) (number : ℕ) → ReadyFor (o .owner) (o .place) b place → Fine b (place + 4) (closedBefore looked number (λ c. notTooDeep (depthOf (o .groups) + c .depth) place (notTooMany (o .items + c .items) place (Goes (Inside (grown o (o .items + c .items) (deeper (o .depth) (depthOf (o .groups) + c .depth)) (heldWith (o .held) c) (o .groups))) Unchanged))))
+  fine-item : (o : Open) (looked : Looked) (number : ℕ) → ReadyFor names (o .owner) (o .place) b place → Fine names b (place + 4) (closedBefore looked number (λ c. notTooDeep (depthOf (o .groups) + c .depth) place (notTooMany (o .items + c .items) place (Goes (Inside (grown o (o .items + c .items) (deeper (o .depth) (depthOf (o .groups) + c .depth)) (heldWith (o .held) c) (o .groups))) Unchanged))))
   unfolding closedBefore notTooDeep notTooMany grown
   fine-item o Missing number r = tt
   fine-item o (Closed c) number r =
-      fine-refuses (ltb 4 (depthOf (o .groups) + c .depth)) _ _ b (place + 4)
-      (fine-refuses (ltb 1024 (o .items + c .items)) _ _ b (place + 4)
-      (later (o .owner) (o .place) b place (place + 4) (omega arith) r))
+      fine-refuses (ltb 4 (depthOf (o .groups) + c .depth)) _ _ (place + 4)
+      (fine-refuses (ltb 1024 (o .items + c .items)) _ _ (place + 4)
+      (later names (o .owner) (o .place) b place (place + 4) (omega arith) r))
 
-  fine-tag : (known : Bool) (tag : ℕ) → place < 60000 → 4 * b ≤ place → After TopLevel (pick known Unchanged (KnowsTag place tag)) b (place + 5)
+  fine-tag : (known : Bool) (tag : ℕ) → place < 60000 → b ≤ place → After names TopLevel (pick known Unchanged (KnowsTag place tag)) b (place + 5)
   unfolding numberAt
   fine-tag true tag h r = omega arith
   fine-tag false tag h r = (h, omega arith, omega arith)
 
-  fine-component : (looked : Looked) (number : ℕ) → place < 60000 → 4 * b ≤ place → Fine b (place + 3) (onceComponent looked place (Goes (Inside (opens (OfComponent number) place)) Unchanged))
+  fine-component : (looked : Looked) (number : ℕ) → componentIn (names .components) number ≡ looked → place < 60000 → b ≤ place → Fine names b (place + 3) (onceComponent looked place (Goes (Inside (opens (OfComponent number) place)) Unchanged))
   unfolding onceComponent opens
-  fine-component Missing number h r = (h, r, omega arith)
-  fine-component (Closed c) number h r = tt
+  fine-component Missing number e h r = (h, r, omega arith, e)
+  fine-component (Closed c) number e h r = tt
 
-  fine-message : (placed : Placed) (msgType : ℕ) → place < 60000 → 4 * b ≤ place → Fine b (place + 9) (onceMessage placed place (Goes (Inside (opens OfMessage place)) (NamesMessage place msgType)))
+  fine-message : (placed : Placed) (msgType : ℕ) → messageIn (names .messages) msgType ≡ placed → place < 60000 → b ≤ place → Fine names b (place + 9) (onceMessage placed place (Goes (Inside (opens OfMessage place)) (NamesMessage place msgType)))
   unfolding onceMessage opens numberAt
-  fine-message Nowhere msgType h r = (h, omega arith, omega arith)
-  fine-message (At p) msgType h r = tt
+  fine-message Nowhere msgType e h r = (h, omega arith, omega arith, e)
+  fine-message (At p) msgType e h r = tt
 
-  -- a record's own entry is newer than every entry before it
-  step-fine : (looks : Looks) (state : State) (r : Record) → place < 60000 → Ready state b place → Fine b (place + sizeOf r) (stepOf looks state place r)
-  unfolding stepOf onTag onComponent onMessage onField onItem onGroup onClose atTop inside knownBefore notTooDeep notTooMany grown sizeOf
-  step-fine looks TopLevel (KnownTag tag) h r = fine-tag (looks .known tag) tag h r
-  step-fine looks (Inside o) (KnownTag tag) h r = tt
-  step-fine looks TopLevel (OpensComponent number) h r = fine-component (looks .component number) number h r
-  step-fine looks (Inside o) (OpensComponent number) h r = tt
-  step-fine looks TopLevel (OpensMessage msgType) h r = fine-message (looks .message msgType) msgType h r
-  step-fine looks (Inside o) (OpensMessage msgType) h r = tt
-  step-fine looks TopLevel (FieldItem tag required) h r = tt
-  step-fine looks (Inside o) (FieldItem tag required) h r =
-      fine-known (looks .known tag) _ _ b (place + 6)
-      (fine-refuses (ltb 1024 (o .items + 1)) _ _ b (place + 6)
-      (later (o .owner) (o .place) b place (place + 6) (omega arith) r))
-  step-fine looks TopLevel (ComponentItem number required) h r = tt
-  step-fine looks (Inside o) (ComponentItem number required) h r = fine-item o (looks .component number) number r
-  step-fine looks TopLevel (OpensGroup tag required) h r = tt
-  step-fine looks (Inside o) (OpensGroup tag required) h r =
-      fine-known (looks .known tag) _ _ b (place + 6)
-      (fine-refuses (ltb 4 (depthOf (o .groups) + 1)) _ _ b (place + 6)
-      (fine-refuses (ltb 1024 (o .items + 1)) _ _ b (place + 6)
-      (later (o .owner) (o .place) b place (place + 6) (omega arith) r)))
-  step-fine looks TopLevel Closes h r = tt
-  step-fine looks (Inside o) Closes h r = fine-close o (o .groups) r
+  -- a record's own entry is newer than every entry before it, and names what had no name
+  step-fine : (state : State) (r : Record) → place < 60000 → Ready names state b place → Fine names b (place + sizeOf r) (stepOf (looksIn names) state place r)
+  unfolding stepOf onTag onComponent onMessage onField onItem onGroup onClose atTop inside knownBefore notTooDeep notTooMany grown sizeOf looksIn
+  step-fine TopLevel (KnownTag tag) h r = fine-tag (isKnown (names .tags) tag) tag h r
+  step-fine (Inside o) (KnownTag tag) h r = tt
+  step-fine TopLevel (OpensComponent number) h r = fine-component (componentIn (names .components) number) number refl h r
+  step-fine (Inside o) (OpensComponent number) h r = tt
+  step-fine TopLevel (OpensMessage msgType) h r = fine-message (messageIn (names .messages) msgType) msgType refl h r
+  step-fine (Inside o) (OpensMessage msgType) h r = tt
+  step-fine TopLevel (FieldItem tag required) h r = tt
+  step-fine (Inside o) (FieldItem tag required) h r =
+      fine-known (isKnown (names .tags) tag) _ _ (place + 6)
+      (fine-refuses (ltb 1024 (o .items + 1)) _ _ (place + 6)
+      (later names (o .owner) (o .place) b place (place + 6) (omega arith) r))
+  step-fine TopLevel (ComponentItem number required) h r = tt
+  step-fine (Inside o) (ComponentItem number required) h r = fine-item o (componentIn (names .components) number) number r
+  step-fine TopLevel (OpensGroup tag required) h r = tt
+  step-fine (Inside o) (OpensGroup tag required) h r =
+      fine-known (isKnown (names .tags) tag) _ _ (place + 6)
+      (fine-refuses (ltb 4 (depthOf (o .groups) + 1)) _ _ (place + 6)
+      (fine-refuses (ltb 1024 (o .items + 1)) _ _ (place + 6)
+      (later names (o .owner) (o .place) b place (place + 6) (omega arith) r)))
+  step-fine TopLevel Closes h r = tt
+  step-fine (Inside o) Closes h r = fine-close o (o .groups) r
 
 -- what was noted leaves them in agreement
-note-agrees : (index : List ℕ) (names : Names) (b : ℕ) → Agrees index names b → (state : State) (note : Note) (next : ℕ) → After state note b next → (c : ℕ) × Agrees (noted index note) (named names note) c × Ready state c next
+note-agrees : (index : List ℕ) (names : Names) (b : ℕ) → Agrees index names b → (state : State) (note : Note) (next : ℕ) → After names state note b next → (c : ℕ) × Agrees (noted index note) (named names note) c × Ready (named names note) state c next
 note-agrees index names b a state Unchanged next r = unfold noted named in (b, a, r)
 note-agrees index names b a state (KnowsTag place tag) next r = (numberAt place, knows-tag index names b a place tag (r .0) (r .1), r .2)
-note-agrees index names b a state (ClosesComponent c) next r = (numberAt (c .place), closes-component index names b a c (r .0) (r .1), r .2)
-note-agrees index names b a state (NamesMessage place msgType) next r = (numberAt place, names-message index names b a place msgType (r .0) (r .1), r .2)
+note-agrees index names b a state (ClosesComponent c) next r = (numberAt (c .place), closes-component index names b a c (r .0) (r .1) (r .3), r .2)
+note-agrees index names b a state (NamesMessage place msgType) next r = (numberAt place, names-message index names b a place msgType (r .0) (r .1) (r .3), r .2)
 
 -- the same answer, and stores that agree
 abbrev Same : CheckOutcome (List ℕ) → CheckOutcome Names → Type 0
@@ -174,16 +181,16 @@ same-store : (x : CheckOutcome (List ℕ)) (y : CheckOutcome Names) → Same x y
 unfolding storeOf
 same-store (outcome checked index) (outcome other names) same = same .1
 
-simulate : (n : ℕ) → n ≤ 60000 → {place : ℕ} {rs : Records} → Spaced n place rs → (state : State) (index : List ℕ) (names : Names) (b : ℕ) → Ready state b place → Agrees index names b → Same (walked looksAt noted rs state index) (walked looksIn named rs state names)
+simulate : (n : ℕ) → n ≤ 60000 → {place : ℕ} {rs : Records} → Spaced n place rs → (state : State) (index : List ℕ) (names : Names) (b : ℕ) → Ready names state b place → Agrees index names b → Same (walked looksAt noted rs state index) (walked looksIn named rs state names)
 unfolding walked
 simulate n few at-last state index names b ready a = (same-end index names b a state _, (b, a))
 simulate n few at-bad state index names b ready a = (refl, (b, a))
 simulate n few (at-next {place = place} {r = r} {rest = rest} here others) state index names b ready a =
     rw (same-step index names b a state place r)
-    (go (stepOf (looksIn names) state place r) (step-fine place b (looksIn names) state r (omega arith) ready)
+    (go (stepOf (looksIn names) state place r) (step-fine names place b state r (omega arith) ready)
     (λ state₁ note after. let m = note-agrees index names b a state₁ note (place + sizeOf r) after in simulate n few others state₁ (noted index note) (named names note) (m .0) (m .2) (m .1)))
   where
-    go : (step : Step) → Fine b (place + sizeOf r) step → ((state₁ : State) (note : Note) → After state₁ note b (place + sizeOf r) → Same (walked looksAt noted rest state₁ (noted index note)) (walked looksIn named rest state₁ (named names note))) → Same (onStep index step (λ state₁ note. walked looksAt noted rest state₁ (noted index note))) (onStep names step (λ state₁ note. walked looksIn named rest state₁ (named names note)))
+    go : (step : Step) → Fine names b (place + sizeOf r) step → ((state₁ : State) (note : Note) → After names state₁ note b (place + sizeOf r) → Same (walked looksAt noted rest state₁ (noted index note)) (walked looksIn named rest state₁ (named names note))) → Same (onStep index step (λ state₁ note. walked looksAt noted rest state₁ (noted index note))) (onStep names step (λ state₁ note. walked looksIn named rest state₁ (named names note)))
     go (Refuses checked) fine follows = unfold onStep in (refl, (b, a))
     go (Goes state₁ note) fine follows = unfold onStep in follows state₁ note fine
 

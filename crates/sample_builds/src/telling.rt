@@ -179,7 +179,7 @@ pub fn prepared(config: Config, dictionary: &[u8], lent: usize, kind: u8) {
     let mut short_copy = [7u8; 61];
     let mut long_copy = [7u8; 60001];
     let mut memory = [7u16; dictionary_prepared::HEAD];
-    let mut short_memory = [7u16; 111153];
+    let mut short_memory = [7u16; 96156];
     match kind {
         b'c' => over(
             config,

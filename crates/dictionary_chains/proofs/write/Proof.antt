@@ -1,4 +1,4 @@
--- `write` meets its contract: it stores the five words.
+-- `write` meets its contract: it stores the four words.
 use mathlib.Core.Path.{refl}
 use native.Mathlib.Omega.{arith}
 use borrow.Author.Needs.{needs}
@@ -16,9 +16,6 @@ slice-write-index-3 c = simp length-set (omega arith)
 slice-write-index-4 : tie.Need-slice-write-index-4
 slice-write-index-4 c = simp length-set (omega arith)
 
-slice-write-index-5 : tie.Need-slice-write-index-5
-slice-write-index-5 c = simp length-set (omega arith)
-
 returns : tie.Need-returns
 returns c = unfold written in refl
 
@@ -27,5 +24,4 @@ write-spec =
     tie.close
     (tie.spec (λ c. search needs) (λ c. search needs) (λ c. search needs) (λ c. search needs) (λ c. search needs)
     (λ c. search needs) (λ c. search needs) slice-write-index-2 (λ c. search needs) (λ c. search needs)
-    slice-write-index-3 (λ c. search needs) (λ c. search needs) slice-write-index-4 (λ c. search needs)
-    (λ c. search needs) slice-write-index-5 (λ c. search needs) returns)
+    slice-write-index-3 (λ c. search needs) (λ c. search needs) slice-write-index-4 (λ c. search needs) returns)
