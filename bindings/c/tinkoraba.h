@@ -26,7 +26,7 @@ extern "C" {
 #define TINKORABA_MESSAGE_BYTES 8192     /* the longest message or encoding; the output of a take, at least */
 #define TINKORABA_STORE_BYTES 16384      /* a framer's store, exactly */
 #define TINKORABA_DICTIONARY_BYTES 60000 /* the longest flat dictionary */
-#define TINKORABA_PREPARED_WORDS 111154  /* the words of memory that a dictionary is prepared in, at least */
+#define TINKORABA_PREPARED_WORDS 96157  /* the words of memory that a dictionary is prepared in, at least */
 #define TINKORABA_PREPARED_ROOM 524288   /* words that hold the tables of FIX 4.4 and of FIX 5.0 SP1 whole: builds are then short */
 #define TINKORABA_WORDS 8205             /* the words of a lent message or draft, exactly */
 #define TINKORABA_VALUES 8192            /* the value bytes of a lent message or draft, exactly */

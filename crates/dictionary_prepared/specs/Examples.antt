@@ -22,14 +22,14 @@ lowFirst [] = []
 lowFirst (word ∷ words) = word % 256 ∷ word / 256 ∷ lowFirst words
 
 -- "the stamp": as bytes, low byte first, it is a text
-stamp : lowFirst (firstStamp ∷ secondStamp ∷ []) ≡ bytes "FIX1"
+stamp : lowFirst (firstStamp ∷ secondStamp ∷ []) ≡ bytes "FIX2"
 stamp = refl
 
 words : headWords ≡ 96157
 words = refl
 
 -- the stamp, the length, the index
-head : headFor 8 (5 ∷ 6 ∷ []) ≡ 18758 ∷ 12632 ∷ 8 ∷ 5 ∷ 6 ∷ []
+head : headFor 8 (5 ∷ 6 ∷ []) ≡ 18758 ∷ 12888 ∷ 8 ∷ 5 ∷ 6 ∷ []
 unfolding headFor
 head = refl
 
@@ -48,15 +48,15 @@ abbrev memory : List ℕ → ℕ → List ℕ
 memory front count = front ++ replicate count 0
 
 -- prepared: a copy as long as it says, or longer; more words than are used
-standing : map (isPrepared (7 ∷ 8 ∷ [])) (memory (18758 ∷ 12632 ∷ 2 ∷ []) 96154 ∷ memory (18758 ∷ 12632 ∷ 0 ∷ []) 96154
-    ∷ memory (18758 ∷ 12632 ∷ 1 ∷ []) 96155 ∷ [])
+standing : map (isPrepared (7 ∷ 8 ∷ [])) (memory (18758 ∷ 12888 ∷ 2 ∷ []) 96154 ∷ memory (18758 ∷ 12888 ∷ 0 ∷ []) 96154
+    ∷ memory (18758 ∷ 12888 ∷ 1 ∷ []) 96155 ∷ [])
     ≡ true ∷ true ∷ true ∷ []
 unfolding isPrepared
 standing = refl
 
 -- not prepared: a word too few; another first word; another second word; a copy that is shorter; zeros; nothing
-fallen : map (isPrepared (7 ∷ 8 ∷ [])) (memory (18758 ∷ 12632 ∷ 2 ∷ []) 96153 ∷ memory (18759 ∷ 12632 ∷ 2 ∷ []) 96154
-    ∷ memory (18758 ∷ 12633 ∷ 2 ∷ []) 96154 ∷ memory (18758 ∷ 12632 ∷ 3 ∷ []) 96154 ∷ memory [] 96157 ∷ [] ∷ [])
+fallen : map (isPrepared (7 ∷ 8 ∷ [])) (memory (18758 ∷ 12888 ∷ 2 ∷ []) 96153 ∷ memory (18759 ∷ 12888 ∷ 2 ∷ []) 96154
+    ∷ memory (18758 ∷ 12889 ∷ 2 ∷ []) 96154 ∷ memory (18758 ∷ 12888 ∷ 3 ∷ []) 96154 ∷ memory [] 96157 ∷ [] ∷ [])
     ≡ false ∷ false ∷ false ∷ false ∷ false ∷ false ∷ []
 unfolding isPrepared
 fallen = refl
@@ -71,7 +71,7 @@ told (prepared p copy words) = (numberOfPreparing p, copy, take 3 words)
 
 -- what passes is copied and headed; what is refused leaves both
 checked : map (λ (c : Checked). told (byCheck least (replicate 10 9) (replicate 96157 5) c)) (Passes ∷ Twice 3 ∷ [])
-    ≡ (0, least ++ (9 ∷ 9 ∷ []), 18758 ∷ 12632 ∷ 8 ∷ []) ∷ (36, replicate 10 9, 5 ∷ 5 ∷ 5 ∷ []) ∷ []
+    ≡ (0, least ++ (9 ∷ 9 ∷ []), 18758 ∷ 12888 ∷ 8 ∷ []) ∷ (36, replicate 10 9, 5 ∷ 5 ∷ 5 ∷ []) ∷ []
 unfolding byCheck memoryFor headFor numberOfPreparing numberOfCheck
 checked = refl
 

@@ -14,12 +14,12 @@ use Rattle.dictionary_directory.specs.Directory.{layTables}
 use Rattle.dictionary_prepared.specs.declared.Preparing.{Preparing}
 use Rattle.dictionary_prepared.specs.declared.Preparing.the-variants.{Ready, NoRoom, Refused}
 
--- the stamp: as bytes, low byte first, `FIX1`
+-- the stamp: as bytes, low byte first, `FIX2`
 abbrev pub firstStamp : ℕ
 firstStamp = 18758
 
 abbrev pub secondStamp : ℕ
-secondStamp = 12632
+secondStamp = 12888
 
 -- the words in front of the index: the stamp, and the dictionary's length
 abbrev pub front : ℕ

@@ -12,7 +12,7 @@ ghost use Rattle.dictionary_chains.specs.Chain.{indexWords};
 // The words that say that memory was prepared.
 const FIRST_STAMP: u16 = 18758;
 
-const SECOND_STAMP: u16 = 12632;
+const SECOND_STAMP: u16 = 12888;
 
 // In front of the index: the stamp, and the dictionary's length.
 pub const FRONT: usize = 3;

@@ -7,7 +7,7 @@ use crate::generate::random::Random;
 use crate::protocol::Reading;
 
 /// The words that memory starts with where a dictionary was prepared in it; its length follows.
-pub const STAMP: [u16; 2] = [18_758, 12_632];
+pub const STAMP: [u16; 2] = [18_758, 12_888];
 
 /// One build of so many is also made over such memory.
 const ONE_OF: usize = 64;

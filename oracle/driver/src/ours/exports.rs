@@ -178,7 +178,7 @@ unsafe extern "C" {
 }
 
 pub const RECORDS: usize = 1_024;
-pub const PREPARED_WORDS: usize = 111_154;
+pub const PREPARED_WORDS: usize = 96_157;
 pub const WORDS: usize = 8_205;
 pub const VALUES: usize = 8_192;
 pub const OUTPUT: usize = 8_192;
