@@ -90,6 +90,14 @@ fn message_entry(place: u16, msgtype: u64) -> Entry
     }
 }
 
+// Makes a tag known, unless it is.
+pub fn know_tag(index: &mut [u16], place: u16, tag: u32)
+    requires { ⌜ length (now index) ≡ indexWords ⌝ }
+    ensures { λ _. ⌜ now (index .exit) ≡ noted (now (index .entry)) (Note.KnowsTag place tag) ⌝ }
+{
+    dictionary_chains::enter(index, Table::Tags, tag_entry(place, tag));
+}
+
 pub fn take_note(index: &mut [u16], note: Note)
     requires { ⌜ length (now index) ≡ indexWords ⌝ }
     ensures { λ _. ⌜ now (index .exit) ≡ noted (now (index .entry)) note ⌝ }
@@ -97,7 +105,7 @@ pub fn take_note(index: &mut [u16], note: Note)
     match note {
         Note::Unchanged => {}
         Note::KnowsTag(place, tag) => {
-            dictionary_chains::enter(index, Table::Tags, tag_entry(place, tag));
+            know_tag(index, place, tag);
         }
         Note::ClosesComponent(component) => {
             dictionary_chains::enter(index, Table::Components, component_entry(component));

@@ -34,7 +34,7 @@ fn two(bytes: &[u8], at: usize) -> u16
     wide(bytes[at]) + 256 * wide(bytes[at + 1])
 }
 
-fn four(bytes: &[u8], at: usize) -> u32
+pub fn four(bytes: &[u8], at: usize) -> u32
     requires { ⌜ at + 4 ≤ length (now bytes) ⌝ }
     ensures { λ r. ⌜ r ≡ lowFirst (take 4 (drop at (now (bytes .entry)))) ⌝ }
 {

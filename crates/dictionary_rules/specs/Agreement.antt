@@ -9,8 +9,8 @@ use lib.ListN.{length, drop, replicate, length-append, length-drop, length-repli
 use lib.Dec.{eqb}
 use borrow.Author.Tests.{eqb-true, eqb-false}
 use Rattle.field_rules.specs.Choice.{pick}
-use Rattle.dictionary_chains.specs.Chain.{headWords, indexWords, keyOf, entryAt, found, entered, numberAt}
-use Rattle.dictionary_chains.specs.ChainLaws.{enter-length, enter-bounded, enter-known, enter-found, enter-elsewhere, clear-bounded, clear-found}
+use Rattle.dictionary_chains.specs.Chain.{headWords, indexWords, keyOf, entryAt, wayOf, found, entered, numberAt}
+use Rattle.dictionary_chains.specs.ChainLaws.{entered-again, enter-length, enter-bounded, enter-known, enter-found, enter-elsewhere, clear-bounded, clear-found}
 use Rattle.dictionary_chains.specs.TreeLaws.{Bounded}
 use Rattle.dictionary_chains.specs.declared.Table.{Table}
 use Rattle.dictionary_chains.specs.declared.Table.the-variants.{Tags, Components, MsgTypes}
@@ -34,6 +34,17 @@ pub record Agrees (index : List ℕ) (names : Names) (b : ℕ) : Type 0 where
 tag-key : (place tag : ℕ) → keyOf Tags (tagEntry place tag) ≡ tag
 unfolding keyOf tagEntry
 tag-key place tag = omega arith
+
+-- a tag that is known is not entered anew
+pub known-again : (index : List ℕ) (place tag : ℕ) → tagAt index tag ≡ true → noted index (KnowsTag place tag) ≡ index
+unfolding noted found
+known-again index place tag known = entered-again Tags index (tagEntry place tag) _ refl some
+  where
+    some : wayOf Tags index (keyOf Tags (tagEntry place tag)) .number ≡ 0 → ⊥
+    some none =
+        let unknown : tagAt index tag ≡ false = tag-unknown index tag (rw (tag-key place tag) at none) in
+        let z : _≡_ {A = ℕ} 0 1 = cc in
+        omega arith
 
 component-key : (c : Component) → keyOf Components (componentEntry c) ≡ c .number
 unfolding keyOf componentEntry

@@ -10,6 +10,7 @@ pub mod Step
 pub mod StepLaws
 pub mod Check
 pub mod CheckLaws
+pub mod Passing
 pub mod Prepared
 pub mod Stands
 pub mod Examples

@@ -6,10 +6,13 @@ use Prim.Native.Nat.{ℕ, suc, _+_, _*_, _≤_, _<_, _-_}
 use native.Mathlib.Numerals.{add-one}
 use native.Mathlib.Omega.{arith}
 use lib.ListN.{length, getD, take, drop, length-drop, drop-of-length-le}
-use lib.Seq.{drop-cons}
+use lib.Dec.{eqb}
+use lib.Seq.{drop-cons, take-take, getD-take, getD-drop}
 use borrow.Author.Tests.{eq-eqb, ne-eqb, le-ltb, lt-ltb}
-use Rattle.dictionary_rules.specs.Record.{lowFirst, recordBodyLength, zeroFilled, recordBody, withBody, withKind, recordFrom, recordAt}
+use Rattle.dictionary_rules.specs.Record.{lowFirst, recordBodyLength, zeroFilled, withTag, withMark, knownTag, fieldItem, recordBody}
+use Rattle.dictionary_rules.specs.Record.{withBody, withKind, recordFrom, recordAt}
 use Rattle.dictionary_rules.specs.declared.Record.{Record}
+use Rattle.dictionary_rules.specs.declared.Record.the-variants.{KnownTag, FieldItem}
 use Rattle.dictionary_rules.specs.declared.Body.the-variants.{Good, Wrong}
 use Rattle.dictionary_rules.specs.declared.RecordRead.the-variants.{Whole, Bad, End}
 
@@ -117,3 +120,22 @@ module _ (d : List ℕ) (place : ℕ) where
   pub at-whole : (r : Record) → place < length d → recordBodyLength (getD d place 0) ≤ length d - (place + 1) → recordBody (getD d place 0) (take (recordBodyLength (getD d place 0)) (drop (place + 1) d)) ≡ Good r → recordAt d place ≡ Whole r (place + 1 + recordBodyLength (getD d place 0))
   unfolding withBody
   at-whole r h l e = at-body h l ∙ rw e
+
+  -- the record that a whole body of its kind makes: a known tag, and a field item
+  pub at-known-tag : (tag : ℕ) → place + 5 ≤ length d → getD d place 0 ≡ 1 → tag ≡ lowFirst (take 4 (drop (place + 1) d)) → (tag ≡ 0 → ⊥)
+      → recordAt d place ≡ Whole (KnownTag tag) (place + 5)
+  unfolding withBody recordBody recordBodyLength knownTag withTag
+  at-known-tag tag h k t z =
+      let next : place + 1 + 4 ≡ place + 5 = omega arith in
+      at-body (omega arith) (rw k (omega arith)) ∙ rw (k, take-take 4 4 (drop (place + 1) d) (omega arith), ← t, ne-eqb tag 0 z, next)
+
+  pub at-field-item : (tag : ℕ) → place + 6 ≤ length d → getD d place 0 ≡ 4 → tag ≡ lowFirst (take 4 (drop (place + 1) d)) → (tag ≡ 0 → ⊥)
+      → getD d (place + 5) 0 ≤ 1 → recordAt d place ≡ Whole (FieldItem tag (eqb (getD d (place + 5) 0) 1)) (place + 6)
+  unfolding withBody recordBody recordBodyLength fieldItem withMark withTag
+  at-field-item tag h k t z m =
+      let next : place + 1 + 5 ≡ place + 6 = omega arith in
+      let fifth : place + 1 + 4 ≡ place + 5 = omega arith in
+      let five : 4 < 5 = omega arith in
+      let mark : getD (take 5 (drop (place + 1) d)) 4 0 ≡ getD d (place + 5) 0 = rw (getD-take, getD-drop, fifth) in
+      at-body (omega arith) (rw k (omega arith))
+      ∙ rw (k, mark, take-take 4 5 (drop (place + 1) d) (omega arith), ← t, le-ltb 1 _ m, ne-eqb tag 0 z, next)

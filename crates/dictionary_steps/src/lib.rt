@@ -14,9 +14,11 @@ use dictionary_rules::Record;
 use dictionary_rules::State;
 use dictionary_rules::Step;
 ghost use mathlib.Core.Path.{_≡_};
+ghost use Prim.Native.Nat.{_<_};
 ghost use lib.ListN.{length};
 ghost use Rattle.dictionary_rules.specs.Index.{looksAt};
 ghost use Rattle.dictionary_rules.specs.Step.{stepOf, atEnd, depthOf, opened, opens, deeper, grown, heldWith, standsFor, onTag, onComponent, onMessage, onField, onItem, onGroup, onClose, closesOwner, closesGroup};
+ghost use Rattle.dictionary_rules.specs.Passing.{withField};
 ghost use Rattle.dictionary_chains.specs.Chain.{indexWords};
 
 fn depth_of(groups: Groups) -> u64
@@ -147,6 +149,15 @@ fn on_message(index: &[u16], state: State, place: u16, msgtype: u64) -> Step
     )
 }
 
+// What is open, with one field item more.
+pub fn count_field(thing: Open) -> Open
+    requires { ⌜ thing .items < 1024 ⌝ }
+    ensures { λ r. ⌜ r ≡ withField thing ⌝ }
+{
+    let groups = thing.groups;
+    grow(thing, thing.items + 1, thing.depth, Held::Several, groups)
+}
+
 fn on_field(index: &[u16], state: State, place: u16, tag: u32) -> Step
     requires { ⌜ length (now index) ≡ indexWords ⌝ }
     ensures { λ r. ⌜ r ≡ onField (looksAt (now (index .entry))) state place tag ⌝ }
@@ -160,11 +171,7 @@ fn on_field(index: &[u16], state: State, place: u16, tag: u32) -> Step
     if 1024 <= thing.items {
         return Step::Refuses(Checked::TooManyItems(place));
     }
-    let groups = thing.groups;
-    Step::Goes(
-        State::Inside(grow(thing, thing.items + 1, thing.depth, Held::Several, groups)),
-        Note::Unchanged,
-    )
+    Step::Goes(State::Inside(count_field(thing)), Note::Unchanged)
 }
 
 fn on_item(index: &[u16], state: State, place: u16, number: u16) -> Step

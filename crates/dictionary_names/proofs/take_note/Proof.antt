@@ -9,17 +9,16 @@ returns : tie.Need-returns
 returns c = unfold noted in rw (c .enum-told .given .1)
 
 returns-2 : tie.Need-returns-2
-returns-2 c = unfold noted in rw (c .before .before .before .before .before .before .note .given .1) (c .before .before .enter .ensures ∙ rw (c .before .before .before .tag-entry .ensures))
+returns-2 c = rw (c .before .before .before .before .before .note .given .1) (c .before .before .know-tag .ensures)
 
 returns-3 : tie.Need-returns-3
-returns-3 c = unfold noted in rw (c .before .before .before .before .before .before .note2 .given .1) (c .before .before .enter2 .ensures ∙ rw (c .before .before .before .component-entry .ensures))
+returns-3 c = unfold noted in rw (c .before .before .before .before .before .before .note2 .given .1) (c .before .before .enter .ensures ∙ rw (c .before .before .before .component-entry .ensures))
 
 returns-4 : tie.Need-returns-4
-returns-4 c = unfold noted in rw (c .before .before .before .before .before .before .note3 .given .1) (c .before .before .enter3 .ensures ∙ rw (c .before .before .before .message-entry .ensures))
+returns-4 c = unfold noted in rw (c .before .before .before .before .before .before .note3 .given .1) (c .before .before .enter2 .ensures ∙ rw (c .before .before .before .message-entry .ensures))
 
 pub take-note-spec : {M : Type 1} → statement M
 take-note-spec =
     tie.close
-    (tie.spec (λ c. search needs) (λ c. search needs) (λ c κs. search needs) (λ c κs. search needs) (λ c. search needs)
-    (λ c κs. search needs) (λ c κs. search needs) (λ c. search needs) (λ c κs. search needs) (λ c κs. search needs)
-    returns (λ c. search needs) returns-2 (λ c. search needs) returns-3 (λ c. search needs) returns-4)
+    (tie.spec (λ c. search needs) (λ c. search needs) (λ c κs. search needs) (λ c. search needs) (λ c κs. search needs)
+    (λ c κs. search needs) (λ c. search needs) (λ c κs. search needs) (λ c κs. search needs) returns (λ c. search needs) returns-2 (λ c. search needs) returns-3 (λ c. search needs) returns-4)

@@ -25,10 +25,10 @@ returns-3 : tie.Need-returns-3
 returns-3 c = sym (field-many _ _ _ (c .before .before .before .before .before .state .given .1) _ _ (looks-known _ _ ∙ sym (c .before .before .before .tag-known .ensures) ∙ not-false _ (c .before .before .if1 .left)) (many (c .if2 .taken)))
 
 returns-4 : tie.Need-returns-4
-returns-4 c = sym (field-goes _ _ _ (c .before .before .before .before .before .before .before .state .given .1) _ _ (looks-known _ _ ∙ sym (c .before .before .before .before .before .tag-known .ensures) ∙ not-false _ (c .before .before .before .before .if1 .left)) (few (c .before .before .if2 .left)) ∙ rw (c .grow .ensures))
+returns-4 c = sym (field-goes _ _ _ (c .before .before .before .before .before .before .state .given .1) _ _ (looks-known _ _ ∙ sym (c .before .before .before .before .tag-known .ensures) ∙ not-false _ (c .before .before .before .if1 .left)) (few (c .before .if2 .left)) ∙ rw (c .count-field .ensures))
 
 pub on-field-spec : {M : Type 1} → statement M
 on-field-spec =
     tie.close
     (tie.spec (λ c. search needs) (λ c. search needs) returns (λ c κs. search needs) returns-2 returns-3
-    (λ c. search needs) (λ c κs. search needs) returns-4)
+    (λ c κs. search needs) returns-4)
