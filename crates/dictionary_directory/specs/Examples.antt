@@ -6,7 +6,7 @@ use mathlib.Core.Bool.{true}
 use Prim.Native.Nat.{ℕ}
 use lib.ListN.{take, replicate}
 use Rattle.dictionary_layout_rules.specs.Layout.{Layout, end, field}
-use Rattle.dictionary_layout_rules.specs.Table.{mark, nextSibling}
+use Rattle.dictionary_layout_rules.specs.Table.{mark, marks, nextSibling}
 use Rattle.dictionary_layout_rules.specs.RowsLayout.{layoutWithin, layoutIn}
 use Rattle.dictionary_tables_rules.specs.Table.{headsFor}
 use Rattle.dictionary_tables_rules.specs.Tags.{fieldsOf}
@@ -85,6 +85,6 @@ unfolding tableIn keptAt tagsAt keptIn blockAt layTables clearDirectory wordsOf 
     componentAt lookedAs componentOf found wayOf followed climbed strayed branchOf linkAt entryAt wordAt keyOf headOf rankOf
     placedTable asTable layItems itemsFrom itemsWithin onRead onRecord putRow layoutIn layoutWithin nextSibling
     tableOf ownCount headsFor partSize innerSize ownItems firstUnder lastGroup firstMarked itemWords itemsWords headWords
-    partWords innerWords mark recordsFrom recordsWithin followedBy recordAt recordFrom withKind withBody recordBody recordBodyLength
+    partWords innerWords marks mark recordsFrom recordsWithin followedBy recordAt recordFrom withKind withBody recordBody recordBodyLength
     opensComponent opensMessage fieldItem withTag withMark zeroFilled lowFirst
 whole = refl

@@ -134,7 +134,7 @@ fn put_head(tables: &mut [u16], slot: usize, place: usize, size: usize, free: us
 // Writes the block of a message whose layout the first rows hold, if it has room.
 fn put_block(
     tables: &mut [u16],
-    made: &[u32; 4096],
+    made: &[u16; 4096],
     count: usize,
     place: usize,
     free: usize,
@@ -166,7 +166,7 @@ fn lay_message(
     if LONGEST <= place {
         return free;
     }
-    let mut rows = [0u32; 4096];
+    let mut rows = [0u16; 4096];
     let MessageTable::Rows(count) = dictionary_flattening::placed_table(
         dictionary,
         index,
@@ -275,7 +275,7 @@ pub fn lay_table(
     ensures { λ _. ⌜ now (table .exit) ≡ laidOver (placedTable (now (dictionary .entry)) (now (index .entry)) (At opening) (replicate 4096 0)) (now (table .entry)) ⌝ }
 {
     let words = &mut table[..];
-    let mut made = [0u32; 4096];
+    let mut made = [0u16; 4096];
     let MessageTable::Rows(count) = dictionary_flattening::placed_table(
         dictionary,
         index,

@@ -37,16 +37,16 @@ fn stands_at(index: &[u16], number: u16) -> Expansion
     Expansion::ItemsAt(dictionary_chains::wide(standing.place) as usize + 3)
 }
 
-// One row of the table: tag, required mark, whether it is a group, and the row where what belongs to it ends.
-fn put_row(table: &mut [u32], row: usize, tag: u32, required: bool, is_group: bool, link: usize)
+// One row of the table: the low and the high half of the tag, the marks, and the row where what belongs to it ends.
+fn put_row(table: &mut [u16], row: usize, tag: u32, required: bool, is_group: bool, link: usize)
     requires { ⌜ (4096 ≤ length (now table)) × (row < 1024) × (link ≤ 1024) ⌝ }
     ensures { λ _. ⌜ now (table .exit) ≡ putRow (now (table .entry)) row tag required «is_group» link ⌝ }
 {
     let at = 4 * row;
-    table[at] = tag;
-    table[at + 1] = required as u32;
-    table[at + 2] = is_group as u32;
-    table[at + 3] = link as u32;
+    table[at] = (tag % 65536) as u16;
+    table[at + 1] = (tag / 65536) as u16;
+    table[at + 2] = required as u16 + 2 * is_group as u16;
+    table[at + 3] = link as u16;
 }
 
 // The items from a place on up to their close. A group's entries and a component's items are laid by the same function, the open
@@ -55,7 +55,7 @@ fn put_row(table: &mut [u32], row: usize, tag: u32, required: bool, is_group: bo
 fn lay_items(
     bytes: &[u8],
     index: &[u16],
-    table: &mut [u32],
+    table: &mut [u16],
     from: usize,
     first: usize,
     depth: usize,
@@ -180,7 +180,7 @@ pub fn placed_table(
     dictionary: &[u8],
     index: &[u16],
     opening: u16,
-    table: &mut [u32; 4096],
+    table: &mut [u16; 4096],
 ) -> MessageTable
     requires { ⌜ length (now index) ≡ indexWords ⌝ }
     ensures { λ r. ⌜ tabling r (now (table .exit)) ≡ placedTable (now (dictionary .entry)) (now (index .entry)) (At opening) (now (table .entry)) ⌝ }

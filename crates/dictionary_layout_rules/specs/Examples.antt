@@ -8,7 +8,7 @@ use native.Mathlib.Omega.{arith}
 use Rattle.field_rules.specs.Text.{bytes}
 use Rattle.dictionary_layout_rules.specs.Layout.{Layout, end, field, group, followedBy, firstOf, positionFrom, positionIn, none, entries, groupSince, groupOf, delimiterOf, requiredTags, items, larger, depth}
 use Rattle.dictionary_layout_rules.specs.Tree.{Nodes, nothing, fieldItem, componentItem, groupItem, Dictionary, holdsTag, knows, plainFields, flattened, sameBytes, noMessage, laidOut, messageOf, layoutOf}
-use Rattle.dictionary_layout_rules.specs.Table.{mark, rowsFrom}
+use Rattle.dictionary_layout_rules.specs.Table.{mark, marks, rowsFrom}
 use Rattle.dictionary_layout_rules.specs.Measures.{NoEmptyGroup, none-at-end, none-after-field, none-in-group, Bounded}
 use Rattle.dictionary_layout_rules.specs.declared.Position.the-variants.{At, Nowhere}
 use Rattle.dictionary_layout_rules.specs.declared.FirstTag.the-variants.{First, NoTag}
@@ -128,18 +128,18 @@ closes-empty b = go (b .filled)
     go : NoEmptyGroup (group 1 false end end) → ⊥
     go (none-in-group some inner rest) = some refl
 
--- the table of `D`: tag, required mark, group mark, where what belongs to it ends
+-- the table of `D`: low and high half of the tag, marks, where what belongs to it ends
 abbrev orderTable : List ℕ
 orderTable =
     38 ∷ 0 ∷ 0 ∷ 1 ∷
-    78 ∷ 0 ∷ 1 ∷ 7 ∷
-    79 ∷ 1 ∷ 0 ∷ 3 ∷
-    80 ∷ 1 ∷ 0 ∷ 4 ∷
-    539 ∷ 0 ∷ 1 ∷ 7 ∷
-    524 ∷ 1 ∷ 0 ∷ 6 ∷
+    78 ∷ 0 ∷ 2 ∷ 7 ∷
+    79 ∷ 0 ∷ 1 ∷ 3 ∷
+    80 ∷ 0 ∷ 1 ∷ 4 ∷
+    539 ∷ 0 ∷ 2 ∷ 7 ∷
+    524 ∷ 0 ∷ 1 ∷ 6 ∷
     525 ∷ 0 ∷ 0 ∷ 7 ∷
     58 ∷ 0 ∷ 0 ∷ 8 ∷ []
 
-tables : rowsFrom 0 order ≡ orderTable
-unfolding rowsFrom items mark
-tables = refl
+tables : (rowsFrom 0 order ≡ orderTable) × (rowsFrom 0 (group 65615 true (field 4294967295 true end) end) ≡ 79 ∷ 1 ∷ 3 ∷ 2 ∷ 65535 ∷ 65535 ∷ 1 ∷ 2 ∷ [])
+unfolding rowsFrom items marks mark
+tables = (refl, refl)

@@ -71,8 +71,8 @@ pub layout-held : (table : List ℕ) (count : ℕ) (layout : Layout) → Tabled 
 unfolding layoutIn
 layout-held table count layout t = held-within count table 0 count layout (t .stands) (t .ends) (omega (arith, t .ends))
 
--- group 78 with 79 in it, then 58; and the same where the group's link doesn't rise: nothing lies in it, and the level ends there
-held : map (λ (link : ℕ). layoutIn (78 ∷ 0 ∷ 1 ∷ link ∷ 79 ∷ 1 ∷ 0 ∷ 2 ∷ 58 ∷ 0 ∷ 0 ∷ 3 ∷ []) 3) (2 ∷ 0 ∷ []) ≡
-    group 78 false (field 79 true end) (field 58 false end) ∷ group 78 false end end ∷ []
+-- group 78 with 65615 in it, then 58; and the same where the group's link doesn't rise: nothing lies in it, and the level ends there
+held : map (λ (link : ℕ). layoutIn (78 ∷ 0 ∷ 2 ∷ link ∷ 79 ∷ 1 ∷ 1 ∷ 2 ∷ 58 ∷ 0 ∷ 0 ∷ 3 ∷ []) 3) (2 ∷ 0 ∷ []) ≡
+    group 78 false (field 65615 true end) (field 58 false end) ∷ group 78 false end end ∷ []
 unfolding layoutIn layoutWithin nextSibling
 held = refl

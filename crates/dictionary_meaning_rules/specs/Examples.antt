@@ -11,7 +11,7 @@ use Rattle.field_rules.specs.Text.{bytes}
 use Rattle.dictionary_layout_rules.specs.Layout.{Layout, end, group}
 use Rattle.dictionary_layout_rules.specs.Layout.{field as plainField, followedBy as followedInPlace}
 use Rattle.dictionary_layout_rules.specs.Tree.{Nodes, nothing, fieldItem, componentItem, groupItem, Message, Dictionary, flattened}
-use Rattle.dictionary_layout_rules.specs.Table.{mark}
+use Rattle.dictionary_layout_rules.specs.Table.{mark, marks}
 use Rattle.dictionary_rules.specs.Record.{lowFirst, zeroFilled, recordBodyLength, withTag, withMark, knownTag, opensComponent, opensMessage, recordBody, withBody, withKind, recordFrom, recordAt}
 use Rattle.dictionary_rules.specs.Record.{fieldItem as fieldBody, componentItem as componentBody, opensGroup as groupBody}
 use Rattle.dictionary_rules.specs.Records.{Records, recordsFrom, recordsWithin, followedBy}
@@ -96,15 +96,15 @@ components =
 rows : map (λ (depth : ℕ). layItems depth dictionary (componentIn components) 100 0 (replicate 32 9)) (3 ∷ 2 ∷ []) ≡
     laying (Upto 128 7) (
     38 ∷ 0 ∷ 0 ∷ 1 ∷
-    78 ∷ 1 ∷ 1 ∷ 4 ∷
-    79 ∷ 1 ∷ 0 ∷ 3 ∷
+    78 ∷ 0 ∷ 3 ∷ 4 ∷
+    79 ∷ 0 ∷ 1 ∷ 3 ∷
     80 ∷ 0 ∷ 0 ∷ 4 ∷
-    79 ∷ 1 ∷ 0 ∷ 5 ∷
+    79 ∷ 0 ∷ 1 ∷ 5 ∷
     80 ∷ 0 ∷ 0 ∷ 6 ∷
     58 ∷ 0 ∷ 0 ∷ 7 ∷ 9 ∷ 9 ∷ 9 ∷ 9 ∷ [])
     ∷ laying Broken (38 ∷ 0 ∷ 0 ∷ 1 ∷ replicate 28 9)
     ∷ []
-unfolding layItems itemsFrom itemsWithin onRead onRecord onComponent afterComponent afterGroup putRow standsAt expanding behindOpening componentIn mark recordAt recordFrom withKind withBody recordBody recordBodyLength knownTag opensComponent opensMessage fieldBody componentBody groupBody withTag withMark zeroFilled lowFirst
+unfolding layItems itemsFrom itemsWithin onRead onRecord onComponent afterComponent afterGroup putRow standsAt expanding behindOpening componentIn marks mark recordAt recordFrom withKind withBody recordBody recordBodyLength knownTag opensComponent opensMessage fieldBody componentBody groupBody withTag withMark zeroFilled lowFirst
 rows = refl
 
 -- an index that claims items for component 4 and leads to the empty one: no row is added, so the laying breaks off
@@ -115,8 +115,8 @@ forged = refl
 -- a group that holds nothing, or an empty component only, breaks the laying off too; one that holds 79 is laid
 grouped : map (λ (inner : List (List ℕ)). layItems 3 (joined (opening ∷ joined inner ∷ [])) (componentIn components) 0 0 (replicate 8 9))
     ([] ∷ (item 3 1 ∷ []) ∷ (field 79 1 ∷ []) ∷ []) ≡
-    laying Broken (replicate 8 9) ∷ laying Broken (replicate 8 9) ∷ laying (Upto 14 2) (78 ∷ 1 ∷ 1 ∷ 2 ∷ 79 ∷ 1 ∷ 0 ∷ 2 ∷ []) ∷ []
-unfolding layItems itemsFrom itemsWithin onRead onRecord onComponent afterGroup putRow standsAt expanding componentIn mark recordAt recordFrom withKind withBody recordBody recordBodyLength fieldBody componentBody groupBody withTag withMark zeroFilled lowFirst
+    laying Broken (replicate 8 9) ∷ laying Broken (replicate 8 9) ∷ laying (Upto 14 2) (78 ∷ 0 ∷ 3 ∷ 2 ∷ 79 ∷ 0 ∷ 1 ∷ 2 ∷ []) ∷ []
+unfolding layItems itemsFrom itemsWithin onRead onRecord onComponent afterGroup putRow standsAt expanding componentIn marks mark recordAt recordFrom withKind withBody recordBody recordBodyLength fieldBody componentBody groupBody withTag withMark zeroFilled lowFirst
 grouped = refl
 
 -- a MsgType is compared with its length

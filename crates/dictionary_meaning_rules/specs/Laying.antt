@@ -1,13 +1,13 @@
 -- Flattening as the code does it: one record at a time, each item into the next free row of the table. Whatever bytes, index and table
 -- hold, this has an outcome: items that can't be read, a table that is full, a group or a component without a row, or a depth that is
 -- used up make it broken.
-use Prim.Native.Nat.{ℕ, zero, suc, _+_, _-_, _*_}
+use Prim.Native.Nat.{ℕ, zero, suc, _+_, _-_, _*_, _/_, _%_}
 use mathlib.Core.List.{List}
 use mathlib.Core.Bool.{Bool, true, false}
 use lib.ListN.{length, set}
 use lib.Dec.{eqb, leb}
 use Rattle.field_rules.specs.Choice.{pick}
-use Rattle.dictionary_layout_rules.specs.Table.{mark}
+use Rattle.dictionary_layout_rules.specs.Table.{marks}
 use Rattle.dictionary_rules.specs.declared.Component.{Component}
 use Rattle.dictionary_rules.specs.declared.Looked.{Looked}
 use Rattle.dictionary_rules.specs.declared.Looked.the-variants.{Closed, Missing}
@@ -42,10 +42,10 @@ expanding components (Closed c) = pick (eqb (c .items) 0) NoItems (behindOpening
 unfoldable pub standsAt : (ℕ → Looked) → ℕ → Expansion
 standsAt components number = expanding components (components number)
 
--- a row holds tag, required mark, whether it is a group, and where what belongs to it ends
+-- a row holds the low and the high half of the tag, the marks, and where what belongs to it ends
 unfoldable pub putRow : List ℕ → ℕ → ℕ → Bool → Bool → ℕ → List ℕ
 putRow table row tag required isGroup link =
-    set (set (set (set table (4 * row) tag) (4 * row + 1) (mark required)) (4 * row + 2) (mark isGroup)) (4 * row + 3) link
+    set (set (set (set table (4 * row) (tag % 65536)) (4 * row + 1) (tag / 65536)) (4 * row + 2) (marks required isGroup)) (4 * row + 3) link
 
 -- a group's row is written once its entries are; "group closes empty after flattening" is refused (34), so only forged content has one
 unfoldable pub afterGroup : Step → ℕ → ℕ → Bool → Laying → Laying

@@ -3,13 +3,13 @@
 use mathlib.Core.Path.{_≡_, refl, sym, ap, _∙_}
 use mathlib.Core.Bool.{Bool, true, false}
 use mathlib.Core.List.{List, [], _∷_, _++_, append-assoc, append-nil}
-use Prim.Native.Nat.{ℕ, zero, suc, _+_, _-_, _*_, _≤_, _<_}
+use Prim.Native.Nat.{ℕ, zero, suc, _+_, _-_, _*_, _/_, _%_, _≤_, _<_}
 use native.Mathlib.Omega.{arith}
 use lib.ListN.{length, set, take, drop, length-append, length-drop, take-append-drop}
 use lib.Seq.{set-at, length-take-le}
 use Rattle.dictionary_layout_rules.specs.Layout.{Layout, end, field, group, followedBy, items}
-use Rattle.dictionary_layout_rules.specs.Table.{mark, rowsFrom}
-use Rattle.dictionary_layout_rules.specs.Tabled.{rows-length, RowsStand}
+use Rattle.dictionary_layout_rules.specs.Table.{marks, rowsFrom}
+use Rattle.dictionary_layout_rules.specs.Tabled.{rowBefore, rows-length, RowsStand}
 use Rattle.dictionary_meaning_rules.specs.Laying.{putRow}
 use Rattle.dictionary_meaning_rules.specs.LayingLaws.{put-length}
 
@@ -56,13 +56,17 @@ set-in p mid y ys a n e =
 
 -- a row is written over four words
 put-over : (before more : List ℕ) (a b c d row tag : ℕ) (required isGroup : Bool) (link : ℕ) → length before ≡ 4 * row →
-    putRow (before ++ (a ∷ b ∷ c ∷ d ∷ more)) row tag required isGroup link ≡ before ++ (tag ∷ mark required ∷ mark isGroup ∷ link ∷ more)
+    putRow (before ++ (a ∷ b ∷ c ∷ d ∷ more)) row tag required isGroup link ≡ before ++ rowBefore tag required isGroup link more
 unfolding putRow
 put-over before more a b c d row tag required isGroup link e =
-    ap (λ (l : List ℕ). set (set (set l (4 * row + 1) (mark required)) (4 * row + 2) (mark isGroup)) (4 * row + 3) link) (set-in before [] a (b ∷ c ∷ d ∷ more) tag (4 * row) (omega arith))
-    ∙ ap (λ (l : List ℕ). set (set l (4 * row + 2) (mark isGroup)) (4 * row + 3) link) (set-in before (tag ∷ []) b (c ∷ d ∷ more) (mark required) (4 * row + 1) (omega arith))
-    ∙ ap (λ (l : List ℕ). set l (4 * row + 3) link) (set-in before (tag ∷ mark required ∷ []) c (d ∷ more) (mark isGroup) (4 * row + 2) (omega arith))
-    ∙ set-in before (tag ∷ mark required ∷ mark isGroup ∷ []) d more link (4 * row + 3) (omega arith)
+    let low : ℕ = tag % 65536 in
+    let high : ℕ = tag / 65536 in
+    let both : ℕ = marks required isGroup in
+    ap (λ (l : List ℕ). set (set (set l (4 * row + 1) high) (4 * row + 2) both) (4 * row + 3) link)
+    (set-in before [] a (b ∷ c ∷ d ∷ more) low (4 * row) (omega arith))
+    ∙ ap (λ (l : List ℕ). set (set l (4 * row + 2) both) (4 * row + 3) link) (set-in before (low ∷ []) b (c ∷ d ∷ more) high (4 * row + 1) (omega arith))
+    ∙ ap (λ (l : List ℕ). set l (4 * row + 3) link) (set-in before (low ∷ high ∷ []) c (d ∷ more) both (4 * row + 2) (omega arith))
+    ∙ set-in before (low ∷ high ∷ both ∷ []) d more link (4 * row + 3) (omega arith)
 
 -- four words and the rest of a list that is long enough
 pub record Four (l : List ℕ) (n : ℕ) : Type 0 where
@@ -86,18 +90,18 @@ group-over : (row tag : ℕ) (required : Bool) (inner rest : Layout) (before : L
     written (row + 1) inner ((before ++ (a ∷ b ∷ c ∷ d ∷ [])) ++ (first ++ (last ++ after))) ≡ (before ++ (a ∷ b ∷ c ∷ d ∷ [])) ++ (rowsFrom (row + 1) inner ++ (last ++ after)) →
     ((words : List ℕ) → length words ≡ 4 + 4 * items inner → written (row + 1 + items inner) rest ((before ++ words) ++ (last ++ after)) ≡ (before ++ words) ++ (rowsFrom (row + 1 + items inner) rest ++ after)) →
     written row (group tag required inner rest) (before ++ (a ∷ b ∷ c ∷ d ∷ (first ++ (last ++ after)))) ≡ before ++ (rowsFrom row (group tag required inner rest) ++ after)
-unfolding written rowsFrom mark
+unfolding written rowsFrom
 group-over row tag required inner rest before a b c d first last after e within following =
     let link : ℕ = row + 1 + items inner in
     let holes : List ℕ = a ∷ b ∷ c ∷ d ∷ [] in
     let rows : List ℕ = rowsFrom (row + 1) inner in
-    let words : List ℕ = tag ∷ mark required ∷ 1 ∷ link ∷ rows in
+    let words : List ℕ = rowBefore tag required true link rows in
     ap (λ (l : List ℕ). written link rest (putRow (written (row + 1) inner l) row tag required true link)) (sym (append-assoc before holes (first ++ (last ++ after))))
     ∙ ap (λ (l : List ℕ). written link rest (putRow l row tag required true link)) (within ∙ append-assoc before holes (rows ++ (last ++ after)))
     ∙ ap (λ (l : List ℕ). written link rest l) (put-over before (rows ++ (last ++ after)) a b c d row tag required true link e ∙ sym (append-assoc before words (last ++ after)))
     ∙ following words (omega (arith, rows-length (row + 1) inner))
     ∙ append-assoc before words (rowsFrom link rest ++ after)
-    ∙ ap (λ (l : List ℕ). before ++ (tag ∷ mark required ∷ 1 ∷ link ∷ l)) (sym (append-assoc rows (rowsFrom link rest) after))
+    ∙ ap (λ (l : List ℕ). before ++ rowBefore tag required true link l) (sym (append-assoc rows (rowsFrom link rest) after))
 
 -- written over as many words as the layout takes, the rows take their place
 pub written-over : (row : ℕ) (layout : Layout) (before old after : List ℕ) → length before ≡ 4 * row → length old ≡ 4 * items layout → written row layout (before ++ (old ++ after)) ≡ before ++ (rowsFrom row layout ++ after)
@@ -106,12 +110,11 @@ written-over row end before [] after e o = refl
 written-over row end before (x ∷ old) after e o = absurd (omega arith)
 written-over row (field tag required rest) before old after e o =
     let f = four old (4 * items rest) (omega arith) in
-    let words : List ℕ = tag ∷ mark required ∷ mark false ∷ (row + 1) ∷ [] in
+    let words : List ℕ = rowBefore tag required false (row + 1) [] in
     ap (λ (l : List ℕ). written (row + 1) rest (putRow (before ++ (l ++ after)) row tag required false (row + 1))) (f .whole)
     ∙ ap (λ (l : List ℕ). written (row + 1) rest l) (put-over before (f .more ++ after) (f .a) (f .b) (f .c) (f .d) row tag required false (row + 1) e ∙ sym (append-assoc before words (f .more ++ after)))
     ∙ written-over (row + 1) rest (before ++ words) (f .more) after (length-append before words ∙ omega arith) (f .size)
     ∙ append-assoc before words (rowsFrom (row + 1) rest ++ after)
-    ∙ unfold mark in refl
 written-over row (group tag required inner rest) before old after e o =
     let f = four old (4 * (items inner + items rest)) (omega arith) in
     by-parts (written-over (row + 1) inner) (written-over (row + 1 + items inner) rest) (f .a) (f .b) (f .c) (f .d) (f .more) (f .whole) (f .size)

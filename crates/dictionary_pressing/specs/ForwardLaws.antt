@@ -1,29 +1,30 @@
 -- Writing a level's items, one row after the other: by what the row says, the next item of the layout is a field or a group.
 use mathlib.Core.Path.{_≡_, refl, sym, ap, _∙_}
-use mathlib.Core.Bool.{Bool}
+use mathlib.Core.Bool.{Bool, true, false}
 use mathlib.Core.List.{List, _++_}
 use Prim.Native.Nat.{ℕ, _+_, _*_, _/_, _≤_, _<_}
 use native.Mathlib.Omega.{arith}
 use lib.ListN.{length, length-set, length-append, length-drop, take, drop}
 use lib.Seq.{length-take-le}
 use lib.Dec.{eqb}
+use borrow.Author.Tests.{eqb-true, eqb-false}
 use Rattle.dictionary_layout_rules.specs.Layout.{Layout, end, field, group, items}
 use Rattle.dictionary_layout_rules.specs.Table.{tagAt, requiredAt, groupAt, linkAt, siblingsFrom}
-use Rattle.dictionary_layout_rules.specs.Tabled.{RowsStand, Tabled, field-rest, group-inner, group-rest, stands-length}
+use Rattle.dictionary_layout_rules.specs.Tabled.{RowSays, RowsStand, Tabled, field-rest, group-inner, group-rest, stands-length}
 use Rattle.dictionary_tables_rules.specs.Table.{headsFor}
 use Rattle.dictionary_tables_rules.specs.Laid.{ownCount, partSize, innerSize, tableSize, levelWords}
 use Rattle.dictionary_tables_rules.specs.Tabled.{level-length}
 use Rattle.dictionary_pressing.specs.Linking.{itemsStart, linked}
 use Rattle.dictionary_pressing.specs.Pressing.{putItem, pressed, pressItems, Pressing, Pressed, Forward}
 use Rattle.dictionary_pressing.specs.PressingLaws.{press-linked}
-use Rattle.dictionary_pressing.specs.RowsLaws.{rows-counted, RowSays, field-says, group-says}
+use Rattle.dictionary_pressing.specs.RowsLaws.{rows-counted, field-says, group-says}
 
 -- the next item is a field
 record FieldHere (rows : List ℕ) (at : ℕ) (rest : Layout) : Type 0 where
   tag : ℕ
   required : Bool
   after : Layout
-  says : RowSays rows at tag required 0 (at + 1)
+  says : RowSays rows at tag required false (at + 1)
   stands : RowsStand rows (at + 1) after
   counts : items rest ≡ 1 + items after
   owns : ownCount rest ≡ 1 + ownCount after
@@ -45,7 +46,7 @@ field-here rows at (field tag required after) s h n =
       inners = refl;
       presses = λ slot free table. refl;
     }
-field-here rows at (group tag required inner after) s h n = absurd (n (group-says rows at tag required inner after s .grouped))
+field-here rows at (group tag required inner after) s h n = absurd (n (eqb-true _ _ (group-says rows at tag required inner after s .grouped)))
 
 -- the next item is a group
 pub record GroupHere (rows : List ℕ) (at : ℕ) (rest : Layout) : Type 0 where
@@ -53,7 +54,7 @@ pub record GroupHere (rows : List ℕ) (at : ℕ) (rest : Layout) : Type 0 where
   pub required : Bool
   pub inner : Layout
   pub after : Layout
-  pub says : RowSays rows at tag required 1 (at + 1 + items inner)
+  pub says : RowSays rows at tag required true (at + 1 + items inner)
   pub tabled : Tabled rows (record { first = at + 1; end = at + 1 + items inner }) inner
   pub stands : RowsStand rows (at + 1 + items inner) after
   pub counts : items rest ≡ 1 + (items inner + items after)
@@ -65,7 +66,7 @@ pub record GroupHere (rows : List ℕ) (at : ℕ) (rest : Layout) : Type 0 where
 group-here : (rows : List ℕ) (at : ℕ) (rest : Layout) → RowsStand rows at rest → 0 < items rest → groupAt rows at ≡ 1 → GroupHere rows at rest
 unfolding items ownCount innerSize pressItems
 group-here rows at end s h g = absurd (omega arith)
-group-here rows at (field tag required after) s h g = absurd (omega (arith, field-says rows at tag required after s .grouped))
+group-here rows at (field tag required after) s h g = absurd (eqb-false _ _ (field-says rows at tag required after s .grouped) g)
 group-here rows at (group tag required inner after) s h g =
     record {
       tag = tag;

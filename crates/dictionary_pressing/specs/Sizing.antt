@@ -7,7 +7,7 @@ use Prim.Native.Nat.{ℕ, zero, suc, _+_, _-_, _*_, _≤_, _<_}
 use native.Mathlib.Omega.{arith}
 use lib.ListN.{length, drop}
 use lib.Dec.{eqb, ltb}
-use borrow.Author.Tests.{eq-eqb, ne-eqb, lt-ltb, le-ltb, ltb-true, ltb-false}
+use borrow.Author.Tests.{eq-eqb, ne-eqb, eqb-true, eqb-false, lt-ltb, le-ltb, ltb-true, ltb-false}
 use Rattle.field_rules.specs.Choice.{pick}
 use Rattle.dictionary_layout_rules.specs.Layout.{Layout, end, field, group, items}
 use Rattle.dictionary_layout_rules.specs.Measures.{NoEmptyGroup, none-at-end, none-after-field, none-in-group}
@@ -77,9 +77,9 @@ parts-sum rows at stop left end s h =
 parts-sum rows at stop left (field tag required rest) s h =
     let n : 1 + items rest + left ≡ suc (items rest + left) = omega arith in
     let m : at + (1 + items rest) ≡ at + 1 + items rest = omega arith in
-    let g = field-says rows at tag required rest s .grouped in
+    let plain = eqb-false _ _ (field-says rows at tag required rest s .grouped) in
     rw (n, m) (step (items rest + left)
-    ∙ rw (parts-field rows at stop (λ e. omega arith), parts-sum rows (at + 1) stop left rest (field-rest s) (omega arith))
+    ∙ rw (parts-field rows at stop plain, parts-sum rows (at + 1) stop left rest (field-rest s) (omega arith))
     (omega arith))
   where
     step : (k : ℕ) → partsFrom (suc k) rows at stop ≡ partBehind rows at stop + partsFrom k rows (at + 1) stop
@@ -88,7 +88,8 @@ parts-sum rows at stop left (group tag required inner rest) s h =
     let n : 1 + (items inner + items rest) + left ≡ suc (items inner + (items rest + left)) = omega arith in
     let m : at + (1 + (items inner + items rest)) ≡ at + 1 + items inner + items rest = omega arith in
     let r = group-says rows at tag required inner rest s in
-    let p : partBehind rows at stop ≡ partSize (ownCount inner) = parts-group rows at stop (at + 1 + items inner) (r .grouped) (r .linked) (omega arith)
+    let p : partBehind rows at stop ≡ partSize (ownCount inner) =
+    parts-group rows at stop (at + 1 + items inner) (eqb-true _ _ (r .grouped)) (r .linked) (omega arith)
     ∙ ap partSize (rows-counted rows (at + 1) (at + 1 + items inner) inner
     (record { stands = group-inner s; ends = refl })) in
     rw (n, m) (step (items inner + (items rest + left))

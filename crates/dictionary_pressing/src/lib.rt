@@ -1,6 +1,5 @@
 // dictionary_pressing: the table that reading uses, written from the rows of a layout, level by level: a level's items first, each group's level
 // behind them, and the items linked once all of them stand there. What the words are is said by `dictionary_tables_rules`.
-use field_numbers::wide;
 ghost use mathlib.Core.Path.{_≡_};
 ghost use Prim.Native.Nat.{_+_, _*_, _/_, _≤_, _<_};
 ghost use mathlib.Core.List.{_++_};
@@ -141,11 +140,11 @@ fn link_items(table: &mut [u16], level: usize, count: usize)
 }
 
 // The next row of the same level. A link that doesn't rise ends the level.
-fn next_sibling(rows: &[u32], at: usize, stop: usize) -> usize
+fn next_sibling(rows: &[u16], at: usize, stop: usize) -> usize
     requires { ⌜ at < length (now rows) / 4 ⌝ }
     ensures { λ r. ⌜ r ≡ nextSibling (now (rows .entry)) at stop ⌝ }
 {
-    let link = wide(rows[ROW * at + 3]);
+    let link = word(rows[ROW * at + 3]);
     if at < link {
         return link;
     }
@@ -153,7 +152,7 @@ fn next_sibling(rows: &[u32], at: usize, stop: usize) -> usize
 }
 
 // A level's own items.
-fn own_count(rows: &[u32], first: usize, stop: usize) -> usize
+fn own_count(rows: &[u16], first: usize, stop: usize) -> usize
     requires { ⌜ stop ≤ length (now rows) / 4 ⌝ }
     ensures { λ r. ⌜ r ≡ length (siblingsFrom (now (rows .entry)) first stop) ⌝ }
 {
@@ -174,20 +173,20 @@ fn part_size(count: usize) -> usize
     1 + heads_for(count) + STRIDE * count
 }
 
-// An item, not linked yet.
-fn put_item(table: &mut [u16], at: usize, tag: u32, group: usize, required: bool)
+// An item, not linked yet. Its tag is told by its low and its high half.
+fn put_item(table: &mut [u16], at: usize, low: u16, high: u16, group: usize, required: bool)
     requires { ⌜ (at + 5 ≤ length (now table)) × (group < 65536) ⌝ }
-    ensures { λ _. ⌜ now (table .exit) ≡ putItem (now (table .entry)) at tag group required ⌝ }
+    ensures { λ _. ⌜ now (table .exit) ≡ putItem (now (table .entry)) at (low + 65536 * high) group required ⌝ }
 {
-    table[at] = (tag % 65536) as u16;
-    table[at + 1] = (tag / 65536) as u16;
+    table[at] = low;
+    table[at + 1] = high;
     table[at + 2] = group as u16;
     table[at + 3] = required as u16;
     table[at + 4] = 0;
 }
 
 // A level with all that is within, from a word of the table on. The words behind it start where the answer says.
-fn press_level(rows: &[u32], first: usize, stop: usize, table: &mut [u16], level: usize) -> usize
+fn press_level(rows: &[u16], first: usize, stop: usize, table: &mut [u16], level: usize) -> usize
     requires { ⌜ Pressing (now rows) first stop (length (now table)) level ⌝ }
     ensures { λ r. ⌜ ((x : Pressing (now (rows .entry)) first stop (length (now (table .entry))) level) → Pressed level (x .layout) (now (table .entry)) (now (table .exit)) r) ⌝ }
 {
@@ -196,16 +195,17 @@ fn press_level(rows: &[u32], first: usize, stop: usize, table: &mut [u16], level
     let mut free = level + part_size(count);
     let mut at = first;
     while at < stop {
-        let tag = rows[ROW * at];
-        let required = rows[ROW * at + 1] == 1;
-        let next = wide(rows[ROW * at + 3]);
+        let low = rows[ROW * at];
+        let high = rows[ROW * at + 1];
+        let required = rows[ROW * at + 2] % 2 == 1;
+        let next = word(rows[ROW * at + 3]);
         let place = slot;
         slot += STRIDE;
-        if rows[ROW * at + 2] == 1 {
-            put_item(table, place, tag, free, required);
+        if rows[ROW * at + 2] / 2 == 1 {
+            put_item(table, place, low, high, free, required);
             free = press_level(rows, at + 1, next, table, free);
         } else {
-            put_item(table, place, tag, 0, required);
+            put_item(table, place, low, high, 0, required);
         }
         at = next;
     }
@@ -223,7 +223,7 @@ fn least(one: usize, other: usize) -> usize
 }
 
 // How many words the table of the first rows takes, if they hold a layout: the part of its own level, and that of each group.
-pub fn table_size(rows: &[u32], count: usize) -> usize
+pub fn table_size(rows: &[u16], count: usize) -> usize
     ensures { λ r. ⌜ ((layout : Layout) → Tabled (now (rows .entry)) (record { first = 0; end = count }) layout → items layout ≤ 1024 → r ≡ tableSize layout) ⌝ }
 {
     if 1024 < count {
@@ -237,8 +237,8 @@ pub fn table_size(rows: &[u32], count: usize) -> usize
     while at < count {
         let row = at;
         at += 1;
-        if rows[ROW * row + 2] == 1 {
-            let stop = least(wide(rows[ROW * row + 3]), count);
+        if rows[ROW * row + 2] / 2 == 1 {
+            let stop = least(word(rows[ROW * row + 3]), count);
             size += part_size(own_count(rows, row + 1, stop));
         }
     }
@@ -246,7 +246,7 @@ pub fn table_size(rows: &[u32], count: usize) -> usize
 }
 
 // Writes the table of the layout that the first rows hold over the first words; the others stay.
-pub fn press(rows: &[u32], count: usize, table: &mut [u16])
+pub fn press(rows: &[u16], count: usize, table: &mut [u16])
     requires { ⌜ Pressable (now rows) count (length (now table)) ⌝ }
     ensures { λ _. ⌜ ((layout : Layout) → Tabled (now (rows .entry)) (record { first = 0; end = count }) layout → now (table .exit) ≡ tableOf layout ++ drop (tableSize layout) (now (table .entry))) ⌝ }
 {
@@ -262,7 +262,15 @@ pub fn press_tags(tags: &[u32], table: &mut [u16]) -> usize
     let mut slot = 1 + heads_for(count);
     let mut next: usize = 0;
     while next < count {
-        put_item(table, slot, tags[next], 0, false);
+        let tag = tags[next];
+        put_item(
+            table,
+            slot,
+            (tag % 65536) as u16,
+            (tag / 65536) as u16,
+            0,
+            false,
+        );
         slot += STRIDE;
         next += 1;
     }

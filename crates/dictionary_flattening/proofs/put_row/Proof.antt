@@ -1,12 +1,12 @@
--- `put_row` meets its contract: four stores, and a mark is stored as 1 or 0.
-use mathlib.Core.Path.{_≡_, refl, sym, ap, _∙_}
-use Prim.Native.Nat.{ℕ, _+_, _-_, _*_, _≤_, _<_}
+-- `put_row` meets its contract: four stores; each mark is 1 or 0, so both fit into one word.
+use mathlib.Core.Path.{_≡_, refl}
+use Prim.Native.Nat.{_≤_}
 use native.Mathlib.Omega.{arith}
 use borrow.Author.Needs.{needs}
 use mir.Val.{boolByte}
-use lib.ListN.{length, length-set}
+use lib.ListN.{length-set}
 use mathlib.Core.Bool.{Bool, true, false}
-use Rattle.dictionary_layout_rules.specs.Table.{mark}
+use Rattle.dictionary_layout_rules.specs.Table.{mark, marks}
 use Rattle.dictionary_meaning_rules.specs.Laying.{putRow}
 use Rattle.dictionary_flattening.proofs.put_row.Statement.{statement}
 use Rattle.dictionary_flattening.proofs.put_row.Tie as tie
@@ -16,8 +16,18 @@ unfolding mark
 stored true = refl
 stored false = refl
 
+one-bit : (b : Bool) → boolByte b ≤ 1
+one-bit true = omega arith
+one-bit false = omega arith
+
 slice-write-table-2 : tie.Need-slice-write-table-2
 slice-write-table-2 c = simp length-set (omega arith)
+
+mul-table-3 : tie.Need-mul-table-3
+mul-table-3 c = omega (arith, one-bit (c .args .is-group))
+
+add-table-2 : tie.Need-add-table-2
+add-table-2 c = omega (arith, one-bit (c .args .required), one-bit (c .args .is-group))
 
 slice-write-table-3 : tie.Need-slice-write-table-3
 slice-write-table-3 c = simp length-set (omega arith)
@@ -26,13 +36,13 @@ slice-write-table-4 : tie.Need-slice-write-table-4
 slice-write-table-4 c = simp length-set (omega arith)
 
 returns : tie.Need-returns
-unfolding putRow
+unfolding putRow marks
 returns c = rw (stored (c .args .required), stored (c .args .is-group))
 
 pub put-row-spec : {M : Type 1} → statement M
 put-row-spec =
     tie.close
     (tie.spec (λ c. search needs) (λ c. search needs) (λ c. search needs) (λ c. search needs) (λ c. search needs)
-    (λ c. search needs) slice-write-table-2 (λ c. search needs) (λ c. search needs) (λ c. search needs)
-    slice-write-table-3 (λ c. search needs) (λ c. search needs) (λ c. search needs) slice-write-table-4
-    (λ c. search needs) returns)
+    (λ c. search needs) (λ c. search needs) slice-write-table-2 (λ c. search needs) (λ c. search needs) mul-table-3
+    add-table-2 (λ c. search needs) (λ c. search needs) slice-write-table-3 (λ c. search needs) (λ c. search needs)
+    (λ c. search needs) slice-write-table-4 (λ c. search needs) returns)

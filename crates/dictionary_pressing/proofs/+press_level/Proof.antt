@@ -20,7 +20,7 @@ use Rattle.dictionary_pressing.proofs.link_items.Reads as link-items-re
 use Rattle.dictionary_pressing.proofs.own_count.Reads as own-count-reads
 use Rattle.dictionary_pressing.proofs.part_size.Reads as part-size-reads
 use Rattle.dictionary_pressing.proofs.put_item.Reads as put-item-reads
-use Rattle.field_numbers.proofs.wide.Reads as wide-reads
+use Rattle.dictionary_pressing.proofs.word.Reads as word-reads
 use Rattle.dictionary_pressing.proofs.+press_level.{statement}
 use Rattle.dictionary_pressing.proofs.+press_level.Tie.{close}
 
@@ -43,8 +43,8 @@ calls t = (
   heads-for-reads.Learnt,
   part-size-reads.Asked,
   part-size-reads.Learnt,
-  wide-reads.Asked,
-  wide-reads.Learnt,
+  word-reads.Asked,
+  word-reads.Learnt,
   put-item-reads.Asked,
   put-item-reads.Learnt,
   press-level-below t,
@@ -113,29 +113,29 @@ room t c = let s = c .before .before .before .before .before .before .before in
 
 press-level-put-item-requires : (t : ℕ) →
     press-level-lts.Need-put-item-requires (calls t) (press-level-at t) press-level.Post press-level-Inv-loop press-level-μ-loop
-press-level-put-item-requires t c κs = let i = c .before .before .before .before .before .before .before in (room t i .0, room t i .1)
+press-level-put-item-requires t c κs = let i = c .before .before .before .before .before .before .before .before in (room t i .0, room t i .1)
 
 press-level-put-item-requires-2 : (t : ℕ) →
     press-level-lts.Need-put-item-requires-2 (calls t) (press-level-at t) press-level.Post press-level-Inv-loop press-level-μ-loop
-press-level-put-item-requires-2 t c κs = let i = c .before .before .before .before .before .before .before in (room t i .0, omega arith)
+press-level-put-item-requires-2 t c κs = let i = c .before .before .before .before .before .before .before .before in (room t i .0, omega arith)
 
 press-level-add-slot-3 : (t : ℕ) → press-level-lts.Need-add-slot-3 (calls t) (press-level-at t) press-level.Post press-level-Inv-loop press-level-μ-loop
-press-level-add-slot-3 t c = omega (arith, room t (c .before .before .before .before))
+press-level-add-slot-3 t c = omega (arith, room t (c .before .before .before .before .before))
 
 -- a group's rows end behind its own and no later than the level
 link : (t : ℕ) (p : press-level-lts.Then1 (calls t) (press-level-at t) press-level.Post press-level-Inv-loop press-level-μ-loop) →
-    let i = p .before .before .before .before .before .before in let s = i .before .before .before .before .before .before .before in
-    (i .before .loop .at + 1 ≤ p .before .before .wide .result) × (p .before .before .wide .result ≤ s .args .stop)
-link t p = let i = p .before .before .before .before .before .before in
-    forward-link _ _ _ _ _ _ _ _ _ _ (forward t i) (i .loop-test .taken) (p .if1 .taken) _ (p .before .before .wide .ensures)
+    let i = p .before .before .before .before .before .before .before in let s = i .before .before .before .before .before .before .before in
+    (i .before .loop .at + 1 ≤ p .before .before .word .result) × (p .before .before .word .result ≤ s .args .stop)
+link t p = let i = p .before .before .before .before .before .before .before in
+    forward-link _ _ _ _ _ _ _ _ _ _ (forward t i) (i .loop-test .taken) (p .if1 .taken) _ (p .before .before .word .ensures)
 
 press-level-press-level-requires : (t : ℕ) →
     press-level-lts.Need-press-level-requires (calls t) (press-level-at t) press-level.Post press-level-Inv-loop press-level-μ-loop
 press-level-press-level-requires t c κs = let q = c .before .before .before in let p = q .before .before in
-    let i = p .before .before .before .before .before .before in
+    let i = p .before .before .before .before .before .before .before in
     let s = i .before .before .before .before .before .before .before in let l = i .before .loop in (
       omega (arith, link t p, forward t i .since, s .pre .0),
-      forward-inside _ _ _ _ _ _ _ _ _ _ (forward t i) (i .loop-test .taken) (p .if1 .taken) _ (p .before .before .wide .ensures) _
+      forward-inside _ _ _ _ _ _ _ _ _ _ (forward t i) (i .loop-test .taken) (p .if1 .taken) _ (p .before .before .word .ensures) _
           (omega (arith, s .pre .1 .room, q .put-item .kept .0, l .inv .2)) (s .pre .1 .small),
     )
 
@@ -144,8 +144,8 @@ press-level-loop-less t c = omega (arith, link t (c .before .before .before .bef
 
 press-level-loop-again : (t : ℕ) → press-level-lts.Need-loop-again (calls t) (press-level-at t) press-level.Post press-level-Inv-loop press-level-μ-loop
 press-level-loop-again t c = let g = c .before .before in let q = g .before .before .before .before in let p = q .before .before in
-    let i = p .before .before .before .before .before .before in let l = i .before .loop in (
-      (λ x. forward-group _ _ _ _ _ _ _ _ _ _ (l .inv .0 x) (i .loop-test .taken) (p .if1 .taken) _ (p .before .before .wide .ensures) (q .put-item .last .0)
+    let i = p .before .before .before .before .before .before .before in let l = i .before .loop in (
+      (λ x. forward-group _ _ _ _ _ _ _ _ _ _ (l .inv .0 x) (i .loop-test .taken) (p .if1 .taken) _ (p .before .before .word .ensures) (q .put-item .last .0)
           (g .press-level .last .1 .1 .1 .0) (g .press-level .result) (x .room) (x .small) (q .put-item .ensures) (g .press-level .ensures)),
       l .inv .1,
       g .press-level .kept .1 .1 .1 .0 ∙ q .put-item .kept .0 ∙ l .inv .2,
@@ -153,22 +153,22 @@ press-level-loop-again t c = let g = c .before .before in let q = g .before .bef
 
 -- a field's row
 plain : (t : ℕ) (c : press-level-lts.After-slice-known4 (calls t) (press-level-at t) press-level.Post press-level-Inv-loop press-level-μ-loop) →
-    let q = c .before .before in let i = q .before .before .before .before .before .before .before .before in
+    let q = c .before .before in let i = q .before .before .before .before .before .before .before .before .before in
     let s = i .before .before .before .before .before .before .before in let l = i .before .loop in
     (x : Pressing (s .args .rows .now) (s .args .first) (s .args .stop) (length (s .args .table .now)) (s .args .level)) →
-    (l .at < q .before .before .before .before .wide .result) × Forward (s .args .rows .now) (s .args .table .now) (q .put-item2 .last .0) (s .args .first)
-    (s .args .stop) (s .args .level) (q .before .before .before .before .wide .result) (l .slot + 5) (l .free) (x .layout)
-plain t c = let q = c .before .before in let p = q .before .before in let i = p .before .before .before .before .before .before in
-    λ x. forward-field _ _ _ _ _ _ _ _ _ _ (i .before .loop .inv .0 x) (i .loop-test .taken) (p .if1 .left) _ _ (p .before .before .wide .ensures)
+    (l .at < q .before .before .before .before .word .result) × Forward (s .args .rows .now) (s .args .table .now) (q .put-item2 .last .0) (s .args .first)
+    (s .args .stop) (s .args .level) (q .before .before .before .before .word .result) (l .slot + 5) (l .free) (x .layout)
+plain t c = let q = c .before .before in let p = q .before .before in let i = p .before .before .before .before .before .before .before in
+    λ x. forward-field _ _ _ _ _ _ _ _ _ _ (i .before .loop .inv .0 x) (i .loop-test .taken) (p .if1 .left) _ _ (p .before .before .word .ensures)
     (q .put-item2 .ensures)
 
 press-level-loop-less-2 : (t : ℕ) → press-level-lts.Need-loop-less-2 (calls t) (press-level-at t) press-level.Post press-level-Inv-loop press-level-μ-loop
-press-level-loop-less-2 t c = let i = c .before .before .before .before .before .before .before .before .before .before in
+press-level-loop-less-2 t c = let i = c .before .before .before .before .before .before .before .before .before .before .before in
     let s = i .before .before .before .before .before .before .before in
     omega (arith, plain t c (s .pre .1) .0, i .loop-test .taken)
 
 press-level-loop-again-2 : (t : ℕ) → press-level-lts.Need-loop-again-2 (calls t) (press-level-at t) press-level.Post press-level-Inv-loop press-level-μ-loop
-press-level-loop-again-2 t c = let q = c .before .before in let l = q .before .before .before .before .before .before .before .before .before .loop in
+press-level-loop-again-2 t c = let q = c .before .before in let l = q .before .before .before .before .before .before .before .before .before .before .loop in
     ((λ x. plain t c x .1), l .inv .1, q .put-item2 .kept .0 ∙ l .inv .2)
 
 press-level-link-items-requires : (t : ℕ) →
@@ -189,7 +189,8 @@ pub +press-level-spec : {M : Type 1} → statement M
 +press-level-spec = close μ-press-level λ t. press-level-lts.spec (calls t)
     (press-level-at t) press-level.Post press-level-Inv-loop press-level-μ-loop
     (press-level-own-count-requires t) (press-level-add-slot t) (λ c κs. search needs) (press-level-add-slot-2 t) (press-level-part-size-requires t)
-    (press-level-add-free t) (press-level-loop-holds t) (λ c. omega arith) (λ c. omega arith) (λ c. omega arith) (λ c. omega arith) (λ c. omega arith)
+    (press-level-add-free t) (press-level-loop-holds t) (λ c. omega arith)
+    (λ c. omega arith) (λ c. omega arith) (λ c. omega arith) (λ c. omega arith) (λ c. omega arith) (λ c. omega arith) (λ c. omega arith) (λ c. omega arith)
     (λ c. omega arith) (λ c. omega arith) (λ c. omega arith) (λ c. omega arith) (λ c. omega arith) (λ c. omega arith) (λ c κs. search needs)
     (press-level-add-slot-3 t) (λ c. omega arith) (λ c. omega arith) (λ c. omega arith) (λ c. omega arith) (press-level-put-item-requires t)
     (λ c. omega arith) (press-level-press-level-requires t) (press-level-put-item-requires-2 t) (press-level-loop-less t) (press-level-loop-again t)

@@ -7,10 +7,10 @@ use Rattle.dictionary_pressing.proofs.next_sibling.Statement.{statement
 use Rattle.dictionary_pressing.proofs.next_sibling.Tie as tie
 
 returns : tie.Need-returns
-returns c = c .before .wide .ensures ∙ sym (sibling-link _ _ _ (omega (arith, c .if1 .taken, c .before .wide .ensures)))
+returns c = c .before .word .ensures ∙ sym (sibling-link _ _ _ (omega (arith, c .if1 .taken, c .before .word .ensures)))
 
 returns-2 : tie.Need-returns-2
-returns-2 c = sym (sibling-stop _ _ _ (omega (arith, c .if1 .left, c .before .wide .ensures)))
+returns-2 c = sym (sibling-stop _ _ _ (omega (arith, c .if1 .left, c .before .word .ensures)))
 
 pub next-sibling-spec : {M : Type 1} → statement M
 next-sibling-spec =

@@ -1,14 +1,16 @@
 -- `press_tags` meets its contract. The invariant: the tags that are left go to the words from the slot on, and that makes what the whole makes.
 -- Each item lies in the table of the tags, and the words are enough for that.
-use mathlib.Core.Path.{sym, _∙_}
-use Prim.Native.Nat.{_+_, _-_, _≤_}
+use mathlib.Core.Path.{_≡_, sym, ap, _∙_}
+use mathlib.Core.Bool.{false}
+use Prim.Native.Nat.{ℕ, _+_, _-_, _*_, _/_, _%_, _≤_}
 use native.Mathlib.Omega.{arith}
 use borrow.Author.Needs.{needs}
-use lib.ListN.{length}
+use lib.ListN.{length, getD}
 use Rattle.dictionary_tables_rules.specs.Laid.{partSize, tableSize}
 use Rattle.dictionary_tables_rules.specs.TableLaws.{heads-bounds}
 use Rattle.dictionary_tables_rules.specs.Tags.{fieldsOf}
 use Rattle.dictionary_tables_rules.specs.TagsLaws.{fields-part, fields-few}
+use Rattle.dictionary_pressing.specs.Pressing.{putItem}
 use Rattle.dictionary_pressing.specs.Tags.{Putting, putting-start, putting-room, putting-on, putting-end}
 use Rattle.dictionary_pressing.proofs.press_tags.Statement.{statement}
 use Rattle.dictionary_pressing.proofs.press_tags.Tie as tie
@@ -33,13 +35,23 @@ put-item-requires : tie.Need-put-item-requires Inv-loop μ-loop
 put-item-requires c κs = let l = c .before .before .before in
     (omega (arith, room (c .before .before), l .loop .inv .kept, l .before .before .before .before .pre .1), omega arith)
 
+-- a tag's halves fit into their words, and make the tag
+cast-put-item-2 : tie.Need-cast-put-item-2 Inv-loop μ-loop
+cast-put-item-2 c = omega (arith, c .before .shared-slice-known2 .given (c .before .before .before .loop .next))
+
+halves : (tag : ℕ) → tag % 65536 + 65536 * (tag / 65536) ≡ tag
+halves tag = omega arith
+
 add-slot-2 : tie.Need-add-slot-2 Inv-loop μ-loop
 add-slot-2 c = let p = c .before .before .before .before .before in let s = p .before .before .before .before .before in
     omega (arith, room p, fields-few (s .args .tags .now) (s .pre .0))
 
 loop-again : tie.Need-loop-again Inv-loop μ-loop
 loop-again c = let q = c .before .before in let l = q .before .before .before in
-    putting-on _ _ _ _ _ (l .before .loop .inv) (l .loop-test .taken) _ (q .put-item .kept .0) (q .put-item .ensures)
+    let a = l .before .before .before .before .before .args in
+    putting-on _ _ _ _ _ (l .before .loop .inv) (l .loop-test .taken) _ (q .put-item .kept .0)
+    (q .put-item .ensures ∙ ap (λ (tag : ℕ). putItem (l .before .loop .table) (l .before .loop .slot) tag 0 false)
+    (halves (getD (a .tags .now) (l .before .loop .next) 0)))
 
 -- the part of the tags' items lies in the table
 part : (c : tie.After-loop Inv-loop μ-loop) → let s = c .before .before .before .before .before in
@@ -67,5 +79,5 @@ returns c = let k = c .before .before .before in let a = k .before .before in le
 pub press-tags-spec : {M : Type 1} → statement M
 press-tags-spec =
     tie.close
-    (tie.spec Inv-loop μ-loop (λ c κs. search needs) add-slot loop-holds (λ c. omega arith) (λ c. omega arith) put-item-requires
-    add-slot-2 (λ c. omega arith) (λ c. omega arith) loop-again link-items-requires part-size-requires same-length returns)
+    (tie.spec Inv-loop μ-loop (λ c κs. search needs) add-slot loop-holds (λ c. omega arith) (λ c. omega arith) (λ c. search needs)
+    cast-put-item-2 put-item-requires add-slot-2 (λ c. omega arith) (λ c. omega arith) loop-again link-items-requires part-size-requires same-length returns)

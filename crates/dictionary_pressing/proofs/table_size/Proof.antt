@@ -43,12 +43,12 @@ few c = let i = c .before .before .before .before .before .before in let a = i .
       c .own-count2 .ensures,
       counted-most (a .rows .now) (i .before .loop .at + 1) (c .before .least .result),
       c .before .least .ensures,
-      least-within (c .before .before .wide .result) (a .count),
+      least-within (c .before .before .word .result) (a .count),
     )
 
 own-count-requires-2 : tie.Need-own-count-requires-2 Inv-loop μ-loop
 own-count-requires-2 c κs = let a = c .before .before .before .before .before .before .before .before .before .before .before .before .args in
-    omega (arith, c .least .ensures, least-within (c .before .wide .result) (a .count))
+    omega (arith, c .least .ensures, least-within (c .before .word .result) (a .count))
 
 part-size-requires-2 : tie.Need-part-size-requires-2 Inv-loop μ-loop
 part-size-requires-2 c κs = omega (arith, few c)
@@ -62,7 +62,7 @@ loop-again c = let o = c .before in let m = o .before in let w = m .before in le
     let a = i .before .before .before .before .before .before .before .args in
     let part : c .part-size2 .result ≡ partSize (length (siblingsFrom (a .rows .now) (l .at + 1) (least (linkAt (a .rows .now) (l .at)) (a .count)))) =
     c .part-size2 .ensures ∙ ap partSize (o .own-count2 .ensures
-    ∙ ap (λ (n : ℕ). length (siblingsFrom (a .rows .now) (l .at + 1) n)) (m .least .ensures ∙ ap (λ (n : ℕ). least n (a .count)) (w .wide .ensures))) in (
+    ∙ ap (λ (n : ℕ). length (siblingsFrom (a .rows .now) (l .at + 1) n)) (m .least .ensures ∙ ap (λ (n : ℕ). least n (a .count)) (w .word .ensures))) in (
       omega arith,
       omega (arith, few o, c .part-size2 .ensures, part-most (o .own-count2 .result)),
       omega (arith, l .inv .2, part, parts-in (a .rows .now) (l .at) (a .count) (i .loop-test .taken) (p .if3 .taken)),
