@@ -17,17 +17,17 @@ use dictionary_tables_rules::Item;
 use field_rules::Field;
 ghost use mathlib.Core.Path.{_≡_};
 ghost use Rattle.dictionary_rules.specs.Index.{tagAt};
-ghost use Prim.Native.Nat.{suc, _+_, _≤_, _<_, _/_, _^_};
+ghost use mathlib.Core.List.{List};
+ghost use Prim.Native.Nat.{ℕ, suc, _+_, _≤_, _<_, _/_, _^_};
 ghost use lib.ListN.{length};
 ghost use Rattle.dictionary_chains.specs.Chain.{indexWords};
 ghost use Rattle.field_rules.specs.Fields.{field, fieldsFrom, Inside};
 ghost use Rattle.build_records.specs.Records.{onRecords, heldFrom, storedBetween, stored, stride};
-ghost use Rattle.dictionary_tables_rules.specs.Tags.{tagsFound};
 ghost use Rattle.build_group_rules.specs.Reading.{tableRules, answerOf};
 ghost use Rattle.build_required_rules.specs.Checking.{tableDemands};
 ghost use Rattle.build_parts.specs.Parts.{partRecord, partOf, Kept, partTold, Stays};
 ghost use Rattle.build_body_rules.specs.Kinds.{meantBy, bodyKind, runFrom, bodyOf};
-ghost use Rattle.build_body_rules.specs.Body.{nextFrom, withRun, bodyFrom, RunEnd, Dropped, Opened};
+ghost use Rattle.build_body_rules.specs.Body.{nextFrom, withRun, mustFollow, bodyFrom, RunEnd, Dropped, Opened};
 ghost use Rattle.build_body_rules.specs.Seen.{noted, Covers};
 
 // A tag's cell is its remainder. Where a cell isn't set, the body holds no field of its own with such a tag.
@@ -252,13 +252,12 @@ fn read_group(
     }
 }
 
-// Reads on from a field of the body. "The first other field must be a trailer tag, else 1."
+// Reads on from a field of the body up to the first other field. Whether that is a trailer tag is for the caller to ask.
 fn read_on(
     message: &[u8],
     config: Config,
     table: &[u16],
     index: &[u16],
-    trailer_tags: &[u16],
     level: usize,
     first: Field,
     words: &mut [u32],
@@ -269,7 +268,7 @@ fn read_on(
     requires { ⌜ (length (now message) < 2 ^ 32) × (Inside (now message) first) × (from ≤ progress .records) × (progress .records + progress .room < length (now words) / stride) × (length (now words) < 2 ^ 32) ⌝ }
     requires { ⌜ length (now index) ≡ indexWords ⌝ }
     requires { ⌜ Covers (now seen) (partOf from (progress .records) (now words)) ⌝ }
-    ensures { λ r. ⌜ partTold (config .mode) (now (message .entry)) from r (now (words .exit)) ≡ bodyFrom (bodyOf (tableRules config (now (table .entry)) (tagAt (now (index .entry)))) (tableDemands (now (table .entry))) (tagsFound (now («trailer_tags» .entry))) level) (field first (fieldsFrom (config .mode) (now (message .entry)) (first .next))) (suc (progress .room)) (partOf from (progress .records) (now (words .entry))) ⌝ }
+    ensures { λ r. ⌜ ((trailers : List ℕ) → mustFollow trailers (partTold (config .mode) (now (message .entry)) from r (now (words .exit))) ≡ bodyFrom (bodyOf (tableRules config (now (table .entry)) (tagAt (now (index .entry)))) (tableDemands (now (table .entry))) trailers level) (field first (fieldsFrom (config .mode) (now (message .entry)) (first .next))) (suc (progress .room)) (partOf from (progress .records) (now (words .entry)))) ⌝ }
     ensures { λ r. ⌜ Stays (now (message .entry)) (now (words .entry)) (now (words .exit)) from (suc (progress .room)) r ⌝ }
 {
     let mut reading = PartRead::At(first, progress);
@@ -296,10 +295,7 @@ fn read_on(
                 );
             }
             BodyKind::Other => {
-                if dictionary_tables::holds(trailer_tags, field.tag) {
-                    return reading;
-                }
-                return PartRead::Refused(Answer::InvalidField(field.tag));
+                return reading;
             }
         }
     }
@@ -311,7 +307,6 @@ pub fn read_body(
     config: Config,
     table: &[u16],
     index: &[u16],
-    trailer_tags: &[u16],
     level: usize,
     first: Field,
     words: &mut [u32],
@@ -320,7 +315,7 @@ pub fn read_body(
 ) -> PartRead
     requires { ⌜ (length (now message) < 2 ^ 32) × (Inside (now message) first) × (from ≤ progress .records) × (progress .records + progress .room < length (now words) / stride) × (length (now words) < 2 ^ 32) ⌝ }
     requires { ⌜ length (now index) ≡ indexWords ⌝ }
-    ensures { λ r. ⌜ partTold (config .mode) (now (message .entry)) from r (now (words .exit)) ≡ bodyFrom (bodyOf (tableRules config (now (table .entry)) (tagAt (now (index .entry)))) (tableDemands (now (table .entry))) (tagsFound (now («trailer_tags» .entry))) level) (field first (fieldsFrom (config .mode) (now (message .entry)) (first .next))) (suc (progress .room)) (partOf from (progress .records) (now (words .entry))) ⌝ }
+    ensures { λ r. ⌜ ((trailers : List ℕ) → mustFollow trailers (partTold (config .mode) (now (message .entry)) from r (now (words .exit))) ≡ bodyFrom (bodyOf (tableRules config (now (table .entry)) (tagAt (now (index .entry)))) (tableDemands (now (table .entry))) trailers level) (field first (fieldsFrom (config .mode) (now (message .entry)) (first .next))) (suc (progress .room)) (partOf from (progress .records) (now (words .entry)))) ⌝ }
     ensures { λ r. ⌜ Stays (now (message .entry)) (now (words .entry)) (now (words .exit)) from (suc (progress .room)) r ⌝ }
 {
     // Which tags a body holds that was begun already isn't known: it may be any.
@@ -332,7 +327,6 @@ pub fn read_body(
         config,
         table,
         index,
-        trailer_tags,
         level,
         first,
         words,

@@ -74,13 +74,19 @@ unfoldable pub withRun : Record → List Record → Reading → Reading
 withRun count records (ended f rest room run) = ended f rest room (storedRun count run records)
 withRun count records (refused answer) = refused answer
 
+-- "The first other field must be a trailer tag, else 1." It is the one that a reading ended at.
+unfoldable pub mustFollow : List ℕ → Reading → Reading
+mustFollow trailers (ended f rest room records) = pick (holdsTag (f .tag) trailers) (ended f rest room records) (refused (InvalidField (f .tag)))
+mustFollow trailers (refused answer) = refused answer
+
 module _ {L : Type 0} (body : Body L) where
-  -- "The body takes fields of the message's layout and, with validation off, tags of 5000 and above that the dictionary lacks. The first
-  -- other field must be a trailer tag, else 1."
+  -- "The body takes fields of the message's layout and, with validation off, tags of 5000 and above that the dictionary lacks." Who opens this opens
+  -- what must follow, too.
   unfoldable pub takes : (Fields → ℕ → List Record → Reading) → Field → Fields → ℕ → List Record → Kind L → Reading
+  unfolding mustFollow
   takes on f rest room records plain = andThen (nextFrom rest room (stored (partRecord 2 f) records)) on
   takes on f rest room records (counts inner) = andThen (withRun (partRecord 2 f) records (body .run inner (f .tag) rest room)) on
-  takes on f rest room records other = pick (holdsTag (f .tag) (body .trailer)) (ended f rest room records) (refused (InvalidField (f .tag)))
+  takes on f rest room records other = mustFollow (body .trailer) (ended f rest room records)
 
   -- the body from a field on that is read already; so many turns, which is enough where it is more than the room
   unfoldable pub bodyWithin : ℕ → Fields → ℕ → List Record → Reading

@@ -20,7 +20,7 @@ use Rattle.build_answers.specs.declared.Answer.the-variants.{InvalidField}
 use Rattle.build_parts.specs.declared.Next.the-variants.{Got, Missing}
 use Rattle.build_parts.specs.Parts.{Reading, ended, refused, partRecord, nextOf}
 use Rattle.build_parts.specs.PartLaws.{taken}
-use Rattle.build_body_rules.specs.Body.{Body, Kind, plain, counts, other, andThen, nextFrom, withRun, takes, bodyWithin, bodyFrom}
+use Rattle.build_body_rules.specs.Body.{Body, Kind, plain, counts, other, andThen, nextFrom, withRun, mustFollow, takes, bodyWithin, bodyFrom}
 
 -- a run leaves less room than it had
 abbrev pub Falls : (Fields → ℕ → Reading) → Type 0
@@ -77,13 +77,17 @@ module _ {L : Type 0} (body : Body L) (falls : (inner : L) (tag : ℕ) → Falls
         turn (counts inner) e
         ∙ on-alike (withRun (partRecord 2 f) records (body .run inner (f .tag) rest room)) room _ _ (run-less (body .run inner (f .tag) rest room) (partRecord 2 f) records room (λ g after left run e. falls inner (f .tag) rest after room left g run e)) (λ fields left records h. enough (suc room) (suc left) fields left records (omega arith) (omega arith))
 
-    pub body-ends : body .kind (f .tag) ≡ other → holdsTag (f .tag) (body .trailer) ≡ true → bodyFrom body (field f rest) (suc room) records ≡ ended f rest room records
+    pub body-other : body .kind (f .tag) ≡ other → bodyFrom body (field f rest) (suc room) records ≡ mustFollow (body .trailer) (ended f rest room records)
     unfolding takes
-    body-ends e h = turn other e ∙ rw h
+    body-other e = turn other e
+
+    pub body-ends : body .kind (f .tag) ≡ other → holdsTag (f .tag) (body .trailer) ≡ true → bodyFrom body (field f rest) (suc room) records ≡ ended f rest room records
+    unfolding mustFollow
+    body-ends e h = body-other e ∙ rw h
 
     pub body-invalid : body .kind (f .tag) ≡ other → holdsTag (f .tag) (body .trailer) ≡ false → bodyFrom body (field f rest) (suc room) records ≡ refused (InvalidField (f .tag))
-    unfolding takes
-    body-invalid e h = turn other e ∙ rw h
+    unfolding mustFollow
+    body-invalid e h = body-other e ∙ rw h
 
 module _ (mode : Mode) (message : List ℕ) (c : Cursor) (room : ℕ) (records : List Record) where
   pub next-missing : (answer : Answer) → nextOf room (fieldAt mode message c) ≡ Missing answer → nextFrom (fieldsFrom mode message c) room records ≡ refused answer

@@ -1,6 +1,5 @@
 -- The body as the code reads it: where reading stands, and each way that it goes on there.
 use mathlib.Core.Path.{_≡_, refl, sym, ap, _∙_}
-use mathlib.Core.Bool.{Bool, true, false}
 use mathlib.Core.List.{List, [], _∷_}
 use Prim.Native.Nat.{ℕ, zero, suc, _+_, _-_, _/_, _≤_, _<_}
 use native.Mathlib.Omega.{arith}
@@ -8,7 +7,6 @@ use lib.ListN.{length}
 use Rattle.field_rules.specs.declared.Mode.{Mode}
 use Rattle.field_rules.specs.Fields.{Fields, unreadable, field, fieldsFrom, Each, each-end, each-field}
 use Rattle.field_rules.specs.declared.Field.{Field}
-use Rattle.dictionary_layout_rules.specs.Tree.{holdsTag}
 use Rattle.build_records.specs.Records.{stored}
 use Rattle.build_records.specs.declared.Record.{Record}
 use Rattle.build_group_rules.specs.Groups.{Rules, run, RunOutcome, walk}
@@ -19,13 +17,12 @@ use Rattle.build_required_rules.specs.Required.{Demands, runLack}
 use Rattle.build_required_rules.specs.declared.Lack.{Lack}
 use Rattle.build_required_rules.specs.declared.Lack.the-variants.{Missing, Complete}
 use Rattle.build_answers.specs.declared.Answer.{Answer}
-use Rattle.build_answers.specs.declared.Answer.the-variants.{InvalidField}
 use Rattle.build_parts.specs.declared.Progress.{Progress}
 use Rattle.build_parts.specs.declared.PartRead.{PartRead}
 use Rattle.build_parts.specs.declared.PartRead.the-variants.{At, Refused}
-use Rattle.build_parts.specs.Parts.{Reading, ended, refused, partRecord, partOf, partTold, Stays}
-use Rattle.build_body_rules.specs.Body.{plain, counts, other, andThen, nextFrom, withRun, bodyFrom}
-use Rattle.build_body_rules.specs.BodyLaws.{Falls, body-plain, body-run, body-ends, body-invalid}
+use Rattle.build_parts.specs.Parts.{Reading, ended, partRecord, partOf, partTold, Stays}
+use Rattle.build_body_rules.specs.Body.{plain, counts, other, andThen, nextFrom, withRun, mustFollow, bodyFrom}
+use Rattle.build_body_rules.specs.BodyLaws.{Falls, body-plain, body-run, body-other}
 use Rattle.build_body_rules.specs.Kinds.{bodyKind, checked, ranAs, runFrom, bodyOf}
 
 -- how many fields may still be read, the one that is read already counted in
@@ -58,8 +55,8 @@ module _ {L : Type 0} (rules : Rules L) (demands : Demands L) where
     abbrev pub left : Reading
     left = andThen (partTold mode message from reading words) (bodyFrom (bodyOf rules demands trailerTags level))
 
-    pub left-refused : (answer : Answer) → reading ≡ Refused answer → left ≡ partTold mode message from reading words
-    unfolding partTold andThen
+    pub left-refused : (answer : Answer) → reading ≡ Refused answer → left ≡ mustFollow trailerTags (partTold mode message from reading words)
+    unfolding partTold andThen mustFollow
     left-refused answer e = rw e
 
     module _ (f : Field) (p : Progress) (e : reading ≡ At f p) where
@@ -84,13 +81,11 @@ module _ {L : Type 0} (rules : Rules L) (demands : Demands L) where
           left-here ∙ body-run (bodyOf rules demands trailerTags level) run-falls f (fieldsFrom mode message (f .next)) (p .room) (partOf from (p .records) words) inner k
           ∙ ap (λ (r : Reading). andThen r (bodyFrom (bodyOf rules demands trailerTags level))) (sym told)
 
-      pub left-ends : bodyKind rules level (f .tag) ≡ other → holdsTag (f .tag) trailerTags ≡ true → left ≡ partTold mode message from (At f p) words
+      pub left-other : bodyKind rules level (f .tag) ≡ other → left ≡ mustFollow trailerTags (partTold mode message from (At f p) words)
       unfolding bodyOf partTold
-      left-ends k h = left-here ∙ body-ends (bodyOf rules demands trailerTags level) run-falls f (fieldsFrom mode message (f .next)) (p .room) (partOf from (p .records) words) k h
-
-      pub left-invalid : bodyKind rules level (f .tag) ≡ other → holdsTag (f .tag) trailerTags ≡ false → left ≡ refused (InvalidField (f .tag))
-      unfolding bodyOf
-      left-invalid k h = left-here ∙ body-invalid (bodyOf rules demands trailerTags level) run-falls f (fieldsFrom mode message (f .next)) (p .room) (partOf from (p .records) words) k h
+      left-other k =
+          left-here
+          ∙ body-other (bodyOf rules demands trailerTags level) run-falls f (fieldsFrom mode message (f .next)) (p .room) (partOf from (p .records) words) k
 
 -- one step after another
 pub stays-on : (message entry words exit : List ℕ) (from room limit : ℕ) (next : PartRead) → length words ≡ length entry → partOf 0 from words ≡ partOf 0 from entry → room < limit → Stays message words exit from room next → Stays message entry exit from limit next

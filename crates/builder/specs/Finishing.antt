@@ -1,4 +1,4 @@
--- The records of header, body and trailer stand one behind the other, so what is left of a message after its header is what the code leaves.
+-- The records of header, body and trailer stand one behind the other, so what is left of a message after its body is what the code leaves.
 use mathlib.Core.Path.{_≡_, refl, sym, ap, _∙_}
 use mathlib.Core.List.{List, [], _∷_, _++_, append-assoc}
 use Prim.Native.Nat.{ℕ, suc, _+_, _-_, _/_, _≤_, _<_}
@@ -10,21 +10,17 @@ use Rattle.field_rules.specs.declared.Field.{Field}
 use Rattle.build_records.specs.Records.{recordsOf, stored}
 use Rattle.build_records.specs.RecordLaws.{between-end}
 use Rattle.build_records.specs.declared.Record.{Record}
-use Rattle.build_answers.specs.declared.Answer.{Answer}
-use Rattle.build_answers.specs.declared.Answer.the-variants.{TooManyFields}
+use Rattle.build_answers.specs.declared.Answer.the-variants.{Valid, TooManyFields}
 use Rattle.build_parts.specs.declared.Progress.{Progress}
-use Rattle.build_parts.specs.declared.PartRead.{PartRead}
-use Rattle.build_parts.specs.declared.PartRead.the-variants.{At, Refused}
 use Rattle.build_parts.specs.declared.TrailerRead.{TrailerRead}
 use Rattle.build_parts.specs.declared.TrailerRead.the-variants.{Stopped, Unstopped, TooManyFields as Crowded}
 use Rattle.build_rules.specs.declared.Stop.the-variants.{At as stops, Nowhere}
-use Rattle.builder.specs.declared.Finished.the-variants.{Whole, Refused as RefusedWhole}
-use Rattle.build_parts.specs.Parts.{Reading, partRecord, partOf, partTold, Kept}
+use Rattle.build_parts.specs.Parts.{ended, partRecord, partOf, Kept}
 use Rattle.build_body_rules.specs.RunLaws.{between-split}
 use Rattle.build_body_rules.specs.GroupReading.{front-is, front-parts}
 use Rattle.build_parts.specs.Trailer.{trailerFrom, trailerTold, trailerCounts}
-use Rattle.build_rules.specs.Message.{afterTrailer, afterBody}
-use Rattle.builder.specs.Reading.{finishTold}
+use Rattle.build_rules.specs.Message.{Outcome, refusal, afterTrailer, afterBody}
+use Rattle.builder.specs.Reading.{readTold}
 
 -- a part that ends where it starts is empty
 pub part-empty : (n : ℕ) (words : List ℕ) → partOf n n words ≡ []
@@ -39,46 +35,48 @@ pub unstopped-counts : (from : ℕ) (trailer : TrailerRead) (all : ℕ) → trai
 unfolding trailerCounts
 unstopped-counts from trailer all e = rw e
 
-module _ (mode : Mode) (message : List ℕ) (header : ℕ) (checksum : Field) (body : Reading) (entry read : List ℕ) (before : partOf 0 header read ≡ partOf 0 header entry) where
-  -- the body was refused
-  pub finish-refused : (reading : PartRead) (answer : Answer) → reading ≡ Refused answer → partTold mode message header reading read ≡ body → finishTold header (RefusedWhole answer) read ≡ afterBody (partOf 0 header entry) checksum body
-  unfolding partTold finishTold afterBody
-  finish-refused reading answer e told =
-      let b : body ≡ _ = sym told ∙ ap (λ (r : PartRead). partTold mode message header r read) e in
-      rw (b, before)
+module _ (mode : Mode) (message : List ℕ) (header : ℕ) (checksum : Field) (entry : List ℕ) (f : Field) (p : Progress) (starts : header ≤ p .records)
+    (r : Record) (is : r ≡ partRecord 3 checksum) (kept exit : List ℕ) (count : ℕ) (keeps : Kept entry kept (p .records) (p .records) r count)
+    (front : partOf 0 (p .records) exit ≡ partOf 0 (p .records) kept) (trailer : TrailerRead)
+    (taken : trailerTold trailer (p .records) exit
+    ≡ trailerFrom (field f (fieldsFrom mode message (f .next))) (p .room + 1) (partOf (p .records) count kept)) where
+  -- what is left of the message where the body ended
+  abbrev whole : Outcome
+  whole = afterBody (partOf 0 header entry) checksum (ended f (fieldsFrom mode message (f .next)) (p .room) (partOf header (p .records) entry))
 
-  module _ (reading : PartRead) (f : Field) (p : Progress) (e : reading ≡ At f p) (told : partTold mode message header reading read ≡ body) (starts : header ≤ p .records)
-      (r : Record) (is : r ≡ partRecord 3 checksum) (kept exit : List ℕ) (count : ℕ) (keeps : Kept read kept (p .records) (p .records) r count) (front : partOf 0 (p .records) exit ≡ partOf 0 (p .records) kept)
-      (trailer : TrailerRead) (taken : trailerTold trailer (p .records) exit ≡ trailerFrom (field f (fieldsFrom mode message (f .next))) (p .room + 1) (partOf (p .records) count kept)) where
-    left : afterBody (partOf 0 header entry) checksum body ≡ afterTrailer (partOf 0 header entry) (partOf header (p .records) read) (trailerTold trailer (p .records) exit)
-    unfolding partTold afterBody stored
-    left =
-        let b : body ≡ _ = sym told ∙ ap (λ (q : PartRead). partTold mode message header q read) e in
-        let one : p .room + 1 ≡ suc (p .room) = omega arith in
-        let first : partOf (p .records) count kept ≡ partRecord 3 checksum ∷ [] = keeps .part ∙ rw (part-empty (p .records) read, is) in
-        rw (b, taken, one, first)
+  left : whole ≡ afterTrailer (partOf 0 header entry) (partOf header (p .records) entry) (trailerTold trailer (p .records) exit)
+  unfolding afterBody stored
+  left =
+      let one : p .room + 1 ≡ suc (p .room) = omega arith in
+      let first : partOf (p .records) count kept ≡ partRecord 3 checksum ∷ [] = keeps .part ∙ rw (part-empty (p .records) entry, is) in
+      rw (taken, one, first)
 
-    -- the parts stand one behind the other
-    parts : (all : ℕ) → p .records ≤ all → partOf 0 all exit ≡ partOf 0 header entry ++ (partOf header (p .records) read ++ partOf (p .records) all exit)
-    unfolding partOf
-    parts all h =
-        between-split (recordsOf exit) 0 (p .records) all (omega arith) h
-        ∙ ap (λ (l : List Record). l ++ partOf (p .records) all exit) (front ∙ keeps .before ∙ between-split (recordsOf read) 0 header (p .records) (omega arith) starts ∙ ap (λ (l : List Record). l ++ partOf header (p .records) read) before)
-        ∙ append-assoc (partOf 0 header entry) (partOf header (p .records) read) (partOf (p .records) all exit)
+  -- the parts stand one behind the other
+  parts : (all : ℕ) → p .records ≤ all → partOf 0 all exit ≡ partOf 0 header entry ++ (partOf header (p .records) entry ++ partOf (p .records) all exit)
+  unfolding partOf
+  parts all h =
+      between-split (recordsOf exit) 0 (p .records) all (omega arith) h
+      ∙ ap (λ (l : List Record). l ++ partOf (p .records) all exit)
+      (front ∙ keeps .before ∙ between-split (recordsOf entry) 0 header (p .records) (omega arith) starts)
+      ∙ append-assoc (partOf 0 header entry) (partOf header (p .records) entry) (partOf (p .records) all exit)
 
-    -- the header's records are where they were
-    header-stays : partOf 0 header exit ≡ partOf 0 header entry
-    unfolding partOf
-    header-stays = front-parts (recordsOf exit) (recordsOf read) header (p .records) starts (sym (front-is (p .records) (recordsOf exit)) ∙ front ∙ keeps .before ∙ front-is (p .records) (recordsOf read)) ∙ before
+  -- the header's records are where they were
+  header-stays : partOf 0 header exit ≡ partOf 0 header entry
+  unfolding partOf
+  header-stays =
+      front-parts (recordsOf exit) (recordsOf entry) header (p .records) starts
+      (sym (front-is (p .records) (recordsOf exit)) ∙ front ∙ keeps .before ∙ front-is (p .records) (recordsOf entry))
 
-    pub finish-stopped : (stop : Field) (all : ℕ) → trailer ≡ Stopped stop all → p .records ≤ all → finishTold header (Whole (stops stop) all) exit ≡ afterBody (partOf 0 header entry) checksum body
-    unfolding finishTold afterTrailer trailerTold
-    finish-stopped stop all t h = sym (left ∙ rw (t, parts all h))
+  pub close-stopped : (stop : Field) (all : ℕ) → trailer ≡ Stopped stop all → p .records ≤ all →
+      readTold (record { answer = Valid; stop = stops stop; records = all }) exit ≡ whole
+  unfolding readTold afterTrailer trailerTold
+  close-stopped stop all t h = sym (left ∙ rw (t, parts all h))
 
-    pub finish-unstopped : (all : ℕ) → trailer ≡ Unstopped all → p .records ≤ all → finishTold header (Whole Nowhere all) exit ≡ afterBody (partOf 0 header entry) checksum body
-    unfolding finishTold afterTrailer trailerTold
-    finish-unstopped all t h = sym (left ∙ rw (t, parts all h))
+  pub close-unstopped : (all : ℕ) → trailer ≡ Unstopped all → p .records ≤ all →
+      readTold (record { answer = Valid; stop = Nowhere; records = all }) exit ≡ whole
+  unfolding readTold afterTrailer trailerTold
+  close-unstopped all t h = sym (left ∙ rw (t, parts all h))
 
-    pub finish-crowded : trailer ≡ Crowded → finishTold header (RefusedWhole TooManyFields) exit ≡ afterBody (partOf 0 header entry) checksum body
-    unfolding finishTold afterTrailer trailerTold
-    finish-crowded t = sym (left ∙ rw (t, header-stays))
+  pub close-crowded : trailer ≡ Crowded → refusal TooManyFields (partOf 0 header exit) ≡ whole
+  unfolding afterTrailer trailerTold
+  close-crowded t = sym (left ∙ rw (t, header-stays))

@@ -8,7 +8,8 @@ use native.Mathlib.Omega.{arith}
 use borrow.Author.Tests.{eq-eqb, ne-eqb}
 use lib.ListN.{length, getD, take, drop, replicate, List·getD-eq-default}
 use Rattle.build_config.specs.declared.Config.{Config}
-use Rattle.field_rules.specs.Fields.{Fields, field}
+use Rattle.field_rules.specs.Fields.{Fields, field, fieldsFrom}
+use Rattle.field_rules.specs.declared.Mode.{Mode}
 use Rattle.field_rules.specs.declared.Field.{Field}
 use Rattle.build_records.specs.Records.{recordAt, between, blank, valueAt}
 use Rattle.build_records.specs.RecordLaws.{between-on, between-end}
@@ -24,15 +25,22 @@ use Rattle.dictionary_directory.specs.declared.Kept.the-variants.{Table, Nowher
 use Rattle.dictionary_meaning_rules.specs.MsgTypeText.{Bytes, no-bytes, a-byte}
 use Rattle.dictionary_meaning_rules.specs.MessageTable.{Tabling, tabling, placeOf, placedTable}
 use Rattle.dictionary_meaning_rules.specs.declared.MessageTable.the-variants.{Rows, NoMessage, Unprepared}
+use Rattle.build_group_rules.specs.Groups.{Rules}
 use Rattle.build_group_rules.specs.Reading.{tableRules}
+use Rattle.build_required_rules.specs.Required.{Demands}
 use Rattle.build_required_rules.specs.Checking.{tableDemands}
 use Rattle.build_answers.specs.declared.Answer.the-variants.{InvalidMsgType}
-use Rattle.build_parts.specs.Parts.{partOf}
+use Rattle.build_parts.specs.declared.PartRead.{PartRead}
+use Rattle.build_parts.specs.declared.PartRead.the-variants.{Refused}
+use Rattle.build_parts.specs.Parts.{partOf, partTold}
+use Rattle.build_body_rules.specs.Body.{mustFollow, bodyFrom}
+use Rattle.build_body_rules.specs.Kinds.{bodyOf}
 use Rattle.build_body_rules.specs.Meaning.{body-means}
-use Rattle.builder.specs.declared.Finished.the-variants.{Refused}
+use Rattle.builder.specs.declared.Headed.{Headed}
 use Rattle.build_rules.specs.Beginning.{msgTypeRecord}
 use Rattle.build_rules.specs.Message.{afterBody}
-use Rattle.builder.specs.Reading.{finishTold}
+use Rattle.builder.specs.Finishing.{part-empty}
+use Rattle.builder.specs.Reading.{bodyTold}
 use Rattle.builder.specs.Through.{unknownType, afterLevel, afterTable, afterKept, afterPlaced}
 
 module _ (i count : ℕ) (rs : List Record) where
@@ -65,11 +73,29 @@ type-placed index message r kind e found h =
     let long : r .place + r .length - r .place ≡ r .length = omega arith in
     sym (rw long at h ∙ rw e)
 
--- "and then MsgType must be in the dictionary, else 3"
-pub unknown : (count : ℕ) (words : List ℕ) (r : Record) → r ≡ msgTypeRecord (partOf 0 count words) →
-    finishTold count (Refused (InvalidMsgType (r .place) (r .length))) words ≡ unknownType (partOf 0 count words)
-unfolding finishTold unknownType
-unknown count words r is = rw is
+module _ (mode : Mode) (message : List ℕ) (h : Headed) where
+  -- the header's records, and the fields from the one on that ended it
+  abbrev header : List ℕ → List Record
+  header words = partOf 0 (h .progress .records) words
+
+  abbrev rest : Fields
+  rest = fieldsFrom mode message (h .stop .next)
+
+  -- "and then MsgType must be in the dictionary, else 3"
+  pub unknown : (words : List ℕ) (r : Record) → r ≡ msgTypeRecord (header words) → (trailers : List ℕ) →
+      bodyTold mode message h (Refused (InvalidMsgType (r .place) (r .length))) words trailers ≡ unknownType (header words)
+  unfolding bodyTold partTold mustFollow afterBody unknownType
+  unknown words r is trailers = rw is
+
+  -- a body of no records yet, read by what a level asks for
+  pub level-told : {L : Type 0} (rules : Rules L) (demands : Demands L) (level : L) (entry exit : List ℕ) (r : PartRead) → header exit ≡ header entry →
+      ((trailers : List ℕ) → mustFollow trailers (partTold mode message (h .progress .records) r exit)
+      ≡ bodyFrom (bodyOf rules demands trailers level) (field (h .stop) rest) (suc (h .progress .room))
+      (partOf (h .progress .records) (h .progress .records) entry)) →
+      (trailers : List ℕ) → bodyTold mode message h r exit trailers
+      ≡ afterLevel trailers (h .stop) rest (h .progress .room) (header entry) (h .checksum) rules demands level
+  unfolding bodyTold
+  level-told rules demands level entry exit r before told trailers = rw (before, told trailers, part-empty (h .progress .records) entry)
 
 module _ (trailers : List ℕ) (f : Field) (rest : Fields) (room : ℕ) (header : List Record) (checksum : Field) (records index : List ℕ) (config : Config) where
   -- a table that is just a layout's is read as the layout

@@ -3,6 +3,7 @@ pub mod Through
 pub mod Reading
 pub mod BuildLaws
 pub mod Finishing
+pub mod TagLaws
 pub mod ReadingLaws
 pub mod BeginningLaws
 pub mod MsgTypeLaws

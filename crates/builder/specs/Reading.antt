@@ -3,7 +3,7 @@ use Prim.Native.Nat.{ℕ, zero, suc, _+_, _≤_, _<_, _/_, _^_}
 use mathlib.Core.Path.{_≡_}
 use mathlib.Core.List.{List}
 use mathlib.Core.Bool.{Bool, true, false}
-use lib.ListN.{length}
+use lib.ListN.{length, take, drop}
 use lib.Dec.{eqb, leb}
 use Rattle.dictionary_chains.specs.Chain.{indexWords}
 use Rattle.build_records.specs.Records.{stride}
@@ -11,20 +11,25 @@ use Rattle.field_rules.specs.Choice.{pick}
 use Rattle.field_rules.specs.Fields.{fieldsFrom, Inside}
 use Rattle.field_rules.specs.declared.Mode.{Mode}
 use Rattle.build_integrity_rules.specs.declared.Verified.{Verified}
+use Rattle.dictionary_tables_rules.specs.Tags.{tagsFound}
+use Rattle.dictionary_directory.specs.Directory.{tagsListed, tagsAt}
+use Rattle.dictionary_directory.specs.declared.Kept.{Kept}
+use Rattle.dictionary_directory.specs.declared.Kept.the-variants.{Table, Nowhere}
 use Rattle.dictionary_rules.specs.Check.{checkOf, storeOf, preparedOf}
 use Rattle.dictionary_rules.specs.declared.Checked.the-variants.{Passes}
 use Rattle.build_answers.specs.declared.Answer.{Answer}
-use Rattle.build_answers.specs.declared.Answer.the-variants.{Valid}
 use Rattle.build_answers.specs.Answer.{numberOf}
-use Rattle.build_parts.specs.Parts.{partOf}
+use Rattle.build_parts.specs.declared.PartRead.{PartRead}
+use Rattle.build_parts.specs.Parts.{partOf, partTold}
+use Rattle.build_body_rules.specs.Body.{mustFollow}
 use Rattle.builder.specs.declared.Headed.{Headed}
 use Rattle.builder.specs.declared.Begun.{Begun}
 use Rattle.builder.specs.declared.Begun.the-variants.{Header, Refused}
-use Rattle.builder.specs.declared.Finished.{Finished}
-use Rattle.builder.specs.declared.Finished.the-variants.{Whole, Refused as RefusedWhole}
+use Rattle.builder.specs.declared.Tags.{Tags}
+use Rattle.builder.specs.declared.Tags.the-variants.{Both, Listed}
 use Rattle.builder.specs.declared.Read.{Read}
 use Rattle.build_rules.specs.Beginning.{Start, started, unsound, msgTypeRecord}
-use Rattle.build_rules.specs.Message.{Outcome, refusal}
+use Rattle.build_rules.specs.Message.{Outcome, afterBody}
 
 -- a record can hold the places of the fields that were verified
 pub record VerifiedInside (v : Verified) : Type 0 where
@@ -38,14 +43,29 @@ startTold mode message (Header h) words =
     started (h .stop) (fieldsFrom mode message (h .stop .next)) (h .progress .room) (partOf 0 (h .progress .records) words) (h .checksum)
 startTold mode message (Refused answer) words = unsound answer
 
--- what the code answers behind a header of so many records, with the words that it leaves
-unfoldable pub finishTold : ℕ → Finished → List ℕ → Outcome
-finishTold header (Whole stop count) words = record { answer = Valid; records = partOf 0 count words; stop = stop }
-finishTold header (RefusedWhole answer) words = refusal answer (partOf 0 header words)
+-- what the code answers behind a header, with the words that it leaves: the body, judged by the tags that may follow it, and its trailer
+unfoldable pub bodyTold : Mode → List ℕ → Headed → PartRead → List ℕ → List ℕ → Outcome
+bodyTold mode message h r words trailers =
+    afterBody (partOf 0 (h .progress .records) words) (h .checksum) (mustFollow trailers (partTold mode message (h .progress .records) r words))
 
-unfoldable pub finishCounts : Finished → ℕ
-finishCounts (Whole stop count) = count
-finishCounts (RefusedWhole answer) = 0
+-- two tables of tags that are kept, both or none
+unfoldable pub bothOf : Kept → Kept → Tags
+bothOf (Table from size) (Table start long) = Both from size start long
+bothOf (Table from size) Nowhere = Listed
+bothOf Nowhere trailers = Listed
+
+unfoldable pub tagsKept : List ℕ → Tags
+tagsKept tables = bothOf (tagsAt tables 0) (tagsAt tables 1)
+
+-- the tags of header and trailer, of their tables or else as they are listed of the records
+module _ (records index tables : List ℕ) where
+  unfoldable pub headersBy : Tags → List ℕ
+  headersBy (Both from size start long) = tagsFound (take size (drop from tables))
+  headersBy Listed = tagsListed records index 0
+
+  unfoldable pub trailersBy : Tags → List ℕ
+  trailersBy (Both from size start long) = tagsFound (take long (drop start tables))
+  trailersBy Listed = tagsListed records index 1
 
 -- where the header ended: the fields lie in the message, MsgType's value too, and there are words for all that may still be read
 pub record HeaderEnds (message words : List ℕ) (h : Headed) : Type 0 where

@@ -1,53 +1,51 @@
--- One law for each way of the functions that read a message whole: where the header was refused, where body or trailer was, where all was
--- read; a dictionary that is refused; and each answer of the build before it reads.
+-- One law for each way of the functions that read a message whole: where the header was refused, where the body was, where it may not be followed or
+-- may; a dictionary that is refused; and each answer of the build before it reads.
 use mathlib.Core.Path.{_≡_, refl, sym, ap, _∙_}
 use mathlib.Core.Bool.{Bool, true, false}
 use mathlib.Core.List.{List, [], _∷_, _++_}
 use Prim.Native.Nat.{ℕ, suc, _+_, _-_, _*_, _≤_, _<_}
 use native.Mathlib.Omega.{arith}
-use lib.ListN.{length, take, drop, replicate, length-append, length-drop}
+use lib.ListN.{length, take, replicate}
 use lib.Seq.{take-at, length-take-le}
 use lib.Dec.{eqb, leb, ltb}
 use borrow.Author.Tests.{eq-eqb, ne-eqb, le-ltb, lt-ltb, ltb-false}
 use Rattle.dictionary_chains.specs.Chain.{indexWords}
-use Rattle.build_records.specs.Records.{recordWords, recordRoom, stride, valueAt}
+use Rattle.build_records.specs.Records.{recordWords, recordRoom, stride}
+use Rattle.build_records.specs.declared.Record.{Record}
 use Rattle.field_rules.specs.Choice.{pick}
 use Rattle.field_rules.specs.Separator.{isRefusedSeparator}
 use Rattle.field_rules.specs.Fields.{fieldsFrom}
+use Rattle.field_rules.specs.declared.Field.{Field}
 use Rattle.build_config.specs.declared.Config.{Config}
 use Rattle.dictionary_rules.specs.Check.{outcome, checkOf, preparedOf, storeOf, numberOfCheck}
 use Rattle.dictionary_rules.specs.declared.Checked.{Checked}
-use Rattle.dictionary_tables_rules.specs.Laid.{tableSize, tableOf}
-use Rattle.dictionary_tables_rules.specs.Tabled.{table-length}
-use Rattle.dictionary_tables_rules.specs.Tags.{fieldsOf, tagsFound}
-use Rattle.dictionary_tables_rules.specs.TagsLaws.{tags-found}
-use Rattle.dictionary_directory.specs.Directory.{tagsListed, tagsAt}
-use Rattle.dictionary_directory.specs.declared.Kept.the-variants.{Table}
-use Rattle.dictionary_directory.specs.declared.Kept.the-variants as kept
+use Rattle.dictionary_layout_rules.specs.Tree.{holdsTag}
 use Rattle.dictionary_meaning_rules.specs.Meaning.{dictionaryOf}
-use Rattle.dictionary_meaning_rules.specs.MessageTable.{placeOf}
 use Rattle.build_answers.specs.declared.Answer.{Answer}
-use Rattle.build_answers.specs.declared.Answer.the-variants.{Valid, TooLong, InvalidSeparator, TooFewRecords, BadDictionary}
+use Rattle.build_answers.specs.declared.Answer.the-variants.{Valid, InvalidField, TooLong, InvalidSeparator, TooFewRecords, BadDictionary}
 use Rattle.build_answers.specs.Answer.{numberOf}
-use Rattle.build_parts.specs.Parts.{partOf}
+use Rattle.build_parts.specs.declared.Progress.{Progress}
+use Rattle.build_parts.specs.declared.PartRead.{PartRead}
+use Rattle.build_parts.specs.declared.PartRead.the-variants.{At, Refused as Unread}
+use Rattle.build_parts.specs.Parts.{Reading, ended, partOf, partTold}
+use Rattle.build_body_rules.specs.Body.{mustFollow}
 use Rattle.builder.specs.declared.Headed.{Headed}
 use Rattle.builder.specs.declared.Begun.{Begun}
 use Rattle.builder.specs.declared.Begun.the-variants.{Header, Refused}
 use Rattle.build_rules.specs.declared.Stop.{Stop}
 use Rattle.build_rules.specs.declared.Stop.the-variants.{Nowhere}
-use Rattle.builder.specs.declared.Finished.{Finished}
-use Rattle.builder.specs.declared.Finished.the-variants.{Whole, Refused as Stopped}
-use Rattle.build_rules.specs.Beginning.{startOf, msgTypeRecord}
-use Rattle.build_rules.specs.Message.{Outcome, shownWith, refusal, messageRead}
-use Rattle.builder.specs.Reading.{finishTold, finishCounts}
-use Rattle.builder.specs.Reading.{startTold, Prepared, shownCount, readTold}
+use Rattle.builder.specs.declared.Tags.{Tags}
+use Rattle.build_rules.specs.Beginning.{Start, startOf}
+use Rattle.build_rules.specs.Message.{Outcome, shownWith, refusal, afterBody, messageRead}
+use Rattle.builder.specs.Reading.{startTold, bodyTold, tagsKept, headersBy, trailersBy, Prepared, shownCount, readTold}
 use Rattle.builder.specs.declared.Read.{Read}
 use Rattle.builder.specs.declared.Built.{Built}
 use Rattle.builder.specs.Build.{untouched, shown, shownWords, judged, checkedRead, firstRefusal, buildOf, builtTold}
-use Rattle.builder.specs.Through.{afterPlaced, afterStart, messageBy, messageListed, messageKept, messageThrough}
+use Rattle.builder.specs.Through.{afterStart, messageBy, messageThrough}
 use Rattle.dictionary_prepared.specs.MemoryLaws.{zero-passes}
 use Rattle.builder.specs.BuildLaws.{blanked, part-count, check-refuses, check-reads}
 use Rattle.builder.specs.Finishing.{part-empty}
+use Rattle.builder.specs.TagLaws.{through-tags}
 
 -- what is shown with a refusal, as a list and as a count
 shown-part : (answer : Answer) (header : ℕ) (words : List ℕ) → partOf 0 (shownCount answer header) words ≡ shownWith answer (partOf 0 header words)
@@ -68,86 +66,74 @@ shown-few answer header n e = rw e (go (leb 1 (numberOf answer)) (leb (numberOf 
     go true false = omega arith
     go false c = omega arith
 
--- a refusal that shows no record
-none-shown : (answer : Answer) (words : List ℕ) → readTold (record { answer = answer; stop = Nowhere; records = 0 }) words ≡ refusal answer []
-unfolding readTold refusal shownWith
-none-shown answer words = rw (part-empty 0 words) (go (leb 1 (numberOf answer)) (leb (numberOf answer) 4))
-  where
-    go : (b c : Bool) → _≡_ {A = Outcome} (record { answer = answer; records = []; stop = Nowhere }) (record { answer = answer; records = pick b (pick c [] []) []; stop = Nowhere })
-    go true true = refl
-    go true false = refl
-    go false c = refl
+-- a refusal, with what is shown of the header
+pub refused-told : (answer : Answer) (header n : ℕ) → n ≡ shownCount answer header → (words : List ℕ) →
+    readTold (record { answer = answer; stop = Nowhere; records = n }) words ≡ refusal answer (partOf 0 header words)
+unfolding readTold refusal
+refused-told answer header n e words = rw (e, shown-part answer header words)
 
-pub whole-counts : (r : Finished) (stop : Stop) (count : ℕ) → r ≡ Whole stop count → finishCounts r ≡ count
-unfolding finishCounts
-whole-counts r stop count e = rw e
+module _ (records index tables : List ℕ) (config : Config) (message : List ℕ) (tags : Tags) where
+  -- what a message is read as, and what it is from a start on, by the trailer's tags
+  abbrev whole : Outcome
+  whole = messageThrough records index tables config message
 
-module _ (records index tables : List ℕ) (config : Config) (message headers trailers words : List ℕ) (begun : Begun) (told : startTold (config .mode) message begun words ≡ startOf headers config message) where
-  begins : messageBy records index tables config message headers trailers ≡ afterStart records index tables config message trailers (startTold (config .mode) message begun words)
-  unfolding messageBy
-  begins = rw told
+  abbrev trailers : List ℕ
+  trailers = trailersBy records index tables tags
 
-  -- integrity or the header was refused
-  pub read-refused : (answer : Answer) → begun ≡ Refused answer → (after : List ℕ) → readTold (record { answer = answer; stop = Nowhere; records = 0 }) after ≡ messageBy records index tables config message headers trailers
-  read-refused answer e after = none-shown answer after ∙ sym (begins ∙ refuses)
-    where
-      refuses : afterStart records index tables config message trailers (startTold (config .mode) message begun words) ≡ refusal answer []
-      refuses = unfold startTold afterStart in rw e
+  abbrev from : List ℕ → Start → Outcome
+  from = afterStart records index tables config message
 
-  module _ (h : Headed) (e : begun ≡ Header h) (r : Finished) (after : List ℕ)
-      (finished : finishTold (h .progress .records) r after ≡ afterPlaced trailers (h .stop) (fieldsFrom (config .mode) message (h .stop .next)) (h .progress .room) (partOf 0 (h .progress .records) words) (h .checksum) records index config tables (placeOf index (valueAt message (msgTypeRecord (partOf 0 (h .progress .records) words))))) where
-    goes-on : messageBy records index tables config message headers trailers ≡ finishTold (h .progress .records) r after
-    goes-on = begins ∙ headed ∙ sym finished
+  module _ (words : List ℕ) (kept : tags ≡ tagsKept tables) (begun : Begun)
+      (told : startTold (config .mode) message begun words ≡ startOf (headersBy records index tables tags) config message) where
+    begins : whole ≡ from trailers (startTold (config .mode) message begun words)
+    unfolding messageBy
+    begins = through-tags tables tags kept records index config message ∙ rw told
+
+    -- integrity or the header was refused
+    pub begun-refused : (answer : Answer) → begun ≡ Refused answer → (after : List ℕ) → refusal answer (partOf 0 0 after) ≡ whole
+    begun-refused answer e after = sym (begins ∙ refuses)
       where
-        headed : afterStart records index tables config message trailers (startTold (config .mode) message begun words) ≡ afterPlaced trailers (h .stop) (fieldsFrom (config .mode) message (h .stop .next)) (h .progress .room) (partOf 0 (h .progress .records) words) (h .checksum) records index config tables (placeOf index (valueAt message (msgTypeRecord (partOf 0 (h .progress .records) words))))
-        headed = unfold startTold afterStart in rw e
+        refuses : from trailers (startTold (config .mode) message begun words) ≡ refusal answer (partOf 0 0 after)
+        refuses = unfold startTold afterStart in rw (e, part-empty 0 after)
 
-    -- all was read
-    pub read-whole : (stop : Stop) (count : ℕ) → r ≡ Whole stop count → readTold (record { answer = Valid; stop = stop; records = count }) after ≡ messageBy records index tables config message headers trailers
-    read-whole stop count w = sym (goes-on ∙ told-whole)
-      where
-        told-whole : finishTold (h .progress .records) r after ≡ readTold (record { answer = Valid; stop = stop; records = count }) after
-        told-whole = unfold finishTold readTold in rw w
+    module _ (h : Headed) (e : begun ≡ Header h) (r : PartRead) (read : List ℕ)
+        (goes : (following : List ℕ) → bodyTold (config .mode) message h r read following
+        ≡ from following (startTold (config .mode) message (Header h) words)) where
+      goes-on : whole ≡ bodyTold (config .mode) message h r read trailers
+      goes-on = begins ∙ ap (λ (b : Begun). from trailers (startTold (config .mode) message b words)) e ∙ sym (goes trailers)
 
-    -- MsgType, body or trailer was refused
-    pub read-stopped : (answer : Answer) → r ≡ Stopped answer → (n : ℕ) → n ≡ shownCount answer (h .progress .records) → readTold (record { answer = answer; stop = Nowhere; records = n }) after ≡ messageBy records index tables config message headers trailers
-    read-stopped answer s n shows = sym (goes-on ∙ told-stopped)
-      where
-        told-stopped : finishTold (h .progress .records) r after ≡ readTold (record { answer = answer; stop = Nowhere; records = n }) after
-        told-stopped = unfold finishTold readTold refusal in rw (s, shows, shown-part answer (h .progress .records) after)
+      -- the header's records
+      abbrev header : List Record
+      header = partOf 0 (h .progress .records) read
 
--- the table of tags that was laid over the first words stands for these tags, and the words stay as many
-module _ (tags words after : List ℕ) (size : ℕ) (laid : after ≡ tableOf (fieldsOf tags) ++ drop size words) (sized : size ≡ tableSize (fieldsOf tags)) where
-  pub tags-laid : tagsFound (take size after) ≡ tags
-  tags-laid =
-      ap tagsFound (ap (take size) laid ∙ take-at (tableOf (fieldsOf tags)) (drop size words) size (table-length (fieldsOf tags) ∙ sym sized)) ∙ tags-found tags
+      -- MsgType or the body was refused
+      pub body-refused : (answer : Answer) → r ≡ Unread answer → refusal answer header ≡ whole
+      body-refused answer q = sym (goes-on ∙ refuses)
+        where
+          refuses : bodyTold (config .mode) message h r read trailers ≡ refusal answer header
+          refuses = unfold bodyTold partTold mustFollow afterBody in rw q
 
-  pub tags-long : size ≤ length words → length after ≡ length words
-  tags-long fits = ap length laid ∙ length-append (tableOf (fieldsOf tags)) (drop size words) ∙ omega (arith, table-length (fieldsOf tags), length-drop size words)
+      -- the field that ended the body may not follow it, or it may
+      module _ (f : Field) (p : Progress) (at : r ≡ At f p) where
+        pub body-unfollowed : holdsTag (f .tag) trailers ≡ false → refusal (InvalidField (f .tag)) header ≡ whole
+        body-unfollowed q = sym (goes-on ∙ refuses)
+          where
+            refuses : bodyTold (config .mode) message h r read trailers ≡ refusal (InvalidField (f .tag)) header
+            refuses = unfold bodyTold partTold mustFollow afterBody in rw (at, q)
 
--- which tags a message is read with
-module _ (records index tables : List ℕ) (config : Config) (message : List ℕ) where
-  pub by-listed : (headers trailers : List ℕ) → headers ≡ tagsListed records index 0 → trailers ≡ tagsListed records index 1 →
-      messageBy records index tables config message headers trailers ≡ messageListed records index tables config message
-  by-listed headers trailers e f = rw (e, f)
+        abbrev body : Reading
+        body = ended f (fieldsFrom (config .mode) message (f .next)) (p .room) (partOf (h .progress .records) (p .records) read)
 
-  pub through-unkept : kept.Nowhere ≡ tagsAt tables 0 → messageListed records index tables config message ≡ messageThrough records index tables config message
-  unfolding messageThrough messageKept
-  through-unkept e = rw (← e)
-
-  module _ (from size : ℕ) (header : Table from size ≡ tagsAt tables 0) where
-    pub through-half : kept.Nowhere ≡ tagsAt tables 1 → messageListed records index tables config message ≡ messageThrough records index tables config message
-    unfolding messageThrough messageKept
-    through-half e = rw (← header, ← e)
-
-    pub through-kept : (start long : ℕ) → Table start long ≡ tagsAt tables 1 → (n m : ℕ) → n ≡ size → m ≡ long →
-        messageBy records index tables config message (tagsFound (take n (drop from tables))) (tagsFound (take m (drop start tables))) ≡ messageThrough records index tables config message
-    unfolding messageThrough messageKept
-    through-kept start long e n m q w = rw (← header, ← e, q, w)
+        pub body-followed : holdsTag (f .tag) trailers ≡ true → afterBody header (h .checksum) body ≡ whole
+        body-followed q = sym (goes-on ∙ closes)
+          where
+            closes : bodyTold (config .mode) message h r read trailers ≡ afterBody header (h .checksum) body
+            closes = unfold bodyTold partTold mustFollow in rw (at, q)
 
 module _ (message : List ℕ) (config : Config) (d : List ℕ) (checked : Checked) (is : checked ≡ checkOf d) where
-  pub refused-dictionary : (numberOfCheck checked ≡ 0 → ⊥) → (words : List ℕ) → readTold (record { answer = BadDictionary checked; stop = Nowhere; records = 0 }) words ≡ checkedRead message config d (checkOf d)
-  refused-dictionary n words = none-shown (BadDictionary checked) words ∙ sym (rw (← is) (check-refuses message config d checked n))
+  pub refused-dictionary : (numberOfCheck checked ≡ 0 → ⊥) → (words : List ℕ) →
+      refusal (BadDictionary checked) (partOf 0 0 words) ≡ checkedRead message config d (checkOf d)
+  refused-dictionary n words = ap (refusal (BadDictionary checked)) (part-empty 0 words) ∙ sym (rw (← is) (check-refuses message config d checked n))
 
   pub passing-dictionary : numberOfCheck checked ≡ 0 → messageRead (dictionaryOf d) config message ≡ checkedRead message config d (checkOf d)
   passing-dictionary z = sym (rw (← is) (check-reads message config d checked z))

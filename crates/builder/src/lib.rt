@@ -1,33 +1,26 @@
 // builder: from a message's bytes to its answer and its records: integrity, header, MsgType's layout, body and trailer in turn.
 // It reads a dictionary through its records, the index and the tables that are kept, whatever they hold, and keeps records through `build_records` only.
 // A build checks its dictionary and then reads; a build over memory that a dictionary was prepared in reads at once. There is one path of reading.
+mod beginning;
 mod finishing;
 mod showing;
 
 use build_answers::Answer;
 use build_config::Config;
-use build_integrity_rules::Integrity;
-use build_integrity_rules::Verified;
 use build_parts::PartRead;
 use build_parts::Progress;
 use build_rules::Stop;
 use dictionary_directory::Kept;
 use field_rules::Field;
 ghost use mathlib.Core.Path.{_≡_};
-ghost use Prim.Native.Nat.{_≤_, _<_, _/_, _^_};
+ghost use Prim.Native.Nat.{_≤_, _<_, _^_};
 ghost use lib.ListN.{length};
-ghost use Rattle.build_records.specs.Records.{recordWords, recordRoom, stride};
+ghost use Rattle.build_records.specs.Records.{recordWords, recordRoom};
 ghost use Rattle.dictionary_chains.specs.Chain.{indexWords};
-ghost use Rattle.dictionary_tables_rules.specs.Tags.{tagsFound};
-ghost use Rattle.build_parts.specs.Parts.{partOf};
-ghost use Rattle.build_rules.specs.Beginning.{verifiedRecords, startOf};
-ghost use Rattle.builder.specs.Reading.{VerifiedInside, startTold, Begins, readTold};
+ghost use Rattle.builder.specs.Reading.{tagsKept, readTold};
 ghost use Rattle.builder.specs.Build.{shown, shownWords, checkedRead, firstRefusal, buildOf, builtTold};
-ghost use Rattle.builder.specs.Through.{messageBy, messageListed, messageThrough, buildOver};
+ghost use Rattle.builder.specs.Through.{messageThrough, buildOver};
 ghost use Rattle.dictionary_rules.specs.Check.{checkOf};
-
-// How many fields may be read behind the three that are verified: a 1,025th is too many.
-const ROOM: usize = 1021;
 
 // A header that was read: the field that ended it, how far reading has come, and the verified CheckSum.
 pub struct Headed {
@@ -36,10 +29,10 @@ pub struct Headed {
     pub checksum: Field,
 }
 
-// The message is whole, with so many records, or it is refused.
-pub enum Finished {
-    Whole(Stop, usize),
-    Refused(Answer),
+// Where the tables of the header's tags and of the trailer's start, each with how many words it has; or both are listed of the records.
+pub enum Tags {
+    Both(usize, usize, usize, usize),
+    Listed,
 }
 
 // A header was read, or reading was refused before its end.
@@ -63,125 +56,21 @@ pub struct Built {
     pub written: usize,
 }
 
-// The fields that were verified stand first in the header; answers how many records they make.
-fn keep_verified(words: &mut [u32], verified: Verified) -> usize
-    requires { ⌜ (3 ≤ length (now words) / stride) × VerifiedInside verified ⌝ }
-    ensures { λ r. ⌜ (partOf 0 r (now (words .exit)) ≡ verifiedRecords verified) × (r ≤ 3) ⌝ }
+// Both tables of tags that are kept, or none.
+fn tags_of(tables: &[u16]) -> Tags
+    ensures { λ r. ⌜ r ≡ tagsKept (now (tables .entry)) ⌝ }
 {
-    let begin_string = build_parts::record_of(build_records::HEADER, verified.begin_string);
-    let body_length = build_parts::record_of(build_records::HEADER, verified.body_length);
-    let msg_type = build_parts::record_of(build_records::HEADER, verified.msg_type);
-    let first = build_parts::keep(words, 0, 0, begin_string);
-    let second = build_parts::keep(words, 0, first, body_length);
-    build_parts::keep(words, 0, second, msg_type)
+    let Kept::Table(header, headers) = dictionary_directory::tags_at(tables, 0) else {
+        return Tags::Listed;
+    };
+    let Kept::Table(trailer, trailers) = dictionary_directory::tags_at(tables, 1) else {
+        return Tags::Listed;
+    };
+    Tags::Both(header, headers, trailer, trailers)
 }
 
-// Integrity, and the header behind the fields that it verified.
-fn begin(message: &[u8], config: Config, header_tags: &[u16], words: &mut [u32]) -> Begun
-    requires { ⌜ (length (now message) < 2 ^ 32) × (length (now words) ≡ recordWords) ⌝ }
-    ensures { λ r. ⌜ startTold (config .mode) (now (message .entry)) r (now (words .exit)) ≡ startOf (tagsFound (now («header_tags» .entry))) config (now (message .entry)) ⌝ }
-    ensures { λ r. ⌜ Begins (now (message .entry)) (now (words .exit)) r ⌝ }
-{
-    match build_integrity::verify(message, config.mode) {
-        Integrity::Garbled(reason) => Begun::Refused(Answer::Garbled(reason)),
-        Integrity::Sound(verified) => {
-            let msg_type = verified.msg_type;
-            let behind = msg_type.next;
-            let checksum = verified.checksum;
-            let kept = Progress {
-                room: ROOM,
-                records: keep_verified(words, verified),
-            };
-            match build_parts::read_header(message, config, header_tags, behind, words, kept) {
-                PartRead::Refused(answer) => Begun::Refused(answer),
-                PartRead::At(stop, progress) => Begun::Header(Headed {
-                    stop,
-                    progress,
-                    checksum,
-                }),
-            }
-        }
-    }
-}
-
-// Reads a message with the tables of the header's and of the trailer's tags.
-fn read_by(
-    message: &[u8],
-    config: Config,
-    dictionary: &[u8],
-    index: &[u16],
-    tables: &[u16],
-    header_tags: &[u16],
-    trailer_tags: &[u16],
-    words: &mut [u32],
-) -> Read
-    requires { ⌜ (length (now message) < 2 ^ 32) × (length (now words) ≡ recordWords) × (length (now index) ≡ indexWords) ⌝ }
-    ensures { λ r. ⌜ readTold r (now (words .exit)) ≡ messageBy (now (dictionary .entry)) (now (index .entry)) (now (tables .entry)) config (now (message .entry)) (tagsFound (now («header_tags» .entry))) (tagsFound (now («trailer_tags» .entry))) ⌝ }
-    ensures { λ r. ⌜ r .records ≤ recordRoom ⌝ }
-{
-    match begin(message, config, header_tags, words) {
-        Begun::Refused(answer) => Read {
-            answer,
-            stop: Stop::Nowhere,
-            records: 0,
-        },
-        Begun::Header(headed) => {
-            let header = headed.progress;
-            match finishing::read_headed(
-                message,
-                config,
-                dictionary,
-                index,
-                tables,
-                trailer_tags,
-                headed,
-                words,
-            ) {
-                Finished::Whole(stop, count) => Read {
-                    answer: Answer::Valid,
-                    stop,
-                    records: count,
-                },
-                Finished::Refused(answer) => Read {
-                    answer,
-                    stop: Stop::Nowhere,
-                    records: showing::shown_with(answer, header.records),
-                },
-            }
-        }
-    }
-}
-
-// Reads a message with the tags that are listed of the records.
-fn read_listed(
-    message: &[u8],
-    config: Config,
-    dictionary: &[u8],
-    index: &[u16],
-    tables: &[u16],
-    words: &mut [u32],
-) -> Read
-    requires { ⌜ (length (now message) < 2 ^ 32) × (length (now words) ≡ recordWords) × (length (now index) ≡ indexWords) ⌝ }
-    ensures { λ r. ⌜ readTold r (now (words .exit)) ≡ messageListed (now (dictionary .entry)) (now (index .entry)) (now (tables .entry)) config (now (message .entry)) ⌝ }
-    ensures { λ r. ⌜ r .records ≤ recordRoom ⌝ }
-{
-    let mut header_tags = [0u16; dictionary_directory::TAG_WORDS];
-    let mut trailer_tags = [0u16; dictionary_directory::TAG_WORDS];
-    let headers = dictionary_directory::lay_tags(dictionary, index, 0, &mut header_tags);
-    let trailers = dictionary_directory::lay_tags(dictionary, index, 1, &mut trailer_tags);
-    read_by(
-        message,
-        config,
-        dictionary,
-        index,
-        tables,
-        &header_tags[..headers],
-        &trailer_tags[..trailers],
-        words,
-    )
-}
-
-// Reads a message through a dictionary's records, the index that its check left and the tables that are kept, whatever they hold.
+// Reads a message through a dictionary's records, the index that its check left and the tables that are kept, whatever they hold. What a phase lays is
+// gone before the next one begins.
 fn read_message(
     message: &[u8],
     config: Config,
@@ -194,22 +83,30 @@ fn read_message(
     ensures { λ r. ⌜ readTold r (now (words .exit)) ≡ messageThrough (now (dictionary .entry)) (now (index .entry)) (now (tables .entry)) config (now (message .entry)) ⌝ }
     ensures { λ r. ⌜ r .records ≤ recordRoom ⌝ }
 {
-    let Kept::Table(header, headers) = dictionary_directory::tags_at(tables, 0) else {
-        return read_listed(message, config, dictionary, index, tables, words);
-    };
-    let Kept::Table(trailer, trailers) = dictionary_directory::tags_at(tables, 1) else {
-        return read_listed(message, config, dictionary, index, tables, words);
-    };
-    read_by(
-        message,
-        config,
-        dictionary,
-        index,
-        tables,
-        &tables[header..header + headers],
-        &tables[trailer..trailer + trailers],
-        words,
-    )
+    let tags = tags_of(tables);
+    match beginning::begin_by(message, config, dictionary, index, tables, tags, words) {
+        Begun::Refused(answer) => showing::refused(answer, 0),
+        Begun::Header(headed) => {
+            let header = headed.progress;
+            match finishing::read_headed(
+                message,
+                config,
+                dictionary,
+                index,
+                tables,
+                headed,
+                words,
+            ) {
+                PartRead::Refused(answer) => showing::refused(answer, header.records),
+                PartRead::At(first, reached) => {
+                    if finishing::follows(dictionary, index, tables, tags, first.tag) {
+                        return finishing::close(message, config, headed, first, reached, words);
+                    }
+                    showing::refused(Answer::InvalidField(first.tag), header.records)
+                }
+            }
+        }
+    }
 }
 
 // The dictionary is checked, and then the message is read by it.
@@ -221,11 +118,7 @@ fn read_checked(message: &[u8], config: Config, dictionary: &[u8], words: &mut [
     let mut index = [0u16; dictionary_chains::WORDS];
     let checked = dictionary_check::prepare(dictionary, &mut index);
     if dictionary_check::number_of(checked) != 0 {
-        return Read {
-            answer: Answer::BadDictionary(checked),
-            stop: Stop::Nowhere,
-            records: 0,
-        };
+        return showing::refused(Answer::BadDictionary(checked), 0);
     }
     // Nothing is kept of a dictionary that is checked for one message.
     let none = [0u16; 0];

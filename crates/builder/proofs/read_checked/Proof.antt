@@ -14,8 +14,10 @@ use Rattle.builder.proofs.read_checked.Statement.{statement}
 use Rattle.builder.proofs.read_checked.Tie as tie
 
 returns : tie.Need-returns
-returns c = let k = c .before in
-    (refused-dictionary _ _ _ _ (k .before .prepare .ensures .1) (λ z. c .if1 .taken (k .number-of .ensures ∙ z)) _, omega arith)
+returns c = let k = c .before .before in (
+  c .refused .ensures .0 _ ∙ refused-dictionary _ _ _ _ (k .before .prepare .ensures .1) (λ z. c .before .if1 .taken (k .number-of .ensures ∙ z)) _,
+  omega (arith, c .refused .ensures .1),
+)
 
 -- the check left an index of its size
 sized : (c : tie.Else1) → let k = c .before in _≡_ {A = ℕ} (length (k .before .prepare .last .1 .0)) indexWords
@@ -45,5 +47,5 @@ returns-2 c = let r = c .before .before in
 pub read-checked-spec : {M : Type 1} → statement M
 read-checked-spec =
     tie.close
-    (tie.spec (λ c κs. search needs) (λ c κs. search needs) returns slice-aggregate-read-message (λ c. search needs) read-message-requires
-    (λ c. search needs) returns-2)
+    (tie.spec (λ c κs. search needs) (λ c κs. search needs) (λ c κs. search needs) returns slice-aggregate-read-message (λ c. search needs)
+    read-message-requires (λ c. search needs) returns-2)

@@ -12,7 +12,9 @@ use Rattle.dictionary_meaning_rules.specs.MessageTable.{placeOf}
 use Rattle.dictionary_directory.specs.Directory.{keptAt}
 use Rattle.dictionary_directory.specs.DirectoryLaws.{table-lies}
 use Rattle.dictionary_directory.specs.declared.Kept.the-variants.{Table}
-use Rattle.builder.specs.Reading.{finishCounts}
+use Rattle.build_parts.specs.PartLaws.{stays-refused}
+use Rattle.builder.specs.Reading.{startTold}
+use Rattle.builder.specs.Through.{afterStart}
 use Rattle.builder.specs.HeadedLaws.{type-inside, type-placed, unknown, placed-none, placed-kept, placed-laid}
 use Rattle.builder.proofs.finishing.read_headed.Statement.{statement}
 use Rattle.builder.proofs.finishing.read_headed.Tie as tie
@@ -22,10 +24,10 @@ abbrev typed : tie.After-place-of → tie.After-msg-type-of
 typed c = c .before .before .before .before
 
 abbrev called : tie.After-msg-type-of → tie.Start
-called c = c .before .before .before .before .before .before .before .before .before
+called c = c .before .before .before .before .before .before .before .before
 
 msg-type-of-requires : tie.Need-msg-type-of-requires
-msg-type-of-requires c κs = omega (arith, c .before .before .before .before .before .before .before .before .pre .2 .fits)
+msg-type-of-requires c κs = omega (arith, c .before .before .before .before .before .before .before .pre .2 .fits)
 
 part-place-of-end : tie.Need-part-place-of-end
 part-place-of-end c = let t = c .before .before in
@@ -44,27 +46,27 @@ told c = let t = typed c in
 abbrev found : tie.After-table-at → tie.After-place-of
 found c = c .before .before .before .before .before
 
-kept : (c : tie.After-table-at) → c .table-at .result ≡ keptAt (called (typed (found c)) .args .tables .now) (c .before .before .before .opening .given .0 .0)
+kept : (c : tie.After-table-at) → c .table-at .result ≡ keptAt (called (typed (found c)) .args .tables .now) (c .before .before .before .placed .given .0 .0)
 kept c = c .table-at .ensures ∙ ap (keptAt (called (typed (found c)) .args .tables .now)) (c .before .wide .ensures)
 
-lies : (c : tie.After-known-told2) → c .before .from .given .0 .0 + c .before .from .given .0 .1 .0 ≤ length (called (typed (found (c .before .before .before))) .args .tables .now)
-lies c = let t = c .before .before .before in table-lies _ _ _ _ (sym (kept t) ∙ c .before .from .given .1)
+lies : (c : tie.After-known-told2) →
+    c .before .kept .given .0 .0 + c .before .kept .given .0 .1 .0 ≤ length (called (typed (found (c .before .before .before))) .args .tables .now)
+lies c = let t = c .before .before .before in table-lies _ _ _ _ (sym (kept t) ∙ c .before .kept .given .1)
 
 long : (c : tie.Start) → length (c .args .tables .now) < 2 ^ 63
 long c = omega arith
 
-add-finish : tie.Need-add-finish
-add-finish c = omega (arith, lies c, long (called (typed (found (c .before .before .before)))))
+add-read-by-table : tie.Need-add-read-by-table
+add-read-by-table c = omega (arith, lies c, long (called (typed (found (c .before .before .before)))))
 
-mul-finish : tie.Need-mul-finish
-mul-finish c = omega (arith, lies c, long (called (typed (found (c .before .before .before)))))
+mul-read-by-table : tie.Need-mul-read-by-table
+mul-read-by-table c = omega (arith, lies c, long (called (typed (found (c .before .before .before)))))
 
-part-finish-end : tie.Need-part-finish-end
-part-finish-end c = lies c
+part-read-by-table-end : tie.Need-part-read-by-table-end
+part-read-by-table-end c = lies c
 
-finish-requires : tie.Need-finish-requires
-finish-requires c κs = let p = called (typed (found (c .before .before .before .before .before))) .pre in
-    ((p .0, p .2 .stops, p .2 .sums, p .2 .fits, omega (arith, p .1)), p .3)
+read-by-table-requires : tie.Need-read-by-table-requires
+read-by-table-requires c κs = called (typed (found (c .before .before .before .before .before))) .pre
 
 read-laid-requires : tie.Need-read-laid-requires
 read-laid-requires c κs = let t = typed (found (c .before .before .before)) in
@@ -72,45 +74,51 @@ read-laid-requires c κs = let t = typed (found (c .before .before .before)) in
     (p .0, p .1, p .2, p .3, t .msg-type-of .ensures)
 
 returns : tie.Need-returns
-unfolding finishCounts
+unfolding startTold afterStart
 returns c = let m = c .before .before in
     let t = typed m in
     let s = called t in
     let h = s .args .headed in (
-      unknown _ (s .args .words .now) (t .msg-type-of .result) (t .msg-type-of .ensures)
-          ∙ placed-none _ (h .stop) _ (h .progress .room) _ (h .checksum) (s .args .dictionary .now) (s .args .index .now) (s .args .config) (s .args .tables .now) (told m ∙ c .enum-told .given .1),
-      omega arith,
+      λ trailers. unknown _ _ h (s .args .words .now) (t .msg-type-of .result) (t .msg-type-of .ensures) trailers
+          ∙ placed-none trailers (h .stop) _ (h .progress .room) _ (h .checksum) (s .args .dictionary .now) (s .args .index .now) (s .args .config)
+          (s .args .tables .now) (told m ∙ c .enum-told .given .1),
+      stays-refused _ _ _ _ _ refl _,
     )
 
 returns-2 : tie.Need-returns-2
-returns-2 c = let f = c .before .before in
-    let k = f .before .before .before in
-    let t = k .before .before .before in
-    let m = found t in
-    let s = called (typed m) in
-    let h = s .args .headed in
-    let from = k .before .from .given .0 .0 in
-    let size = k .before .from .given .0 .1 .0 in (
-      f .finish .ensures .0
-          ∙ placed-kept _ (h .stop) _ (h .progress .room) _ (h .checksum) (s .args .dictionary .now) (s .args .index .now) (s .args .config) (s .args .tables .now) _ (told m ∙ t .before .before .before .opening .given .1) from size (from + size - from) (sym (k .before .from .given .1) ∙ kept t) (omega arith),
-      omega (arith, f .finish .ensures .1, s .pre .1),
-    )
-
-returns-3 : tie.Need-returns-3
-returns-3 c = let l = c .before .before in
+unfolding startTold afterStart
+returns-2 c = let l = c .before .before in
     let t = l .before .before .before .before in
     let m = found t in
     let s = called (typed m) in
     let h = s .args .headed in (
-      l .read-laid .ensures .0
-          ∙ placed-laid _ (h .stop) _ (h .progress .room) _ (h .checksum) (s .args .dictionary .now) (s .args .index .now) (s .args .config) (s .args .tables .now) _ (told m ∙ t .before .before .before .opening .given .1) (sym (l .before .before .enum-told2 .given .1) ∙ kept t),
+      λ trailers. l .read-laid .ensures .0 trailers
+          ∙ placed-laid trailers (h .stop) _ (h .progress .room) _ (h .checksum) (s .args .dictionary .now) (s .args .index .now) (s .args .config)
+          (s .args .tables .now) _ (told m ∙ t .before .before .before .placed .given .1) (sym (l .before .before .enum-told2 .given .1) ∙ kept t),
       l .read-laid .ensures .1,
+    )
+
+returns-3 : tie.Need-returns-3
+unfolding startTold afterStart
+returns-3 c = let b = c .before .before in
+    let k = b .before .before .before in
+    let t = k .before .before .before in
+    let m = found t in
+    let s = called (typed m) in
+    let h = s .args .headed in
+    let from = k .before .kept .given .0 .0 in
+    let size = k .before .kept .given .0 .1 .0 in (
+      λ trailers. b .read-by-table .ensures .0 trailers
+          ∙ placed-kept trailers (h .stop) _ (h .progress .room) _ (h .checksum) (s .args .dictionary .now) (s .args .index .now) (s .args .config)
+          (s .args .tables .now) _ (told m ∙ t .before .before .before .placed .given .1) from size (from + size - from)
+          (sym (k .before .kept .given .1) ∙ kept t) (omega arith),
+      b .read-by-table .ensures .1,
     )
 
 pub read-headed-spec : {M : Type 1} → statement M
 read-headed-spec =
     tie.close
     (tie.spec msg-type-of-requires (λ c. search needs) (λ c. search needs) (λ c. search needs) (λ c. search needs) (λ c. search needs)
-    part-place-of-end place-of-requires (λ c. search needs) (λ c. search needs) (λ c κs. search needs) (λ c κs. search needs) (λ c. search needs)
-    add-finish mul-finish (λ c. search needs) (λ c. search needs) part-finish-end finish-requires (λ c. search needs) read-laid-requires
-    (λ c. search needs) returns (λ c. search needs) returns-2 (λ c. search needs) returns-3)
+    part-place-of-end place-of-requires (λ c. search needs) (λ c. search needs) (λ c. search needs) returns (λ c κs. search needs) (λ c κs. search needs)
+    (λ c. search needs) (λ c. search needs) read-laid-requires (λ c. search needs) returns-2 add-read-by-table mul-read-by-table (λ c. search needs)
+    (λ c. search needs) part-read-by-table-end read-by-table-requires (λ c. search needs) returns-3)

@@ -9,8 +9,8 @@ use Rattle.builder.specs.MsgTypeLaws.{msg-type-inside}
 use Rattle.build_integrity_rules.specs.VerifiedLaws.{verified-read}
 use Rattle.builder.specs.BeginningLaws.{verified-inside, start-garbled, start-refused, start-headed, header-ended, begins-refused, begins-headed}
 use borrow.Author.Needs.{needs}
-use Rattle.builder.proofs.begin.Statement.{statement}
-use Rattle.builder.proofs.begin.Tie as tie
+use Rattle.builder.proofs.beginning.begin.Statement.{statement}
+use Rattle.builder.proofs.beginning.begin.Tie as tie
 
 -- the frame is sound
 sound : (c : tie.After-known-told2) → let a = c .before .before .before .before .before .before .before .args in integrityOf (a .config .mode) (a .message .now) ≡ Sound (c .before .verified .given .0 .0)

@@ -2,8 +2,8 @@
 use native.Mathlib.Omega.{arith}
 use Rattle.builder.specs.BeginningLaws.{verified-kept}
 use borrow.Author.Needs.{needs}
-use Rattle.builder.proofs.keep_verified.Statement.{statement}
-use Rattle.builder.proofs.keep_verified.Tie as tie
+use Rattle.builder.proofs.beginning.keep_verified.Statement.{statement}
+use Rattle.builder.proofs.beginning.keep_verified.Tie as tie
 
 record-of-requires : tie.Need-record-of-requires
 record-of-requires c κs = c .before .pre .1 .begins
