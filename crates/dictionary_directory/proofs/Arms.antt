@@ -66,6 +66,6 @@ no-message (OpensMessage msgType) k =
 no-message (KnownTag tag) k = refl
 no-message (OpensComponent number) k = refl
 no-message (FieldItem tag required) k = refl
-no-message (ComponentItem number required) k = refl
+no-message (ComponentItem required number) k = refl
 no-message (OpensGroup tag required) k = refl
 no-message Closes k = refl

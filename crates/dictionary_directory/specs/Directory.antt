@@ -135,7 +135,7 @@ isMessage (OpensMessage msgType) = true
 isMessage (KnownTag tag) = false
 isMessage (OpensComponent number) = false
 isMessage (FieldItem tag required) = false
-isMessage (ComponentItem number required) = false
+isMessage (ComponentItem required number) = false
 isMessage (OpensGroup tag required) = false
 isMessage Closes = false
 

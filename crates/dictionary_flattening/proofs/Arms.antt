@@ -41,7 +41,7 @@ module _ (inner : Step) (bytes : List ℕ) (components : ℕ → Looked) (rises 
   top-level (OpensComponent number) next e k = lay-opens-component inner bytes components rises at row table number next e
   top-level (OpensMessage msgType) next e k = lay-opens-message inner bytes components rises at row table msgType next e
   top-level (FieldItem tag required) next e k = never k (λ (z : 3 ≡ 0). absurd (omega arith)) (λ (z : 3 ≡ 1). absurd (omega arith)) (λ (z : 3 ≡ 2). absurd (omega arith))
-  top-level (ComponentItem number required) next e k = never k (λ (z : 4 ≡ 0). absurd (omega arith)) (λ (z : 4 ≡ 1). absurd (omega arith)) (λ (z : 4 ≡ 2). absurd (omega arith))
+  top-level (ComponentItem required number) next e k = never k (λ (z : 4 ≡ 0). absurd (omega arith)) (λ (z : 4 ≡ 1). absurd (omega arith)) (λ (z : 4 ≡ 2). absurd (omega arith))
   top-level (OpensGroup tag required) next e k = never k (λ (z : 5 ≡ 0). absurd (omega arith)) (λ (z : 5 ≡ 1). absurd (omega arith)) (λ (z : 5 ≡ 2). absurd (omega arith))
   top-level Closes next e k = never k (λ (z : 6 ≡ 0). absurd (omega arith)) (λ (z : 6 ≡ 1). absurd (omega arith)) (λ (z : 6 ≡ 2). absurd (omega arith))
 

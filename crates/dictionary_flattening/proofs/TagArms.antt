@@ -29,6 +29,6 @@ module _ (d : List ℕ) (at groups count : ℕ) (tags : List ℕ) where
   top-level-tags (OpensComponent number) next e k = tags-opens d at groups count tags next number e
   top-level-tags (OpensMessage msgType) next e k = tags-message d at groups count tags next msgType e
   top-level-tags (FieldItem tag required) next e k = never k (λ (z : 3 ≡ 0). absurd (omega arith)) (λ (z : 3 ≡ 1). absurd (omega arith)) (λ (z : 3 ≡ 2). absurd (omega arith))
-  top-level-tags (ComponentItem number required) next e k = never k (λ (z : 4 ≡ 0). absurd (omega arith)) (λ (z : 4 ≡ 1). absurd (omega arith)) (λ (z : 4 ≡ 2). absurd (omega arith))
+  top-level-tags (ComponentItem required number) next e k = never k (λ (z : 4 ≡ 0). absurd (omega arith)) (λ (z : 4 ≡ 1). absurd (omega arith)) (λ (z : 4 ≡ 2). absurd (omega arith))
   top-level-tags (OpensGroup tag required) next e k = never k (λ (z : 5 ≡ 0). absurd (omega arith)) (λ (z : 5 ≡ 1). absurd (omega arith)) (λ (z : 5 ≡ 2). absurd (omega arith))
   top-level-tags Closes next e k = never k (λ (z : 6 ≡ 0). absurd (omega arith)) (λ (z : 6 ≡ 1). absurd (omega arith)) (λ (z : 6 ≡ 2). absurd (omega arith))

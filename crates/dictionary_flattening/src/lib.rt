@@ -103,7 +103,7 @@ fn lay_items(
                 at = after;
                 row = end;
             }
-            Record::ComponentItem(number, _) => {
+            Record::ComponentItem(_, number) => {
                 match stands_at(index, number) {
                     Expansion::ItemsAt(place) => {
                         let Laid::Upto(_, end) = lay_items(

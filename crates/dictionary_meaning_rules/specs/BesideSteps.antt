@@ -133,24 +133,24 @@ module _ (names : Names) (layouts : Records → List Layout) (place : ℕ) where
         (λ m. goes (within measured bounded next (counted-field defined c tag required Several (ltb-false 1024 (o .items + 1) m))) (unfold thingsOf openAfter grown in refl)))
         (λ k. refuses unknown-tag)
 
-    inside-component : (number : ℕ) (required : Bool) → Stepped (Inside o) names layouts place (ComponentItem number required) (stepOf (looksIn names) (Inside o) place (ComponentItem number required))
+    inside-component : (number : ℕ) (required : Bool) → Stepped (Inside o) names layouts place (ComponentItem required number) (stepOf (looksIn names) (Inside o) place (ComponentItem required number))
     unfolding stepOf onItem inside looksIn named grown
     inside-component number required = go (componentIn (names .components) number) refl
       where
-        next : OpenTree (o .owner) (λ (later : Records). layouts (whole place (ComponentItem number required) later)) defined read (continued level (componentThen number required closed)) groups
+        next : OpenTree (o .owner) (λ (later : Records). layouts (whole place (ComponentItem required number) later)) defined read (continued level (componentThen number required closed)) groups
         next = tree-component (o .owner) layouts defined read level groups place number required t
 
-        over : (P : Layout → Type 0) → P (flat defined (wrapped groups (continued level (componentThen number required closed)))) → Latest P (layouts (whole place (ComponentItem number required) (closes (openAfter (ComponentItem number required) (thingsOf (Inside o))) (ends 0))))
+        over : (P : Layout → Type 0) → P (flat defined (wrapped groups (continued level (componentThen number required closed)))) → Latest P (layouts (whole place (ComponentItem required number) (closes (openAfter (ComponentItem required number) (thingsOf (Inside o))) (ends 0))))
         over P p = latest-off (o .owner) _ defined read _ P groups _ next (unfold openAfter in as-open) p
 
-        go : (l : Looked) → componentIn (names .components) number ≡ l → Stepped (Inside o) names layouts place (ComponentItem number required) (closedBefore l number (λ d. notTooDeep (depthOf (o .groups) + d .depth) place (notTooMany (o .items + d .items) place (Goes (Inside (grown o (o .items + d .items) (deeper (o .depth) (depthOf (o .groups) + d .depth)) (heldWith (o .held) d) (o .groups))) Unchanged))))
+        go : (l : Looked) → componentIn (names .components) number ≡ l → Stepped (Inside o) names layouts place (ComponentItem required number) (closedBefore l number (λ d. notTooDeep (depthOf (o .groups) + d .depth) place (notTooMany (o .items + d .items) place (Goes (Inside (grown o (o .items + d .items) (deeper (o .depth) (depthOf (o .groups) + d .depth)) (heldWith (o .held) d) (o .groups))) Unchanged))))
         go Missing e = unfold closedBefore in refuses no-component
         go (Closed d) e =
             let m = measured number d e in
             unfold closedBefore notTooDeep notTooMany in
-            picked (Inside o) (ComponentItem number required) (ltb 4 (depthOf (o .groups) + d .depth)) _ _
+            picked (Inside o) (ComponentItem required number) (ltb 4 (depthOf (o .groups) + d .depth)) _ _
             (λ h. refuses (nests-too-deep (over FiveDeep (omega (arith, ltb-true 4 (depthOf (o .groups) + d .depth) h, component-deep defined c number required, m .deep)))))
-            (λ h. picked (Inside o) (ComponentItem number required) (ltb 1024 (o .items + d .items)) _ _
+            (λ h. picked (Inside o) (ComponentItem required number) (ltb 1024 (o .items + d .items)) _ _
             (λ k. refuses (holds-too-many (over OverThousand (omega (arith, ltb-true 1024 (o .items + d .items) k, component-whole defined c number required, m .count), component-shallow defined c number required (omega (arith, ltb-false 4 (depthOf (o .groups) + d .depth) h, m .deep))))))
             (λ k. goes (within measured bounded next (counted-component defined c number required (d .items) (d .depth) (heldWith (o .held) d) (m .count) (m .deep) (m .filled) (ltb-false 4 (depthOf (o .groups) + d .depth) h) (ltb-false 1024 (o .items + d .items) k))) (unfold thingsOf openAfter grown in refl)))
 
@@ -272,13 +272,13 @@ step-beside TopLevel names layouts place (KnownTag tag) (at-top t) = top-tag nam
 step-beside TopLevel names layouts place (OpensComponent number) (at-top t) = top-component names layouts place t number
 step-beside TopLevel names layouts place (OpensMessage msgType) (at-top t) = top-message names layouts place t msgType
 step-beside TopLevel names layouts place (FieldItem tag required) (at-top t) = unfold stepOf onField inside in refuses bad-record
-step-beside TopLevel names layouts place (ComponentItem number required) (at-top t) = unfold stepOf onItem inside in refuses bad-record
+step-beside TopLevel names layouts place (ComponentItem required number) (at-top t) = unfold stepOf onItem inside in refuses bad-record
 step-beside TopLevel names layouts place (OpensGroup tag required) (at-top t) = unfold stepOf onGroup inside in refuses bad-record
 step-beside TopLevel names layouts place Closes (at-top t) = unfold stepOf onClose inside in refuses bad-record
 step-beside (Inside o) names layouts place (KnownTag tag) (within m b t c) = unfold stepOf onTag atTop in refuses bad-record
 step-beside (Inside o) names layouts place (OpensComponent number) (within m b t c) = unfold stepOf onComponent atTop in refuses bad-record
 step-beside (Inside o) names layouts place (OpensMessage msgType) (within m b t c) = unfold stepOf onMessage atTop in refuses bad-record
 step-beside (Inside o) names layouts place (FieldItem tag required) (within {defined} {read} {level} {groups} m b t c) = inside-field names layouts place o defined read level groups m b t c tag required
-step-beside (Inside o) names layouts place (ComponentItem number required) (within {defined} {read} {level} {groups} m b t c) = inside-component names layouts place o defined read level groups m b t c number required
+step-beside (Inside o) names layouts place (ComponentItem required number) (within {defined} {read} {level} {groups} m b t c) = inside-component names layouts place o defined read level groups m b t c number required
 step-beside (Inside o) names layouts place (OpensGroup tag required) (within {defined} {read} {level} {groups} m b t c) = inside-group names layouts place o defined read level groups m b t c tag required
 step-beside (Inside o) names layouts place Closes (within {defined} {read} {level} {groups} m b t c) = inside-close names layouts place o defined read level m b groups t c

@@ -24,7 +24,7 @@ openAfter (KnownTag tag) things = things
 openAfter (OpensComponent number) things = things + 1
 openAfter (OpensMessage msgType) things = things + 1
 openAfter (FieldItem tag required) things = things
-openAfter (ComponentItem number required) things = things
+openAfter (ComponentItem required number) things = things
 openAfter (OpensGroup tag required) things = things + 1
 openAfter Closes things = things - 1
 

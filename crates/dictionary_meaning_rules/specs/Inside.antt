@@ -136,11 +136,11 @@ module _ (bytes : List ℕ) (final names : Names) where
             fewer = omega (arith, c .fewer);
           }
 
-  component-before : (at place : ℕ) (number : ℕ) (required : Bool) (rest : Records) (o : Open) (depth : ℕ) (component : Component) → (n : Next bytes at (ComponentItem number required) rest place) → Look number ≡ Closed component → o .items + component .items ≤ 1024 → Closing bytes final names (n .next) rest (grown o (o .items + component .items) depth (heldWith (o .held) component) (o .groups)) → Closing bytes final names at (whole place (ComponentItem number required) rest) o
+  component-before : (at place : ℕ) (number : ℕ) (required : Bool) (rest : Records) (o : Open) (depth : ℕ) (component : Component) → (n : Next bytes at (ComponentItem required number) rest place) → Look number ≡ Closed component → o .items + component .items ≤ 1024 → Closing bytes final names (n .next) rest (grown o (o .items + component .items) depth (heldWith (o .held) component) (o .groups)) → Closing bytes final names at (whole place (ComponentItem required number) rest) o
   unfolding grown countAll countOf itemsIn heldAll heldFrom heldBy levelsOf onTop declarationsOf sizeOf
   component-before at place number required rest o depth component n looked h c = go (c .levels) (c .split) (c .deep) (c .reads) (c .resolved) (c .count) (c .held)
     where
-      go : (levels : List Items) → levelsOf rest ≡ levels ++ levelsOf (c .rest) → length levels ≡ 1 + depthOf (o .groups) → ReadsAll bytes (n .next) levels (c .after) → AllResolved Look levels → c .last .items ≡ o .items + component .items + countAll Look levels → c .last .held ≡ heldAll Look (heldWith (o .held) component) levels → Closing bytes final names at (whole place (ComponentItem number required) rest) o
+      go : (levels : List Items) → levelsOf rest ≡ levels ++ levelsOf (c .rest) → length levels ≡ 1 + depthOf (o .groups) → ReadsAll bytes (n .next) levels (c .after) → AllResolved Look levels → c .last .items ≡ o .items + component .items + countAll Look levels → c .last .held ≡ heldAll Look (heldWith (o .held) component) levels → Closing bytes final names at (whole place (ComponentItem required number) rest) o
       go [] s d r v k l = absurd (omega arith)
       go (level ∷ levels) s d (one-level r rs) (one-resolved v vs) k l =
           record {
@@ -255,8 +255,8 @@ module _ (bytes : List ℕ) (final names : Names) where
       let n = next-of bytes at place (FieldItem tag required) rest e in
       let g = field-goes final place rest names o tag required p in
       field-before at place tag required rest o (o .depth) n (g .0) (closes-inside rest (n .next) _ (n .there) (g .1))
-  closes-inside (whole place (ComponentItem number required) rest) at o e p =
-      let n = next-of bytes at place (ComponentItem number required) rest e in
+  closes-inside (whole place (ComponentItem required number) rest) at o e p =
+      let n = next-of bytes at place (ComponentItem required number) rest e in
       let g = item-goes final place rest names o number required p in
       component-before at place number required rest o _ (g .0) n (g .1) (g .2) (closes-inside rest (n .next) _ (n .there) (g .3))
   closes-inside (whole place (OpensGroup tag required) rest) at o e p =

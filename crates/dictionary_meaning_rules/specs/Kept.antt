@@ -74,7 +74,7 @@ module _ (inner rest : Step) (within : Keeping inner) (goes : Keeping rest) wher
       go : (full : Bool) → length (tableOf (pick full (laying Broken table) (afterGroup rest row tag required (inner next (row + 1) table)))) ≡ length table
       go true = refl
       go false = group-keeps row tag required (inner next (row + 1) table) ∙ within next (row + 1) table
-  record-keeps components row next table (ComponentItem number required) = component-keeps next row table (standsAt components number)
+  record-keeps components row next table (ComponentItem required number) = component-keeps next row table (standsAt components number)
   record-keeps components row next table Closes = refl
   record-keeps components row next table (KnownTag tag) = refl
   record-keeps components row next table (OpensComponent number) = refl
@@ -133,7 +133,7 @@ module _ (rest : TagStep) (goes : Listing-few rest) (groups count : ℕ) (tags :
       go true true q = unlisted refl
       go true false q = rw length-set at (goes next groups (count + 1) (set tags count tag) (omega (arith, leb-false 1024 count q)))
       go false full q = goes next groups count tags h
-  tag-few (ComponentItem number required) next = goes next groups count tags h
+  tag-few (ComponentItem required number) next = goes next groups count tags h
   tag-few (OpensGroup tag required) next = goes next (groups + 1) count tags h
   tag-few Closes next = go (eqb groups 0)
     where

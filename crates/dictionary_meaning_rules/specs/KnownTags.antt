@@ -74,7 +74,7 @@ unfolding sizeOf declarationsOf tagsFrom tagIn
 known-step bytes final tag (ends size) at names again e p = end-known final names tag (end-passes final names size p .0)
 known-step bytes final tag (bad place) at names again e p = bad-stops final names place TopLevel p
 known-step bytes final tag (whole place (FieldItem t required) rest) at names again e p = field-stops final place rest names t required p
-known-step bytes final tag (whole place (ComponentItem number required) rest) at names again e p = item-stops final place rest names number required p
+known-step bytes final tag (whole place (ComponentItem required number) rest) at names again e p = item-stops final place rest names number required p
 known-step bytes final tag (whole place (OpensGroup t required) rest) at names again e p = group-stops final place rest names t required p
 known-step bytes final tag (whole place Closes rest) at names again e p = close-stops final place rest names p
 known-step bytes final tag (whole place (KnownTag new) rest) at names again e p =

@@ -105,7 +105,7 @@ module _ (inner rest : Step) (within : Writing inner) (goes : Writing rest) wher
       go : (full : Bool) → Writes row table (pick full (laying Broken table) (afterGroup rest row tag required (inner next (row + 1) table)))
       go true = breaks-off
       go false = after-group row tag required table (inner next (row + 1) table) (within next (row + 1) table)
-  record-writes components row next table (ComponentItem number required) = component-writes next row table (standsAt components number)
+  record-writes components row next table (ComponentItem required number) = component-writes next row table (standsAt components number)
   record-writes components row next table Closes = close-writes row table next
   record-writes components row next table (KnownTag tag) = breaks-off
   record-writes components row next table (OpensComponent number) = breaks-off

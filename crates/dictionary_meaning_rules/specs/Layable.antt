@@ -23,7 +23,7 @@ use Rattle.dictionary_meaning_rules.specs.declared.Expansion.the-variant
 pub data Reads (bytes : List ℕ) : ℕ → Items → ℕ → Type 0 where
   reads-close : {at next : ℕ} → recordAt bytes at ≡ Whole Closes next → Reads bytes at closed next
   reads-field : {at next after tag : ℕ} {required : Bool} {rest : Items} → recordAt bytes at ≡ Whole (FieldItem tag required) next → Reads bytes next rest after → Reads bytes at (fieldThen tag required rest) after
-  reads-component : {at next after number : ℕ} {required : Bool} {rest : Items} → recordAt bytes at ≡ Whole (ComponentItem number required) next → Reads bytes next rest after → Reads bytes at (componentThen number required rest) after
+  reads-component : {at next after number : ℕ} {required : Bool} {rest : Items} → recordAt bytes at ≡ Whole (ComponentItem required number) next → Reads bytes next rest after → Reads bytes at (componentThen number required rest) after
   reads-group : {at next upto after tag : ℕ} {required : Bool} {inner rest : Items} → recordAt bytes at ≡ Whole (OpensGroup tag required) next → Reads bytes next inner upto → Reads bytes upto rest after → Reads bytes at (groupThen tag required inner rest) after
 
 -- laying from a place on writes this layout, wherever there is room and depth for it
@@ -118,7 +118,7 @@ module _ (bytes : List ℕ) (components : ℕ → Looked) (defined : List Define
   Laying-ok at after level depth = (row : ℕ) (table : List ℕ) → row + items (flat defined level) ≤ 1024 → itemsFrom (layItems depth bytes components) bytes components at row table ≡ laidFrom after row (flat defined level) table
 
   -- a component item, by what is known of its component
-  component-level : (at next after number : ℕ) (required : Bool) (rest : Items) (depth : ℕ) → recordAt bytes at ≡ Whole (ComponentItem number required) next → Lays bytes components number (layoutOf defined number) → 2 * items (layoutOf defined number) < depth → Laying-ok next after rest depth → Laying-ok at after (componentThen number required rest) depth
+  component-level : (at next after number : ℕ) (required : Bool) (rest : Items) (depth : ℕ) → recordAt bytes at ≡ Whole (ComponentItem required number) next → Lays bytes components number (layoutOf defined number) → 2 * items (layoutOf defined number) < depth → Laying-ok next after rest depth → Laying-ok at after (componentThen number required rest) depth
   component-level at next after number required rest depth e (lays-nothing s z) n r row table h =
       lay-empty (layItems depth bytes components) bytes components (lay-advances depth bytes components) at row table number required next e s
       ∙ r row table (omega (arith, count-component defined number required rest))

@@ -67,7 +67,7 @@ onRecord inner rest components row table (FieldItem tag required) next =
     pick (leb 1024 row) (laying Broken table) (rest next (row + 1) (putRow table row tag required false (row + 1)))
 onRecord inner rest components row table (OpensGroup tag required) next =
     pick (leb 1024 row) (laying Broken table) (afterGroup rest row tag required (inner next (row + 1) table))
-onRecord inner rest components row table (ComponentItem number required) next =
+onRecord inner rest components row table (ComponentItem required number) next =
     onComponent inner rest next row table (standsAt components number)
 onRecord inner rest components row table Closes next = laying (Upto next row) table
 onRecord inner rest components row table (KnownTag tag) next = laying Broken table

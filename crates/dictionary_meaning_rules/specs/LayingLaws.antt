@@ -75,7 +75,7 @@ module _ (limit : ℕ) (inner : Step) (rises : Advancing limit inner) (rest : St
       go : (t : Bool) → leb 1024 row ≡ t → Advances limit at row (pick t (laying Broken table) (afterGroup rest row tag required (inner next (row + 1) table)))
       go true e = breaks
       go false e = after-group-advances at row _ tag required (later h (omega arith) (rises next (row + 1) table (omega (arith, leb-false 1024 row e))))
-  record-advances at row next components table (ComponentItem number required) h n r = component-advances at row next table (standsAt components number) h r
+  record-advances at row next components table (ComponentItem required number) h n r = component-advances at row next table (standsAt components number) h r
   record-advances at row next components table Closes h n r = let same : row ≤ row = omega arith in reaches h n same r
   record-advances at row next components table (KnownTag tag) h n r = breaks
   record-advances at row next components table (OpensComponent number) h n r = breaks
@@ -125,7 +125,7 @@ module _ (limit : ℕ) (inner : Step) (rises : Advancing limit inner) (rest othe
       go : (t : Bool) → leb 1024 row ≡ t → pick t (laying Broken table) (afterGroup rest row tag required (inner from (row + 1) table)) ≡ pick t (laying Broken table) (afterGroup other row tag required (inner from (row + 1) table))
       go true e = refl
       go false e = after-group-agrees row tag (row + 1) required (inner from (row + 1) table) (rises from (row + 1) table (omega (arith, leb-false 1024 row e)))
-  record-agrees row components table (ComponentItem number required) = component-agrees row table (standsAt components number)
+  record-agrees row components table (ComponentItem required number) = component-agrees row table (standsAt components number)
   record-agrees row components table Closes = refl
   record-agrees row components table (KnownTag tag) = refl
   record-agrees row components table (OpensComponent number) = refl
@@ -201,7 +201,7 @@ module _ (inner : Step) (bytes : List ℕ) (components : ℕ → Looked) (rises 
       unfolding onRecord afterGroup
       lay-group-broken within e h i = items-step _ _ e ∙ rw (lt-leb _ _ h, i)
 
-    module _ (number : ℕ) (required : Bool) (next : ℕ) (e : recordAt bytes at ≡ Whole (ComponentItem number required) next) where
+    module _ (number : ℕ) (required : Bool) (next : ℕ) (e : recordAt bytes at ≡ Whole (ComponentItem required number) next) where
       pub lay-empty : standsAt components number ≡ NoItems → here ≡ goOn next row table
       unfolding onRecord onComponent
       lay-empty s = items-step _ _ e ∙ rw s

@@ -41,7 +41,7 @@ levelsOf (ends size) = []
 levelsOf (bad place) = []
 levelsOf (whole place Closes rest) = closed ∷ levelsOf rest
 levelsOf (whole place (FieldItem tag required) rest) = onTop (fieldThen tag required) (levelsOf rest)
-levelsOf (whole place (ComponentItem number required) rest) = onTop (componentThen number required) (levelsOf rest)
+levelsOf (whole place (ComponentItem required number) rest) = onTop (componentThen number required) (levelsOf rest)
 levelsOf (whole place (OpensGroup tag required) rest) = groupOnTop tag required (levelsOf rest)
 levelsOf (whole place (OpensComponent number) rest) = below (levelsOf rest)
 levelsOf (whole place (OpensMessage msgType) rest) = below (levelsOf rest)
@@ -60,7 +60,7 @@ declarationsOf (whole place (KnownTag tag) rest) = knownTag tag ∷ declarations
 declarationsOf (whole place (OpensComponent number) rest) = component number (innermost (levelsOf rest)) ∷ declarationsOf rest
 declarationsOf (whole place (OpensMessage msgType) rest) = message msgType (innermost (levelsOf rest)) ∷ declarationsOf rest
 declarationsOf (whole place (FieldItem tag required) rest) = declarationsOf rest
-declarationsOf (whole place (ComponentItem number required) rest) = declarationsOf rest
+declarationsOf (whole place (ComponentItem required number) rest) = declarationsOf rest
 declarationsOf (whole place (OpensGroup tag required) rest) = declarationsOf rest
 declarationsOf (whole place Closes rest) = declarationsOf rest
 

@@ -118,7 +118,7 @@ numbered d bytes (whole place (OpensMessage m) rest) at e =
     let n = next-of d at place (OpensMessage m) rest e in
     numbered-message (message-number d at m (n .next) bytes (n .read)) (numbered d bytes rest (n .next) (n .there))
 numbered d bytes (whole place (FieldItem tag required) rest) at e = let n = next-of d at place _ rest e in numbered d bytes rest (n .next) (n .there)
-numbered d bytes (whole place (ComponentItem number required) rest) at e = let n = next-of d at place _ rest e in numbered d bytes rest (n .next) (n .there)
+numbered d bytes (whole place (ComponentItem required number) rest) at e = let n = next-of d at place _ rest e in numbered d bytes rest (n .next) (n .there)
 numbered d bytes (whole place (OpensGroup tag required) rest) at e = let n = next-of d at place _ rest e in numbered d bytes rest (n .next) (n .there)
 numbered d bytes (whole place Closes rest) at e = let n = next-of d at place _ rest e in numbered d bytes rest (n .next) (n .there)
 

@@ -92,7 +92,7 @@ unfolding sizeOf opens
 kept-step bytes final (ends size) at names again e p = let w = end-passes final names size p in kept-same (ap (λ (n : Names). n .components) (sym (w .0))) (ap (λ (n : Names). n .messages) (sym (w .0)))
 kept-step bytes final (bad place) at names again e p = bad-stops final names place TopLevel p
 kept-step bytes final (whole place (FieldItem tag required) rest) at names again e p = field-stops final place rest names tag required p
-kept-step bytes final (whole place (ComponentItem number required) rest) at names again e p = item-stops final place rest names number required p
+kept-step bytes final (whole place (ComponentItem required number) rest) at names again e p = item-stops final place rest names number required p
 kept-step bytes final (whole place (OpensGroup tag required) rest) at names again e p = group-stops final place rest names tag required p
 kept-step bytes final (whole place Closes rest) at names again e p = close-stops final place rest names p
 kept-step bytes final (whole place (KnownTag tag) rest) at names again e p =
@@ -131,7 +131,7 @@ standard-step bytes final (ends size) at names again e p =
     record { header = (w .1 .0, ap (λ (n : Names). lookIn n 0) (sym (w .0)) ∙ w .1 .1); trailer = (w .2 .0, ap (λ (n : Names). lookIn n 1) (sym (w .0)) ∙ w .2 .1) }
 standard-step bytes final (bad place) at names again e p = bad-stops final names place TopLevel p
 standard-step bytes final (whole place (FieldItem tag required) rest) at names again e p = field-stops final place rest names tag required p
-standard-step bytes final (whole place (ComponentItem number required) rest) at names again e p = item-stops final place rest names number required p
+standard-step bytes final (whole place (ComponentItem required number) rest) at names again e p = item-stops final place rest names number required p
 standard-step bytes final (whole place (OpensGroup tag required) rest) at names again e p = group-stops final place rest names tag required p
 standard-step bytes final (whole place Closes rest) at names again e p = close-stops final place rest names p
 standard-step bytes final (whole place (KnownTag tag) rest) at names again e p =

@@ -30,7 +30,7 @@ tagOn rest groups count tags (FieldItem tag required) next =
     pick (eqb groups 0)
     (pick (leb 1024 count) (listing Unlisted tags) (rest next groups (count + 1) (set tags count tag)))
     (rest next groups count tags)
-tagOn rest groups count tags (ComponentItem number required) next = rest next groups count tags
+tagOn rest groups count tags (ComponentItem required number) next = rest next groups count tags
 tagOn rest groups count tags (OpensGroup tag required) next = rest next (groups + 1) count tags
 tagOn rest groups count tags Closes next = pick (eqb groups 0) (listing (Listed count) tags) (rest next (groups - 1) count tags)
 tagOn rest groups count tags (KnownTag tag) next = listing Unlisted tags

@@ -26,7 +26,7 @@ use Rattle.dictionary_meaning_rules.specs.declared.TagList.the-variants.
 tag-agrees : (rest other : TagStep) (next : ℕ) → ((at groups count : ℕ) (tags : List ℕ) → next ≤ at → rest at groups count tags ≡ other at groups count tags) → (groups count : ℕ) (tags : List ℕ) (r : Record) → tagOn rest groups count tags r next ≡ tagOn other groups count tags r next
 unfolding tagOn
 tag-agrees rest other next a groups count tags (FieldItem tag required) = rw (a next groups (count + 1) (set tags count tag) (omega arith), a next groups count tags (omega arith))
-tag-agrees rest other next a groups count tags (ComponentItem number required) = a next groups count tags (omega arith)
+tag-agrees rest other next a groups count tags (ComponentItem required number) = a next groups count tags (omega arith)
 tag-agrees rest other next a groups count tags (OpensGroup tag required) = a next (groups + 1) count tags (omega arith)
 tag-agrees rest other next a groups count tags Closes = rw (a next (groups - 1) count tags (omega arith))
 tag-agrees rest other next a groups count tags (KnownTag tag) = refl
@@ -93,7 +93,7 @@ module _ (d : List ℕ) where
         unfolding tagOn
         tags-within o = tags-step _ _ e ∙ rw (ne-eqb _ _ o)
 
-      pub tags-component : (number : ℕ) (required : Bool) → recordAt d at ≡ Whole (ComponentItem number required) next → here ≡ tagsFrom d next groups count tags
+      pub tags-component : (number : ℕ) (required : Bool) → recordAt d at ≡ Whole (ComponentItem required number) next → here ≡ tagsFrom d next groups count tags
       unfolding tagOn
       tags-component number required e = tags-step _ _ e
 

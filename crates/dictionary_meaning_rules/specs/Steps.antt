@@ -100,7 +100,7 @@ module _ (final : Names) (place : ℕ) (rest : Records) (names : Names) where
         e
 
     -- "component item"
-    pub item-goes : (number : ℕ) (required : Bool) → Passing final (whole place (ComponentItem number required) rest) (Inside o) names →
+    pub item-goes : (number : ℕ) (required : Bool) → Passing final (whole place (ComponentItem required number) rest) (Inside o) names →
         (c : Component) × (componentIn (names .components) number ≡ Closed c) × (o .items + c .items ≤ 1024) × Passing final rest (Inside (grown o (o .items + c .items) (deeper (o .depth) (depthOf (o .groups) + c .depth)) (heldWith (o .held) c) (o .groups))) names
     unfolding walked stepOf onItem inside closedBefore notTooDeep notTooMany looksIn
     item-goes number required e = go (componentIn (names .components) number) refl e
@@ -181,7 +181,7 @@ module _ (final : Names) (place : ℕ) (rest : Records) (names : Names) where
   unfolding walked stepOf onField inside
   field-stops tag required e = never (BadRecord place) (λ z. let w : _≡_ {A = ℕ} 0 1 = cc in absurd (omega arith)) e
 
-  pub item-stops : {A : Type 0} (number : ℕ) (required : Bool) → Passing final (whole place (ComponentItem number required) rest) TopLevel names → A
+  pub item-stops : {A : Type 0} (number : ℕ) (required : Bool) → Passing final (whole place (ComponentItem required number) rest) TopLevel names → A
   unfolding walked stepOf onItem inside
   item-stops number required e = never (BadRecord place) (λ z. let w : _≡_ {A = ℕ} 0 1 = cc in absurd (omega arith)) e
 

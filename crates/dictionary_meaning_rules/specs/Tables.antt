@@ -200,7 +200,7 @@ module _ (bytes : List ℕ) (components : ℕ → Looked) (final : Names) (sure 
   meant-step (ends size) at names defined again e p known bounds = end-meant names defined (end-passes final names size p .0) known
   meant-step (bad place) at names defined again e p known bounds = bad-stops final names place TopLevel p
   meant-step (whole place (FieldItem tag required) rest) at names defined again e p known bounds = field-stops final place rest names tag required p
-  meant-step (whole place (ComponentItem number required) rest) at names defined again e p known bounds = item-stops final place rest names number required p
+  meant-step (whole place (ComponentItem required number) rest) at names defined again e p known bounds = item-stops final place rest names number required p
   meant-step (whole place (OpensGroup tag required) rest) at names defined again e p known bounds = group-stops final place rest names tag required p
   meant-step (whole place Closes rest) at names defined again e p known bounds = close-stops final place rest names p
   meant-step (whole place (KnownTag tag) rest) at names defined again e p known bounds =

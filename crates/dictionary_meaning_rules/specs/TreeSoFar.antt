@@ -98,10 +98,10 @@ module _ (owner : Owner) (layouts : Records → List Layout) (defined : List Def
   tree-field groups place tag required t =
       tree-item groups place (FieldItem tag required) (fieldThen tag required closed) (λ later next levels e. ap (onTop (fieldThen tag required)) e) (λ later. refl) t
 
-  pub tree-component : (groups : List OpenGroup) (place number : ℕ) (required : Bool) → OpenTree owner layouts defined read level groups → OpenTree owner (λ (later : Records). layouts (whole place (ComponentItem number required) later)) defined read (continued level (componentThen number required closed)) groups
+  pub tree-component : (groups : List OpenGroup) (place number : ℕ) (required : Bool) → OpenTree owner layouts defined read level groups → OpenTree owner (λ (later : Records). layouts (whole place (ComponentItem required number) later)) defined read (continued level (componentThen number required closed)) groups
   unfolding levelsOf onTop declarationsOf continued
   tree-component groups place number required t =
-      tree-item groups place (ComponentItem number required) (componentThen number required closed) (λ later next levels e. ap (onTop (componentThen number required)) e) (λ later. refl) t
+      tree-item groups place (ComponentItem required number) (componentThen number required closed) (λ later next levels e. ap (onTop (componentThen number required)) e) (λ later. refl) t
 
   -- a group that opens
   pub tree-group : (groups : List OpenGroup) (place tag : ℕ) (required : Bool) → OpenTree owner layouts defined read level groups → OpenTree owner (λ (later : Records). layouts (whole place (OpensGroup tag required) later)) defined read closed (record { before = level; tag = tag; required = required } ∷ groups)

@@ -136,7 +136,7 @@ fn body_of(kind: u8, body: &[u8]) -> Body
             let mark = body[2];
             marked(
                 mark,
-                Body::Good(Record::ComponentItem(two(body, 0), mark == 1)),
+                Body::Good(Record::ComponentItem(mark == 1, two(body, 0))),
             )
         }
         6 => {

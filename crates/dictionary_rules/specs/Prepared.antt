@@ -47,8 +47,8 @@ module _ (index : List ℕ) (names : Names) (b : ℕ) (a : Agrees index names b)
   same-step state place (OpensMessage msgType) = rw (a .messages msgType)
   same-step TopLevel place (FieldItem tag required) = unfold inside in refl
   same-step (Inside o) place (FieldItem tag required) = unfold inside in rw (a .tags tag)
-  same-step TopLevel place (ComponentItem number required) = unfold inside in refl
-  same-step (Inside o) place (ComponentItem number required) = unfold inside in rw (a .components number)
+  same-step TopLevel place (ComponentItem required number) = unfold inside in refl
+  same-step (Inside o) place (ComponentItem required number) = unfold inside in rw (a .components number)
   same-step TopLevel place (OpensGroup tag required) = unfold inside in refl
   same-step (Inside o) place (OpensGroup tag required) = unfold inside in rw (a .tags tag)
   same-step state place Closes = refl
@@ -151,8 +151,8 @@ module _ (names : Names) (place b : ℕ) where
       fine-known (isKnown (names .tags) tag) _ _ (place + 6)
       (fine-refuses (ltb 1024 (o .items + 1)) _ _ (place + 6)
       (later names (o .owner) (o .place) b place (place + 6) (omega arith) r))
-  step-fine TopLevel (ComponentItem number required) h r = tt
-  step-fine (Inside o) (ComponentItem number required) h r = fine-item o (componentIn (names .components) number) number r
+  step-fine TopLevel (ComponentItem required number) h r = tt
+  step-fine (Inside o) (ComponentItem required number) h r = fine-item o (componentIn (names .components) number) number r
   step-fine TopLevel (OpensGroup tag required) h r = tt
   step-fine (Inside o) (OpensGroup tag required) h r =
       fine-known (isKnown (names .tags) tag) _ _ (place + 6)

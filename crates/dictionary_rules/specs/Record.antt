@@ -60,7 +60,7 @@ fieldItem body = withMark (getD body 4 0) (withTag (lowFirst (take 4 body)) (Fie
 
 -- "5 (3) component item: number, required"
 unfoldable pub componentItem : List ℕ → Body
-componentItem body = withMark (getD body 2 0) (Good (ComponentItem (lowFirst (take 2 body)) (eqb (getD body 2 0) 1)))
+componentItem body = withMark (getD body 2 0) (Good (ComponentItem (eqb (getD body 2 0) 1) (lowFirst (take 2 body))))
 
 -- "6 (5) group opens: tag, required"
 unfoldable pub opensGroup : List ℕ → Body

@@ -25,7 +25,7 @@ sizeOf (KnownTag t) = 5
 sizeOf (OpensComponent n) = 3
 sizeOf (OpensMessage m) = 9
 sizeOf (FieldItem t q) = 6
-sizeOf (ComponentItem n q) = 4
+sizeOf (ComponentItem q n) = 4
 sizeOf (OpensGroup t q) = 6
 sizeOf Closes = 1
 
@@ -61,7 +61,7 @@ size-body kind body r h = go (eqb kind 1) (eqb kind 2) (eqb kind 3) (eqb kind 4)
     go false true c d e f g q = let same : OpensComponent (lowFirst (take 2 body)) ≡ r = cc in rw (← same)
     go false false true d e f g q = size-message (eqb (getD body 0 0) 0) (zeroFilled false body) _ r q
     go false false false true e f g q = size-tag _ 6 _ r refl (size-mark _ _ r q)
-    go false false false false true f g q = let same : ComponentItem (lowFirst (take 2 body)) (eqb (getD body 2 0) 1) ≡ r = cc (size-mark _ _ r q) in rw (← same)
+    go false false false false true f g q = let same : ComponentItem (eqb (getD body 2 0) 1) (lowFirst (take 2 body)) ≡ r = cc (size-mark _ _ r q) in rw (← same)
     go false false false false false true g q = size-tag _ 6 _ r refl (size-mark _ _ r q)
     go false false false false false false true q = let same : Closes ≡ r = cc in rw (← same)
     go false false false false false false false q = let z : _≡_ {A = ℕ} 0 1 = cc in absurd (omega arith)
@@ -100,7 +100,7 @@ size-some (KnownTag t) = omega arith
 size-some (OpensComponent n) = omega arith
 size-some (OpensMessage m) = omega arith
 size-some (FieldItem t q) = omega arith
-size-some (ComponentItem n q) = omega arith
+size-some (ComponentItem q n) = omega arith
 size-some (OpensGroup t q) = omega arith
 size-some Closes = omega arith
 

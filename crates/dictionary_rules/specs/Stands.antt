@@ -215,8 +215,8 @@ module _ (names : Names) (all : AllSound (names .components)) where
   step-keeps (Inside o) place (FieldItem tag required) s =
       keeps-known names (looksIn names .known tag) _ _
       (keeps-refuses names (ltb 1024 (o .items + 1)) _ _ (all, (s .0, omega arith)))
-  step-keeps TopLevel place (ComponentItem number required) s = tt
-  step-keeps (Inside o) place (ComponentItem number required) s = keeps-item o (componentIn (names .components) number) number place refl (s .0) (s .1)
+  step-keeps TopLevel place (ComponentItem required number) s = tt
+  step-keeps (Inside o) place (ComponentItem required number) s = keeps-item o (componentIn (names .components) number) number place refl (s .0) (s .1)
   step-keeps TopLevel place (OpensGroup tag required) s = tt
   step-keeps (Inside o) place (OpensGroup tag required) s =
       keeps-known names (looksIn names .known tag) _ _

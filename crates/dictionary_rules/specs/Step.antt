@@ -180,7 +180,7 @@ stepOf looks state place (KnownTag tag) = onTag looks state place tag
 stepOf looks state place (OpensComponent number) = onComponent looks state place number
 stepOf looks state place (OpensMessage msgType) = onMessage looks state place msgType
 stepOf looks state place (FieldItem tag required) = onField looks state place tag
-stepOf looks state place (ComponentItem number required) = onItem looks state place number
+stepOf looks state place (ComponentItem required number) = onItem looks state place number
 stepOf looks state place (OpensGroup tag required) = onGroup looks state place tag
 stepOf looks state place Closes = onClose state place
 

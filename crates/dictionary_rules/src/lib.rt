@@ -2,12 +2,13 @@
 // answered, whatever code checks it: `dictionary_records`, `dictionary_names`, `dictionary_steps` and `dictionary_check` are proved against it. No function stands here, so
 // that a wrong definition is refused in seconds.
 
+// A component item has its mark first: no variant then has a byte where another has part of a number, and a record is handed on in whole words.
 pub enum Record {
     KnownTag(u32),
     OpensComponent(u16),
     OpensMessage(u64),
     FieldItem(u32, bool),
-    ComponentItem(u16, bool),
+    ComponentItem(bool, u16),
     OpensGroup(u32, bool),
     Closes,
 }

@@ -286,7 +286,7 @@ pub fn step_of(index: &[u16], state: State, place: u16, read: Record) -> Step
         Record::OpensComponent(number) => on_component(index, state, place, number),
         Record::OpensMessage(msgtype) => on_message(index, state, place, msgtype),
         Record::FieldItem(tag, _) => on_field(index, state, place, tag),
-        Record::ComponentItem(number, _) => on_item(index, state, place, number),
+        Record::ComponentItem(_, number) => on_item(index, state, place, number),
         Record::OpensGroup(tag, _) => on_group(index, state, place, tag),
         Record::Closes => on_close(state, place),
     }

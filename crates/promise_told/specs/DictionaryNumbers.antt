@@ -62,7 +62,7 @@ RecordSmall (KnownTag tag) = Unit {0}
 RecordSmall (OpensComponent number) = Unit {0}
 RecordSmall (OpensMessage msgType) = Unit {0}
 RecordSmall (FieldItem tag required) = tag < 2 ^ 32
-RecordSmall (ComponentItem number required) = number < 2 ^ 32
+RecordSmall (ComponentItem required number) = number < 2 ^ 32
 RecordSmall (OpensGroup tag required) = tag < 2 ^ 32
 RecordSmall Closes = Unit {0}
 
@@ -231,7 +231,7 @@ module _ (place : ℕ) (near : place ≤ 60000) where
   step-small looks state (OpensMessage msgType) r s = top-small state _ (message-once (looks .message msgType) _ tt)
   step-small looks state (FieldItem tag required) r s =
       inside-small state _ s (λ o g. known-small (looks .known tag) tag _ r (many-small (o .items + 1) _ g))
-  step-small looks state (ComponentItem number required) r s =
+  step-small looks state (ComponentItem required number) r s =
       inside-small state _ s
       (λ o g. closed-small (looks .component number) number _ r (λ c. deep-small (depthOf (o .groups) + c .depth) _ (many-small (o .items + c .items) _ g)))
   step-small looks state (OpensGroup tag required) r s =

@@ -56,7 +56,7 @@ levels-small (bad place) (bad-small h) = every-none
 levels-small (whole place Closes rest) (whole-small h r later) = every-more closed-small (levels-small rest later)
 levels-small (whole place (FieldItem tag required) rest) (whole-small h r later) =
     top-small (fieldThen tag required) (λ items p. field-then r p) (levels-small rest later)
-levels-small (whole place (ComponentItem number required) rest) (whole-small h r later) =
+levels-small (whole place (ComponentItem required number) rest) (whole-small h r later) =
     top-small (componentThen number required) (λ items p. component-then p) (levels-small rest later)
 levels-small (whole place (OpensGroup tag required) rest) (whole-small h r later) = group-top tag required r (levels-small rest later)
 levels-small (whole place (OpensComponent number) rest) (whole-small h r later) = below-small (levels-small rest later)
@@ -78,7 +78,7 @@ declarations-small (whole place (OpensComponent number) rest) (whole-small h r l
 declarations-small (whole place (OpensMessage msgType) rest) (whole-small h r later) =
     every-more (innermost-small (levels-small rest later)) (declarations-small rest later)
 declarations-small (whole place (FieldItem tag required) rest) (whole-small h r later) = declarations-small rest later
-declarations-small (whole place (ComponentItem number required) rest) (whole-small h r later) = declarations-small rest later
+declarations-small (whole place (ComponentItem required number) rest) (whole-small h r later) = declarations-small rest later
 declarations-small (whole place (OpensGroup tag required) rest) (whole-small h r later) = declarations-small rest later
 declarations-small (whole place Closes rest) (whole-small h r later) = declarations-small rest later
 

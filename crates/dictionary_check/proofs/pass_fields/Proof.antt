@@ -1,7 +1,6 @@
 -- `pass_fields` meets its contract. The invariant: what was passed.
 use Prim.Native.Nat.{_+_, _-_}
 use native.Mathlib.Omega.{arith}
-use borrow.Author.Needs.{needs}
 use lib.ListN.{length}
 use Rattle.dictionary_rules.specs.Passing.{Passed, passed-none, passed-on, withField}
 use Rattle.dictionary_rules.specs.declared.State.the-variants.{Inside}

@@ -1,5 +1,5 @@
 -- `pass_tags` meets its contract. The invariant: what was passed, and the record of the tag that is looked at, unless that is 0.
-use mathlib.Core.Path.{_≡_, sym, ap, _∙_}
+use mathlib.Core.Path.{_≡_, sym, _∙_}
 use Prim.Native.Nat.{_+_, _≤_, _<_, _-_}
 use native.Mathlib.Omega.{arith}
 use borrow.Author.Needs.{needs}

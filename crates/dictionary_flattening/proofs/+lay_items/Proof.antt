@@ -124,10 +124,10 @@ lay-items-loop-again-2 : (t : ℕ) → lay-items-lts.Need-loop-again-2 (calls t)
 lay-items-loop-again-2 t c = (group-reached t (c .before .before .before .before .before) .3, c .before .before .put-row2 .kept .0 ∙ c .before .before .before .before .before .before .before .before .before .before .lay-items .kept .1 .1 .0 ∙ c .before .before .before .before .before .before .before .before .before .before .before .before .before .before .before .before .before .before .before .before .loop .inv .1, c .before .before .before .before .before .before .before .before .before .before .before .before .before .before .before .before .before .before .before .before .loop .inv .2 ∙ lay-group _ _ _ (lay-advances _ _ _) _ _ _ _ _ _ _ _ _ (group-here t (c .before .before .before .before .before .before .before .before .before .before .before .before .before)) (c .before .before .before .before .before .before .before .before .before .before .before .before .if3 .left) (group-laid t (c .before .before .before .before .before)) (c .before .before .before .before .if4 .left) ∙ rw (c .before .before .put-row2 .ensures))
 
 component-here : (t : ℕ) (c : lay-items-lts.After-known-told5 (calls t) (lay-items-at t) lay-items.Post lay-items-Inv-loop lay-items-μ-loop) → let k = c .before .before .before in let h = k .before .before .before .before in let a = h .before .before .before .before .before .args in
-    (required : Bool) × (recordAt (a .bytes .now) (h .loop .at) ≡ Whole (ComponentItem (c .before .record4 .given .0 .0) required) (k .before .«record» .given .0 .1 .0))
+    (required : Bool) × (recordAt (a .bytes .now) (h .loop .at) ≡ Whole (ComponentItem required (c .before .record4 .given .0 .1 .0)) (k .before .«record» .given .0 .1 .0))
 component-here t c = (_, read-as (read-here t (c .before .before .before)) (c .before .record4 .given .1))
 
-stands-here : (t : ℕ) (c : lay-items-lts.After-stands-at (calls t) (lay-items-at t) lay-items.Post lay-items-Inv-loop lay-items-μ-loop) → let a = c .before .before .before .before .before .before .before .before .before .before .before .before .before .args in c .stands-at .result ≡ standsAt (componentAt (a .index .now)) (c .before .before .record4 .given .0 .0)
+stands-here : (t : ℕ) (c : lay-items-lts.After-stands-at (calls t) (lay-items-at t) lay-items.Post lay-items-Inv-loop lay-items-μ-loop) → let a = c .before .before .before .before .before .before .before .before .before .before .before .before .before .args in c .stands-at .result ≡ standsAt (componentAt (a .index .now)) (c .before .before .record4 .given .0 .1 .0)
 stands-here t c = c .stands-at .ensures
 
 -- what was laid of a component
@@ -135,7 +135,7 @@ component-within : (t : ℕ) (c : lay-items-lts.After-lay-items2 (calls t) (lay-
     laying (c .lay-items2 .result) (c .lay-items2 .last .1 .1 .0) ≡ layItems (a .depth - 1) (a .bytes .now) (componentAt (a .index .now)) (c .before .before .before .place .given .0 .0) (h .loop .row) (h .loop .table)
 component-within t c = c .lay-items2 .ensures
 
-component-at : (t : ℕ) (c : lay-items-lts.After-lay-items2 (calls t) (lay-items-at t) lay-items.Post lay-items-Inv-loop lay-items-μ-loop) → let a = c .before .before .before .before .before .before .before .before .before .before .before .before .before .before .before .before .before .before .args in standsAt (componentAt (a .index .now)) (c .before .before .before .before .before .before .before .record4 .given .0 .0) ≡ ItemsAt (c .before .before .before .place .given .0 .0)
+component-at : (t : ℕ) (c : lay-items-lts.After-lay-items2 (calls t) (lay-items-at t) lay-items.Post lay-items-Inv-loop lay-items-μ-loop) → let a = c .before .before .before .before .before .before .before .before .before .before .before .before .before .before .before .before .before .before .args in standsAt (componentAt (a .index .now)) (c .before .before .before .before .before .before .before .record4 .given .0 .1 .0) ≡ ItemsAt (c .before .before .before .place .given .0 .0)
 component-at t c = sym (stands-here t (c .before .before .before .before .before)) ∙ c .before .before .before .place .given .1
 
 lay-items-returns-7 : (t : ℕ) → lay-items-lts.Need-returns-7 (calls t) (lay-items-at t) lay-items.Post lay-items-Inv-loop lay-items-μ-loop

@@ -19,6 +19,11 @@ const MORE: [usize; 3] = [0, 77, DIRECTORY + 3_000];
 const CHANGED_WORDS: [usize; 3] = [3, 12, 200];
 const CHANGED_BYTES: [usize; 3] = [1, 3, 20];
 
+/// Words in front of the index, and of its heads; an entry stands behind as many words as its number and a half of it, and the last has this number.
+const FRONT: usize = 3;
+const HEADS: usize = 6_144;
+const LAST: usize = 60_000;
+
 /// How deep components double that claim items and add none: work that doubled with them would take over a second.
 const DOUBLED: u16 = 26;
 
@@ -30,12 +35,13 @@ pub fn drawn(reading: &Reading) -> Option<Random> {
 }
 
 /// Memory with the stamp and a length that fits: of any words and bytes; of words that are places in the dictionary; of components that claim what
-/// they don't hold; or prepared and then changed.
+/// they don't hold; of entries in one chain; or prepared and then changed.
 pub fn stamped(random: &mut Random, dictionary: &[u8], reading: &Reading, kept: Option<&[Prepared; SIZES]>) -> Prepared {
     let mut made = match (random.below(16), kept) {
         (0, _) => any(random),
         (1, _) => doubling(reading),
-        (2..=3, _) | (_, None) => Prepared { memory: words(random, dictionary.len() + 1), copy: dictionary.to_vec() },
+        (2, _) => chained(dictionary),
+        (3, _) | (_, None) => Prepared { memory: words(random, dictionary.len() + 1), copy: dictionary.to_vec() },
         (_, Some(kept)) => {
             let made = random.of(kept);
             changed(random, made)
@@ -176,4 +182,16 @@ fn doubling(reading: &Reading) -> Prepared {
     let mut made = Prepared::room(sound.len(), 0);
     made.prepare(&sound);
     Prepared { copy: written(false), ..made }
+}
+
+/// Memory whose heads all lead into one chain of as many entries as there can be, none of which is sought: a look-up that followed it would take 15,000
+/// steps, and one that lists what the dictionary holds many times as many.
+fn chained(dictionary: &[u8]) -> Prepared {
+    let mut memory = vec![u16::MAX; PREPARED_WORDS];
+    memory[FRONT..FRONT + HEADS].fill(4);
+    for number in (4..LAST).step_by(4) {
+        let branches = FRONT + HEADS + number + number / 2;
+        memory[branches..branches + 2].fill(number as u16 + 4);
+    }
+    Prepared { memory, copy: dictionary.to_vec() }
 }
