@@ -53,7 +53,8 @@ returns-3 c = let t = c .before .before .before .before .before in
     let s = called k in (
       c .refused .ensures .0 _
           ∙ close-crowded _ _ _ (s .args .headed .checksum) _ (s .args .first) (s .args .reached) (s .pre .3 .starts) _
-          (k .before .before .record-of .ensures) _ _ _ (k .keep .ensures) (t .read-trailer .ensures .1 .1) _ (t .read-trailer .ensures .0) (c .before .enum-told .given .1),
+          (k .before .before .record-of .ensures) _ _ _ (k .keep .ensures) (t .read-trailer .ensures .1 .1) _ (t .read-trailer .ensures .0)
+          (c .before .enum-told .given .1),
       omega (arith, c .refused .ensures .1, s .pre .3 .starts, s .pre .3 .fits, s .pre .1),
     )
 
