@@ -1,4 +1,5 @@
-// Says how much stack each export takes: it is called on a stack that was painted before, over memory that needs most.
+// Says how much stack each export takes: it is called on a stack that was painted before, over memory that needs most. With a file of flat records it also
+// says how much that dictionary's messages take at the most, each built with nothing but its first three fields and its CheckSum.
 #include <pthread.h>
 #include <stdint.h>
 #include <stdio.h>
@@ -87,6 +88,23 @@ static uint32_t built_over(const struct dictionary *d) {
     return gateway_build_prepared(order, sizeof order - 1, 1, 1, d->copy, BYTES, d->memory, d->lent, records, 1024, out);
 }
 
+// a dictionary from a file, in the least memory and with tables, and a message of one of its types
+static struct dictionary real, tabled;
+static char message[64];
+static uint32_t build_real(void) { return gateway_build((uint8_t *)message, strlen(message), 1, 1, real.bytes, real.length, records, 1024, out); }
+static uint32_t over_real(void) {
+    return gateway_build_prepared((uint8_t *)message, strlen(message), 1, 1, real.copy, BYTES, real.memory, real.lent, records, 1024, out);
+}
+static uint32_t prepare_real(void) { return set_up(&real); }
+static uint32_t prepare_tabled(void) { return set_up(&tabled); }
+
+static void write_message(const char *type) {
+    int length = sprintf(message, "8=FIX.4.4\0019=%zu\00135=%s\001", strlen(type) + 4, type);
+    unsigned sum = 0;
+    for (int i = 0; i < length; i++) sum += (uint8_t)message[i];
+    sprintf(message + length, "10=%03u\001", sum % 256);
+}
+
 static uint32_t none(void) { return 0; }
 static uint32_t check_deep(void) { return gateway_check(deep.bytes, deep.length, out); }
 static uint32_t build_flat(void) { return built(&flat); }
@@ -126,7 +144,33 @@ static size_t used(uint32_t (*work)(void)) {
     return STACK - free_bytes;
 }
 
-int main(void) {
+// the dictionary of a file: what its messages take at the most
+static int read_dictionary(const char *path, size_t thread) {
+    static const size_t body_lengths[8] = {0, 4, 2, 8, 5, 3, 5, 0};
+    FILE *file = fopen(path, "rb");
+    if (!file) return perror(path), 1;
+    real.length = tabled.length = fread(real.bytes, 1, BYTES, file);
+    fclose(file);
+    memcpy(tabled.bytes, real.bytes, real.length);
+    real.lent = gateway_prepared_words();
+    tabled.lent = ROOM;
+    size_t tables = used(prepare_tabled) - thread, plain = 0, prepared = 0, messages = 0;
+    if (answer || used(prepare_real) < thread || answer) return fprintf(stderr, "%s: the dictionary is refused with %u\n", path, answer), 1;
+    for (size_t at = 0; at < real.length; at += 1 + body_lengths[real.bytes[at] & 7]) {
+        if (real.bytes[at] != 3) continue;
+        char type[9] = {0};
+        memcpy(type, real.bytes + at + 1, 8);
+        write_message(type);
+        size_t one = used(build_real) - thread, other = used(over_real) - thread;
+        if (one > plain) plain = one;
+        if (other > prepared) prepared = other;
+        messages++;
+    }
+    printf("%s: prepare with tables %zu bytes; %zu messages: build %zu at the most, over the least memory %zu\n", path, tables, messages, plain, prepared);
+    return 0;
+}
+
+int main(int count, char **words_given) {
     struct { const char *name; uint32_t (*work)(void); } calls[] = {
         {"store", store}, {"store, a run moves", store_count}, {"remove", take_out}, {"find", find}, {"encode", encode}, {"hang", hang},
         {"hang_last", hang_last}, {"add_entry", add_entry}, {"store_last", store_last}, {"take_over", take_over},
@@ -142,4 +186,5 @@ int main(void) {
         size_t bytes = used(calls[i].work);
         printf("%-22s answers %2u, %6zu bytes of stack\n", calls[i].name, answer, bytes - thread);
     }
+    return count > 1 ? read_dictionary(words_given[1], thread) : 0;
 }
