@@ -1,5 +1,6 @@
 -- The tables of a dictionary's messages and of the tags of its header and trailer, laid one behind the other with a directory in front, so that one
 -- look leads from the place of a message's record to its table. What stands in the words is not trusted: a block is taken for the place that it says.
+use mathlib.Core.Path.{_≡_}
 use Prim.Native.Nat.{ℕ, _+_, _*_, _/_}
 use mathlib.Core.List.{List, [], _∷_, _++_}
 use mathlib.Core.Bool.{Bool, true, false}
@@ -185,3 +186,7 @@ unfoldable pub laidOver : Tabling → List ℕ → List ℕ
 laidOver (tabling (Rows count) rows) table = tableOf (layoutIn rows count) ++ drop (tableSize (layoutIn rows count)) table
 laidOver (tabling NoMessage rows) table = table
 laidOver (tabling Unprepared rows) table = table
+
+-- a table stands in the first of words that were used before: what lies behind it is left open
+abbrev pub LaidFirst : Tabling → List ℕ → Type 0
+LaidFirst told words = (before : List ℕ) × (length before ≡ tableWords) × (words ≡ laidOver told before)

@@ -1,5 +1,6 @@
 // dictionary_directory: the tables of a dictionary's messages and of the tags of its header and trailer, laid once into lent words behind a directory
 // that leads to them. What stands in the words is never trusted: whatever they hold, what the directory leads to lies in them and says whose table it is.
+use dictionary_flattening::empty;
 use dictionary_flattening::tags;
 use dictionary_meaning_rules::MessageTable;
 use dictionary_meaning_rules::TagList;
@@ -16,7 +17,7 @@ ghost use Rattle.dictionary_tables_rules.specs.Tags.{fieldsOf};
 ghost use Rattle.dictionary_meaning_rules.specs.LaidLayout.{LaidAs};
 ghost use Rattle.dictionary_meaning_rules.specs.MessageTable.{placedTable};
 ghost use Rattle.dictionary_rules.specs.declared.Placed.the-variants.{At};
-ghost use Rattle.dictionary_directory.specs.Directory.{longest, directoryWords, blockStride, tagsSlot, tagsPlace, blockAt, keptIn, keptAt, tagsAt, filling, nextBlock, roomFor, putBlock, tagsListed, layListed, layMessage, clearDirectory, layTables, tagWords, laidAlone, laidOver};
+ghost use Rattle.dictionary_directory.specs.Directory.{longest, directoryWords, blockStride, tagsSlot, tagsPlace, blockAt, keptIn, keptAt, tagsAt, filling, nextBlock, roomFor, putBlock, tagsListed, layListed, layMessage, clearDirectory, layTables, tagWords, tableWords, laidAlone, LaidFirst};
 ghost use Rattle.dictionary_directory.specs.LayingLaws.{headed};
 
 // From which word on a table stands, and how many words it has.
@@ -167,11 +168,13 @@ fn lay_message(
         return free;
     }
     let mut rows = [0u16; 4096];
+    let mut leaps = [0u16; empty::LEAPS];
     let MessageTable::Rows(count) = dictionary_flattening::placed_table(
         dictionary,
         index,
         place as u16,
         &mut rows,
+        &mut leaps[..],
     ) else {
         return free;
     };
@@ -263,16 +266,16 @@ pub fn lay_tables(dictionary: &[u8], index: &[u16], tables: &mut [u16])
     }
 }
 
-// Lays the table of the message whose record stands at a place by itself, over the first words.
+// Lays the table of the message whose record stands at a place by itself, over the first words. They are blank, and are used on the way.
 pub fn lay_table(
     dictionary: &[u8],
     index: &[u16],
     opening: u16,
     table: &mut [u16; TABLE_WORDS],
 ) -> Kept
-    requires { ⌜ length (now index) ≡ indexWords ⌝ }
+    requires { ⌜ (length (now index) ≡ indexWords) × (now table ≡ replicate tableWords 0) ⌝ }
     ensures { λ r. ⌜ r ≡ laidAlone (placedTable (now (dictionary .entry)) (now (index .entry)) (At opening) (replicate 4096 0)) ⌝ }
-    ensures { λ _. ⌜ now (table .exit) ≡ laidOver (placedTable (now (dictionary .entry)) (now (index .entry)) (At opening) (replicate 4096 0)) (now (table .entry)) ⌝ }
+    ensures { λ _. ⌜ LaidFirst (placedTable (now (dictionary .entry)) (now (index .entry)) (At opening) (replicate 4096 0)) (now (table .exit)) ⌝ }
 {
     let words = &mut table[..];
     let mut made = [0u16; 4096];
@@ -281,6 +284,7 @@ pub fn lay_table(
         index,
         opening,
         &mut made,
+        &mut words[..empty::LEAPS],
     ) else {
         return Kept::Nowhere;
     };

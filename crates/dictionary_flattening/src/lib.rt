@@ -1,5 +1,6 @@
 // dictionary_flattening: the layout of a message, written from a dictionary's bytes into a lent table.
 // It trusts the index that the dictionary's check left, but no content of bytes, index or table makes it fail: it then says so.
+pub mod empty;
 pub mod tags;
 
 use dictionary_meaning_rules::Expansion;
@@ -12,13 +13,14 @@ use dictionary_rules::Record;
 use dictionary_rules::RecordRead;
 ghost use mathlib.Core.Path.{_≡_};
 ghost use Prim.Native.Nat.{_≤_, _<_};
-ghost use lib.ListN.{length};
+ghost use lib.ListN.{length, replicate};
 ghost use Rattle.dictionary_rules.specs.Index.{componentAt};
 ghost use Rattle.dictionary_rules.specs.declared.Placed.the-variants.{At};
 ghost use Rattle.dictionary_meaning_rules.specs.Laying.{laying, putRow, layItems, standsAt};
 ghost use Rattle.dictionary_meaning_rules.specs.MsgType.{nameOf};
 ghost use Rattle.dictionary_meaning_rules.specs.MessageTable.{tabling, placeOf, placedTable};
 ghost use Rattle.dictionary_chains.specs.Chain.{indexWords};
+ghost use Rattle.dictionary_flattening.specs.Leaps.{Leaps, leapWords};
 
 // An empty component is skipped, and one that only stands for another is passed through, so that each step down adds an item.
 fn stands_at(index: &[u16], number: u16) -> Expansion
@@ -51,17 +53,20 @@ fn put_row(table: &mut [u16], row: usize, tag: u32, required: bool, is_group: bo
 
 // The items from a place on up to their close. A group's entries and a component's items are laid by the same function, the open
 // depth falling. A component that adds no row breaks off: else forged content could make the work double with each level. So does a
-// group without one: else its table could take more words to an item than any that passes the check.
+// group without one: else its table could take more words to an item than any that passes the check. Items that stand for nothing are
+// leapt over where they were passed before, so the work grows with the rows.
 fn lay_items(
     bytes: &[u8],
     index: &[u16],
     table: &mut [u16],
+    leaps: &mut [u16],
     from: usize,
     first: usize,
     depth: usize,
 ) -> Laid
-    requires { ⌜ (length (now index) ≡ indexWords) × (4096 ≤ length (now table)) × (first ≤ 1024) ⌝ }
+    requires { ⌜ (length (now index) ≡ indexWords) × (4096 ≤ length (now table)) × (first ≤ 1024) × Leaps (now bytes) (componentAt (now index)) (now leaps) ⌝ }
     ensures { λ r. ⌜ laying r (now (table .exit)) ≡ layItems depth (now (bytes .entry)) (componentAt (now (index .entry))) from first (now (table .entry)) ⌝ }
+    ensures { λ _. ⌜ Leaps (now (bytes .entry)) (componentAt (now (index .entry))) (now (leaps .exit)) ⌝ }
 {
     if depth == 0 {
         return Laid::Broken;
@@ -89,6 +94,7 @@ fn lay_items(
                     bytes,
                     index,
                     table,
+                    leaps,
                     next,
                     row + 1,
                     depth - 1,
@@ -110,6 +116,7 @@ fn lay_items(
                             bytes,
                             index,
                             table,
+                            leaps,
                             place,
                             row,
                             depth - 1,
@@ -119,11 +126,13 @@ fn lay_items(
                         if end <= row {
                             return Laid::Broken;
                         }
+                        at = next;
                         row = end;
                     }
-                    Expansion::NoItems => {}
+                    Expansion::NoItems => {
+                        at = empty::pass(bytes, index, leaps, next);
+                    }
                 }
-                at = next;
             }
             Record::Closes => {
                 return Laid::Upto(next, row);
@@ -175,20 +184,21 @@ pub fn place_of(index: &[u16], msgtype: &[u8]) -> Placed
 }
 
 // The layout of the message whose record stands at a place, as a table, from a dictionary that passed its check and the index that the
-// check left.
+// check left. The words of leaps are used on the way.
 pub fn placed_table(
     dictionary: &[u8],
     index: &[u16],
     opening: u16,
     table: &mut [u16; 4096],
+    leaps: &mut [u16],
 ) -> MessageTable
-    requires { ⌜ length (now index) ≡ indexWords ⌝ }
+    requires { ⌜ (length (now index) ≡ indexWords) × (now leaps ≡ replicate leapWords 0) ⌝ }
     ensures { λ r. ⌜ tabling r (now (table .exit)) ≡ placedTable (now (dictionary .entry)) (now (index .entry)) (At opening) (now (table .entry)) ⌝ }
 {
     // Only where the array is made a slice does the proof learn its length.
     let rows = &mut table[..];
     let items = dictionary_chains::wide(opening) as usize + 9;
-    let Laid::Upto(_, count) = lay_items(dictionary, index, rows, items, 0, 2050) else {
+    let Laid::Upto(_, count) = lay_items(dictionary, index, rows, leaps, items, 0, 2050) else {
         return MessageTable::Unprepared;
     };
     MessageTable::Rows(count)

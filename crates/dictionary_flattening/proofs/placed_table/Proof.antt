@@ -1,27 +1,34 @@
--- `placed_table` meets its contract: it lays the items from behind the record that opens the message.
+-- `placed_table` meets its contract: it lays the items from behind the record that opens the message. Blank words tell of no leap.
 use mathlib.Core.Path.{_≡_, _∙_}
 use Prim.Native.Nat.{_+_}
+use native.Mathlib.Omega.{arith}
 use borrow.Author.Needs.{needs}
 use Rattle.dictionary_rules.specs.Index.{componentAt}
 use Rattle.dictionary_meaning_rules.specs.Laying.{laying, layItems}
 use Rattle.dictionary_meaning_rules.specs.MessageTable.{asTable, placedTable}
+use Rattle.dictionary_flattening.specs.Leaps.{leaps-none}
 use Rattle.dictionary_flattening.proofs.Arms.{laid-as}
 use Rattle.dictionary_flattening.proofs.placed_table.Statement.{statement}
 use Rattle.dictionary_flattening.proofs.placed_table.Tie as tie
 
-laid-here : (c : tie.After-lay-items) → let a = c .before .before .before .before .before .args in
+lay-items-requires : tie.Need-lay-items-requires
+lay-items-requires c κs = let s = c .before .before .before .before .before .before in
+    (s .pre .0, omega arith, omega arith, rw (s .pre .1) leaps-none)
+
+laid-here : (c : tie.After-lay-items) → let a = c .before .before .before .before .before .before .before .args in
     laying (c .lay-items .result) (c .lay-items .last .1 .1 .0) ≡ layItems 2050 (a .dictionary .now) (componentAt (a .index .now)) (a .opening + 9) 0 (a .table .now)
-laid-here c = c .lay-items .ensures ∙ rw (c .before .wide .ensures)
+laid-here c = c .lay-items .ensures .0 ∙ rw (c .before .before .wide .ensures)
 
 returns : tie.Need-returns
 unfolding placedTable asTable
-returns c = rw (laid-as (laid-here (c .before .before)) (c .enum-told .given .1))
+returns c = rw (laid-as (laid-here (c .before .before .before .before)) (c .enum-told .given .1))
 
 returns-2 : tie.Need-returns-2
 unfolding placedTable asTable
-returns-2 c = rw (laid-as (laid-here (c .before .before .before)) (c .before .count .given .1))
+returns-2 c = rw (laid-as (laid-here (c .before .before .before .before .before)) (c .before .count .given .1))
 
 pub placed-table-spec : {M : Type 1} → statement M
 placed-table-spec =
     tie.close
-    (tie.spec (λ c κs. search needs) (λ c. search needs) (λ c κs. search needs) (λ c. search needs) (λ c. search needs) returns returns-2)
+    (tie.spec (λ c κs. search needs) (λ c. search needs) lay-items-requires (λ c. search needs) (λ c. search needs) (λ c. search needs) returns
+    (λ c. search needs) returns-2)

@@ -19,7 +19,8 @@ called c = c .before .before .before .before .before .before
 -- the table that was laid
 laid : (c : tie.After-known-told) → let l = c .before .before .before in let a = called l .args in
     Alone (a .dictionary .now) (a .index .now) (a .opening) (c .before .size .given .0 .1 .0) (l .lay-table .last .1 .1 .1 .0)
-laid c = let l = c .before .before .before in alone _ _ _ _ _ _ _ (length-replicate {A = ℕ} tableWords 0) (sym (c .before .size .given .1) ∙ l .lay-table .ensures .0) (l .lay-table .ensures .1)
+laid c = let l = c .before .before .before in let f = l .lay-table .ensures .1 in
+    alone _ _ _ _ _ _ _ (f .1) (sym (c .before .size .given .1) ∙ l .lay-table .ensures .0) (f .2)
 
 array-share-prefix-table : tie.Need-array-share-prefix-table
 array-share-prefix-table c = omega (arith, laid c .fits, laid c .long)
