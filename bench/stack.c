@@ -5,6 +5,7 @@
 #include <stdio.h>
 #include <stdlib.h>
 #include <string.h>
+#include "records.h"
 
 #define WORDS 8205
 #define VALUES 8192
@@ -23,17 +24,8 @@ uint32_t gateway_find_field(const uint32_t *, size_t, const uint8_t *, size_t, s
 uint32_t gateway_encode(uint32_t *, size_t, uint8_t *, size_t, uint8_t *, size_t, uint8_t, uint32_t *);
 uint32_t gateway_take_over(const void *, size_t, size_t, const uint8_t *, size_t, uint32_t *, size_t, uint8_t *, size_t, uint32_t *);
 
-uint32_t gateway_check(const uint8_t *, size_t, uint32_t *);
-uint32_t gateway_prepare(const uint8_t *, size_t, uint8_t *, size_t, uint16_t *, size_t, uint32_t *);
-uint32_t gateway_prepared_words(void);
-uint32_t gateway_build(const uint8_t *, size_t, uint8_t, uint32_t, const uint8_t *, size_t, void *, size_t, uint32_t *);
-uint32_t gateway_build_prepared(const uint8_t *, size_t, uint8_t, uint32_t, const uint8_t *, size_t, const uint16_t *, size_t, void *, size_t, uint32_t *);
-
-struct record { uint8_t part, depth; uint16_t entry; uint32_t tag; uint16_t place, length; };
-
-static uint32_t words[WORDS], run_words[WORDS], out[4];
+static uint32_t words[WORDS], run_words[WORDS];
 static uint8_t values[VALUES], run_values[VALUES], output[VALUES];
-static struct record records[1024];
 static const uint8_t x[] = "x";
 
 #define MESSAGE words, WORDS, values, VALUES
@@ -52,40 +44,22 @@ static void prepare(void) {
 }
 
 // a dictionary whose header, trailer and message D each hold a field; deep: 1,022 components more, each holding a field and the one before, under D
-#define BYTES 60000
-#define ROOM 524288
-struct dictionary { uint8_t bytes[BYTES], copy[BYTES]; size_t length; uint16_t memory[ROOM]; size_t lent; };
 static struct dictionary flat, deep, roomy;
-static const uint8_t order[] = "8=FIX.4.4\0019=5\00135=D\00110=183\001";
-
-static void put(struct dictionary *d, const void *record, size_t length) {
-    memcpy(d->bytes + d->length, record, length);
-    d->length += length;
-}
-
-static void field(struct dictionary *d, uint8_t tag) { put(d, (uint8_t[]){4, tag, 0, 0, 0, 0}, 6); }
 
 static void component(struct dictionary *d, uint16_t number) {
-    put(d, (uint8_t[]){2, number & 255, number >> 8}, 3);
+    opens(d, number);
     field(d, number > 1 ? 9 : number ? 10 : 8);
-    if (number > 2) put(d, (uint8_t[]){5, (number - 1) & 255, (number - 1) >> 8, 0}, 4);
-    put(d, (uint8_t[]){7}, 1);
+    if (number > 2) item(d, number - 1);
+    closes(d);
 }
 
 static void make(struct dictionary *d, uint16_t components, size_t lent) {
-    for (uint8_t tag = 8; tag < 11; tag++) put(d, (uint8_t[]){1, tag, 0, 0, 0}, 5);
+    for (uint8_t tag = 8; tag < 11; tag++) known(d, tag);
     for (uint16_t i = 0; i < components; i++) component(d, i);
-    put(d, (uint8_t[]){3, 'D', 0, 0, 0, 0, 0, 0, 0}, 9);
-    put(d, (uint8_t[]){5, (components - 1) & 255, (components - 1) >> 8, 0, 7}, 5);
+    opens_order(d);
+    item(d, components - 1);
+    closes(d);
     d->lent = lent;
-}
-
-static uint32_t built(const struct dictionary *d) {
-    return gateway_build(order, sizeof order - 1, 1, 1, d->bytes, d->length, records, 1024, out);
-}
-static uint32_t set_up(struct dictionary *d) { return gateway_prepare(d->bytes, d->length, d->copy, BYTES, d->memory, d->lent, out); }
-static uint32_t built_over(const struct dictionary *d) {
-    return gateway_build_prepared(order, sizeof order - 1, 1, 1, d->copy, BYTES, d->memory, d->lent, records, 1024, out);
 }
 
 // a dictionary from a file, in the least memory and with tables, and a message of one of its types

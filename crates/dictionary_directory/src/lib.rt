@@ -192,17 +192,6 @@ fn tags_of(dictionary: &[u8], index: &[u16], number: u16, list: &mut [u32; 1024]
     }
 }
 
-// Words of the table of so many tags: how many they are, the heads, and five to each.
-fn tags_size(count: usize) -> usize
-    requires { ⌜ count ≤ 1024 ⌝ }
-    ensures { λ r. ⌜ r ≡ partSize count ⌝ }
-{
-    if 16 < count {
-        return 129 + 5 * count;
-    }
-    9 + 5 * count
-}
-
 // Writes the block of the tags of the header (0) or of the trailer (1), which stand first in a list, if it has room.
 fn put_tags(
     tables: &mut [u16],
@@ -216,7 +205,7 @@ fn put_tags(
 {
     // As a slice it has a length that the proof knows: so the tags are few.
     let tags = &list[..];
-    let size = tags_size(count);
+    let size = dictionary_pressing::part_size(count);
     if !has_room(tables.len(), free, size) {
         return free;
     }

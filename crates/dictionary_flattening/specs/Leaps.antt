@@ -3,7 +3,7 @@
 use mathlib.Core.Path.{_≡_, refl, sym, ap, _∙_}
 use mathlib.Core.Bool.{Bool, true, false}
 use mathlib.Core.List.{List}
-use Prim.Native.Nat.{ℕ, _+_, _*_, _/_, _%_, _≤_, _<_}
+use Prim.Native.Nat.{ℕ, _+_, _-_, _*_, _/_, _%_, _≤_, _<_}
 use native.Mathlib.Omega.{arith}
 use lib.ListN.{length, getD, set, replicate, length-set, length-replicate, getD-replicate, List·getD-eq-default}
 use lib.Seq.{getD-set-same, getD-set-other}
@@ -15,8 +15,8 @@ use Rattle.dictionary_rules.specs.RecordsLaws.{record-falls}
 use Rattle.dictionary_rules.specs.declared.Record.the-variants.{ComponentItem}
 use Rattle.dictionary_rules.specs.declared.RecordRead.the-variants.{Whole}
 use Rattle.dictionary_rules.specs.declared.Looked.{Looked}
-use Rattle.dictionary_meaning_rules.specs.Laying.{Step, standsAt, itemsFrom}
-use Rattle.dictionary_meaning_rules.specs.LayingLaws.{Advancing, lay-empty}
+use Rattle.dictionary_meaning_rules.specs.Laying.{Step, standsAt, itemsFrom, layItems}
+use Rattle.dictionary_meaning_rules.specs.LayingLaws.{Advancing, lay-advances, lay-empty, lay-down}
 use Rattle.dictionary_meaning_rules.specs.declared.Expansion.the-variants.{NoItems}
 
 -- only items that stand for nothing lie between: whatever lays what lies within, laying from the one place on is laying from the other on
@@ -80,6 +80,10 @@ reachedLeaps leaps since at = pick (ltb (leapWord at) leapWords) (leapKept leaps
 unfoldable pub reachedSince : ℕ → ℕ → ℕ
 reachedSince since at = pick (ltb (leapWord at) leapWords) at since
 
+-- leaps one after the other are one, from the first place on that has a word
+unfoldable pub leapingSince : ℕ → ℕ → ℕ
+leapingSince since at = pick (ltb (leapWord since) leapWords) since at
+
 -- no two places share a word
 word-once : (a b : ℕ) → leapWord a < leapWords → leapWord a ≡ leapWord b → a ≡ b
 unfolding leapWord
@@ -141,3 +145,19 @@ module _ {bytes : List ℕ} {components : ℕ → Looked} where
       go : (t : Bool) → Leaps bytes components (pick t (leapKept leaps since at) leaps) × Leads bytes components (pick t at since) at
       go true = (leaps-kept l p, leads-nowhere)
       go false = (l, p)
+
+  pub leads-leaping : {since at to : ℕ} → Leads bytes components since at → Leads bytes components at to → Leads bytes components (leapingSince since at) to
+  unfolding leapingSince
+  leads-leaping {since} {at} {to} p q = go (ltb (leapWord since) leapWords)
+    where
+      go : (t : Bool) → Leads bytes components (pick t since at) to
+      go true = leads-on p q
+      go false = q
+
+  -- so a message's items may be laid from where such a row ends
+  pub leads-items : {from to : ℕ} → Leads bytes components from to → (depth row : ℕ) (table : List ℕ) → (depth ≡ 0 → ⊥)
+      → layItems depth bytes components from row table ≡ layItems depth bytes components to row table
+  leads-items p depth row table some =
+      lay-down bytes components _ row table depth some
+      ∙ p .same (layItems (depth - 1) bytes components) (lay-advances (depth - 1) bytes components) row table
+      ∙ sym (lay-down bytes components _ row table depth some)

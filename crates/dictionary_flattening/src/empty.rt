@@ -8,7 +8,7 @@ ghost use mathlib.Core.Path.{_≡_};
 ghost use lib.ListN.{length};
 ghost use Rattle.dictionary_rules.specs.Index.{componentAt};
 ghost use Rattle.dictionary_chains.specs.Chain.{indexWords};
-ghost use Rattle.dictionary_flattening.specs.Leaps.{Leads, Leaps, leapWords, leapWord, leapFrom, leapKept, reachedLeaps, reachedSince};
+ghost use Rattle.dictionary_flattening.specs.Leaps.{Leads, Leaps, leapWords, leapWord, leapFrom, leapKept, reachedLeaps, reachedSince, leapingSince};
 
 // Words of leaps: for each of four ways in which items of four bytes can follow each other, one to every sixteenth place.
 pub const LEAPS: usize = 4096;
@@ -71,6 +71,16 @@ fn keep_reached(leaps: &mut [u16], since: usize, at: usize) -> usize
     at
 }
 
+// Leaps one after the other become one, from the first place on that has a word.
+fn leaping_since(since: usize, at: usize) -> usize
+    ensures { λ r. ⌜ r ≡ leapingSince since at ⌝ }
+{
+    if LEAPS <= word_of(since) {
+        return at;
+    }
+    since
+}
+
 // Behind an item that stands for nothing, or where it is where anything else stands.
 fn past_item(bytes: &[u8], index: &[u16], at: usize) -> usize
     requires { ⌜ length (now index) ≡ indexWords ⌝ }
@@ -100,6 +110,7 @@ pub fn pass(bytes: &[u8], index: &[u16], leaps: &mut [u16], from: usize) -> usiz
     loop {
         let known = known_from(leaps, at);
         if at < known {
+            since = leaping_since(since, at);
             at = known;
         } else {
             since = keep_reached(leaps, since, at);

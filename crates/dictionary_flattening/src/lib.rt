@@ -197,7 +197,13 @@ pub fn placed_table(
 {
     // Only where the array is made a slice does the proof learn its length.
     let rows = &mut table[..];
-    let items = dictionary_chains::wide(opening) as usize + 9;
+    // Called here too, it stays a function by itself, and its locals out of the recursion's frames.
+    let items = empty::pass(
+        dictionary,
+        index,
+        leaps,
+        dictionary_chains::wide(opening) as usize + 9,
+    );
     let Laid::Upto(_, count) = lay_items(dictionary, index, rows, leaps, items, 0, 2050) else {
         return MessageTable::Unprepared;
     };

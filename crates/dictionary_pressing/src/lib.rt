@@ -166,7 +166,7 @@ fn own_count(rows: &[u16], first: usize, stop: usize) -> usize
 }
 
 // Words of a level's own part.
-fn part_size(count: usize) -> usize
+pub fn part_size(count: usize) -> usize
     requires { ⌜ count ≤ 65536 ⌝ }
     ensures { λ r. ⌜ r ≡ partSize count ⌝ }
 {

@@ -12,6 +12,14 @@ use Rattle.dictionary_rules.specs.Index.{componentOf, tagAt, lookedAs, c
 use Rattle.dictionary_rules.specs.declared.Looked.the-variants.{Closed, Missing}
 use Rattle.dictionary_rules.specs.declared.Placed.the-variants.{At, Nowhere}
 
+-- a key that is not answered has no entry, if an entry would be answered otherwise
+unanswered : {A : Type 0} {looked none : A} (found : ℕ) → ((found ≡ 0 → ⊥) → looked ≡ none → ⊥) → looked ≡ none → found ≡ 0
+unanswered found other e = go (eqb found 0) refl
+  where
+    go : (t : Bool) → eqb found 0 ≡ t → found ≡ 0
+    go true q = eqb-true _ _ q
+    go false q = absurd (other (eqb-false _ _ q) e)
+
 module _ (index : List ℕ) (key : ℕ) where
   pub tag-unknown : found Tags index key ≡ 0 → tagAt index key ≡ false
   unfolding tagAt
@@ -30,13 +38,8 @@ module _ (index : List ℕ) (key : ℕ) where
   component-closed n e z = rw (e, ne-eqb n 0 z)
 
   pub missing-new : componentAt index key ≡ Missing → found Components index key ≡ 0
-  missing-new m = go (eqb (found Components index key) 0) refl
-    where
-      go : (t : Bool) → eqb (found Components index key) 0 ≡ t → found Components index key ≡ 0
-      go true q = eqb-true _ _ q
-      go false q =
-          let other = component-closed (found Components index key) refl (eqb-false _ _ q) in
-          let z : _≡_ {A = ℕ} 0 1 = cc in absurd (omega arith)
+  missing-new = unanswered (found Components index key) (λ some e. let other = component-closed (found Components index key) refl some in
+      let z : _≡_ {A = ℕ} 0 1 = cc in omega arith)
 
   pub message-nowhere : found MsgTypes index key ≡ 0 → messageAt index key ≡ Nowhere
   unfolding messageAt placedAs
@@ -47,10 +50,5 @@ module _ (index : List ℕ) (key : ℕ) where
   message-placed n e z = rw (e, ne-eqb n 0 z)
 
   pub nowhere-new : messageAt index key ≡ Nowhere → found MsgTypes index key ≡ 0
-  nowhere-new m = go (eqb (found MsgTypes index key) 0) refl
-    where
-      go : (t : Bool) → eqb (found MsgTypes index key) 0 ≡ t → found MsgTypes index key ≡ 0
-      go true q = eqb-true _ _ q
-      go false q =
-          let other = message-placed (found MsgTypes index key) refl (eqb-false _ _ q) in
-          let z : _≡_ {A = ℕ} 0 1 = cc in absurd (omega arith)
+  nowhere-new = unanswered (found MsgTypes index key) (λ some e. let other = message-placed (found MsgTypes index key) refl some in
+      let z : _≡_ {A = ℕ} 0 1 = cc in omega arith)

@@ -167,17 +167,3 @@ module _ (table : List ℕ) (level : ℕ) (layout : Layout) (tabled : Tabled tab
 pub tabled-whole : (layout : Layout) → Tabled (tableOf layout) 0 layout
 unfolding tableOf
 tabled-whole layout = record { before = []; after = []; whole = sym (append-nil _); start = refl }
-
--- a group word of 0 counts no group, and another starts the level of one
-pub opens-none : {table : List ℕ} {level : ℕ} {found : Group} → Opens table level found → level ≡ 0 → found ≡ none
-opens-none neither z = refl
-opens-none (both some tabled) z = absurd (some z)
-
-pub record Opened (table : List ℕ) (level : ℕ) (found : Group) : Type 0 where
-  pub inner : Layout
-  pub is : found ≡ entries inner
-  pub tabled : Tabled table level inner
-
-pub opens-some : {table : List ℕ} {level : ℕ} {found : Group} → Opens table level found → (level ≡ 0 → ⊥) → Opened table level found
-opens-some neither some = absurd (some refl)
-opens-some (both {inner = inner} some tabled) filled = record { inner = inner; is = refl; tabled = tabled }

@@ -22,22 +22,22 @@ taken c = let s = c .before .before in length-take-le (s .args .count) (s .args 
 few : (c : tie.After-tags) → let a = c .before .before .args in length (take (a .count) (a .list .now)) ≤ 1024
 few c = omega (arith, taken c)
 
-sized : (c : tie.After-tags-size) → let a = c .before .before .before .args in c .tags-size .result ≡ tableSize (fieldsOf (take (a .count) (a .list .now)))
+sized : (c : tie.After-part-size) → let a = c .before .before .before .args in c .part-size .result ≡ tableSize (fieldsOf (take (a .count) (a .list .now)))
 sized c = let a = c .before .before .before .args in
-    c .tags-size .ensures ∙ ap partSize (sym (taken (c .before))) ∙ sym (fields-part (take (a .count) (a .list .now)))
+    c .part-size .ensures ∙ ap partSize (sym (taken (c .before))) ∙ sym (fields-part (take (a .count) (a .list .now)))
 
-small : (c : tie.After-tags-size) → c .tags-size .result < 65536
+small : (c : tie.After-part-size) → c .part-size .result < 65536
 small c = let a = c .before .before .before .args in omega (arith, sized c, fields-few (take (a .count) (a .list .now)) (few (c .before)))
 
 returns : tie.Need-returns
 returns c = let h = c .before in sym (put-none _ _ _ _ _ _ (sized (h .before)) (sym (h .has-room .ensures) ∙ not-true _ (c .if1 .taken)))
 
 fits : (c : tie.Else1) → let t = c .before .before in let a = t .before .before .before .args in
-    roomFor (length (a .tables .now)) (a .free) (t .tags-size .result) ≡ true
+    roomFor (length (a .tables .now)) (a .free) (t .part-size .result) ≡ true
 fits c = sym (c .before .has-room .ensures) ∙ not-false _ (c .if1 .left)
 
 room : (c : tie.Else1) → let t = c .before .before in let a = t .before .before .before .args in
-    (a .free / blockStride < 65536) × (a .free + 2 + t .tags-size .result ≤ length (a .tables .now))
+    (a .free / blockStride < 65536) × (a .free + 2 + t .part-size .result ≤ length (a .tables .now))
 room c = room-here _ _ _ (fits c)
 
 slice-aggregate-press-tags : tie.Need-slice-aggregate-press-tags

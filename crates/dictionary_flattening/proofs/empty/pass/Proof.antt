@@ -6,7 +6,7 @@ use native.Mathlib.Omega.{arith}
 use lib.ListN.{length}
 use borrow.Author.Needs.{needs}
 use Rattle.dictionary_rules.specs.Index.{componentAt}
-use Rattle.dictionary_flattening.specs.Leaps.{Leads, Leaps, leapFrom, leads-nowhere, leads-on, leaps-kept, leaps-reached}
+use Rattle.dictionary_flattening.specs.Leaps.{Leads, Leaps, leapFrom, leads-nowhere, leads-on, leads-leaping, leaps-kept, leaps-reached}
 use Rattle.dictionary_flattening.proofs.empty.pass.Statement.{statement}
 use Rattle.dictionary_flattening.proofs.empty.pass.Tie as tie
 
@@ -32,10 +32,13 @@ leapt c =
     rw (f .known-from .ensures) (l .loop .inv .2 .told (l .loop .at) (omega (arith, c .if1 .taken, f .known-from .ensures)))
 
 loop-less : tie.Need-loop-less Inv-loop μ-loop
-loop-less c = omega (arith, leapt c .within (c .if1 .taken), c .if1 .taken)
+loop-less c = let l = c .before in omega (arith, leapt l .within (l .if1 .taken), l .if1 .taken)
 
 loop-again : tie.Need-loop-again Inv-loop μ-loop
-loop-again c = let i = c .before .before .before .loop .inv in (leads-on (i .0) (leapt c), leads-on (i .1) (leapt c), i .2)
+loop-again c =
+    let on = leapt (c .before) in
+    let i = c .before .before .before .before .loop .inv in
+    (leads-on (i .0) on, rw (c .leaping-since .ensures) (leads-leaping (i .1) on), i .2)
 
 keep-reached-requires : tie.Need-keep-reached-requires Inv-loop μ-loop
 keep-reached-requires c κs = c .before .before .before .before .loop .inv .2 .size
@@ -81,5 +84,5 @@ loop-again-2 c =
 pub pass-spec : {M : Type 1} → statement M
 pass-spec =
     tie.close
-    (tie.spec Inv-loop μ-loop loop-holds known-from-requires loop-less loop-again keep-reached-requires past-item-requires keep-requires same-length
+    (tie.spec Inv-loop μ-loop loop-holds known-from-requires (λ c κs. search needs) loop-less loop-again keep-reached-requires past-item-requires keep-requires same-length
     returns loop-less-2 loop-again-2)
