@@ -56,9 +56,13 @@ module _ {bytes : List ℕ} {components : ℕ → Looked} where
 abbrev pub leapWords : ℕ
 leapWords = 4096
 
--- the word of a place: items of four bytes follow each other in four ways, and of each way every sixteenth place has a word
+-- items of four bytes follow each other in four ways, and of each way every sixteenth place has a word
+abbrev slot : ℕ → ℕ
+slot at = 1024 * (at % 64) + at / 64
+
+-- the word of a place, and none of them where the place has none
 unfoldable pub leapWord : ℕ → ℕ
-leapWord at = pick (ltb at 65536) (pick (ltb (at % 64) 4) (1024 * (at % 64) + at / 64) leapWords) leapWords
+leapWord at = pick (ltb at 65536) (pick (ltb (at % 64) 4) (slot at) leapWords) leapWords
 
 -- how far the leaps say that one may go from a place
 unfoldable pub leapFrom : List ℕ → ℕ → ℕ
@@ -90,8 +94,8 @@ unfolding leapWord
 word-once a b = go (ltb a 65536) (ltb (a % 64) 4) (ltb b 65536) (ltb (b % 64) 4) refl refl refl refl
   where
     go : (s t u v : Bool) → ltb a 65536 ≡ s → ltb (a % 64) 4 ≡ t → ltb b 65536 ≡ u → ltb (b % 64) 4 ≡ v
-        → pick s (pick t (1024 * (a % 64) + a / 64) leapWords) leapWords < leapWords
-        → pick s (pick t (1024 * (a % 64) + a / 64) leapWords) leapWords ≡ pick u (pick v (1024 * (b % 64) + b / 64) leapWords) leapWords → a ≡ b
+        → pick s (pick t (slot a) leapWords) leapWords < leapWords
+        → pick s (pick t (slot a) leapWords) leapWords ≡ pick u (pick v (slot b) leapWords) leapWords → a ≡ b
     go false t u v p q r w h e = absurd (omega arith)
     go true false u v p q r w h e = absurd (omega arith)
     go true true false v p q r w h e = absurd (omega arith)
