@@ -23,7 +23,8 @@ use Rattle.dictionary_meaning_rules.specs.declared.Expansion.the-variants.{NoIt
 pub record Leads (bytes : List ℕ) (components : ℕ → Looked) (from to : ℕ) : Type 0 where
   pub onward : from ≤ to
   pub within : from < to → to ≤ length bytes
-  pub same : (inner : Step) → Advancing (length bytes) inner → (row : ℕ) (table : List ℕ) → itemsFrom inner bytes components from row table ≡ itemsFrom inner bytes components to row table
+  pub same : (inner : Step) → Advancing (length bytes) inner → (row : ℕ) (table : List ℕ) → itemsFrom inner bytes components from row table ≡
+      itemsFrom inner bytes components to row table
 
 module _ {bytes : List ℕ} {components : ℕ → Looked} where
   pub leads-nowhere : {at : ℕ} → Leads bytes components at at
@@ -43,7 +44,8 @@ module _ {bytes : List ℕ} {components : ℕ → Looked} where
           let a : to ≤ at = ltb-false at to e in
           let b : at ≤ length bytes = p .within (omega arith) in omega arith
 
-  pub leads-past : {at next number : ℕ} {required : Bool} → recordAt bytes at ≡ Whole (ComponentItem required number) next → standsAt components number ≡ NoItems → Leads bytes components at next
+  pub leads-past : {at next number : ℕ} {required : Bool} → recordAt bytes at ≡ Whole (ComponentItem required number) next
+      → standsAt components number ≡ NoItems → Leads bytes components at next
   leads-past {at} {next} {number} {required} e s =
       let f = record-falls bytes at _ next e in
       record {
@@ -115,23 +117,27 @@ module _ {bytes : List ℕ} {components : ℕ → Looked} where
     where
       untold : (word : ℕ) (t : Bool) → ltb word leapWords ≡ t → _≡_ {A = ℕ} (getD (replicate leapWords 0) word 0) 0
       untold word true e = getD-replicate leapWords word 0 0 (ltb-true _ _ e)
-      untold word false e = List·getD-eq-default (replicate leapWords 0) 0 {n = word} (omega (arith, length-replicate {A = ℕ} leapWords 0, ltb-false word leapWords e))
+      untold word false e = List·getD-eq-default (replicate leapWords 0) 0 {n = word} (omega (arith, length-replicate {A = ℕ} leapWords 0,
+          ltb-false word leapWords e))
 
   told-more : (leaps : List ℕ) (from to at : ℕ) → Leaps bytes components leaps → Leads bytes components from to → leapWord from < leapWords
       → at < leapFrom (set leaps (leapWord from) to) at → Leads bytes components at (leapFrom (set leaps (leapWord from) to) at)
   unfolding leapFrom
   told-more leaps from to at l p has = go (eqb (leapWord at) (leapWord from)) refl
     where
-      go : (u : Bool) → eqb (leapWord at) (leapWord from) ≡ u → at < getD (set leaps (leapWord from) to) (leapWord at) 0 → Leads bytes components at (getD (set leaps (leapWord from) to) (leapWord at) 0)
+      go : (u : Bool) → eqb (leapWord at) (leapWord from) ≡ u → at < getD (set leaps (leapWord from) to) (leapWord at) 0
+          → Leads bytes components at (getD (set leaps (leapWord from) to) (leapWord at) 0)
       go true q h =
           let same : leapWord from ≡ leapWord at = sym (eqb-true _ _ q) in
           let here : from ≡ at = word-once from at has same in
           rw (← here, getD-set-same leaps (leapWord from) to 0 (omega (arith, l .size))) p
       go false q h =
-          let other : getD (set leaps (leapWord from) to) (leapWord at) 0 ≡ getD leaps (leapWord at) 0 = getD-set-other leaps (leapWord from) (leapWord at) to 0 (eqb-false _ _ q) in
+          let other : getD (set leaps (leapWord from) to) (leapWord at) 0 ≡ getD leaps (leapWord at) 0 = getD-set-other leaps (leapWord from)
+              (leapWord at) to 0 (eqb-false _ _ q) in
           rw other (l .told at (rw other at h))
 
-  pub leaps-kept : {leaps : List ℕ} {from to : ℕ} → Leaps bytes components leaps → Leads bytes components from to → Leaps bytes components (leapKept leaps from to)
+  pub leaps-kept : {leaps : List ℕ} {from to : ℕ} → Leaps bytes components leaps → Leads bytes components from to
+      → Leaps bytes components (leapKept leaps from to)
   unfolding leapKept
   leaps-kept {leaps} {from} {to} l p = go (ltb (leapWord from) leapWords) (ltb to 65536) refl
     where

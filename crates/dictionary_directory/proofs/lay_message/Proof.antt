@@ -25,7 +25,8 @@ made-here : (c : tie.After-count) → let p = c .before .before .before in let a
 made-here c = made-as (c .before .before .before .placed-table .ensures) (c .count .given .1)
 
 put-block-requires : tie.Need-put-block-requires
-put-block-requires c κs = let n = c .before .before .before in let e = n .before .before .before .before .before .before in let s = e .before .before .before .before in
+put-block-requires c κs = let n = c .before .before .before in let e = n .before .before .before .before .before .before in
+    let s = e .before .before .before .before in
     (s .pre .1, e .if1 .left, placed-layout _ _ _ _ _ _ (omega (arith, length-replicate {A = ℕ} 4096 0)) (made-here n))
 
 returns-3 : tie.Need-returns-3

@@ -21,7 +21,8 @@ lay-items-requires c κs =
     (p .before .before .before .before .before .before .before .pre .0, omega arith, omega arith, p .pass .ensures .1)
 
 laid-here : (c : tie.After-lay-items) → let a = c .before .before .before .before .before .before .before .before .before .before .before .args in
-    laying (c .lay-items .result) (c .lay-items .last .1 .1 .0) ≡ layItems 2050 (a .dictionary .now) (componentAt (a .index .now)) (a .opening + 9) 0 (a .table .now)
+    laying (c .lay-items .result) (c .lay-items .last .1 .1 .0) ≡ layItems 2050 (a .dictionary .now) (componentAt (a .index .now))
+        (a .opening + 9) 0 (a .table .now)
 laid-here c =
     let p = c .before .before .before .before in
     let a = p .before .before .before .before .before .before .before .args in
