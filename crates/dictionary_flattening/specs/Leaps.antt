@@ -117,8 +117,11 @@ module _ {bytes : List ℕ} {components : ℕ → Looked} where
     where
       untold : (word : ℕ) (t : Bool) → ltb word leapWords ≡ t → _≡_ {A = ℕ} (getD (replicate leapWords 0) word 0) 0
       untold word true e = getD-replicate leapWords word 0 0 (ltb-true _ _ e)
-      untold word false e = List·getD-eq-default (replicate leapWords 0) 0 {n = word} (omega (arith, length-replicate {A = ℕ} leapWords 0,
-          ltb-false word leapWords e))
+      untold word false e = List·getD-eq-default (replicate leapWords 0) 0 {n = word} (omega (
+        arith,
+        length-replicate {A = ℕ} leapWords 0,
+        ltb-false word leapWords e,
+      ))
 
   told-more : (leaps : List ℕ) (from to at : ℕ) → Leaps bytes components leaps → Leads bytes components from to → leapWord from < leapWords
       → at < leapFrom (set leaps (leapWord from) to) at → Leads bytes components at (leapFrom (set leaps (leapWord from) to) at)
@@ -133,7 +136,7 @@ module _ {bytes : List ℕ} {components : ℕ → Looked} where
           rw (← here, getD-set-same leaps (leapWord from) to 0 (omega (arith, l .size))) p
       go false q h =
           let other : getD (set leaps (leapWord from) to) (leapWord at) 0 ≡ getD leaps (leapWord at) 0 = getD-set-other leaps (leapWord from)
-              (leapWord at) to 0 (eqb-false _ _ q) in
+          (leapWord at) to 0 (eqb-false _ _ q) in
           rw other (l .told at (rw other at h))
 
   pub leaps-kept : {leaps : List ℕ} {from to : ℕ} → Leaps bytes components leaps → Leads bytes components from to

@@ -22,6 +22,9 @@ ghost use Rattle.dictionary_meaning_rules.specs.MessageTable.{tabling, placeOf,
 ghost use Rattle.dictionary_chains.specs.Chain.{indexWords};
 ghost use Rattle.dictionary_flattening.specs.Leaps.{Leaps, leapWords};
 
+// Laying goes down at most once for each of 1,024 items and for each of four groups that nest, below a message that holds a component only.
+const MOST_CALLS: usize = 1030;
+
 // An empty component is skipped, and one that only stands for another is passed through, so that each step down adds an item.
 fn stands_at(index: &[u16], number: u16) -> Expansion
     requires { ⌜ length (now index) ≡ indexWords ⌝ }
@@ -204,7 +207,8 @@ pub fn placed_table(
         leaps,
         dictionary_chains::wide(opening) as usize + 9,
     );
-    let Laid::Upto(_, count) = lay_items(dictionary, index, rows, leaps, items, 0, 2050) else {
+    let Laid::Upto(_, count) = lay_items(dictionary, index, rows, leaps, items, 0, MOST_CALLS)
+    else {
         return MessageTable::Unprepared;
     };
     MessageTable::Rows(count)

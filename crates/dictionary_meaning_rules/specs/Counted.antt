@@ -9,7 +9,7 @@ use native.Mathlib.Omega.{arith}
 use lib.Dec.{eqb}
 use borrow.Author.Tests.{eqb-true, eqb-false}
 use Rattle.field_rules.specs.Choice.{pick}
-use Rattle.dictionary_layout_rules.specs.Layout.{Layout, end, field, group, followedBy, items}
+use Rattle.dictionary_layout_rules.specs.Layout.{Layout, end, field, group, followedBy, items, depth as nesting}
 use Rattle.dictionary_layout_rules.specs.Tree.{flattened}
 use Rattle.dictionary_rules.specs.Step.{heldAlso, heldWith}
 use Rattle.dictionary_rules.specs.declared.Component.{Component}
@@ -19,7 +19,7 @@ use Rattle.dictionary_rules.specs.declared.Held.{Held}
 use Rattle.dictionary_rules.specs.declared.Held.the-variants.{Empty, Only, Several}
 use Rattle.dictionary_meaning_rules.specs.Meaning.{Items, closed, fieldThen, componentThen, groupThen, Defined, nodesOf, expanded}
 use Rattle.dictionary_meaning_rules.specs.Written.{followed-end}
-use Rattle.dictionary_meaning_rules.specs.Layable.{layoutOf, flat, Room, room-close, room-field, room-component, room-group, count-field, count-component, count-group}
+use Rattle.dictionary_meaning_rules.specs.Layable.{layoutOf, flat, callsFor, Room, room-close, room-field, room-component, room-group, count-field, count-component, count-group, nest-field, nest-component, nest-group}
 
 unfoldable pub itemsIn : Looked → ℕ
 itemsIn Missing = 0
@@ -106,6 +106,12 @@ unfolding items
 items-none end e = refl
 items-none (field tag required rest) e = absurd (omega arith)
 items-none (group tag required inner rest) e = absurd (omega arith)
+
+calls-none : (layout : Layout) → items layout ≡ 0 → callsFor layout ≡ 0
+unfolding items nesting
+calls-none end e = refl
+calls-none (field tag required rest) e = absurd (omega arith)
+calls-none (group tag required inner rest) e = absurd (omega arith)
 
 pub items-some : (layout : Layout) → (layout ≡ end → ⊥) → 1 ≤ items layout
 unfolding items
@@ -232,28 +238,33 @@ module _ (look : ℕ → Looked) (defined : List Defined) where
   fewer (Only t) s k n (weighs-only w) a e = omega arith
   fewer Several s k n (weighs-several w) a e = omega arith
 
-  -- so two for each item are enough where a level holds several things
-  room-several : {level : Items} (held : Held) (k depth : ℕ) → Agrees look defined level → Weighs held k → heldFrom look held level ≡ Several → 1 ≤ depth → 2 * (k + items (flat defined level)) ≤ depth → Room defined depth level
+  -- so one for each item is enough where a level holds several things, and one for each group that nests
+  room-several : {level : Items} (held : Held) (k nest depth : ℕ) → Agrees look defined level → Weighs held k → heldFrom look held level ≡ Several → 1 ≤ depth
+      → nesting (flat defined level) ≤ nest → k + items (flat defined level) + nest ≤ depth → Room defined depth level
   unfolding heldFrom
-  room-several held k depth agrees-close w e p h = room-close
-  room-several held k depth (agrees-field {tag} {required} {rest} a) w e p h =
+  room-several held k nest depth agrees-close w e p n h = room-close
+  room-several held k nest depth (agrees-field {tag} {required} {rest} a) w e p n h =
       let c = count-field defined tag required rest in
+      let d = nest-field defined tag required rest in
       let more : 1 ≤ k + 1 = omega arith in
-      room-field (room-several Several (k + 1) depth a (weighs-several more) e p (omega arith))
-  room-several held k depth (agrees-component {number} {required} {rest} c l n a) w e p h =
+      room-field (room-several Several (k + 1) nest depth a (weighs-several more) e p (omega arith) (omega arith))
+  room-several held k nest depth (agrees-component {number} {required} {rest} c l n a) w e p d h =
       let count = count-component defined number required rest in
+      let below = nest-component defined number required rest in
       ⊎-elim
-      (λ q. let r : 2 * items (layoutOf defined number) < depth = omega (arith, q .0) in
-      room-component r (room-several held k depth a w (q .1) p (omega arith)))
+      (λ q. let z : callsFor (layoutOf defined number) ≡ 0 = calls-none (layoutOf defined number) (omega (arith, q .0)) in
+      let r : callsFor (layoutOf defined number) < depth = omega arith in
+      room-component r (room-several held k nest depth a w (q .1) p (omega arith) (omega arith)))
       (λ q. let f = fewer held (c .stands) k (c .items) w a (q .1) in
-      let r : 2 * items (layoutOf defined number) < depth = omega arith in
-      room-component r (room-several (heldAlso held (c .stands)) (k + c .items) depth a (weighs-more held (c .stands) k (c .items) w (q .0)) (q .1) p (omega arith)))
+      let r : callsFor (layoutOf defined number) < depth = omega arith in
+      room-component r (room-several (heldAlso held (c .stands)) (k + c .items) nest depth a (weighs-more held (c .stands) k (c .items) w (q .0)) (q .1) p (omega arith) (omega arith)))
       (meets look defined held Several number required rest c l e)
-  room-several held k depth (agrees-group {tag} {required} {inner} {rest} i a) w e p h =
+  room-several held k nest depth (agrees-group {tag} {required} {inner} {rest} i a) w e p n h =
       let c = count-group defined tag required inner rest in
-      let r : 2 * items (flat defined inner) + 1 < depth = omega arith in
+      let d = nest-group defined tag required inner rest in
+      let r : callsFor (flat defined inner) + 1 < depth = omega arith in
       let more : 1 ≤ k + 1 + items (flat defined inner) = omega arith in
-      room-group r (room-several Several (k + 1 + items (flat defined inner)) depth a (weighs-several more) (sym (ap (λ (x : Held). heldFrom look x rest) (several-stays look defined inner)) ∙ e) p (omega arith))
+      room-group r (room-several Several (k + 1 + items (flat defined inner)) nest depth a (weighs-several more) (sym (ap (λ (x : Held). heldFrom look x rest) (several-stays look defined inner)) ∙ e) p (omega arith) (omega arith))
 
-  pub room-proper : {level : Items} (depth : ℕ) → Agrees look defined level → heldFrom look Empty level ≡ Several → 1 ≤ depth → 2 * items (flat defined level) ≤ depth → Room defined depth level
-  room-proper depth a e p h = room-several Empty 0 depth a weighs-empty e p (omega arith)
+  pub room-proper : {level : Items} (depth : ℕ) → Agrees look defined level → heldFrom look Empty level ≡ Several → 1 ≤ depth → callsFor (flat defined level) ≤ depth → Room defined depth level
+  room-proper {level} depth a e p h = room-several Empty 0 (nesting (flat defined level)) depth a weighs-empty e p (omega arith) (omega arith)

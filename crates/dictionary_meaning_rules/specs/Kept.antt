@@ -21,7 +21,7 @@ use Rattle.dictionary_rules.specs.declared.RecordRead.{RecordRead}
 use Rattle.dictionary_rules.specs.declared.RecordRead.the-variants.{Whole, Bad, End}
 use Rattle.dictionary_meaning_rules.specs.Laying.{Laying, laying, Step, standsAt, putRow, afterGroup, afterComponent, onComponent, onRecord, onRead, itemsWithin, itemsFrom, layItems}
 use Rattle.dictionary_meaning_rules.specs.LayingLaws.{put-length}
-use Rattle.dictionary_meaning_rules.specs.MessageTable.{Tabling, tabling, asTable, placedTable}
+use Rattle.dictionary_meaning_rules.specs.MessageTable.{mostCalls, Tabling, tabling, asTable, placedTable}
 use Rattle.dictionary_meaning_rules.specs.PlainTags.{Listing, listing, TagStep, tagOn, tagRead, tagsWithin, tagsFrom, componentTags, plainTags}
 use Rattle.dictionary_meaning_rules.specs.declared.Laid.{Laid}
 use Rattle.dictionary_meaning_rules.specs.declared.Laid.the-variants.{Upto, Broken}
@@ -112,7 +112,7 @@ table-kept d index placed table answer written told = sym (ap (λ (t : Tabling).
   where
     by-place : (p : Placed) → length (rowsOf (placedTable d index p table)) ≡ length table
     by-place Nowhere = refl
-    by-place (At place) = ap length (as-keeps (layItems 2050 d (componentAt index) (place + 9) 0 table)) ∙ lay-keeps 2050 d (componentAt index) (place + 9) 0 table
+    by-place (At place) = ap length (as-keeps (layItems mostCalls d (componentAt index) (place + 9) 0 table)) ∙ lay-keeps mostCalls d (componentAt index) (place + 9) 0 table
 
 -- ===== the list of tags =====
 

@@ -23,7 +23,7 @@ use Rattle.dictionary_rules.specs.declared.RecordRead.the-variants.{Whole, Bad,
 use Rattle.dictionary_meaning_rules.specs.Laying.{Laying, laying, Step, standsAt, putRow, afterGroup, afterComponent, onComponent, onRecord, onRead, itemsWithin, itemsFrom, layItems}
 use Rattle.dictionary_meaning_rules.specs.LayingLaws.{Advances, reaches, lay-advances}
 use Rattle.dictionary_meaning_rules.specs.Written.{written, items-followed, written-followed, written-stands}
-use Rattle.dictionary_meaning_rules.specs.MessageTable.{tabling, asTable, placedTable}
+use Rattle.dictionary_meaning_rules.specs.MessageTable.{mostCalls, tabling, asTable, placedTable}
 use Rattle.dictionary_meaning_rules.specs.declared.Laid.the-variants.{Upto, Broken}
 use Rattle.dictionary_meaning_rules.specs.declared.Expansion.{Expansion}
 use Rattle.dictionary_meaning_rules.specs.declared.Expansion.the-variants.{ItemsAt, NoItems}
@@ -155,5 +155,5 @@ pub placed-layout : (d index : List ℕ) (place : ℕ) (table rows : List ℕ) (
     tabling (Rows count) rows ≡ placedTable d index (At place) table → LaidAs rows count
 unfolding placedTable
 placed-layout d index place table rows count room told =
-    outcome-layout (length d) (place + 9) table rows count (layItems 2050 d (componentAt index) (place + 9) 0 table) room
-    (lay-writes 2050 d (componentAt index) (place + 9) 0 table) (lay-advances 2050 d (componentAt index) (place + 9) 0 table (omega arith)) told
+    outcome-layout (length d) (place + 9) table rows count (layItems mostCalls d (componentAt index) (place + 9) 0 table) room
+    (lay-writes mostCalls d (componentAt index) (place + 9) 0 table) (lay-advances mostCalls d (componentAt index) (place + 9) 0 table (omega arith)) told

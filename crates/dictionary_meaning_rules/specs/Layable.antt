@@ -1,12 +1,14 @@
 -- Items that stand in the bytes are laid as the rows of what they mean, if each component that they name is, and the depth suffices.
--- Laying what lies within takes one of the depth: two for each item are enough, and one more where a level holds a component only.
+-- Laying what lies within takes one of the depth: one for each item is enough, and one for each group that nests, where a level may hold a
+-- component only.
 use mathlib.Core.Path.{_≡_, refl, sym, ap, _∙_}
 use mathlib.Core.Bool.{Bool, true, false}
 use mathlib.Core.List.{List, [], _∷_}
 use Prim.Native.Nat.{ℕ, zero, suc, _+_, _-_, _*_, _≤_, _<_}
 use native.Mathlib.Omega.{arith}
 use lib.ListN.{length}
-use Rattle.dictionary_layout_rules.specs.Layout.{Layout, end, field, group, followedBy, items}
+use Rattle.dictionary_layout_rules.specs.Layout.{Layout, end, field, group, followedBy, items, depth as nesting}
+use Rattle.dictionary_layout_rules.specs.Measures.{larger-first, larger-second, depth-followed}
 use Rattle.dictionary_layout_rules.specs.Tree.{Nodes, flattened}
 use Rattle.dictionary_rules.specs.Record.{recordAt}
 use Rattle.dictionary_rules.specs.declared.Record.the-variants.{FieldItem, ComponentItem, OpensGroup, Closes}
@@ -26,9 +28,13 @@ pub data Reads (bytes : List ℕ) : ℕ → Items → ℕ → Type 0 where
   reads-component : {at next after number : ℕ} {required : Bool} {rest : Items} → recordAt bytes at ≡ Whole (ComponentItem required number) next → Reads bytes next rest after → Reads bytes at (componentThen number required rest) after
   reads-group : {at next upto after tag : ℕ} {required : Bool} {inner rest : Items} → recordAt bytes at ≡ Whole (OpensGroup tag required) next → Reads bytes next inner upto → Reads bytes upto rest after → Reads bytes at (groupThen tag required inner rest) after
 
+-- how deep laying goes for a layout, at most
+abbrev pub callsFor : Layout → ℕ
+callsFor layout = items layout + nesting layout
+
 -- laying from a place on writes this layout, wherever there is room and depth for it
 abbrev pub Layable : List ℕ → (ℕ → Looked) → ℕ → Layout → Type 0
-Layable bytes components place layout = (depth row : ℕ) (table : List ℕ) → 2 * items layout < depth → row + items layout ≤ 1024 → (after : ℕ) × (layItems depth bytes components place row table ≡ laying (Upto after (row + items layout)) (written row layout table))
+Layable bytes components place layout = (depth row : ℕ) (table : List ℕ) → callsFor layout < depth → row + items layout ≤ 1024 → (after : ℕ) × (layItems depth bytes components place row table ≡ laying (Upto after (row + items layout)) (written row layout table))
 
 -- what a component means, flattened
 abbrev pub layoutOf : List Defined → ℕ → Layout
@@ -55,8 +61,8 @@ pub data AllLay (bytes : List ℕ) (components : ℕ → Looked) (defined : List
 pub data Room (defined : List Defined) (depth : ℕ) : Items → Type 0 where
   room-close : Room defined depth closed
   room-field : {tag : ℕ} {required : Bool} {rest : Items} → Room defined depth rest → Room defined depth (fieldThen tag required rest)
-  room-component : {number : ℕ} {required : Bool} {rest : Items} → 2 * items (layoutOf defined number) < depth → Room defined depth rest → Room defined depth (componentThen number required rest)
-  room-group : {tag : ℕ} {required : Bool} {inner rest : Items} → 2 * items (flat defined inner) + 1 < depth → Room defined depth rest → Room defined depth (groupThen tag required inner rest)
+  room-component : {number : ℕ} {required : Bool} {rest : Items} → callsFor (layoutOf defined number) < depth → Room defined depth rest → Room defined depth (componentThen number required rest)
+  room-group : {tag : ℕ} {required : Bool} {inner rest : Items} → callsFor (flat defined inner) + 1 < depth → Room defined depth rest → Room defined depth (groupThen tag required inner rest)
 
 -- what a level counts
 module _ (defined : List Defined) where
@@ -72,17 +78,40 @@ module _ (defined : List Defined) where
   unfolding expanded flattened items
   count-group tag required inner rest = refl
 
-  -- more than two for each item is enough for any level
-  pub room-any : (depth : ℕ) (level : Items) → 2 * items (flat defined level) < depth → Room defined depth level
+  -- how deep its groups nest
+  pub nest-field : (tag : ℕ) (required : Bool) (rest : Items) → nesting (flat defined (fieldThen tag required rest)) ≡ nesting (flat defined rest)
+  unfolding expanded flattened nesting
+  nest-field tag required rest = refl
+
+  pub nest-component : (number : ℕ) (required : Bool) (rest : Items) →
+      (nesting (layoutOf defined number) ≤ nesting (flat defined (componentThen number required rest)))
+      × (nesting (flat defined rest) ≤ nesting (flat defined (componentThen number required rest)))
+  unfolding expanded flattened
+  nest-component number required rest =
+      rw (depth-followed (layoutOf defined number) (flat defined rest))
+      (larger-first (nesting (layoutOf defined number)) (nesting (flat defined rest)), larger-second (nesting (layoutOf defined number)) (nesting (flat defined rest)))
+
+  pub nest-group : (tag : ℕ) (required : Bool) (inner rest : Items) →
+      (1 + nesting (flat defined inner) ≤ nesting (flat defined (groupThen tag required inner rest)))
+      × (nesting (flat defined rest) ≤ nesting (flat defined (groupThen tag required inner rest)))
+  unfolding expanded flattened nesting
+  nest-group tag required inner rest =
+      (larger-first (1 + nesting (flat defined inner)) (nesting (flat defined rest)), larger-second (1 + nesting (flat defined inner)) (nesting (flat defined rest)))
+
+  -- more than that is enough for any level
+  pub room-any : (depth : ℕ) (level : Items) → callsFor (flat defined level) < depth → Room defined depth level
   room-any depth closed h = room-close
-  room-any depth (fieldThen tag required rest) h = room-field (room-any depth rest (omega (arith, count-field tag required rest)))
+  room-any depth (fieldThen tag required rest) h =
+      room-field (room-any depth rest (omega (arith, count-field tag required rest, nest-field tag required rest)))
   room-any depth (componentThen number required rest) h =
       let c = count-component number required rest in
-      let r : 2 * items (layoutOf defined number) < depth = omega arith in
+      let d = nest-component number required rest in
+      let r : callsFor (layoutOf defined number) < depth = omega arith in
       room-component r (room-any depth rest (omega arith))
   room-any depth (groupThen tag required inner rest) h =
       let c = count-group tag required inner rest in
-      let r : 2 * items (flat defined inner) + 1 < depth = omega arith in
+      let d = nest-group tag required inner rest in
+      let r : callsFor (flat defined inner) + 1 < depth = omega arith in
       room-group r (room-any depth rest (omega arith))
 
 -- how far a layout is laid from a row on, and what the table holds then
@@ -118,7 +147,7 @@ module _ (bytes : List ℕ) (components : ℕ → Looked) (defined : List Define
   Laying-ok at after level depth = (row : ℕ) (table : List ℕ) → row + items (flat defined level) ≤ 1024 → itemsFrom (layItems depth bytes components) bytes components at row table ≡ laidFrom after row (flat defined level) table
 
   -- a component item, by what is known of its component
-  component-level : (at next after number : ℕ) (required : Bool) (rest : Items) (depth : ℕ) → recordAt bytes at ≡ Whole (ComponentItem required number) next → Lays bytes components number (layoutOf defined number) → 2 * items (layoutOf defined number) < depth → Laying-ok next after rest depth → Laying-ok at after (componentThen number required rest) depth
+  component-level : (at next after number : ℕ) (required : Bool) (rest : Items) (depth : ℕ) → recordAt bytes at ≡ Whole (ComponentItem required number) next → Lays bytes components number (layoutOf defined number) → callsFor (layoutOf defined number) < depth → Laying-ok next after rest depth → Laying-ok at after (componentThen number required rest) depth
   component-level at next after number required rest depth e (lays-nothing s z) n r row table h =
       lay-empty (layItems depth bytes components) bytes components (lay-advances depth bytes components) at row table number required next e s
       ∙ r row table (omega (arith, count-component defined number required rest))
@@ -148,6 +177,6 @@ module _ (bytes : List ℕ) (components : ℕ → Looked) (defined : List Define
       ∙ laid-group defined after row table tag required inner rest
 
   -- a level whose direct parts have room is layable
-  pub level-layable : {at after : ℕ} {level : Items} → Reads bytes at level after → AllLay bytes components defined level → ((depth : ℕ) → 2 * items (flat defined level) < suc depth → Room defined depth level) → Layable bytes components at (flat defined level)
+  pub level-layable : {at after : ℕ} {level : Items} → Reads bytes at level after → AllLay bytes components defined level → ((depth : ℕ) → callsFor (flat defined level) < suc depth → Room defined depth level) → Layable bytes components at (flat defined level)
   level-layable {at} {after} {level} r a m depth row table n h =
       (after, lay-down bytes components at row table depth (λ z. absurd (omega arith)) ∙ lay-level r a (depth - 1) (m (depth - 1) (omega arith)) row table h)

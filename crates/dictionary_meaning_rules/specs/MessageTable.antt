@@ -1,5 +1,4 @@
--- The table of a message: its MsgType is looked up in the index, and its items are laid from the first row on. An item takes two of the
--- depth at the most, and 1,024 items pass the check.
+-- The table of a message: its MsgType is looked up in the index, and its items are laid from the first row on.
 use Prim.Native.Nat.{ℕ, _+_}
 use mathlib.Core.List.{List}
 use Rattle.dictionary_rules.specs.Index.{componentAt, messageAt}
@@ -22,10 +21,15 @@ unfoldable pub asTable : Laying → Tabling
 asTable (laying Broken table) = tabling Unprepared table
 asTable (laying (Upto after rows) table) = tabling (Rows rows) table
 
+-- laying goes down at most once for each of 1,024 items and for each of four groups that nest, which is what passes the check, below a message
+-- that holds a component only
+abbrev pub mostCalls : ℕ
+mostCalls = 1030
+
 -- a message's items stand behind the record of nine bytes that opens it
 unfoldable pub placedTable : List ℕ → List ℕ → Placed → List ℕ → Tabling
 placedTable dictionary index Nowhere table = tabling NoMessage table
-placedTable dictionary index (At place) table = asTable (layItems 2050 dictionary (componentAt index) (place + 9) 0 table)
+placedTable dictionary index (At place) table = asTable (layItems mostCalls dictionary (componentAt index) (place + 9) 0 table)
 
 -- where the record stands that opens the message of a name
 unfoldable pub placeNamed : List ℕ → MsgTypeName → Placed

@@ -6,7 +6,7 @@ use Rattle.dictionary_rules.specs.Index.{componentAt, messageAt}
 use Rattle.dictionary_rules.specs.declared.Placed.the-variants.{At, Nowhere}
 use Rattle.dictionary_meaning_rules.specs.Laying.{Laying, laying, layItems}
 use Rattle.dictionary_meaning_rules.specs.MsgType.{nameOf}
-use Rattle.dictionary_meaning_rules.specs.MessageTable.{Tabling, tabling, asTable, placedTable, placeNamed, placeOf, messageTable}
+use Rattle.dictionary_meaning_rules.specs.MessageTable.{mostCalls, Tabling, tabling, asTable, placedTable, placeNamed, placeOf, messageTable}
 use Rattle.dictionary_meaning_rules.specs.declared.Laid.the-variants.{Upto, Broken}
 use Rattle.dictionary_meaning_rules.specs.declared.MsgTypeName.the-variants.{Named, Unnamed}
 use Rattle.dictionary_meaning_rules.specs.declared.MessageTable.the-variants.{Rows, NoMessage, Unprepared}
@@ -26,6 +26,6 @@ module _ (dictionary index value table : List ℕ) where
   table-nowhere e = rw e
 
   pub table-rows : (place : ℕ) → placeOf index value ≡ At place → (after rows : ℕ) (laid : List ℕ) →
-      layItems 2050 dictionary (componentAt index) (place + 9) 0 table ≡ laying (Upto after rows) laid → messageTable dictionary index value table ≡ tabling (Rows rows) laid
+      layItems mostCalls dictionary (componentAt index) (place + 9) 0 table ≡ laying (Upto after rows) laid → messageTable dictionary index value table ≡ tabling (Rows rows) laid
   unfolding messageTable placedTable asTable
   table-rows place placed after rows laid e = rw (placed, e)

@@ -10,7 +10,7 @@ use borrow.Author.Tests.{eq-eqb, ne-eqb, eqb-true, eqb-false}
 use Rattle.field_rules.specs.Choice.{pick}
 use Rattle.dictionary_layout_rules.specs.Layout.{Layout, end, items}
 use Rattle.dictionary_layout_rules.specs.Tree.{flattened, Choice, noMessage, laidOut}
-use Rattle.dictionary_layout_rules.specs.Measures.{NoEmptyGroup}
+use Rattle.dictionary_layout_rules.specs.Measures.{NoEmptyGroup, Bounded}
 use Rattle.dictionary_rules.specs.Record.{recordAt}
 use Rattle.dictionary_rules.specs.Records.{Records, ends, bad, whole, recordsFrom}
 use Rattle.dictionary_rules.specs.RecordsLaws.{record-lies}
@@ -30,6 +30,7 @@ use Rattle.dictionary_rules.specs.declared.Open.{Open}
 use Rattle.dictionary_rules.specs.declared.State.the-variants.{TopLevel, Inside}
 use Rattle.dictionary_rules.specs.declared.Note.the-variants.{Unchanged, ClosesComponent, NamesMessage}
 use Rattle.dictionary_meaning_rules.specs.Laying.{laying, layItems}
+use Rattle.dictionary_meaning_rules.specs.MessageTable.{mostCalls}
 use Rattle.dictionary_meaning_rules.specs.LayingLaws.{lay-down}
 use Rattle.dictionary_meaning_rules.specs.Meaning.{Items, innermost, levelsOf, Declaration, knownTag, component, message, declarationsOf, Defined, nodesOf, expanded, definedBy, definedAfter}
 use Rattle.dictionary_meaning_rules.specs.Written.{written}
@@ -55,7 +56,7 @@ layoutNumbered defined (d ∷ declarations) wanted = layoutIn defined d wanted (
 -- a message that opens at a place is laid as a layout, from the first row on, whatever the table holds
 pub record MessageAs (bytes : List ℕ) (components : ℕ → Looked) (place : ℕ) (layout : Layout) : Type 0 where
   pub limit : items layout ≤ 1024
-  pub laid : (table : List ℕ) → (after : ℕ) × (layItems 2050 bytes components (place + 9) 0 table ≡ laying (Upto after (items layout)) (written 0 layout table))
+  pub laid : (table : List ℕ) → (after : ℕ) × (layItems mostCalls bytes components (place + 9) 0 table ≡ laying (Upto after (items layout)) (written 0 layout table))
 
 -- what declarations mean, after those that made the names so far
 pub record Meant (bytes : List ℕ) (components : ℕ → Looked) (final names : Names) (defined : List Defined) (declarations : List Declaration) : Type 0 where
@@ -112,16 +113,22 @@ module _ (bytes : List ℕ) (components : ℕ → Looked) (final : Names) (sure 
 
   -- a message that opens at a place and closes
   message-known : (names : Names) (defined : List Defined) (place at : ℕ) (rs : Records) → Known bytes components names defined →
-      NoEmptyGroup (flat defined (innermost (levelsOf rs))) → at ≡ place + 9 → (c : Closing bytes final names at rs (opens OfMessage place)) →
+      Bounded (flat defined (innermost (levelsOf rs))) → at ≡ place + 9 → (c : Closing bytes final names at rs (opens OfMessage place)) →
       MessageAs bytes components place (flat defined (innermost (levelsOf rs)))
-  message-known names defined place at rs known filled next c =
+  message-known names defined place at rs known bounded next c =
       let o = one-level-of bytes final names at rs OfMessage place c in
-      let count : c .last .items ≡ items (flat defined (o .level)) = o .count ∙ count-agrees (lookIn names) defined (agrees-known bytes components names defined known (o .resolved)) in
-      let limit : items (flat defined (o .level)) ≤ 1024 = omega (arith, o .limit) in
+      let b : Bounded (flat defined (o .level)) = rw (o .inner) at bounded in
+      let all = lay-known bytes components names defined known (o .resolved) (b .filled) in
+      let room = room-any defined (mostCalls - 1) (o .level) (omega (arith, b .few, b .shallow)) in
       let reads : Reads bytes (place + 9) (o .level) (c .after) = subst (λ (x : ℕ). Reads bytes x (o .level) (c .after)) next (o .reads) in
       rw (o .inner) (record {
-        limit = limit;
-        laid = λ table. (c .after, lay-down bytes components (place + 9) 0 table 2050 (λ z. absurd (omega arith)) ∙ lay-level bytes components defined reads (lay-known bytes components names defined known (o .resolved) (rw (o .inner) at filled)) 2049 (room-any defined 2049 (o .level) (omega arith)) 0 table (omega arith) ∙ ap (λ (n : ℕ). laying (Upto (c .after) n) (written 0 (flat defined (o .level)) table)) (omega arith));
+        limit = b .few;
+        laid = λ table. (
+          c .after,
+          lay-down bytes components (place + 9) 0 table mostCalls (λ z. absurd (omega arith))
+              ∙ lay-level bytes components defined reads all (mostCalls - 1) room 0 table (omega (arith, b .few))
+              ∙ ap (λ (n : ℕ). laying (Upto (c .after) n) (written 0 (flat defined (o .level)) table)) (omega arith),
+        );
       })
 
   abbrev Here : Names → List Defined → Records → Type 0
@@ -230,7 +237,7 @@ module _ (bytes : List ℕ) (components : ℕ → Looked) (final : Names) (sure 
       let level : Items = innermost (levelsOf rest) in
       let b = kept-message defined (declarationsOf rest) msgType level bounds in
       rw (c .declared) (message-meant names later defined place msgType level (declarationsOf (c .rest)) (note-messages named-here (c .last) (c .last .owner)) (kept bytes final (c .rest) (c .after) later (c .there) (c .passes))
-      (message-known named-here defined place (n .next) rest known-here (b .0 .filled) (omega (arith, lies .behind, n .here)) c)
+      (message-known named-here defined place (n .next) rest known-here (b .0) (omega (arith, lies .behind, n .here)) c)
       (again (c .rest) (c .after) later defined (omega (arith, c .fewer)) (c .there) (c .passes) (known-as named-here later defined (note-components named-here (c .last) (unfold opens in c .owner)) known-here) (rw (c .declared) at b .1)))
 
   meant-within : (fuel : ℕ) (rs : Records) (at : ℕ) (names : Names) (defined : List Defined) → sizeOf rs < fuel → recordsFrom bytes at ≡ rs →

@@ -43,7 +43,7 @@ placed-table-requires c κs = let s = c .before .before .before .before .before 
 -- the rows that were made, and that they hold a layout
 made-here : (c : tie.After-known-told) → let p = c .before .before .before .before .before in let a = p .before .before .before .before .before .before .args in
     tabling (Rows (c .before .count .given .0 .0)) (p .placed-table .last .1 .1 .1 .0) ≡ placedTable (a .dictionary .now) (a .index .now)
-        (At (a .opening)) (replicate 4096 0)
+    (At (a .opening)) (replicate 4096 0)
 made-here c = made-as (c .before .before .before .before .before .placed-table .ensures) (c .before .count .given .1)
 
 holds : (c : tie.After-known-told) → LaidAs (c .before .before .before .before .before .placed-table .last .1 .1 .1 .0) (c .before .count .given .0 .0)

@@ -48,15 +48,24 @@ lay-items-below t =
 
 -- what the calls ask and give
 abbrev calls : ℕ → lay-items-lts.Claims
-calls t =
-    (record-at-reads.Asked, record-at-reads.Learnt, put-row-reads.Asked, put-row-reads.Learnt, lay-items-below t, lay-items.Post,
-        stands-at-reads.Asked, stands-at-reads.Learnt, pass-reads.Asked, pass-reads.Learnt)
+calls t = (
+  record-at-reads.Asked,
+  record-at-reads.Learnt,
+  put-row-reads.Asked,
+  put-row-reads.Learnt,
+  lay-items-below t,
+  lay-items.Post,
+  stands-at-reads.Asked,
+  stands-at-reads.Learnt,
+  pass-reads.Asked,
+  pass-reads.Learnt,
+)
 
 abbrev lay-items-Inv-loop : lay-items-lts.InvT-loop
 lay-items-Inv-loop bytes index table₀ leaps₀ from first depth at₀ row₀ table leaps at row =
     (row ≤ 1024) × (length table ≡ length table₀) × (length leaps ≡ length leaps₀) × Leaps bytes (componentAt index) leaps
     × (layItems depth bytes (componentAt index) from first table₀ ≡
-        itemsFrom (layItems (depth - 1) bytes (componentAt index)) bytes (componentAt index) at row table)
+    itemsFrom (layItems (depth - 1) bytes (componentAt index)) bytes (componentAt index) at row table)
 
 abbrev lay-items-μ-loop : lay-items-lts.MeasureT-loop
 lay-items-μ-loop bytes index table₀ leaps₀ from first depth at₀ row₀ table leaps at row = length bytes - at
@@ -99,7 +108,7 @@ Field t = lay-items-lts.After-known-told2 (calls t) (lay-items-at t) lay-items.P
 
 field-here : (t : ℕ) (c : Field t) → let k = c .before .before .before in let h = head t k in
     recordAt (start t h .args .bytes .now) (h .loop .at) ≡ Whole (FieldItem (c .before .record2 .given .0 .0) (c .before .record2 .given .0 .1 .0))
-        (k .before .«record» .given .0 .1 .0)
+    (k .before .«record» .given .0 .1 .0)
 field-here t c = read-as (read-here t (c .before .before .before)) (c .before .record2 .given .1)
 
 lay-items-returns-3 : (t : ℕ) → lay-items-lts.Need-returns-3 (calls t) (lay-items-at t) lay-items.Post lay-items-Inv-loop lay-items-μ-loop
@@ -114,9 +123,14 @@ lay-items-loop-again : (t : ℕ) → lay-items-lts.Need-loop-again (calls t) (la
 lay-items-loop-again t c =
     let p = c .before .before in
     let e = p .before .before in
-    let i = head t (e .before .before .before .before) .loop .inv in
-    (omega (arith, e .if2 .left), p .put-row .kept .0 ∙ i .1, i .2, i .3, i .4
-        ∙ lay-field _ _ _ (lay-advances _ _ _) _ _ _ _ _ _ (field-here t (e .before)) (e .if2 .left) ∙ rw (p .put-row .ensures))
+    let i = head t (e .before .before .before .before) .loop .inv in (
+      omega (arith, e .if2 .left),
+      p .put-row .kept .0 ∙ i .1,
+      i .2,
+      i .3,
+      i .4
+          ∙ lay-field _ _ _ (lay-advances _ _ _) _ _ _ _ _ _ (field-here t (e .before)) (e .if2 .left) ∙ rw (p .put-row .ensures),
+    )
 
 -- a group that opens
 abbrev Opens : ℕ → Type 0
@@ -124,7 +138,7 @@ Opens t = lay-items-lts.After-known-told3 (calls t) (lay-items-at t) lay-items.P
 
 group-here : (t : ℕ) (c : Opens t) → let k = c .before .before .before in let h = head t k in
     recordAt (start t h .args .bytes .now) (h .loop .at) ≡ Whole (OpensGroup (c .before .record3 .given .0 .0) (c .before .record3 .given .0 .1 .0))
-        (k .before .«record» .given .0 .1 .0)
+    (k .before .«record» .given .0 .1 .0)
 group-here t c = read-as (read-here t (c .before .before .before)) (c .before .record3 .given .1)
 
 lay-items-returns-4 : (t : ℕ) → lay-items-lts.Need-returns-4 (calls t) (lay-items-at t) lay-items.Post lay-items-Inv-loop lay-items-μ-loop
@@ -146,15 +160,17 @@ opening t c = c .before .before .before .before
 
 group-within : (t : ℕ) (c : Within t) → let k = opening t c .before .before .before in let h = head t k in let a = start t h .args in
     laying (c .lay-items .result) (c .lay-items .last .1 .1 .0) ≡ layItems (a .depth - 1) (a .bytes .now) (componentAt (a .index .now))
-        (k .before .«record» .given .0 .1 .0) (h .loop .row + 1) (h .loop .table)
+    (k .before .«record» .given .0 .1 .0) (h .loop .row + 1) (h .loop .table)
 group-within t c = c .lay-items .ensures .0
 
 lay-items-returns-5 : (t : ℕ) → lay-items-lts.Need-returns-5 (calls t) (lay-items-at t) lay-items.Post lay-items-Inv-loop lay-items-μ-loop
 lay-items-returns-5 t c =
     let l = c .before .before .before .before .before .before in
-    let i = head t (opening t l .before .before .before) .loop .inv in
-    (sym (i .4 ∙ lay-group-broken _ _ _ (lay-advances _ _ _) _ _ _ _ _ _ _ (group-here t (opening t l)) (l .before .before .before .if3 .left)
-        (laid-as (group-within t l) (c .enum-told .given .1))), l .lay-items .ensures .1)
+    let i = head t (opening t l .before .before .before) .loop .inv in (
+      sym (i .4 ∙ lay-group-broken _ _ _ (lay-advances _ _ _) _ _ _ _ _ _ _ (group-here t (opening t l)) (l .before .before .before .if3 .left)
+          (laid-as (group-within t l) (c .enum-told .given .1))),
+      l .lay-items .ensures .1,
+    )
 
 -- a group whose entries were laid
 abbrev Filled : ℕ → Type 0
@@ -165,7 +181,7 @@ filling t c = c .before .before .before .before .before .before .before
 
 group-laid : (t : ℕ) (c : Filled t) → let l = filling t c in let k = opening t l .before .before .before in let h = head t k in let a = start t h .args in
     layItems (a .depth - 1) (a .bytes .now) (componentAt (a .index .now)) (k .before .«record» .given .0 .1 .0) (h .loop .row + 1) (h .loop .table) ≡
-        laying (Upto (c .before .after .given .0 .0) (c .before .after .given .0 .1 .0)) (l .lay-items .last .1 .1 .0)
+    laying (Upto (c .before .after .given .0 .0) (c .before .after .given .0 .1 .0)) (l .lay-items .last .1 .1 .0)
 group-laid t c = laid-as (group-within t (filling t c)) (c .before .after .given .1)
 
 group-reached : (t : ℕ) (c : Filled t) → let k = opening t (filling t c) .before .before .before in let h = head t k in
@@ -175,9 +191,11 @@ group-reached t c = reached (lay-advances _ _ _ _ _ _ (omega (arith, filling t c
 lay-items-returns-6 : (t : ℕ) → lay-items-lts.Need-returns-6 (calls t) (lay-items-at t) lay-items.Post lay-items-Inv-loop lay-items-μ-loop
 lay-items-returns-6 t c =
     let l = filling t (c .before) in
-    let i = head t (opening t l .before .before .before) .loop .inv in
-    (sym (i .4 ∙ lay-group-empty _ _ _ (lay-advances _ _ _) _ _ _ _ _ _ _ _ _ (group-here t (opening t l)) (l .before .before .before .if3 .left)
-        (group-laid t (c .before)) (c .if4 .taken)), l .lay-items .ensures .1)
+    let i = head t (opening t l .before .before .before) .loop .inv in (
+      sym (i .4 ∙ lay-group-empty _ _ _ (lay-advances _ _ _) _ _ _ _ _ _ _ _ _ (group-here t (opening t l)) (l .before .before .before .if3 .left)
+          (group-laid t (c .before)) (c .if4 .taken)),
+      l .lay-items .ensures .1,
+    )
 
 lay-items-put-row-requires-2 : (t : ℕ) → lay-items-lts.Need-put-row-requires-2 (calls t) (lay-items-at t) lay-items.Post lay-items-Inv-loop lay-items-μ-loop
 lay-items-put-row-requires-2 t c κs =
@@ -212,7 +230,7 @@ Names t = lay-items-lts.After-known-told5 (calls t) (lay-items-at t) lay-items.P
 
 component-here : (t : ℕ) (c : Names t) → let k = c .before .before .before in let h = head t k in
     (required : Bool) × (recordAt (start t h .args .bytes .now) (h .loop .at) ≡ Whole (ComponentItem required (c .before .record4 .given .0 .1 .0))
-        (k .before .«record» .given .0 .1 .0))
+    (k .before .«record» .given .0 .1 .0))
 component-here t c = (_, read-as (read-here t (c .before .before .before)) (c .before .record4 .given .1))
 
 stands-here : (t : ℕ) (c : lay-items-lts.After-stands-at (calls t) (lay-items-at t) lay-items.Post lay-items-Inv-loop lay-items-μ-loop)
@@ -234,20 +252,22 @@ naming t c = c .before .before .before .before .before .before .before
 
 component-within : (t : ℕ) (c : Parts t) → let h = head t (naming t c .before .before .before) in let a = start t h .args in
     laying (c .lay-items2 .result) (c .lay-items2 .last .1 .1 .0) ≡ layItems (a .depth - 1) (a .bytes .now) (componentAt (a .index .now))
-        (c .before .before .before .before .place .given .0 .0) (h .loop .row) (h .loop .table)
+    (c .before .before .before .before .place .given .0 .0) (h .loop .row) (h .loop .table)
 component-within t c = c .lay-items2 .ensures .0
 
 component-at : (t : ℕ) (c : Parts t) → let n = naming t c in
     standsAt (componentAt (start t (head t (n .before .before .before)) .args .index .now)) (n .before .record4 .given .0 .1 .0) ≡
-        ItemsAt (c .before .before .before .before .place .given .0 .0)
+    ItemsAt (c .before .before .before .before .place .given .0 .0)
 component-at t c = sym (stands-here t (c .before .before .before .before .before .before)) ∙ c .before .before .before .before .place .given .1
 
 lay-items-returns-7 : (t : ℕ) → lay-items-lts.Need-returns-7 (calls t) (lay-items-at t) lay-items.Post lay-items-Inv-loop lay-items-μ-loop
 lay-items-returns-7 t c =
     let l = c .before .before .before .before .before .before in
-    let i = head t (naming t l .before .before .before) .loop .inv in
-    (sym (i .4 ∙ lay-component-broken _ _ _ (lay-advances _ _ _) _ _ _ _ _ _ (component-here t (naming t l) .1) _ _ (component-at t l)
-        (laid-as (component-within t l) (c .enum-told2 .given .1))), l .lay-items2 .ensures .1)
+    let i = head t (naming t l .before .before .before) .loop .inv in (
+      sym (i .4 ∙ lay-component-broken _ _ _ (lay-advances _ _ _) _ _ _ _ _ _ (component-here t (naming t l) .1) _ _ (component-at t l)
+          (laid-as (component-within t l) (c .enum-told2 .given .1))),
+      l .lay-items2 .ensures .1,
+    )
 
 -- a component whose items were laid
 abbrev Parted : ℕ → Type 0
@@ -258,15 +278,17 @@ parting t c = c .before .before .before .before .before .before .before
 
 component-laid : (t : ℕ) (c : Parted t) → let l = parting t c in let h = head t (naming t l .before .before .before) in let a = start t h .args in
     (after : ℕ) × (layItems (a .depth - 1) (a .bytes .now) (componentAt (a .index .now)) (l .before .before .before .before .place .given .0 .0)
-        (h .loop .row) (h .loop .table) ≡ laying (Upto after (c .before .end .given .0 .1 .0)) (l .lay-items2 .last .1 .1 .0))
+    (h .loop .row) (h .loop .table) ≡ laying (Upto after (c .before .end .given .0 .1 .0)) (l .lay-items2 .last .1 .1 .0))
 component-laid t c = (_, laid-as (component-within t (parting t c)) (c .before .end .given .1))
 
 lay-items-returns-8 : (t : ℕ) → lay-items-lts.Need-returns-8 (calls t) (lay-items-at t) lay-items.Post lay-items-Inv-loop lay-items-μ-loop
 lay-items-returns-8 t c =
     let l = parting t (c .before) in
-    let i = head t (naming t l .before .before .before) .loop .inv in
-    (sym (i .4 ∙ lay-component-still _ _ _ (lay-advances _ _ _) _ _ _ _ _ _ (component-here t (naming t l) .1) _ _ _ _ (component-at t l)
-        (component-laid t (c .before) .1) (c .if5 .taken)), l .lay-items2 .ensures .1)
+    let i = head t (naming t l .before .before .before) .loop .inv in (
+      sym (i .4 ∙ lay-component-still _ _ _ (lay-advances _ _ _) _ _ _ _ _ _ (component-here t (naming t l) .1) _ _ _ _ (component-at t l)
+          (component-laid t (c .before) .1) (c .if5 .taken)),
+      l .lay-items2 .ensures .1,
+    )
 
 lay-items-loop-less-3 : (t : ℕ) → lay-items-lts.Need-loop-less-3 (calls t) (lay-items-at t) lay-items.Post lay-items-Inv-loop lay-items-μ-loop
 lay-items-loop-less-3 t c = omega (arith, read-rises t (naming t (parting t (c .before)) .before .before .before))

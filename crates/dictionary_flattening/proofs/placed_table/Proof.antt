@@ -6,7 +6,7 @@ use native.Mathlib.Omega.{arith}
 use borrow.Author.Needs.{needs}
 use Rattle.dictionary_rules.specs.Index.{componentAt}
 use Rattle.dictionary_meaning_rules.specs.Laying.{laying, layItems}
-use Rattle.dictionary_meaning_rules.specs.MessageTable.{asTable, placedTable}
+use Rattle.dictionary_meaning_rules.specs.MessageTable.{mostCalls, asTable, placedTable}
 use Rattle.dictionary_flattening.specs.Leaps.{leaps-none, leads-items}
 use Rattle.dictionary_flattening.proofs.Arms.{laid-as}
 use Rattle.dictionary_flattening.proofs.placed_table.Statement.{statement}
@@ -21,14 +21,14 @@ lay-items-requires c κs =
     (p .before .before .before .before .before .before .before .pre .0, omega arith, omega arith, p .pass .ensures .1)
 
 laid-here : (c : tie.After-lay-items) → let a = c .before .before .before .before .before .before .before .before .before .before .before .args in
-    laying (c .lay-items .result) (c .lay-items .last .1 .1 .0) ≡ layItems 2050 (a .dictionary .now) (componentAt (a .index .now))
-        (a .opening + 9) 0 (a .table .now)
+    laying (c .lay-items .result) (c .lay-items .last .1 .1 .0) ≡ layItems mostCalls (a .dictionary .now) (componentAt (a .index .now))
+    (a .opening + 9) 0 (a .table .now)
 laid-here c =
     let p = c .before .before .before .before in
     let a = p .before .before .before .before .before .before .before .args in
     let behind : p .before .wide .result + 9 ≡ a .opening + 9 = rw (p .before .wide .ensures) in
-    c .lay-items .ensures .0 ∙ sym (leads-items (p .pass .ensures .0) 2050 0 (a .table .now) (λ z. absurd (omega arith)))
-    ∙ ap (λ (n : ℕ). layItems 2050 (a .dictionary .now) (componentAt (a .index .now)) n 0 (a .table .now)) behind
+    c .lay-items .ensures .0 ∙ sym (leads-items (p .pass .ensures .0) mostCalls 0 (a .table .now) (λ z. absurd (omega arith)))
+    ∙ ap (λ (n : ℕ). layItems mostCalls (a .dictionary .now) (componentAt (a .index .now)) n 0 (a .table .now)) behind
 
 returns : tie.Need-returns
 unfolding placedTable asTable

@@ -46,7 +46,7 @@ keep-reached-requires c κs = c .before .before .before .before .loop .inv .2 .s
 -- what was read up to here is kept
 reached : (c : tie.After-keep-reached Inv-loop μ-loop) → let l = c .before .before .before .before .before in let a = l .before .before .before .before .args in
     Leaps (a .bytes .now) (componentAt (a .index .now)) (c .keep-reached .last .0) × Leads (a .bytes .now) (componentAt (a .index .now))
-        (c .keep-reached .result) (l .loop .at)
+    (c .keep-reached .result) (l .loop .at)
 reached c =
     let i = c .before .before .before .before .before .loop .inv in
     rw (c .keep-reached .ensures .0, c .keep-reached .ensures .1) (leaps-reached (i .2) (i .1))

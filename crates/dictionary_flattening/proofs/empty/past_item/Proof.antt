@@ -13,7 +13,7 @@ returns-3 c =
     let k = n .before .before in
     let r = k .before .before in
     leads-past (read-as (sym (r .before .record-at .ensures) ∙ k .before .«record» .given .1) (n .record2 .given .1))
-        (sym (s .stands-at .ensures) ∙ c .enum-told .given .1)
+    (sym (s .stands-at .ensures) ∙ c .enum-told .given .1)
 
 pub past-item-spec : {M : Type 1} → statement M
 past-item-spec =
