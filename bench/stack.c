@@ -43,23 +43,35 @@ static void prepare(void) {
     for (int i = 0; i < 1024; i++) records[i] = (struct record){i ? 2 : 1, 0, 0, i ? 100 + i : 8, 0, 1};
 }
 
-// a dictionary whose header, trailer and message D each hold a field; deep: 1,022 components more, each holding a field and the one before, under D
-static struct dictionary flat, deep, roomy;
+// a dictionary whose header, trailer and message D each hold a field; deep: 1,022 components more, each holding a field and the one before, under D;
+// forged: 2,047 more, each holding the one before alone
+static struct dictionary flat, deep, roomy, forged;
 
-static void component(struct dictionary *d, uint16_t number) {
+static void component(struct dictionary *d, uint16_t number, int alone) {
     opens(d, number);
-    field(d, number > 1 ? 9 : number ? 10 : 8);
+    if (number < 3 || !alone) field(d, number > 1 ? 9 : number ? 10 : 8);
     if (number > 2) item(d, number - 1);
     closes(d);
 }
 
-static void make(struct dictionary *d, uint16_t components, size_t lent) {
+static const size_t body_lengths[8] = {0, 4, 2, 8, 5, 3, 5, 0};
+
+static void make(struct dictionary *d, uint16_t components, int alone, size_t lent) {
     for (uint8_t tag = 8; tag < 11; tag++) known(d, tag);
-    for (uint16_t i = 0; i < components; i++) component(d, i);
+    for (uint16_t i = 0; i < components; i++) component(d, i, alone);
     opens_order(d);
     item(d, components - 1);
     closes(d);
     d->lent = lent;
+}
+
+// in the memory of one that was prepared each component is made to stand for itself, so that laying goes down as often as it may
+static void forge(struct dictionary *d) {
+    for (size_t at = 0; at < d->length; at += 1 + body_lengths[d->bytes[at] & 7]) {
+        if (d->bytes[at] != 2) continue;
+        size_t number = at + 4;
+        d->memory[3 + 6144 + number + number / 2 + 5] = d->bytes[at + 1] + 256 * d->bytes[at + 2];
+    }
 }
 
 // a dictionary from a file, in the least memory and with tables, and a message of one of its types
@@ -89,6 +101,7 @@ static uint32_t prepare_deep(void) { return set_up(&deep); }
 static uint32_t over_roomy(void) { return built_over(&roomy); }
 static uint32_t over_flat(void) { return built_over(&flat); }
 static uint32_t over_deep(void) { return built_over(&deep); }
+static uint32_t over_forged(void) { return built_over(&forged); }
 static uint32_t store(void) { return gateway_store(MESSAGE, 2, 5001, x, 1, out); }
 static uint32_t store_count(void) { return gateway_store(MESSAGE, 2, 79, x, 1, out); }
 static uint32_t take_out(void) { return gateway_remove(MESSAGE, 2, 5001, out); }
@@ -120,7 +133,6 @@ static size_t used(uint32_t (*work)(void)) {
 
 // the dictionary of a file: what its messages take at the most
 static int read_dictionary(const char *path, size_t thread) {
-    static const size_t body_lengths[8] = {0, 4, 2, 8, 5, 3, 5, 0};
     FILE *file = fopen(path, "rb");
     if (!file) return perror(path), 1;
     real.length = tabled.length = fread(real.bytes, 1, BYTES, file);
@@ -150,11 +162,15 @@ int main(int count, char **words_given) {
         {"hang_last", hang_last}, {"add_entry", add_entry}, {"store_last", store_last}, {"take_over", take_over},
         {"check", check_deep}, {"build", build_flat}, {"build, deep", build_deep}, {"prepare", prepare_flat}, {"prepare, tables", prepare_roomy},
         {"prepare, deep", prepare_deep}, {"build over tables", over_roomy}, {"build over the least", over_flat}, {"the same, deep", over_deep},
+        {"the same, forged", over_forged},
     };
     prepare();
-    make(&flat, 3, gateway_prepared_words());
-    make(&roomy, 3, ROOM);
-    make(&deep, 1024, gateway_prepared_words());
+    make(&flat, 3, 0, gateway_prepared_words());
+    make(&roomy, 3, 0, ROOM);
+    make(&deep, 1024, 0, gateway_prepared_words());
+    make(&forged, 2049, 1, gateway_prepared_words());
+    set_up(&forged);
+    forge(&forged);
     size_t thread = used(none);
     for (size_t i = 0; i < sizeof calls / sizeof *calls; i++) {
         size_t bytes = used(calls[i].work);

@@ -24,6 +24,10 @@ const FRONT: usize = 3;
 const HEADS: usize = 6_144;
 const LAST: usize = 60_000;
 
+/// The number of the empty component, and how many of its items stand in a row.
+const EMPTY: u16 = 2;
+const ROW: usize = 14_000;
+
 /// How deep components double that claim items and add none: work that doubled with them would take over a second.
 const DOUBLED: u16 = 26;
 
@@ -35,13 +39,14 @@ pub fn drawn(reading: &Reading) -> Option<Random> {
 }
 
 /// Memory with the stamp and a length that fits: of any words and bytes; of words that are places in the dictionary; of components that claim what
-/// they don't hold; of entries in one chain; or prepared and then changed.
+/// they don't hold; of entries in one chain; of rows of empty components; or prepared and then changed.
 pub fn stamped(random: &mut Random, dictionary: &[u8], reading: &Reading, kept: Option<&[Prepared; SIZES]>) -> Prepared {
     let mut made = match (random.below(16), kept) {
         (0, _) => any(random),
         (1, _) => doubling(reading),
         (2, _) => chained(dictionary),
-        (3, _) | (_, None) => Prepared { memory: words(random, dictionary.len() + 1), copy: dictionary.to_vec() },
+        (3, _) => rows(reading),
+        (4, _) | (_, None) => Prepared { memory: words(random, dictionary.len() + 1), copy: dictionary.to_vec() },
         (_, Some(kept)) => {
             let made = random.of(kept);
             changed(random, made)
@@ -160,28 +165,55 @@ fn field(tag: u32) -> Vec<u8> {
     [&[4], &tag.to_le_bytes()[..], &[0]].concat()
 }
 
-/// Memory of a sound dictionary beside a copy in which each component holds the one before twice and none has a field: what the memory says of their
-/// items isn't so. The message that is read has such a layout.
-fn doubling(reading: &Reading) -> Prepared {
+/// The MsgType that is read, as a record of a message holds it.
+fn asked(reading: &Reading) -> Vec<u8> {
     let mut values = reading.message.split(|byte| *byte == reading.separator).filter_map(|field| field.strip_prefix(b"35="));
     let mut name = values.next().filter(|name| (1..=8).contains(&name.len()) && !name.contains(&0)).unwrap_or(b"0").to_vec();
     name.resize(8, 0);
-    let written = |sound: bool| {
-        let last = |tag| if sound { field(tag) } else { vec![7; 6] };
-        let mut bytes: Vec<u8> = [8u32, 9, 10, 35].iter().flat_map(|tag| [&[1], &tag.to_le_bytes()[..]].concat()).collect();
-        let mut component = |number: u16, items: &[Vec<u8>]| bytes.extend([&[2], &number.to_le_bytes()[..], &items.concat(), &[7]].concat());
-        component(0, &[field(8), field(9), field(35)]);
-        component(1, &[field(10)]);
-        component(2, &[]);
-        component(3, &[last(8)]);
-        (4..4 + DOUBLED).for_each(|number| component(number, &[item(number - 1), item(if sound { 2 } else { number - 1 }), last(8)]));
-        bytes.extend([&[3], &name[..], &item(3 + DOUBLED), &[7]].concat());
-        bytes
+    name
+}
+
+/// A dictionary with header, trailer, an empty component and these behind it, the last of which the message that is read holds.
+fn written(reading: &Reading, components: &[Vec<Vec<u8>>]) -> Vec<u8> {
+    let mut bytes: Vec<u8> = [8u32, 9, 10, 35].iter().flat_map(|tag| [&[1], &tag.to_le_bytes()[..]].concat()).collect();
+    let first = [vec![field(8), field(9), field(35)], vec![field(10)], vec![]];
+    for (number, items) in first.iter().chain(components).enumerate() {
+        bytes.extend([&[2], &(number as u16).to_le_bytes()[..], &items.concat(), &[7]].concat());
+    }
+    bytes.extend([&[3], &asked(reading)[..], &item(EMPTY + components.len() as u16), &[7]].concat());
+    bytes
+}
+
+/// Memory of a sound dictionary beside a copy in which each component holds the one before twice and none has a field: what the memory says of their
+/// items isn't so.
+fn doubling(reading: &Reading) -> Prepared {
+    let components = |sound: bool| {
+        let last = if sound { field(8) } else { vec![7; 6] };
+        let above = (1..=DOUBLED).map(|level| vec![item(EMPTY + level), item(if sound { EMPTY } else { EMPTY + level }), last.clone()]);
+        std::iter::once(vec![last.clone()]).chain(above).collect::<Vec<_>>()
     };
-    let sound = written(true);
+    let sound = written(reading, &components(true));
     let mut made = Prepared::room(sound.len(), 0);
     made.prepare(&sound);
-    Prepared { copy: written(false), ..made }
+    Prepared { copy: written(reading, &components(false)), ..made }
+}
+
+/// Memory of a sound dictionary in which a component of so many empty ones and a field is used 1,024 times, and the look-up of the empty one is led
+/// astray into a chain of other keys: to look each of them up each time would take seconds.
+fn rows(reading: &Reading) -> Prepared {
+    let row = [vec![item(EMPTY); ROW], vec![field(8)]].concat();
+    let above = (1..=10).map(|level| vec![item(EMPTY + level); 2]);
+    let dictionary = written(reading, &std::iter::once(row).chain(above).collect::<Vec<_>>());
+    let mut made = Prepared::room(dictionary.len(), 0);
+    made.prepare(&dictionary);
+    // Numbers in the row, where no entry stands.
+    let chain = 50_000..50_240;
+    made.memory[FRONT + 2_048 + usize::from(EMPTY)] = chain.start as u16;
+    for number in chain.step_by(4) {
+        let entry = FRONT + HEADS + number + number / 2;
+        made.memory[entry..entry + 3].copy_from_slice(&[number as u16 + 4, number as u16 + 4, u16::MAX]);
+    }
+    made
 }
 
 /// Memory whose heads all lead into one chain of as many entries as there can be, none of which is sought: a look-up that followed it would take 15,000

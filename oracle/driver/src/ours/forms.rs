@@ -27,7 +27,7 @@ const FEW_TABLES: usize = 3_000;
 const ONE_OF: usize = 16;
 
 /// A build over memory of any content takes no longer.
-const LONGEST: Duration = Duration::from_secs(1);
+const LONGEST: Duration = Duration::from_millis(100);
 
 /// What builds over a dictionary that is prepared in memory of every size are held against.
 const OVER: [&str; SIZES] = [
