@@ -43,15 +43,23 @@ fn stands_at(index: &[u16], number: u16) -> Expansion
 }
 
 // One row of the table: the low and the high half of the tag, the marks, and the row where what belongs to it ends.
-fn put_row(table: &mut [u16], row: usize, tag: u32, required: bool, is_group: bool, link: usize)
-    requires { ⌜ (4096 ≤ length (now table)) × (row < 1024) × (link ≤ 1024) ⌝ }
+fn put_row(
+    table: &mut [u16; 4096],
+    row: usize,
+    tag: u32,
+    required: bool,
+    is_group: bool,
+    link: usize,
+)
+    requires { ⌜ (row < 1024) × (link ≤ 1024) ⌝ }
     ensures { λ _. ⌜ now (table .exit) ≡ putRow (now (table .entry)) row tag required «is_group» link ⌝ }
 {
+    let words = &mut table[..];
     let at = 4 * row;
-    table[at] = (tag % 65536) as u16;
-    table[at + 1] = (tag / 65536) as u16;
-    table[at + 2] = required as u16 + 2 * is_group as u16;
-    table[at + 3] = link as u16;
+    words[at] = (tag % 65536) as u16;
+    words[at + 1] = (tag / 65536) as u16;
+    words[at + 2] = required as u16 + 2 * is_group as u16;
+    words[at + 3] = link as u16;
 }
 
 // The items from a place on up to their close. A group's entries and a component's items are laid by the same function, the open
@@ -61,13 +69,13 @@ fn put_row(table: &mut [u16], row: usize, tag: u32, required: bool, is_group: bo
 fn lay_items(
     bytes: &[u8],
     index: &[u16],
-    table: &mut [u16],
+    table: &mut [u16; 4096],
     leaps: &mut [u16],
     from: usize,
     first: usize,
     depth: usize,
 ) -> Laid
-    requires { ⌜ (length (now index) ≡ indexWords) × (4096 ≤ length (now table)) × (first ≤ 1024) × Leaps (now bytes) (componentAt (now index)) (now leaps) ⌝ }
+    requires { ⌜ (length (now index) ≡ indexWords) × (first ≤ 1024) × Leaps (now bytes) (componentAt (now index)) (now leaps) ⌝ }
     ensures { λ r. ⌜ laying r (now (table .exit)) ≡ layItems depth (now (bytes .entry)) (componentAt (now (index .entry))) from first (now (table .entry)) ⌝ }
     ensures { λ _. ⌜ Leaps (now (bytes .entry)) (componentAt (now (index .entry))) (now (leaps .exit)) ⌝ }
 {
@@ -198,8 +206,6 @@ pub fn placed_table(
     requires { ⌜ (length (now index) ≡ indexWords) × (now leaps ≡ replicate leapWords 0) ⌝ }
     ensures { λ r. ⌜ tabling r (now (table .exit)) ≡ placedTable (now (dictionary .entry)) (now (index .entry)) (At opening) (now (table .entry)) ⌝ }
 {
-    // Only where the array is made a slice does the proof learn its length.
-    let rows = &mut table[..];
     // Called here too, it stays a function by itself, and its locals out of the recursion's frames.
     let items = empty::pass(
         dictionary,
@@ -207,7 +213,7 @@ pub fn placed_table(
         leaps,
         dictionary_chains::wide(opening) as usize + 9,
     );
-    let Laid::Upto(_, count) = lay_items(dictionary, index, rows, leaps, items, 0, MOST_CALLS)
+    let Laid::Upto(_, count) = lay_items(dictionary, index, table, leaps, items, 0, MOST_CALLS)
     else {
         return MessageTable::Unprepared;
     };

@@ -63,7 +63,7 @@ calls t = (
 
 abbrev lay-items-Inv-loop : lay-items-lts.InvT-loop
 lay-items-Inv-loop bytes index table₀ leaps₀ from first depth at₀ row₀ table leaps at row =
-    (row ≤ 1024) × (length table ≡ length table₀) × (length leaps ≡ length leaps₀) × Leaps bytes (componentAt index) leaps
+    (row ≤ 1024) × (length leaps ≡ length leaps₀) × Leaps bytes (componentAt index) leaps
     × (layItems depth bytes (componentAt index) from first table₀ ≡
     itemsFrom (layItems (depth - 1) bytes (componentAt index)) bytes (componentAt index) at row table)
 
@@ -71,15 +71,15 @@ abbrev lay-items-μ-loop : lay-items-lts.MeasureT-loop
 lay-items-μ-loop bytes index table₀ leaps₀ from first depth at₀ row₀ table leaps at row = length bytes - at
 
 lay-items-returns : (t : ℕ) → lay-items-lts.Need-returns (calls t) (lay-items-at t) lay-items.Post lay-items-Inv-loop lay-items-μ-loop
-lay-items-returns t c = (sym (lay-deep _ _ _ _ _ _ (c .if1 .taken)), c .before .before .before .before .before .pre .1 .3)
+lay-items-returns t c = (sym (lay-deep _ _ _ _ _ _ (c .if1 .taken)), c .before .before .before .before .pre .1 .2)
 
 lay-items-loop-holds : (t : ℕ) → lay-items-lts.Need-loop-holds (calls t) (lay-items-at t) lay-items.Post lay-items-Inv-loop lay-items-μ-loop
-lay-items-loop-holds t c = (omega arith, refl, refl, c .before .before .before .before .before .pre .1 .3, lay-down _ _ _ _ _ _ (c .if1 .left))
+lay-items-loop-holds t c = (omega arith, refl, c .before .before .before .before .pre .1 .2, lay-down _ _ _ _ _ _ (c .if1 .left))
 
 lay-items-returns-2 : (t : ℕ) → lay-items-lts.Need-returns-2 (calls t) (lay-items-at t) lay-items.Post lay-items-Inv-loop lay-items-μ-loop
 lay-items-returns-2 t c =
     let i = c .before .before .loop .inv in
-    (sym (i .4 ∙ unread _ _ _ (lay-advances _ _ _) _ _ _ _ (c .before .record-at .ensures) (c .match .keys2)), i .3)
+    (sym (i .3 ∙ unread _ _ _ (lay-advances _ _ _) _ _ _ _ (c .before .record-at .ensures) (c .match .keys2)), i .2)
 
 -- a place where a record has been read, and the loop's head before it
 abbrev Read : ℕ → Type 0
@@ -92,7 +92,7 @@ abbrev head : (t : ℕ) → Read t → Head t
 head t c = c .before .before .before .before
 
 abbrev start : (t : ℕ) → Head t → lay-items-lts.Start (calls t) (lay-items-at t) lay-items.Post lay-items-Inv-loop lay-items-μ-loop
-start t h = h .before .before .before .before .before .before
+start t h = h .before .before .before .before .before
 
 read-here : (t : ℕ) (c : Read t) → let h = head t c in
     recordAt (start t h .args .bytes .now) (h .loop .at) ≡ Whole (c .before .«record» .given .0 .0) (c .before .«record» .given .0 .1 .0)
@@ -114,23 +114,17 @@ field-here t c = read-as (read-here t (c .before .before .before)) (c .before .r
 lay-items-returns-3 : (t : ℕ) → lay-items-lts.Need-returns-3 (calls t) (lay-items-at t) lay-items.Post lay-items-Inv-loop lay-items-μ-loop
 lay-items-returns-3 t c =
     let i = head t (c .before .before .before .before) .loop .inv in
-    (sym (i .4 ∙ lay-field-full _ _ _ (lay-advances _ _ _) _ _ _ _ _ _ (field-here t (c .before)) (c .if2 .taken)), i .3)
+    (sym (i .3 ∙ lay-field-full _ _ _ (lay-advances _ _ _) _ _ _ _ _ _ (field-here t (c .before)) (c .if2 .taken)), i .2)
 
 lay-items-loop-less : (t : ℕ) → lay-items-lts.Need-loop-less (calls t) (lay-items-at t) lay-items.Post lay-items-Inv-loop lay-items-μ-loop
-lay-items-loop-less t c = omega (arith, read-rises t (c .before .before .before .before .before .before .before .before))
+lay-items-loop-less t c = omega (arith, read-rises t (c .before .before .before .before .before .before))
 
 lay-items-loop-again : (t : ℕ) → lay-items-lts.Need-loop-again (calls t) (lay-items-at t) lay-items.Post lay-items-Inv-loop lay-items-μ-loop
 lay-items-loop-again t c =
-    let p = c .before .before in
-    let e = p .before .before in
-    let i = head t (e .before .before .before .before) .loop .inv in (
-      omega (arith, e .if2 .left),
-      p .put-row .kept .0 ∙ i .1,
-      i .2,
-      i .3,
-      i .4
-          ∙ lay-field _ _ _ (lay-advances _ _ _) _ _ _ _ _ _ (field-here t (e .before)) (e .if2 .left) ∙ rw (p .put-row .ensures),
-    )
+    let e = c .before .before in
+    let i = head t (e .before .before .before .before) .loop .inv in
+    (omega (arith, e .if2 .left), i .1, i .2,
+        i .3 ∙ lay-field _ _ _ (lay-advances _ _ _) _ _ _ _ _ _ (field-here t (e .before)) (e .if2 .left) ∙ rw (c .put-row .ensures))
 
 -- a group that opens
 abbrev Opens : ℕ → Type 0
@@ -144,12 +138,12 @@ group-here t c = read-as (read-here t (c .before .before .before)) (c .before .r
 lay-items-returns-4 : (t : ℕ) → lay-items-lts.Need-returns-4 (calls t) (lay-items-at t) lay-items.Post lay-items-Inv-loop lay-items-μ-loop
 lay-items-returns-4 t c =
     let i = head t (c .before .before .before .before) .loop .inv in
-    (sym (i .4 ∙ lay-group-full _ _ _ (lay-advances _ _ _) _ _ _ _ _ _ (group-here t (c .before)) (c .if3 .taken)), i .3)
+    (sym (i .3 ∙ lay-group-full _ _ _ (lay-advances _ _ _) _ _ _ _ _ _ (group-here t (c .before)) (c .if3 .taken)), i .2)
 
 lay-items-lay-items-requires : (t : ℕ) → lay-items-lts.Need-lay-items-requires (calls t) (lay-items-at t) lay-items.Post lay-items-Inv-loop lay-items-μ-loop
 lay-items-lay-items-requires t c κs =
     let h = head t (c .before .before .before .before .before .before) in
-    (omega arith, (start t h .pre .1 .0, omega (arith, h .loop .inv .1, start t h .pre .1 .1), omega (arith, c .before .before .if3 .left), h .loop .inv .3))
+    (omega arith, (start t h .pre .1 .0, omega (arith, c .before .before .if3 .left), h .loop .inv .2))
 
 -- what was laid within a group, from its opening on
 abbrev Within : ℕ → Type 0
@@ -165,9 +159,9 @@ group-within t c = c .lay-items .ensures .0
 
 lay-items-returns-5 : (t : ℕ) → lay-items-lts.Need-returns-5 (calls t) (lay-items-at t) lay-items.Post lay-items-Inv-loop lay-items-μ-loop
 lay-items-returns-5 t c =
-    let l = c .before .before .before .before .before .before in
+    let l = c .before .before .before .before in
     let i = head t (opening t l .before .before .before) .loop .inv in (
-      sym (i .4 ∙ lay-group-broken _ _ _ (lay-advances _ _ _) _ _ _ _ _ _ _ (group-here t (opening t l)) (l .before .before .before .if3 .left)
+      sym (i .3 ∙ lay-group-broken _ _ _ (lay-advances _ _ _) _ _ _ _ _ _ _ (group-here t (opening t l)) (l .before .before .before .if3 .left)
           (laid-as (group-within t l) (c .enum-told .given .1))),
       l .lay-items .ensures .1,
     )
@@ -177,7 +171,7 @@ abbrev Filled : ℕ → Type 0
 Filled t = lay-items-lts.After-known-told4 (calls t) (lay-items-at t) lay-items.Post lay-items-Inv-loop lay-items-μ-loop
 
 abbrev filling : (t : ℕ) → Filled t → Within t
-filling t c = c .before .before .before .before .before .before .before
+filling t c = c .before .before .before .before .before
 
 group-laid : (t : ℕ) (c : Filled t) → let l = filling t c in let k = opening t l .before .before .before in let h = head t k in let a = start t h .args in
     layItems (a .depth - 1) (a .bytes .now) (componentAt (a .index .now)) (k .before .«record» .given .0 .1 .0) (h .loop .row + 1) (h .loop .table) ≡
@@ -192,7 +186,7 @@ lay-items-returns-6 : (t : ℕ) → lay-items-lts.Need-returns-6 (calls t) (lay-
 lay-items-returns-6 t c =
     let l = filling t (c .before) in
     let i = head t (opening t l .before .before .before) .loop .inv in (
-      sym (i .4 ∙ lay-group-empty _ _ _ (lay-advances _ _ _) _ _ _ _ _ _ _ _ _ (group-here t (opening t l)) (l .before .before .before .if3 .left)
+      sym (i .3 ∙ lay-group-empty _ _ _ (lay-advances _ _ _) _ _ _ _ _ _ _ _ _ (group-here t (opening t l)) (l .before .before .before .if3 .left)
           (group-laid t (c .before)) (c .if4 .taken)),
       l .lay-items .ensures .1,
     )
@@ -200,28 +194,24 @@ lay-items-returns-6 t c =
 lay-items-put-row-requires-2 : (t : ℕ) → lay-items-lts.Need-put-row-requires-2 (calls t) (lay-items-at t) lay-items.Post lay-items-Inv-loop lay-items-μ-loop
 lay-items-put-row-requires-2 t c κs =
     let f = c .before .before in
-    let l = filling t f in
-    let h = head t (opening t l .before .before .before) in
-    omega (arith, group-reached t f, l .before .before .before .if3 .left, l .lay-items .kept .1 .1 .0, h .loop .inv .1, start t h .pre .1 .1)
+    omega (arith, group-reached t f, filling t f .before .before .before .if3 .left)
 
 lay-items-loop-less-2 : (t : ℕ) → lay-items-lts.Need-loop-less-2 (calls t) (lay-items-at t) lay-items.Post lay-items-Inv-loop lay-items-μ-loop
 lay-items-loop-less-2 t c =
-    let f = c .before .before .before .before .before in
+    let f = c .before .before .before in
     omega (arith, group-reached t f, read-rises t (opening t (filling t f) .before .before .before))
 
 lay-items-loop-again-2 : (t : ℕ) → lay-items-lts.Need-loop-again-2 (calls t) (lay-items-at t) lay-items.Post lay-items-Inv-loop lay-items-μ-loop
 lay-items-loop-again-2 t c =
-    let p = c .before .before in
-    let e = p .before .before in
+    let e = c .before .before in
     let f = e .before in
     let l = filling t f in
     let i = head t (opening t l .before .before .before) .loop .inv in (
       group-reached t f .3,
-      p .put-row2 .kept .0 ∙ l .lay-items .kept .1 .1 .0 ∙ i .1,
-      l .lay-items .kept .1 .1 .1 .0 ∙ i .2,
+      l .lay-items .kept .1 .1 .1 .0 ∙ i .1,
       l .lay-items .ensures .1,
-      i .4 ∙ lay-group _ _ _ (lay-advances _ _ _) _ _ _ _ _ _ _ _ _ (group-here t (opening t l)) (l .before .before .before .if3 .left)
-          (group-laid t f) (e .if4 .left) ∙ rw (p .put-row2 .ensures),
+      i .3 ∙ lay-group _ _ _ (lay-advances _ _ _) _ _ _ _ _ _ _ _ _ (group-here t (opening t l)) (l .before .before .before .if3 .left)
+          (group-laid t f) (e .if4 .left) ∙ rw (c .put-row2 .ensures),
     )
 
 -- a component item
@@ -241,7 +231,7 @@ stands-here t c = c .stands-at .ensures
 lay-items-lay-items-requires-2 : (t : ℕ) → lay-items-lts.Need-lay-items-requires-2 (calls t) (lay-items-at t) lay-items.Post lay-items-Inv-loop lay-items-μ-loop
 lay-items-lay-items-requires-2 t c κs =
     let h = head t (c .before .before .before .before .before .before .before .before .before) in
-    (omega arith, (start t h .pre .1 .0, omega (arith, h .loop .inv .1, start t h .pre .1 .1), h .loop .inv .0, h .loop .inv .3))
+    (omega arith, (start t h .pre .1 .0, h .loop .inv .0, h .loop .inv .2))
 
 -- what was laid of a component, from its item on
 abbrev Parts : ℕ → Type 0
@@ -262,9 +252,9 @@ component-at t c = sym (stands-here t (c .before .before .before .before .before
 
 lay-items-returns-7 : (t : ℕ) → lay-items-lts.Need-returns-7 (calls t) (lay-items-at t) lay-items.Post lay-items-Inv-loop lay-items-μ-loop
 lay-items-returns-7 t c =
-    let l = c .before .before .before .before .before .before in
+    let l = c .before .before .before .before in
     let i = head t (naming t l .before .before .before) .loop .inv in (
-      sym (i .4 ∙ lay-component-broken _ _ _ (lay-advances _ _ _) _ _ _ _ _ _ (component-here t (naming t l) .1) _ _ (component-at t l)
+      sym (i .3 ∙ lay-component-broken _ _ _ (lay-advances _ _ _) _ _ _ _ _ _ (component-here t (naming t l) .1) _ _ (component-at t l)
           (laid-as (component-within t l) (c .enum-told2 .given .1))),
       l .lay-items2 .ensures .1,
     )
@@ -274,7 +264,7 @@ abbrev Parted : ℕ → Type 0
 Parted t = lay-items-lts.After-known-told7 (calls t) (lay-items-at t) lay-items.Post lay-items-Inv-loop lay-items-μ-loop
 
 abbrev parting : (t : ℕ) → Parted t → Parts t
-parting t c = c .before .before .before .before .before .before .before
+parting t c = c .before .before .before .before .before
 
 component-laid : (t : ℕ) (c : Parted t) → let l = parting t c in let h = head t (naming t l .before .before .before) in let a = start t h .args in
     (after : ℕ) × (layItems (a .depth - 1) (a .bytes .now) (componentAt (a .index .now)) (l .before .before .before .before .place .given .0 .0)
@@ -285,7 +275,7 @@ lay-items-returns-8 : (t : ℕ) → lay-items-lts.Need-returns-8 (calls t) (lay-
 lay-items-returns-8 t c =
     let l = parting t (c .before) in
     let i = head t (naming t l .before .before .before) .loop .inv in (
-      sym (i .4 ∙ lay-component-still _ _ _ (lay-advances _ _ _) _ _ _ _ _ _ (component-here t (naming t l) .1) _ _ _ _ (component-at t l)
+      sym (i .3 ∙ lay-component-still _ _ _ (lay-advances _ _ _) _ _ _ _ _ _ (component-here t (naming t l) .1) _ _ _ _ (component-at t l)
           (component-laid t (c .before) .1) (c .if5 .taken)),
       l .lay-items2 .ensures .1,
     )
@@ -298,10 +288,9 @@ lay-items-loop-again-3 t c =
     let l = parting t (c .before) in
     let i = head t (naming t l .before .before .before) .loop .inv in (
       reached (lay-advances _ _ _ _ _ _ (i .0)) (component-laid t (c .before) .1) .3,
-      l .lay-items2 .kept .1 .1 .0 ∙ i .1,
-      l .lay-items2 .kept .1 .1 .1 .0 ∙ i .2,
+      l .lay-items2 .kept .1 .1 .1 .0 ∙ i .1,
       l .lay-items2 .ensures .1,
-      i .4 ∙ lay-component _ _ _ (lay-advances _ _ _) _ _ _ _ _ _ (component-here t (naming t l) .1) _ _ _ _ (component-at t l)
+      i .3 ∙ lay-component _ _ _ (lay-advances _ _ _) _ _ _ _ _ _ (component-here t (naming t l) .1) _ _ _ _ (component-at t l)
           (component-laid t (c .before) .1) (c .if5 .left),
     )
 
@@ -319,30 +308,29 @@ lay-items-loop-again-4 t c =
     let n = e .before .before .before in
     let i = head t (n .before .before .before) .loop .inv in
     let past = leads-past (component-here t n .1) (sym (stands-here t (e .before .before)) ∙ e .enum-told3 .given .1) in
-    (i .0, i .1, p .pass .kept .1 .1 .0 ∙ i .2, p .pass .ensures .1, i .4 ∙ leads-on past (p .pass .ensures .0) .same _ (lay-advances _ _ _) _ _)
+    (i .0, p .pass .kept .1 .1 .0 ∙ i .1, p .pass .ensures .1, i .3 ∙ leads-on past (p .pass .ensures .0) .same _ (lay-advances _ _ _) _ _)
 
 lay-items-returns-9 : (t : ℕ) → lay-items-lts.Need-returns-9 (calls t) (lay-items-at t) lay-items.Post lay-items-Inv-loop lay-items-μ-loop
 lay-items-returns-9 t c =
     let i = head t (c .before .before) .loop .inv in
-    (sym (i .4 ∙ lay-close _ _ _ (lay-advances _ _ _) _ _ _ _ (read-as (read-here t (c .before .before)) (c .enum-told4 .given .1))), i .3)
+    (sym (i .3 ∙ lay-close _ _ _ (lay-advances _ _ _) _ _ _ _ (read-as (read-here t (c .before .before)) (c .enum-told4 .given .1))), i .2)
 
 lay-items-returns-10 : (t : ℕ) → lay-items-lts.Need-returns-10 (calls t) (lay-items-at t) lay-items.Post lay-items-Inv-loop lay-items-μ-loop
 lay-items-returns-10 t c =
     let i = head t (c .before) .loop .inv in
-    (sym (i .4 ∙ top-level _ _ _ (lay-advances _ _ _) _ _ _ _ _ (read-here t (c .before)) (c .match2 .keys5)), i .3)
+    (sym (i .3 ∙ top-level _ _ _ (lay-advances _ _ _) _ _ _ _ _ (read-here t (c .before)) (c .match2 .keys5)), i .2)
 
 pub +lay-items-spec : {M : Type 1} → statement M
 +lay-items-spec = close μ-lay-items λ t. lay-items-lts.spec (calls t)
     (lay-items-at t) lay-items.Post lay-items-Inv-loop lay-items-μ-loop
     (lay-items-returns t) (lay-items-loop-holds t) (λ c κs. search needs) (λ c. search needs) (λ c. search needs)
-    (λ c. search needs) (lay-items-returns-2 t) (λ c. search needs) (λ c. search needs) (λ c. search needs)
-    (lay-items-returns-3 t) (λ c. search needs) (λ c κs. search needs) (λ c. search needs) (lay-items-loop-less t)
-    (lay-items-loop-again t) (λ c. search needs) (λ c. search needs) (λ c. search needs) (lay-items-returns-4 t)
-    (λ c. search needs) (λ c. search needs) (lay-items-lay-items-requires t) (λ c. search needs) (λ c. search needs)
-    (λ c. search needs) (λ c. search needs) (lay-items-returns-5 t) (λ c. search needs) (λ c. search needs) (λ c. search needs)
+    (lay-items-returns-2 t) (λ c. search needs) (λ c. search needs) (lay-items-returns-3 t) (λ c. search needs)
+    (λ c κs. search needs) (λ c. search needs) (lay-items-loop-less t) (lay-items-loop-again t) (λ c. search needs)
+    (λ c. search needs) (lay-items-returns-4 t) (λ c. search needs) (λ c. search needs) (lay-items-lay-items-requires t)
+    (λ c. search needs) (λ c. search needs) (λ c. search needs) (lay-items-returns-5 t) (λ c. search needs) (λ c. search needs)
     (lay-items-returns-6 t) (lay-items-put-row-requires-2 t) (lay-items-loop-less-2 t) (lay-items-loop-again-2 t)
     (λ c. search needs) (λ c κs. search needs) (λ c. search needs) (λ c. search needs) (lay-items-lay-items-requires-2 t)
-    (λ c. search needs) (λ c. search needs) (λ c. search needs) (λ c. search needs) (lay-items-returns-7 t) (λ c. search needs)
-    (λ c. search needs) (lay-items-returns-8 t) (lay-items-loop-less-3 t) (lay-items-loop-again-3 t) (λ c. search needs)
-    (λ c κs. search needs) (lay-items-loop-less-4 t) (lay-items-loop-again-4 t) (λ c. search needs) (λ c. search needs)
-    (λ c. search needs) (lay-items-returns-9 t) (λ c. search needs) (λ c. search needs) (lay-items-returns-10 t)
+    (λ c. search needs) (λ c. search needs) (λ c. search needs) (lay-items-returns-7 t) (λ c. search needs)
+    (lay-items-returns-8 t) (lay-items-loop-less-3 t) (lay-items-loop-again-3 t) (λ c. search needs) (λ c κs. search needs)
+    (lay-items-loop-less-4 t) (lay-items-loop-again-4 t) (λ c. search needs) (λ c. search needs) (lay-items-returns-9 t)
+    (λ c. search needs) (lay-items-returns-10 t)

@@ -13,19 +13,19 @@ use Rattle.dictionary_flattening.proofs.placed_table.Statement.{stateme
 use Rattle.dictionary_flattening.proofs.placed_table.Tie as tie
 
 pass-requires : tie.Need-pass-requires
-pass-requires c κs = let s = c .before .before .before .before .before .before in (s .pre .0, rw (s .pre .1) leaps-none)
+pass-requires c κs = let s = c .before .before .before .before .before in (s .pre .0, rw (s .pre .1) leaps-none)
 
 lay-items-requires : tie.Need-lay-items-requires
 lay-items-requires c κs =
-    let p = c .before .before .before in
-    (p .before .before .before .before .before .before .before .pre .0, omega arith, omega arith, p .pass .ensures .1)
+    let p = c .before .before .before .before in
+    (p .before .before .before .before .before .before .pre .0, omega arith, p .pass .ensures .1)
 
 laid-here : (c : tie.After-lay-items) → let a = c .before .before .before .before .before .before .before .before .before .before .before .args in
     laying (c .lay-items .result) (c .lay-items .last .1 .1 .0) ≡ layItems mostCalls (a .dictionary .now) (componentAt (a .index .now))
-    (a .opening + 9) 0 (a .table .now)
+        (a .opening + 9) 0 (a .table .now)
 laid-here c =
-    let p = c .before .before .before .before in
-    let a = p .before .before .before .before .before .before .before .args in
+    let p = c .before .before .before .before .before in
+    let a = p .before .before .before .before .before .before .args in
     let behind : p .before .wide .result + 9 ≡ a .opening + 9 = rw (p .before .wide .ensures) in
     c .lay-items .ensures .0 ∙ sym (leads-items (p .pass .ensures .0) mostCalls 0 (a .table .now) (λ z. absurd (omega arith)))
     ∙ ap (λ (n : ℕ). layItems mostCalls (a .dictionary .now) (componentAt (a .index .now)) n 0 (a .table .now)) behind

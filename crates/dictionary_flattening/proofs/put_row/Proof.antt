@@ -20,29 +20,29 @@ one-bit : (b : Bool) → boolByte b ≤ 1
 one-bit true = omega arith
 one-bit false = omega arith
 
-slice-write-table-2 : tie.Need-slice-write-table-2
-slice-write-table-2 c = simp length-set (omega arith)
+slice-write-words-2 : tie.Need-slice-write-words-2
+slice-write-words-2 c = simp length-set (omega arith)
 
-mul-table-3 : tie.Need-mul-table-3
-mul-table-3 c = omega (arith, one-bit (c .args .is-group))
+mul-words-3 : tie.Need-mul-words-3
+mul-words-3 c = omega (arith, one-bit (c .before .args .is-group))
 
-add-table-2 : tie.Need-add-table-2
-add-table-2 c = omega (arith, one-bit (c .args .required), one-bit (c .args .is-group))
+add-words-2 : tie.Need-add-words-2
+add-words-2 c = omega (arith, one-bit (c .before .args .required), one-bit (c .before .args .is-group))
 
-slice-write-table-3 : tie.Need-slice-write-table-3
-slice-write-table-3 c = simp length-set (omega arith)
+slice-write-words-3 : tie.Need-slice-write-words-3
+slice-write-words-3 c = simp length-set (omega arith)
 
-slice-write-table-4 : tie.Need-slice-write-table-4
-slice-write-table-4 c = simp length-set (omega arith)
+slice-write-words-4 : tie.Need-slice-write-words-4
+slice-write-words-4 c = simp length-set (omega arith)
 
 returns : tie.Need-returns
 unfolding putRow marks
-returns c = rw (stored (c .args .required), stored (c .args .is-group))
+returns c = rw (stored (c .before .args .required), stored (c .before .args .is-group))
 
 pub put-row-spec : {M : Type 1} → statement M
 put-row-spec =
     tie.close
     (tie.spec (λ c. search needs) (λ c. search needs) (λ c. search needs) (λ c. search needs) (λ c. search needs)
-    (λ c. search needs) (λ c. search needs) slice-write-table-2 (λ c. search needs) (λ c. search needs) mul-table-3
-    add-table-2 (λ c. search needs) (λ c. search needs) slice-write-table-3 (λ c. search needs) (λ c. search needs)
-    (λ c. search needs) slice-write-table-4 (λ c. search needs) returns)
+    (λ c. search needs) (λ c. search needs) slice-write-words-2 (λ c. search needs) (λ c. search needs) mul-words-3
+    add-words-2 (λ c. search needs) (λ c. search needs) slice-write-words-3 (λ c. search needs) (λ c. search needs)
+    (λ c. search needs) slice-write-words-4 returns)
