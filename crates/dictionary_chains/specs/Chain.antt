@@ -73,17 +73,21 @@ branchOf number rest = entryStart number + rest % 2
 abbrev pub ends : ℕ → ℕ → Way
 ends cell number = record { cell = cell; number = number }
 
--- keys of 64 bits are below this
-abbrev pub keyRoom : ℕ
-keyRoom = 18446744073709551616
+-- keys of a table are below this: a tag has 32 bits, a component's number 16, a MsgType 64
+unfoldable pub keyRoom : Table → ℕ
+keyRoom Tags = 4294967296
+keyRoom Components = 65536
+keyRoom MsgTypes = 18446744073709551616
 
 -- eleven bits of a key choose its head, and each of the others a turn
-abbrev pub mostTurns : ℕ
-mostTurns = 53
+unfoldable pub mostTurns : Table → ℕ
+mostTurns Tags = 21
+mostTurns Components = 5
+mostTurns MsgTypes = 53
 
--- keys of 64 bits that share a head and took so many turns together are the same: an entry with another key was never entered there
-unfoldable pub strayed : ℕ → ℕ → ℕ → Bool
-strayed turns met key = pick (leb mostTurns turns) (pick (ltb met keyRoom) (ltb key keyRoom) false) false
+-- keys of a table that share a head and took so many turns together are the same: an entry with another key was never entered there
+unfoldable pub strayed : Table → ℕ → ℕ → ℕ → Bool
+strayed table turns met key = pick (leb (mostTurns table) turns) (pick (ltb met (keyRoom table)) (ltb key (keyRoom table)) false) false
 
 -- from a link on that is come to after so many turns, looking at so many entries at most
 unfoldable pub climbed : ℕ → Table → List ℕ → ℕ → ℕ → ℕ → ℕ → ℕ → Way
@@ -91,7 +95,7 @@ climbed zero table index key turns cell rest link = ends cell 0
 climbed (suc looks) table index key turns cell rest link =
     pick (ltb link entryRoom)
     (pick (eqb (keyOf table (entryAt index link)) key) (ends cell link)
-    (pick (strayed turns (keyOf table (entryAt index link)) key) (ends cell 0)
+    (pick (strayed table turns (keyOf table (entryAt index link)) key) (ends cell 0)
     (climbed looks table index key (suc turns) (branchOf link rest) (rest / 2) (linkAt index link (branchOf link rest)))))
     (ends cell 0)
 

@@ -4,8 +4,9 @@ use mathlib.Core.Path.{_≡_, refl}
 use mathlib.Core.List.{List, [], _∷_, map}
 use Prim.Native.Nat.{ℕ, _+_, _/_, _%_}
 use lib.ListN.{take, drop, set, replicate}
-use Rattle.dictionary_chains.specs.Chain.{entryStart, indexWords, keyOf, rankOf, headOf, wordAt, entryAt, linkAt, branchOf, strayed, climbed, followed, wayOf, found, written, branched, numberAt, enteredAt, entered}
-use Rattle.dictionary_chains.specs.declared.Table.the-variants.{Tags, Components}
+use Rattle.dictionary_chains.specs.Chain.{entryStart, indexWords, keyOf, rankOf, headOf, wordAt, entryAt, linkAt, branchOf, keyRoom, mostTurns, strayed, climbed, followed, wayOf, found, written, branched, numberAt, enteredAt, entered}
+use Rattle.dictionary_chains.specs.declared.Table.{Table}
+use Rattle.dictionary_chains.specs.declared.Table.the-variants.{Tags, Components, MsgTypes}
 use Rattle.dictionary_chains.specs.declared.Entry.{Entry}
 
 -- a tag and the place of its record
@@ -16,6 +17,14 @@ tagged place tag = record { place = place; first = tag % 65536; second = tag / 6
 room : indexWords ≡ entryStart (numberAt 59999) + 6
 unfolding numberAt
 room = refl
+
+-- keys fill the room of their table: the largest is made of the largest words
+abbrev filled : Entry
+filled = record { place = 0; first = 65535; second = 65535; third = 65535; fourth = 65535 }
+
+rooms : map (λ (table : Table). keyOf table filled + 1) (Tags ∷ Components ∷ MsgTypes ∷ []) ≡ map keyRoom (Tags ∷ Components ∷ MsgTypes ∷ [])
+unfolding keyOf keyRoom
+rooms = refl
 
 -- branches and tag of an entry
 abbrev shown : List ℕ → ℕ → List ℕ
@@ -42,5 +51,5 @@ trees : told (entered Tags (entered Tags (entered Tags (entered Tags (replicate 
       5 ∷ 5 ∷ [],
       19 ∷ 0 ∷ 0 ∷ 0 ∷ 0 ∷ [],
     )
-unfolding entered enteredAt written branched numberAt found wayOf followed climbed strayed linkAt branchOf entryAt wordAt keyOf headOf rankOf
+unfolding entered enteredAt written branched numberAt found wayOf followed climbed strayed mostTurns keyRoom linkAt branchOf entryAt wordAt keyOf headOf rankOf
 trees = refl

@@ -159,7 +159,7 @@ module _ {table : Table} {index after : List ℕ} {key b n low cell number : ℕ
   elsewhere {t} {k} {m} {below} {place} apart p (stops z) = go (step p) ∙ sym (ap numberOf (from-none t index k m below place z))
     where
       -- a way with another key ends at the new entry, or behind it
-      passed : (s : Bool) → strayed m (keyOf t (entryAt after (linkAt after below place))) k ≡ s → linkAt after below place ≡ number
+      passed : (s : Bool) → strayed t m (keyOf t (entryAt after (linkAt after below place))) k ≡ s → linkAt after below place ≡ number
           → (keyOf t (entryAt after (linkAt after below place)) ≡ k → ⊥) → numberOf (wayFrom t after k m below place) ≡ 0
       passed true q e other = ap numberOf (from-stray t after k m below place (rw e (g .fits)) other q)
       passed false q e other =
@@ -172,7 +172,7 @@ module _ {table : Table} {index after : List ℕ} {key b n low cell number : ℕ
       go (new q here e) =
           let link = linkAt after below place in
           let other : keyOf t (entryAt after link) ≡ k → ⊥ = λ r. apart (together (g .bound) p (g .end) here .table) (sym (rw e at r) ∙ key-here p here) in
-          passed (strayed m (keyOf t (entryAt after link)) k) refl e other
+          passed (strayed t m (keyOf t (entryAt after link)) k) refl e other
   elsewhere {t} {k} {m} {below} {place} apart p (hits h e) = go (step p)
     where
       go : Seen t k m below place → numberOf (wayFrom t after k m below place) ≡ numberOf (wayFrom t index k m below place)

@@ -3,7 +3,7 @@
 use mathlib.Core.Path.{_≡_, refl, sym, ap, _∙_, subst}
 use mathlib.Core.Bool.{true}
 use mathlib.Core.List.{List}
-use Prim.Native.Nat.{ℕ, zero, suc, _+_, _/_, _%_, _≤_, _<_, _^_}
+use Prim.Native.Nat.{ℕ, zero, suc, _+_, _*_, _/_, _%_, _≤_, _<_, _^_}
 use native.Mathlib.Nat.{two-pow-succ}
 use native.Mathlib.Omega.{arith}
 use lib.ListN.{getD}
@@ -12,6 +12,7 @@ use Rattle.dictionary_chains.specs.Chain.{headWords, entryStart, entryRo
 use Rattle.dictionary_chains.specs.WordLaws.{head-small, head-table, head-slot}
 use Rattle.dictionary_chains.specs.WayLaws.{strayed-facts, restAfter, Comes, starts, turns}
 use Rattle.dictionary_chains.specs.declared.Table.{Table}
+use Rattle.dictionary_chains.specs.declared.Table.the-variants.{Tags, Components, MsgTypes}
 
 -- two keys hang in one tree, and take the same first turns
 unfoldable pub Alike : ℕ → ℕ → ℕ → Type 0
@@ -110,8 +111,15 @@ unfolding restAfter
 rest-small zero k whole key e h = let same : k ≡ whole = omega arith in rw same h
 rest-small (suc n) k whole key e h = omega (arith, rest-small n (suc k) whole key (omega arith) h, two-pow-succ k)
 
-none-left : (n key : ℕ) → mostTurns ≤ n → key < keyRoom → restAfter n key ≡ 0
-none-left n key late small = omega (arith, rest-small n 0 n key (omega arith) (omega (arith, pow-mono late)))
+-- the bits of a key that choose its head, and those that choose a turn, are all that it has
+room-turned : (table : Table) → keyRoom table ≡ 2048 * 2 ^ mostTurns table
+unfolding keyRoom mostTurns
+room-turned Tags = omega arith
+room-turned Components = omega arith
+room-turned MsgTypes = omega arith
+
+none-left : (table : Table) (n key : ℕ) → mostTurns table ≤ n → key < keyRoom table → restAfter n key ≡ 0
+none-left table n key late small = omega (arith, rest-small n 0 n key (omega arith) (omega (arith, room-turned table, pow-mono late)))
 
 -- keys that are alike in every bit are the same
 alike-same : (n key other : ℕ) → Alike n key other → restAfter n key ≡ restAfter n other → key ≡ other
@@ -121,11 +129,11 @@ alike-same (suc n) key other a e = alike-same n key other (a .0) (omega (arith, 
 
 -- so no way strays in trees: an entry that it comes to after all turns has its key
 pub never-strays : {t : Table} {index : List ℕ} {b key n low cell : ℕ} → Bounded index b → Comes t index key n low cell → linkAt index low cell < entryRoom
-    → (keyOf t (entryAt index (linkAt index low cell)) ≡ key → ⊥) → strayed n (keyOf t (entryAt index (linkAt index low cell))) key ≡ true → ⊥
+    → (keyOf t (entryAt index (linkAt index low cell)) ≡ key → ⊥) → strayed t n (keyOf t (entryAt index (linkAt index low cell))) key ≡ true → ⊥
 never-strays {t} {index} {key = key} {n = n} {low = low} {cell = cell} bound p h other s =
     let met = keyOf t (entryAt index (linkAt index low cell)) in
-    let facts = strayed-facts n met key s in
-    other (alike-same n met key (bound .keys p h) (none-left n met (facts .0) (facts .1) ∙ sym (none-left n key (facts .0) (facts .2))))
+    let facts = strayed-facts t n met key s in
+    other (alike-same n met key (bound .keys p h) (none-left t n met (facts .0) (facts .1) ∙ sym (none-left t n key (facts .0) (facts .2))))
 
 -- a word of a way holds nothing of an entry but a branch
 pub comes-apart : {t : Table} {index : List ℕ} {b key n low cell number : ℕ} → Bounded index b → Comes t index key n low cell → Stands index number

@@ -30,43 +30,43 @@ module _ (index : List ℕ) (low cell : ℕ) where
       go true q = h
       go false q = omega (arith, leb-false (getD index cell 0) low q)
 
-module _ (turns met key : ℕ) where
-  pub strayed-facts : strayed turns met key ≡ true → (mostTurns ≤ turns) × (met < keyRoom) × (key < keyRoom)
+module _ (table : Table) (turns met key : ℕ) where
+  pub strayed-facts : strayed table turns met key ≡ true → (mostTurns table ≤ turns) × (met < keyRoom table) × (key < keyRoom table)
   unfolding strayed
-  strayed-facts = go (leb mostTurns turns) refl (ltb met keyRoom) refl (ltb key keyRoom) refl
+  strayed-facts = go (leb (mostTurns table) turns) refl (ltb met (keyRoom table)) refl (ltb key (keyRoom table)) refl
     where
-      go : (a : Bool) → leb mostTurns turns ≡ a → (b : Bool) → ltb met keyRoom ≡ b → (c : Bool) → ltb key keyRoom ≡ c
-          → pick a (pick b c false) false ≡ true → (mostTurns ≤ turns) × (met < keyRoom) × (key < keyRoom)
+      go : (a : Bool) → leb (mostTurns table) turns ≡ a → (b : Bool) → ltb met (keyRoom table) ≡ b → (c : Bool) → ltb key (keyRoom table) ≡ c
+          → pick a (pick b c false) false ≡ true → (mostTurns table ≤ turns) × (met < keyRoom table) × (key < keyRoom table)
       go true p true q true r h = (leb-true _ _ p, ltb-true _ _ q, ltb-true _ _ r)
       go true p true q false r h = let z : _≡_ {A = ℕ} 0 1 = cc in absurd (omega arith)
       go true p false q c r h = let z : _≡_ {A = ℕ} 0 1 = cc in absurd (omega arith)
       go false p b q c r h = let z : _≡_ {A = ℕ} 0 1 = cc in absurd (omega arith)
 
-  pub strayed-late : mostTurns ≤ turns → met < keyRoom → key < keyRoom → strayed turns met key ≡ true
+  pub strayed-late : mostTurns table ≤ turns → met < keyRoom table → key < keyRoom table → strayed table turns met key ≡ true
   unfolding strayed
-  strayed-late h m k = rw (le-leb mostTurns turns h, lt-ltb met keyRoom m, lt-ltb key keyRoom k)
+  strayed-late h m k = rw (le-leb (mostTurns table) turns h, lt-ltb met (keyRoom table) m, lt-ltb key (keyRoom table) k)
 
-  pub strayed-early : turns < mostTurns → strayed turns met key ≡ false
+  pub strayed-early : turns < mostTurns table → strayed table turns met key ≡ false
   unfolding strayed
-  strayed-early h = rw (lt-leb mostTurns turns h)
+  strayed-early h = rw (lt-leb (mostTurns table) turns h)
 
 -- what a link can lead to after so many turns: no entry, the key's, one that was never entered there, or another's
 pub data Meets (table : Table) (index : List ℕ) (key turns link : ℕ) : Type 0 where
   nothing : entryRoom ≤ link → Meets table index key turns link
   itself : link < entryRoom → keyOf table (entryAt index link) ≡ key → Meets table index key turns link
-  stranger : link < entryRoom → (keyOf table (entryAt index link) ≡ key → ⊥) → strayed turns (keyOf table (entryAt index link)) key ≡ true
+  stranger : link < entryRoom → (keyOf table (entryAt index link) ≡ key → ⊥) → strayed table turns (keyOf table (entryAt index link)) key ≡ true
       → Meets table index key turns link
-  another : link < entryRoom → (keyOf table (entryAt index link) ≡ key → ⊥) → strayed turns (keyOf table (entryAt index link)) key ≡ false
+  another : link < entryRoom → (keyOf table (entryAt index link) ≡ key → ⊥) → strayed table turns (keyOf table (entryAt index link)) key ≡ false
       → Meets table index key turns link
 
 module _ (table : Table) (index : List ℕ) (key : ℕ) where
   pub meets : (turns link : ℕ) → Meets table index key turns link
-  meets turns link = go (ltb link entryRoom) refl (eqb met key) refl (strayed turns met key) refl
+  meets turns link = go (ltb link entryRoom) refl (eqb met key) refl (strayed table turns met key) refl
     where
       met : ℕ
       met = keyOf table (entryAt index link)
 
-      go : (t : Bool) → ltb link entryRoom ≡ t → (s : Bool) → eqb met key ≡ s → (r : Bool) → strayed turns met key ≡ r → Meets table index key turns link
+      go : (t : Bool) → ltb link entryRoom ≡ t → (s : Bool) → eqb met key ≡ s → (r : Bool) → strayed table turns met key ≡ r → Meets table index key turns link
       go false q s e r l = nothing (ltb-false link entryRoom q)
       go true q true e r l = itself (ltb-true link entryRoom q) (eqb-true _ _ e)
       go true q false e true l = stranger (ltb-true link entryRoom q) (eqb-false _ _ e) l
@@ -83,12 +83,12 @@ module _ (table : Table) (index : List ℕ) (key : ℕ) where
   climb-hit looks turns cell rest link h e = rw (lt-ltb link entryRoom h, eq-eqb _ _ e)
 
   pub climb-stray : (looks turns cell rest link : ℕ) → link < entryRoom → (keyOf table (entryAt index link) ≡ key → ⊥)
-      → strayed turns (keyOf table (entryAt index link)) key ≡ true → climbed (suc looks) table index key turns cell rest link ≡ ends cell 0
+      → strayed table turns (keyOf table (entryAt index link)) key ≡ true → climbed (suc looks) table index key turns cell rest link ≡ ends cell 0
   unfolding climbed
   climb-stray looks turns cell rest link h e s = rw (lt-ltb link entryRoom h, ne-eqb _ _ e, s)
 
   pub climb-on : (looks turns cell rest link : ℕ) → link < entryRoom → (keyOf table (entryAt index link) ≡ key → ⊥)
-      → strayed turns (keyOf table (entryAt index link)) key ≡ false
+      → strayed table turns (keyOf table (entryAt index link)) key ≡ false
       → climbed (suc looks) table index key turns cell rest link
       ≡ climbed looks table index key (suc turns) (branchOf link rest) (rest / 2) (linkAt index link (branchOf link rest))
   unfolding climbed
@@ -128,11 +128,11 @@ module _ (table : Table) (index : List ℕ) (key : ℕ) where
     pub follow-hit : link < entryRoom → keyOf table (entryAt index link) ≡ key → followed table index key turns cell rest link ≡ ends cell link
     follow-hit h e = one-more ∙ climb-hit entryRoom turns cell rest link h e
 
-    pub follow-stray : link < entryRoom → (keyOf table (entryAt index link) ≡ key → ⊥) → strayed turns (keyOf table (entryAt index link)) key ≡ true
+    pub follow-stray : link < entryRoom → (keyOf table (entryAt index link) ≡ key → ⊥) → strayed table turns (keyOf table (entryAt index link)) key ≡ true
         → followed table index key turns cell rest link ≡ ends cell 0
     follow-stray h e s = one-more ∙ climb-stray entryRoom turns cell rest link h e s
 
-    pub follow-on : link < entryRoom → (keyOf table (entryAt index link) ≡ key → ⊥) → strayed turns (keyOf table (entryAt index link)) key ≡ false
+    pub follow-on : link < entryRoom → (keyOf table (entryAt index link) ≡ key → ⊥) → strayed table turns (keyOf table (entryAt index link)) key ≡ false
         → followed table index key turns cell rest link
         ≡ followed table index key (suc turns) (branchOf link rest) (rest / 2) (linkAt index link (branchOf link rest))
     unfolding followed
@@ -161,9 +161,9 @@ pub data Climbs (table : Table) (index : List ℕ) (key : ℕ) : ℕ → ℕ →
   stops : {n low cell : ℕ} → entryRoom ≤ linkAt index low cell → Climbs table index key n low cell
   hits : {n low cell : ℕ} → linkAt index low cell < entryRoom → keyOf table (entryAt index (linkAt index low cell)) ≡ key → Climbs table index key n low cell
   strays : {n low cell : ℕ} → linkAt index low cell < entryRoom → (keyOf table (entryAt index (linkAt index low cell)) ≡ key → ⊥)
-      → strayed n (keyOf table (entryAt index (linkAt index low cell))) key ≡ true → Climbs table index key n low cell
+      → strayed table n (keyOf table (entryAt index (linkAt index low cell))) key ≡ true → Climbs table index key n low cell
   goes : {n low cell : ℕ} → linkAt index low cell < entryRoom → (keyOf table (entryAt index (linkAt index low cell)) ≡ key → ⊥)
-      → strayed n (keyOf table (entryAt index (linkAt index low cell))) key ≡ false
+      → strayed table n (keyOf table (entryAt index (linkAt index low cell))) key ≡ false
       → Climbs table index key (suc n) (linkAt index low cell) (branchOf (linkAt index low cell) (restAfter n key))
       → Climbs table index key n low cell
 
@@ -173,7 +173,7 @@ pub data Ends (table : Table) (index : List ℕ) (key : ℕ) : Way → Type 0 wh
   taken : {n low cell : ℕ} → Comes table index key n low cell → linkAt index low cell < entryRoom
       → keyOf table (entryAt index (linkAt index low cell)) ≡ key → Ends table index key (ends cell (linkAt index low cell))
   astray : {n low cell : ℕ} → Comes table index key n low cell → linkAt index low cell < entryRoom
-      → (keyOf table (entryAt index (linkAt index low cell)) ≡ key → ⊥) → strayed n (keyOf table (entryAt index (linkAt index low cell))) key ≡ true
+      → (keyOf table (entryAt index (linkAt index low cell)) ≡ key → ⊥) → strayed table n (keyOf table (entryAt index (linkAt index low cell))) key ≡ true
       → Ends table index key (ends cell 0)
 
 module _ (table : Table) (index : List ℕ) (key : ℕ) where
@@ -205,11 +205,11 @@ module _ (table : Table) (index : List ℕ) (key : ℕ) where
     from-hit h e = follow-hit table index key n cell (restAfter n key) (linkAt index low cell) h e
 
     pub from-stray : linkAt index low cell < entryRoom → (keyOf table (entryAt index (linkAt index low cell)) ≡ key → ⊥)
-        → strayed n (keyOf table (entryAt index (linkAt index low cell))) key ≡ true → wayFrom table index key n low cell ≡ ends cell 0
+        → strayed table n (keyOf table (entryAt index (linkAt index low cell))) key ≡ true → wayFrom table index key n low cell ≡ ends cell 0
     from-stray h e s = follow-stray table index key n cell (restAfter n key) (linkAt index low cell) h e s
 
     pub from-on : linkAt index low cell < entryRoom → (keyOf table (entryAt index (linkAt index low cell)) ≡ key → ⊥)
-        → strayed n (keyOf table (entryAt index (linkAt index low cell))) key ≡ false
+        → strayed table n (keyOf table (entryAt index (linkAt index low cell))) key ≡ false
         → wayFrom table index key n low cell ≡ wayFrom table index key (suc n) (linkAt index low cell) (branchOf (linkAt index low cell) (restAfter n key))
     unfolding restAfter
     from-on h e s = follow-on table index key n cell (restAfter n key) (linkAt index low cell) h e s
@@ -224,12 +224,14 @@ module _ (table : Table) (index after : List ℕ) (key n low cell : ℕ) (link :
   pub same-hit : keyOf table (entryAt index (linkAt index low cell)) ≡ key → wayFrom table after key n low cell ≡ wayFrom table index key n low cell
   same-hit e = from-hit table after key n low cell (rw link leads) (same-now ∙ e) ∙ ap (ends cell) link ∙ sym (from-hit table index key n low cell leads e)
 
-  pub same-stray : (keyOf table (entryAt index (linkAt index low cell)) ≡ key → ⊥) → strayed n (keyOf table (entryAt index (linkAt index low cell))) key ≡ true
+  pub same-stray : (keyOf table (entryAt index (linkAt index low cell)) ≡ key → ⊥)
+      → strayed table n (keyOf table (entryAt index (linkAt index low cell))) key ≡ true
       → wayFrom table after key n low cell ≡ wayFrom table index key n low cell
   same-stray e s =
       from-stray table after key n low cell (rw link leads) (λ q. e (sym same-now ∙ q)) (rw same-now s) ∙ sym (from-stray table index key n low cell leads e s)
 
-  pub same-turn : (keyOf table (entryAt index (linkAt index low cell)) ≡ key → ⊥) → strayed n (keyOf table (entryAt index (linkAt index low cell))) key ≡ false
+  pub same-turn : (keyOf table (entryAt index (linkAt index low cell)) ≡ key → ⊥)
+      → strayed table n (keyOf table (entryAt index (linkAt index low cell))) key ≡ false
       → wayFrom table after key n low cell ≡ wayFrom table after key (suc n) (linkAt index low cell) (branchOf (linkAt index low cell) (restAfter n key))
   same-turn e s =
       from-on table after key n low cell (rw link leads) (λ q. e (sym same-now ∙ q)) (rw same-now s)

@@ -8,7 +8,7 @@ use lib.ListN.{length, getD, set, take, drop, length-set}
 use lib.Seq.{sets-eq, length-take-le, getD-append-add, getD-set-same, getD-set-other}
 use lib.Dec.{eqb}
 use borrow.Author.Tests.{eqb-true, eqb-false}
-use Rattle.dictionary_chains.specs.Chain.{headWords, entryStart, numberAt, rankOf, headOf, wordAt, entryAt, branchOf, written, branched}
+use Rattle.dictionary_chains.specs.Chain.{headWords, entryStart, keyRoom, numberAt, keyOf, rankOf, headOf, wordAt, entryAt, branchOf, written, branched}
 use Rattle.dictionary_chains.specs.declared.Table.{Table}
 use Rattle.dictionary_chains.specs.declared.Table.the-variants.{Tags, Components, MsgTypes}
 use Rattle.dictionary_chains.specs.declared.Entry.{Entry}
@@ -42,6 +42,14 @@ head-table t u k l h = rank-apart t u (omega arith)
 pub head-slot : (t u : Table) (k l : ℕ) → headOf t k ≡ headOf u l → k % 2048 ≡ l % 2048
 unfolding headOf
 head-slot t u k l h = omega arith
+
+-- a key that is made of words is one of its table
+pub key-small : (table : Table) (e : Entry) → e .first < 65536 → e .second < 65536 → e .third < 65536 → e .fourth < 65536
+    → keyOf table e < keyRoom table
+unfolding keyOf keyRoom
+key-small Tags e first second third fourth = omega arith
+key-small Components e first second third fourth = omega arith
+key-small MsgTypes e first second third fourth = omega arith
 
 module _ (index : List ℕ) (number : ℕ) (e : Entry) where
   pub written-length : length (written index number e) ≡ length index

@@ -1,20 +1,18 @@
 // dictionary_chains: what a dictionary is looked up by. Three tables (known tags, closed components, MsgTypes) share the entries of one lent
 // array, in trees that branch by the bits of a key. It reads no dictionary bytes, and demands nothing of the array: only links that rise are
-// followed, and no look-up follows more than 54, whatever the array holds.
+// followed, and no look-up follows more than the bits of its key allow: 6 for a component, 22 for a tag, 54 for a MsgType, whatever the array
+// holds.
 ghost use mathlib.Core.Path.{_≡_};
 ghost use mathlib.Core.List.{_++_};
 ghost use Prim.Native.Nat.{_<_};
 ghost use lib.ListN.{length, drop, replicate};
-ghost use Rattle.dictionary_chains.specs.Chain.{entryRoom, headWords, indexWords, keyOf, headOf, entryAt, linkAt, wayOf, found, written, entered};
+ghost use Rattle.dictionary_chains.specs.Chain.{entryRoom, headWords, indexWords, keyRoom, mostTurns, keyOf, headOf, entryAt, linkAt, wayOf, found, written, entered};
 
 // Words of heads, 2,048 to each table.
 const HEAD_WORDS: usize = 6144;
 
 // The numbers of entries are below this.
 const ENTRY_ROOM: usize = 60004;
-
-// The turns of a way: a key has 64 bits, and eleven of them choose its head.
-const MOST_TURNS: usize = 53;
 
 // Words of an index: it ends behind the entry of the last number.
 pub const WORDS: usize = HEAD_WORDS + 3 * ENTRY_ROOM / 2 + 4;
@@ -72,6 +70,17 @@ fn head_of(table: Table, key: u64) -> usize
     }
 }
 
+// The turns of a way: a tag has 32 bits, a component's number 16, a MsgType 64, and eleven of them choose its head.
+fn most_turns(table: Table) -> usize
+    ensures { λ r. ⌜ r ≡ mostTurns table ⌝ }
+{
+    match table {
+        Table::Tags => 21,
+        Table::Components => 5,
+        Table::MsgTypes => 53,
+    }
+}
+
 pub fn entry_at(index: &[u16], number: usize) -> Entry
     requires { ⌜ (length (now index) ≡ indexWords) × (number < entryRoom) ⌝ }
     ensures { λ r. ⌜ r ≡ entryAt (now (index .entry)) number ⌝ }
@@ -100,9 +109,10 @@ fn link_at(index: &[u16], low: usize, cell: usize) -> usize
 }
 
 fn way_of(index: &[u16], table: Table, key: u64) -> Way
-    requires { ⌜ length (now index) ≡ indexWords ⌝ }
+    requires { ⌜ (length (now index) ≡ indexWords) × (key < keyRoom table) ⌝ }
     ensures { λ r. ⌜ r ≡ wayOf table (now (index .entry)) key ⌝ }
 {
+    let most = most_turns(table);
     let mut cell = head_of(table, key);
     let mut rest = key / 2048;
     let mut turns: usize = 0;
@@ -112,7 +122,7 @@ fn way_of(index: &[u16], table: Table, key: u64) -> Way
             return Way { cell, number: link };
         }
         // The keys share a head and every turn: had this one been entered here, it would be the same.
-        if turns >= MOST_TURNS {
+        if turns >= most {
             return Way { cell, number: 0 };
         }
         turns += 1;
@@ -125,7 +135,7 @@ fn way_of(index: &[u16], table: Table, key: u64) -> Way
 
 // The number of the entry with this key, and 0 where there is none.
 pub fn find(index: &[u16], table: Table, key: u64) -> usize
-    requires { ⌜ length (now index) ≡ indexWords ⌝ }
+    requires { ⌜ (length (now index) ≡ indexWords) × (key < keyRoom table) ⌝ }
     ensures { λ r. ⌜ r ≡ found table (now (index .entry)) key ⌝ }
 {
     let way = way_of(index, table, key);

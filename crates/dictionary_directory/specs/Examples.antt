@@ -11,7 +11,7 @@ use Rattle.dictionary_layout_rules.specs.RowsLayout.{layoutWithin, layoutIn}
 use Rattle.dictionary_tables_rules.specs.Table.{headsFor}
 use Rattle.dictionary_tables_rules.specs.Tags.{fieldsOf}
 use Rattle.dictionary_tables_rules.specs.Laid.{ownCount, partSize, innerSize, ownItems, firstUnder, lastGroup, firstMarked, itemWords, itemsWords, headWords, partWords, innerWords, tableOf}
-use Rattle.dictionary_chains.specs.Chain.{keyOf, rankOf, headOf, wordAt, entryAt, linkAt, branchOf, strayed, climbed, followed, wayOf, found}
+use Rattle.dictionary_chains.specs.Chain.{keyOf, rankOf, headOf, wordAt, entryAt, linkAt, branchOf, keyRoom, mostTurns, strayed, climbed, followed, wayOf, found}
 use Rattle.dictionary_rules.specs.Index.{componentOf, lookedAs, componentAt}
 use Rattle.dictionary_rules.specs.Record.{lowFirst, recordBodyLength, withTag, withMark, zeroFilled, opensComponent, opensMessage, fieldItem, recordBody, withBody, withKind, recordFrom, recordAt}
 use Rattle.dictionary_rules.specs.Records.{followedBy, recordsWithin, recordsFrom}
@@ -82,7 +82,7 @@ whole : map (λ (size : ℕ). read (layTables dictionary index (replicate size 9
     ∷ ([] ∷ [] ∷ [] ∷ [] ∷ [] ∷ [] ∷ [] ∷ []) ∷ []
 unfolding tableIn keptAt tagsAt keptIn blockAt layTables clearDirectory wordsOf layListed tagsListed listedTags messagesFrom messagesAmong isMessage layMessages
     layMessage putRows putBlock roomFor withBlock blockOf nextBlock fieldsOf plainTags componentTags tagsFrom tagsWithin tagRead tagOn
-    componentAt lookedAs componentOf found wayOf followed climbed strayed branchOf linkAt entryAt wordAt keyOf headOf rankOf
+    componentAt lookedAs componentOf found wayOf followed climbed strayed mostTurns keyRoom branchOf linkAt entryAt wordAt keyOf headOf rankOf
     placedTable asTable layItems itemsFrom itemsWithin onRead onRecord putRow layoutIn layoutWithin nextSibling
     tableOf ownCount headsFor partSize innerSize ownItems firstUnder lastGroup firstMarked itemWords itemsWords headWords
     partWords innerWords marks mark recordsFrom recordsWithin followedBy recordAt recordFrom withKind withBody recordBody recordBodyLength

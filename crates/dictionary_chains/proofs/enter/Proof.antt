@@ -5,6 +5,7 @@ use native.Mathlib.Omega.{arith}
 use borrow.Author.Needs.{needs}
 use lib.ListN.{length, length-set}
 use Rattle.dictionary_chains.specs.Chain.{indexWords, keyOf, wayOf, written, branched, numberAt, entered}
+use Rattle.dictionary_chains.specs.WordLaws.{key-small}
 use Rattle.dictionary_chains.specs.ChainLaws.{way-small, entered-late, entered-new, entered-again}
 use Rattle.dictionary_chains.proofs.enter.Statement.{statement}
 use Rattle.dictionary_chains.proofs.enter.Tie as tie
@@ -12,6 +13,13 @@ use Rattle.dictionary_chains.proofs.enter.Tie as tie
 returns : tie.Need-returns
 returns c = let w = c .before in
     sym (entered-late _ _ _ (omega (arith, w .wide .ensures)))
+
+-- the entry's key is made of words, so it is one of the table
+way-of-requires : tie.Need-way-of-requires
+way-of-requires c κs = let s = c .before .before .before .before .before in (
+  s .pre,
+  omega (arith, c .key-of .ensures, key-small (s .args .table) (s .args .entry) (omega arith) (omega arith) (omega arith) (omega arith)),
+)
 
 -- the way of the entry's key
 way : (c : tie.After-way-of)
@@ -52,7 +60,7 @@ returns-3 c = let k = c .before .before .before .before in let p = k .before .be
 pub enter-spec : {M : Type 1} → statement M
 enter-spec =
     tie.close
-    (tie.spec (λ c κs. search needs) returns (λ c κs. search needs) (λ c κs. search needs) (λ c. search needs)
+    (tie.spec (λ c κs. search needs) returns (λ c κs. search needs) way-of-requires (λ c. search needs)
     returns-2 (λ c. search needs) (λ c. search needs) (λ c. search needs) (λ c. search needs)
     (λ c. search needs) (λ c. search needs) (λ c. search needs) slice-write-index-2 (λ c. search needs)
     mul-index-3 slice-write-index-3 write-requires same-length-2 returns-3)

@@ -2,13 +2,18 @@
 use mathlib.Core.Path.{_≡_, sym, ap, _∙_}
 use Prim.Native.Nat.{ℕ}
 use borrow.Author.Needs.{needs}
-use Rattle.dictionary_chains.specs.Chain.{found}
+use Rattle.dictionary_chains.specs.Chain.{keyRoom, found}
 use Rattle.dictionary_chains.specs.ChainLaws.{found-small}
 use Rattle.dictionary_chains.specs.declared.Table.the-variants.{Components}
 use Rattle.dictionary_rules.specs.Index.{componentOf}
 use Rattle.dictionary_rules.specs.IndexLaws.{component-missing, component-closed}
 use Rattle.dictionary_names.proofs.component_of.Statement.{statement}
 use Rattle.dictionary_names.proofs.component_of.Tie as tie
+
+-- the key is of 16 bits, as a component's must be
+find-requires : tie.Need-find-requires
+unfolding keyRoom
+find-requires c κs = search needs
 
 -- the entry that was found is that of the number
 at-of : (c : tie.After-find) → let a = c .before .before .before .args in found Components (a .index .now) (a .number) ≡ c .find .result
@@ -27,4 +32,4 @@ returns-2 c = let f = c .before .before in
 
 pub component-of-spec : {M : Type 1} → statement M
 component-of-spec =
-    tie.close (tie.spec (λ c κs. search needs) (λ c κs. search needs) returns entry-at-requires returns-2)
+    tie.close (tie.spec (λ c κs. search needs) find-requires returns entry-at-requires returns-2)
