@@ -2,7 +2,6 @@
 -- A call for what lies within has one less of depth, and its contract is the definition's `inner`; each return cites the law of its way, and
 -- all along what the leaps say is so.
 use mathlib.Core.Path.{_≡_, refl, sym, ap, _∙_}
-use mathlib.Core.Logic.{_⊎_, inl, inr, ⊎-elim}
 use mathlib.Core.Bool.{Bool, true, false}
 use mathlib.Core.List.{List, [], _∷_}
 use Prim.Native.Nat.{ℕ, _+_, _-_, _*_, _≤_, _<_}
@@ -18,9 +17,9 @@ use Rattle.dictionary_rules.specs.declared.Record.{Record}
 use Rattle.dictionary_rules.specs.declared.Record.the-variants.{FieldItem, ComponentItem, OpensGroup, Closes}
 use Rattle.dictionary_rules.specs.declared.RecordRead.the-variants.{Whole}
 use Rattle.dictionary_meaning_rules.specs.Laying.{Laying, laying, standsAt, putRow, itemsFrom, layItems}
-use Rattle.dictionary_meaning_rules.specs.LayingLaws.{Advances, lay-advances, lay-field, lay-field-full, lay-group, lay-group-broken, lay-group-empty}
-use Rattle.dictionary_meaning_rules.specs.LayingLaws.{lay-group-full, lay-empty, lay-component, lay-component-broken, lay-component-still, lay-close}
-use Rattle.dictionary_meaning_rules.specs.LayingLaws.{lay-deep, lay-down, put-length}
+use Rattle.dictionary_meaning_rules.specs.LayingLaws.{lay-advances, lay-field, lay-field-full, lay-group, lay-group-broken, lay-group-empty}
+use Rattle.dictionary_meaning_rules.specs.LayingLaws.{lay-group-full, lay-component, lay-component-broken, lay-component-still, lay-close}
+use Rattle.dictionary_meaning_rules.specs.LayingLaws.{lay-deep, lay-down}
 use Rattle.dictionary_meaning_rules.specs.declared.Laid.{Laid}
 use Rattle.dictionary_meaning_rules.specs.declared.Laid.the-variants.{Upto, Broken}
 use Rattle.dictionary_meaning_rules.specs.declared.Expansion.the-variants.{ItemsAt, NoItems}
@@ -122,9 +121,12 @@ lay-items-loop-less t c = omega (arith, read-rises t (c .before .before .before 
 lay-items-loop-again : (t : ℕ) → lay-items-lts.Need-loop-again (calls t) (lay-items-at t) lay-items.Post lay-items-Inv-loop lay-items-μ-loop
 lay-items-loop-again t c =
     let e = c .before .before in
-    let i = head t (e .before .before .before .before) .loop .inv in
-    (omega (arith, e .if2 .left), i .1, i .2,
-        i .3 ∙ lay-field _ _ _ (lay-advances _ _ _) _ _ _ _ _ _ (field-here t (e .before)) (e .if2 .left) ∙ rw (c .put-row .ensures))
+    let i = head t (e .before .before .before .before) .loop .inv in (
+      omega (arith, e .if2 .left),
+      i .1,
+      i .2,
+      i .3 ∙ lay-field _ _ _ (lay-advances _ _ _) _ _ _ _ _ _ (field-here t (e .before)) (e .if2 .left) ∙ rw (c .put-row .ensures),
+    )
 
 -- a group that opens
 abbrev Opens : ℕ → Type 0

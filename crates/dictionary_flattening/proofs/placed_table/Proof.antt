@@ -22,7 +22,7 @@ lay-items-requires c κs =
 
 laid-here : (c : tie.After-lay-items) → let a = c .before .before .before .before .before .before .before .before .before .before .before .args in
     laying (c .lay-items .result) (c .lay-items .last .1 .1 .0) ≡ layItems mostCalls (a .dictionary .now) (componentAt (a .index .now))
-        (a .opening + 9) 0 (a .table .now)
+    (a .opening + 9) 0 (a .table .now)
 laid-here c =
     let p = c .before .before .before .before .before in
     let a = p .before .before .before .before .before .before .args in
