@@ -36,9 +36,8 @@ fn write_field(output: &mut [u8], at: usize, tag: u32, value: &[u8], separator: 
     let Written::Next(digits) = field_numbers::write_number(output, at, tag) else {
         return at;
     };
-    let equals = [61u8];
     let ending = [separator];
-    let place = write_bytes(output, digits, &equals[..]);
+    let place = write_bytes(output, digits, b"=");
     let end = write_bytes(output, place, value);
     write_bytes(output, end, &ending[..])
 }
@@ -209,9 +208,8 @@ fn write_tail(output: &mut [u8], at: usize, separator: u8)
 {
     let sum = sum_before(output, at);
     let digits = field_numbers::checksum_digits(sum);
-    let prefix = [49u8, 48, 61];
     let ending = [separator];
-    let first = write_bytes(output, at, &prefix[..]);
+    let first = write_bytes(output, at, b"10=");
     let second = write_bytes(output, first, &digits[..]);
     write_bytes(output, second, &ending[..]);
 }

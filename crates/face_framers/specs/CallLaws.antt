@@ -10,7 +10,9 @@ use Rattle.frame_hunter_rules.specs.declared.Reply.{Reply}
 use Rattle.frame_hunter_rules.specs.declared.Taken.{Taken}
 use Rattle.frame_hunter_rules.specs.Bytes.{pushed as hunterPushed, finished as hunterFinished, tookFrom, Pushes, Finishes, Takes}
 use Rattle.face_told.specs.Told.{told}
+use Rattle.face_framers.specs.declared.PortedState.{PortedState}
 use Rattle.face_framers.specs.declared.PortedReply.{PortedReply}
+use Rattle.face_framers.specs.declared.HunterState.{HunterState}
 use Rattle.face_framers.specs.declared.HunterReply.{HunterReply}
 use Rattle.face_framers.specs.States.{portedTold, hunterTold}
 
@@ -33,8 +35,8 @@ taken-store-from s t store output left e h = h ∙ ap (λ (x : State). takenStor
 pub taken-output-from : (s t : State) (store output left : List ℕ) → s ≡ t → left ≡ takenOutput s store output → left ≡ takenOutput t store output
 taken-output-from s t store output left e h = h ∙ ap (λ (x : State). takenOutput x store output) e
 
-pub ported-tells : (o o′ : Outcome) (r : PortedReply) → o ≡ o′ → r ≡ portedTold (o .state) (o .answer) → r ≡ portedTold (o′ .state) (o′ .answer)
-ported-tells o o′ r e h = h ∙ ap (λ (x : Outcome). portedTold (x .state) (x .answer)) e
+pub ported-tells : (lent : PortedState) (o o′ : Outcome) (r : PortedReply) → o ≡ o′ → r ≡ portedTold lent (o .state) (o .answer) → r ≡ portedTold lent (o′ .state) (o′ .answer)
+ported-tells lent o o′ r e h = h ∙ ap (λ (x : Outcome). portedTold lent (x .state) (x .answer)) e
 
 pub ported-length : (o o′ : Outcome) (n : ℕ) (out : List ℕ) → o ≡ o′ → n ≡ lengthReturned (o .answer) → out ≡ told 0 (n, 0) → out ≡ told 0 (lengthReturned (o′ .answer), 0)
 ported-length o o′ n out e h t = t ∙ ap (λ (x : ℕ). told 0 (x, 0)) (h ∙ ap (λ (x : Outcome). lengthReturned (x .answer)) e)
@@ -56,11 +58,11 @@ takes-from s t store output r left written e h = record {
   output-is = h .output-is ∙ ap (λ (x : Hunter). tookFrom x store output .output) e;
 }
 
-pub hunter-tells : (o o′ : Reply) (r : HunterReply) → o ≡ o′ → r ≡ hunterTold (o .state) (o .answer) → r ≡ hunterTold (o′ .state) (o′ .answer)
-hunter-tells o o′ r e h = h ∙ ap (λ (x : Reply). hunterTold (x .state) (x .answer)) e
+pub hunter-tells : (lent : HunterState) (o o′ : Reply) (r : HunterReply) → o ≡ o′ → r ≡ hunterTold lent (o .state) (o .answer) → r ≡ hunterTold lent (o′ .state) (o′ .answer)
+hunter-tells lent o o′ r e h = h ∙ ap (λ (x : Reply). hunterTold lent (x .state) (x .answer)) e
 
-pub hunter-took : (o o′ : Taken) (r : HunterReply) → o ≡ o′ → r ≡ hunterTold (o .state) (o .answer) → r ≡ hunterTold (o′ .state) (o′ .answer)
-hunter-took o o′ r e h = h ∙ ap (λ (x : Taken). hunterTold (x .state) (x .answer)) e
+pub hunter-took : (lent : HunterState) (o o′ : Taken) (r : HunterReply) → o ≡ o′ → r ≡ hunterTold lent (o .state) (o .answer) → r ≡ hunterTold lent (o′ .state) (o′ .answer)
+hunter-took lent o o′ r e h = h ∙ ap (λ (x : Taken). hunterTold lent (x .state) (x .answer)) e
 
 pub hunter-length : (o o′ : Taken) (out : List ℕ) → o ≡ o′ → out ≡ told 0 (o .length, 0) → out ≡ told 0 (o′ .length, 0)
 hunter-length o o′ out e h = h ∙ ap (λ (x : Taken). told 0 (x .length, 0)) e

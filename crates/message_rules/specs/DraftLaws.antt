@@ -7,7 +7,7 @@ use mathlib.Core.List.{List}
 use Prim.Native.Nat.{ℕ}
 use native.Mathlib.Omega.{arith}
 use lib.ListN.{length}
-use lib.Dec.{eqb}
+use lib.Dec.{eqb, leb}
 use borrow.Author.Tests.{eqb-true, eqb-false, eq-eqb}
 use Rattle.field_rules.specs.Choice.{pick}
 use Rattle.message_maps.specs.Map.{Map, end, field, entry, joined, pastLeading, stored, fieldCount, valuesIn}
@@ -132,9 +132,9 @@ module _ (words values : List ℕ) where
   unfolding storingLast ofDraft
   store-last-answered tag value =
       answered-by (isDraft words values)
-      (λ h. answered-by (eqb tag 0) (λ e. not-storable) (λ e. answered-by (isEmpty (runIn words values)) (λ n. no-run) (λ n.
+      (λ h. answered-by (eqb tag 0) (λ e. not-storable) (λ e. answered-by (leb (length value) 8192) (λ s. answered-by (isEmpty (runIn words values)) (λ n. no-run) (λ n.
       run-answered true (inLast (stored tag value) (runIn words values))
-      (λ u. last-entries (stored tag value) (λ m. formed-stored tag value m (eqb-false tag 0 e)) (runIn words values) (lent-run words values h .entries)) (λ l. (h, l)))))
+      (λ u. last-entries (stored tag value) (λ m. formed-stored tag value m (eqb-false tag 0 e)) (runIn words values) (lent-run words values h .entries)) (λ l. (h, l)))) (λ s. not-storable)))
       none-lent
 
   -- what they leave where they answer 0

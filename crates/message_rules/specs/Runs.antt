@@ -56,12 +56,14 @@ unfoldable pub lastFrom : ℕ → ℕ → List Row → ℕ
 lastFrom start i [] = start
 lastFrom start i (r ∷ rows) = pick (eqb (levelOf r) 0) (lastFrom (i + 1) (i + 1) rows) (lastFrom start (i + 1) rows)
 
--- a field is stored in the last entry; "run empty" where there is none
+-- a field is stored in the last entry; "run empty" where there is none, behind "41": a value over the limit fits in no draft
 unfoldable pub storingLast : ℕ → List ℕ → List ℕ → List ℕ → After
 storingLast tag value words values =
     ofDraft words values (after NoMessage words values) (λ run.
     pick (eqb tag 0) (after NotStorable words values)
-    (pick (isEmpty run) (after NoRun words values) (judgedRun words values true (inLast (stored tag value) run))))
+    (pick (leb (length value) 8192)
+    (pick (isEmpty run) (after NoRun words values) (judgedRun words values true (inLast (stored tag value) run)))
+    (after NotStorable words values)))
 
 -- "a run's start and delimiter tags count as stored for tag 0"
 unfoldable pub hasUntagged : Map → Bool

@@ -7,7 +7,7 @@ use native.Mathlib.Omega.{arith}
 use native.Mathlib.Nat.{sub-zero}
 use lib.ListN.{length, take, length-append}
 use lib.Dec.{leb, eqb}
-use borrow.Author.Tests.{eq-eqb, ne-eqb, lt-leb}
+use borrow.Author.Tests.{eq-eqb, ne-eqb, le-leb, lt-leb}
 use Rattle.field_rules.specs.Choice.{pick}
 use Rattle.message_maps.specs.Map.{Map, end, field, entry, joined, holds, holdsAny, replaced, withoutRun, runOn, stored, fieldCount, valuesIn}
 use Rattle.message_maps.specs.Rows.{Row, row, laid, rowsFrom}
@@ -117,26 +117,22 @@ module _ (words values : List ℕ) (run : Map) (d : Draft words values run) (s :
         frame.put-judged _ _ _ _ _ _ entry-frame tag value fields kept more
         ∙ ap (λ (m : Map). judgedMap words values true (fieldCount m) m) (sym (s .changed (stored tag value)))
 
-  -- a value over the limit is never storable
-  pub last-large : (tag : ℕ) (value : List ℕ) → 8192 < length value → judgedRun words values true (inLast (stored tag value) run) ≡ after NotStorable words values
-  unfolding judgedRun judgedMap
-  last-large tag value h =
-      let x = stored tag value (s .own) in
-      let n = stored-long tag value (s .own) in
-      let e : length (valuesIn (inLast (stored tag value) run)) ≡ length (valuesIn (s .front)) + length (valuesIn x) =
-      ap (λ (m : Map). length (valuesIn m)) (s .changed (stored tag value)) ∙ ap length (values-joined (s .front) (entry (s .start) (s .delimiter) x end)) ∙ length-append (valuesIn (s .front)) (valuesIn (entry (s .start) (s .delimiter) x end)) ∙ ap (λ (t : List ℕ). length (valuesIn (s .front)) + length t) (entry-values (s .start) (s .delimiter) x) in
-      rw (lt-leb (length (valuesIn (inLast (stored tag value) run))) 8192 (omega arith))
-
 -- one law for each way that storing goes
 module _ (words values : List ℕ) (tag : ℕ) (value : List ℕ) (lent : isDraft words values ≡ true) where
   pub store-untagged : tag ≡ 0 → storingLast tag value words values ≡ after NotStorable words values
   unfolding storingLast
   store-untagged e = draft-yes words values _ _ lent ∙ rw (eq-eqb tag 0 e)
 
-  pub store-nowhere : (tag ≡ 0 → ⊥) → isEmpty (runIn words values) ≡ true → storingLast tag value words values ≡ after NoRun words values
+  -- "41, 42": before it is asked whether there is an entry
+  pub store-large : (tag ≡ 0 → ⊥) → 8192 < length value → storingLast tag value words values ≡ after NotStorable words values
   unfolding storingLast
-  store-nowhere e h = draft-yes words values _ _ lent ∙ rw (ne-eqb tag 0 e, h)
+  store-large e l = draft-yes words values _ _ lent ∙ rw (ne-eqb tag 0 e, lt-leb (length value) 8192 l)
 
-  pub store-last : (tag ≡ 0 → ⊥) → isEmpty (runIn words values) ≡ false → storingLast tag value words values ≡ judgedRun words values true (inLast (stored tag value) (runIn words values))
+  pub store-nowhere : (tag ≡ 0 → ⊥) → length value ≤ 8192 → isEmpty (runIn words values) ≡ true → storingLast tag value words values ≡ after NoRun words values
   unfolding storingLast
-  store-last e h = draft-yes words values _ _ lent ∙ rw (ne-eqb tag 0 e, h)
+  store-nowhere e l h = draft-yes words values _ _ lent ∙ rw (ne-eqb tag 0 e, le-leb (length value) 8192 l, h)
+
+  pub store-last : (tag ≡ 0 → ⊥) → length value ≤ 8192 → isEmpty (runIn words values) ≡ false →
+      storingLast tag value words values ≡ judgedRun words values true (inLast (stored tag value) (runIn words values))
+  unfolding storingLast
+  store-last e l h = draft-yes words values _ _ lent ∙ rw (ne-eqb tag 0 e, le-leb (length value) 8192 l, h)

@@ -102,13 +102,13 @@ pub fn store_last(
     if tag == 0 {
         return message_rules::Change::NotStorable;
     }
+    if 8192 < value.len() {
+        return message_rules::Change::NotStorable;
+    }
     let count = message_lent::row_count(words);
     let from = last_start(words, count);
     if from == 0 {
         return message_rules::Change::NoRun;
-    }
-    if 8192 < value.len() {
-        return message_rules::Change::NotStorable;
     }
     let others = message_lent::fields_in(words, 0, 0, from - 1);
     let own = message_lent::fields_in(words, 1, from, count);

@@ -1,5 +1,5 @@
 -- Demand 3 at the exports: what frame_hunter_rules shows of the core holds of the calls that a caller in another language makes.
-use mathlib.Core.Path.{_≡_, refl, sym, ap, _∙_}
+use mathlib.Core.Path.{_≡_, refl, sym, ap, subst, _∙_}
 use mathlib.Core.Bool.{Bool, true, false}
 use mathlib.Core.List.{List, [], _++_}
 use Prim.Native.Nat.{ℕ, _+_, _%_, _≤_}
@@ -12,21 +12,21 @@ use Rattle.frame_verdict_rules.specs.Verdict.{verdictOf}
 use Rattle.frame_hunter_rules.specs.Hunt.{Framer, storeSize, countWrap, Took, takeOne, accepted, refused, giveEnd, Each, joined}
 use Rattle.frame_hunter_rules.specs.Recovery.{Whole, Handed}
 use Rattle.frame_hunter_rules.specs.Demand3.{NoneStraddles, demand-3}
-use Rattle.frame_hunter_rules.specs.Bytes.{numberOfHunter, framerOf, unfit, leftBy, finished, refusedTake, unmoved, movedBy, tookFrom, freshState}
+use Rattle.frame_hunter_rules.specs.Bytes.{numberOfHunter, framerOf, unfit, leftBy, finished, refusedTake, unmoved, movedBy, tookFrom}
 use Rattle.frame_hunter_rules.specs.InVainLaws.{refused-leaves}
 use Rattle.frame_hunter_rules.specs.CallsLaws.{never-full, never-full-elsewhere, nothing-again, bytes-conserved, stream-alone}
 use Rattle.frame_hunter_rules.specs.CallsExist.{can-begin, can-go-on, can-end}
 use Rattle.frame_hunter_rules.specs.declared.State.{State}
 use Rattle.frame_hunter_rules.specs.declared.Answer.{Answer}
 use Rattle.frame_hunter_rules.specs.declared.Answer.the-variants.{Fine, OutputShort, StoreFull, AfterEnd, BadStore}
-use Rattle.face_framers.specs.States.{hunterIn, hunterOut}
-use Rattle.face_framers.specs.StateLaws.{hunter-kept}
+use Rattle.face_framers.specs.States.{hunterIn, hunterOut, hunterFresh}
+use Rattle.face_framers.specs.StateLaws.{hunter-as-it-was, hunter-zeros}
 use Rattle.face_framers.specs.declared.HunterState.{HunterState}
 use Rattle.face_framers.specs.Exports.{HunterPush, HunterEnd, HunterTake}
 use Rattle.promise_exported_framers.specs.ToldLength.{lengthTold}
-use Rattle.promise_exported_framers.specs.HunterRule.{HunterRefused, refused-push, refused-take, refused-end, HunterTakenAll, last-take, next-take, after-refusal, HunterCalls, after-reset, after-chunk, after-end, take-again, call-in-vain}
-use Rattle.promise_exported_framers.specs.HunterLaws.{push-is, take-is, length-uncut, refused-is, calls-are}
-use Rattle.promise_exported_framers.specs.HunterExist.{calls-exported}
+use Rattle.promise_exported_framers.specs.HunterRule.{HunterRefused, refused-push, refused-take, refused-end, HunterCalls}
+use Rattle.promise_exported_framers.specs.HunterLaws.{reads, push-is, take-is, length-uncut, refused-is, calls-are}
+use Rattle.promise_exported_framers.specs.HunterExist.{hunterPlain, calls-exported}
 
 -- DEMAND 3 AT THE EXPORTS, in the words of demand-3: only the calls are those of the exports
 pub demand-3-exported : {over : Bool} {given : List ℕ} {frames : List (List ℕ)} {s : HunterState} {store : List ℕ} (rest D : List ℕ) (Fs : List (List ℕ)) →
@@ -94,27 +94,14 @@ end-never-full-exported {s = s} {store = store} p e =
 
 -- ---- further takes and calls in vain change nothing, not a byte of the lent state
 
--- a mark is 0 or 1 once a call left it
-left-as-told : (s : State) (z : HunterState) → z ≡ hunterOut s → hunterOut (hunterIn z) ≡ z
-left-as-told s z e = ap hunterOut (ap hunterIn e ∙ hunter-kept s) ∙ sym e
+-- what means the same is the same, byte for byte
+as-lent : {s z : HunterState} {t : State} → z ≡ hunterOut s t → t ≡ hunterIn s → z ≡ s
+as-lent {s = s} e q = e ∙ ap (hunterOut s) q ∙ hunter-as-it-was s
 
-refused-told : {s z : HunterState} {store store′ : List ℕ} → HunterRefused s store z store′ → hunterOut (hunterIn z) ≡ z
-refused-told (refused-push around p v) = left-as-told _ _ (p .state-left)
-refused-told (refused-take around p v) = left-as-told _ _ (p .state-left)
-refused-told (refused-end p v) = left-as-told _ _ (p .state-left)
-
-taken-told : {s z : HunterState} {store store″ : List ℕ} {frames : List (List ℕ)} → HunterTakenAll s store frames z store″ → hunterOut (hunterIn z) ≡ z
-taken-told (last-take l p e) = left-as-told _ _ (p .state-left)
-taken-told (next-take l p e rest) = taken-told rest
-taken-told (after-refusal c rest) = taken-told rest
-
-told-state : {over : Bool} {stream : List ℕ} {frames : List (List ℕ)} {s : HunterState} {store : List ℕ} → HunterCalls over stream frames s store →
-    hunterOut (hunterIn s) ≡ s
-told-state (after-reset size p) = left-as-told _ _ (p .state-left)
-told-state (after-chunk c calls l p all) = taken-told all
-told-state (after-end calls p all) = taken-told all
-told-state (take-again calls l p) = left-as-told _ _ (p .state-left)
-told-state (call-in-vain calls c) = refused-told c
+refused-over : {s z : HunterState} {store store′ : List ℕ} → HunterRefused s store z store′ → z ≡ hunterOut s (hunterIn z)
+refused-over {s = s} {z = z} (refused-push around p v) = p .state-left ∙ ap (hunterOut s) (reads s z _ (p .state-left))
+refused-over {s = s} {z = z} (refused-take around p v) = p .state-left ∙ ap (hunterOut s) (reads s z _ (p .state-left))
+refused-over {s = s} {z = z} (refused-end p v) = p .state-left ∙ ap (hunterOut s) (reads s z _ (p .state-left))
 
 -- A FURTHER TAKE ANSWERS 0, TELLS 0, AND LEAVES STATE, STORE AND OUTPUT
 pub record NothingTold (s : HunterState) (store output : List ℕ) (r : ℕ) (z : HunterState) (store′ output′ out : List ℕ) : Type 0 where
@@ -132,26 +119,25 @@ nothing-again-exported {s = s} {z = z} {store = store} {store′ = store′} {ou
     record {
       answered = p .answered ∙ ap numberOfHunter (n .0);
       none = length-uncut s store output r z store′ output′ out p ∙ n .1 .none;
-      state-kept = p .state-left ∙ ap hunterOut (n .1 .state-is) ∙ told-state calls;
+      state-kept = as-lent (p .state-left) (n .1 .state-is);
       store-kept = n .1 .store-is;
       output-kept = n .1 .output-is;
     }
 
--- A CALL IN VAIN LEAVES STATE AND STORE
-pub in-vain-exported : {over : Bool} {stream : List ℕ} {frames : List (List ℕ)} {s z : HunterState} {store store′ : List ℕ} →
-    HunterCalls over stream frames s store → HunterRefused s store z store′ → (z ≡ s) × (store′ ≡ store)
-in-vain-exported calls c = let k = refused-leaves (refused-is c) in (sym (refused-told c) ∙ ap hunterOut (k .0) ∙ told-state calls, k .1)
+-- A CALL IN VAIN LEAVES STATE AND STORE, whatever calls came before it
+pub in-vain-exported : {s z : HunterState} {store store′ : List ℕ} → HunterRefused s store z store′ → (z ≡ s) × (store′ ≡ store)
+in-vain-exported c = let k = refused-leaves (refused-is c) in (as-lent (refused-over c) (k .0), k .1)
 
 -- ---- the rule can always be kept
 
-pub can-begin-exported : HunterCalls false [] [] (hunterOut freshState) (replicate storeSize 0)
-can-begin-exported = calls-exported can-begin
+pub can-begin-exported : HunterCalls false [] [] hunterFresh (replicate storeSize 0)
+can-begin-exported = subst (λ (s : HunterState). HunterCalls false [] [] s (replicate storeSize 0)) hunter-zeros (calls-exported can-begin)
 
 pub can-go-on-exported : {stream : List ℕ} {frames : List (List ℕ)} {s : HunterState} {store : List ℕ} (c : List ℕ) →
     HunterCalls false stream frames s store → length c ≤ frameMost →
     (more : List (List ℕ)) × (z : HunterState) × (store″ : List ℕ) × HunterCalls false (stream ++ c) (frames ++ more) z store″
-can-go-on-exported c calls l = let g = can-go-on c (calls-are calls) l in (g .0, hunterOut (g .1), g .2, calls-exported (g .3))
+can-go-on-exported c calls l = let g = can-go-on c (calls-are calls) l in (g .0, hunterPlain (g .1), g .2, calls-exported (g .3))
 
 pub can-end-exported : {stream : List ℕ} {frames : List (List ℕ)} {s : HunterState} {store : List ℕ} → HunterCalls false stream frames s store →
     (more : List (List ℕ)) × (z : HunterState) × (store″ : List ℕ) × HunterCalls true stream (frames ++ more) z store″
-can-end-exported calls = let g = can-end (calls-are calls) in (g .0, hunterOut (g .1), g .2, calls-exported (g .3))
+can-end-exported calls = let g = can-end (calls-are calls) in (g .0, hunterPlain (g .1), g .2, calls-exported (g .3))

@@ -10,14 +10,14 @@ use Rattle.frame_parser_rules.specs.Stream.{Each, joined, Fits}
 use Rattle.frame_parser_rules.specs.Framing.{framing, framing-whole, framing-goes-on}
 use Rattle.frame_parser_rules.specs.declared.State.{State}
 use Rattle.frame_parser_rules.specs.declared.Answer.the-variants.{Accepted, Message}
-use Rattle.face_framers.specs.States.{portedIn, portedOut}
+use Rattle.face_framers.specs.States.{portedIn}
 use Rattle.face_framers.specs.declared.PortedState.{PortedState}
 use Rattle.standard_rules.specs.Standard.{Tables}
 use Rattle.face_framers.specs.Exports.{PortedPush, PortedTake}
 use Rattle.promise_exported_framers.specs.ToldLength.{lengthTold}
 use Rattle.promise_exported_framers.specs.PortedRule.{PortedCalls}
 use Rattle.promise_exported_framers.specs.PortedLaws.{length-uncut, atEnd, is-run, is-quiet}
-use Rattle.promise_exported_framers.specs.PortedExist.{run-exported}
+use Rattle.promise_exported_framers.specs.PortedExist.{portedPlain, run-exported}
 
 -- the messages that came out, when the bytes `given` have arrived of the messages `all`: `Framed`, in the numbers that the exports answer
 pub record FramedExported (over : Bool) (given : List ℕ) (all messages : List (List ℕ)) (state : PortedState) (store : List ℕ) : Type 0 where
@@ -90,4 +90,4 @@ pub framing-goes-on-exported : {T : Tables} {given : List ℕ} {messages : List 
     PortedCalls false given messages state store → Each (Fits T) all → given ++ (c ++ rest) ≡ joined all → length c ≤ 8192 → 8192 ≤ length output → FurtherExported given c messages
 framing-goes-on-exported c rest output all calls fit flows small long =
     let g = framing-goes-on c rest output all (is-run calls .run) fit flows small long in
-    record { new = g .new; state = portedOut (g .state); store = g .store; calls = run-exported (g .run) }
+    record { new = g .new; state = portedPlain (g .state); store = g .store; calls = run-exported (g .run) }

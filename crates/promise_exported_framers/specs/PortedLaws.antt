@@ -18,7 +18,7 @@ use Rattle.frame_parser_rules.specs.declared.Outcome.{Outcome}
 use Rattle.frame_hunter_rules.specs.Calls.{InVain}
 use Rattle.face_told.specs.Told.{told}
 use Rattle.face_framers.specs.States.{portedIn, portedOut}
-use Rattle.face_framers.specs.StateLaws.{ported-kept}
+use Rattle.face_framers.specs.StateLaws.{ported-kept, ported-fresh}
 use Rattle.face_framers.specs.declared.PortedState.{PortedState}
 use Rattle.face_framers.specs.Exports.{PortedPush, PortedTake}
 use Rattle.promise_exported_framers.specs.ToldLength.{lengthTold}
@@ -26,8 +26,8 @@ use Rattle.promise_exported_framers.specs.PortedRule.{PortedRefused, ref
 use Rattle.promise_exported_framers.specs.PortedAnswers.{push-done, end-done, take-done, length-small, push-in-vain, end-in-vain, take-in-vain, take-nothing, take-alike}
 
 -- the state that the next call reads is the one that the call left
-pub reads : (z : PortedState) (s : State) → z ≡ portedOut s → s ≡ portedIn z
-reads z s e = sym (ap portedIn e ∙ ported-kept s)
+pub reads : (lent z : PortedState) (s : State) → z ≡ portedOut lent s → s ≡ portedIn z
+reads lent z s e = sym (ap portedIn e ∙ ported-kept lent s)
 
 -- ---- each export's call is the core's
 
@@ -39,7 +39,7 @@ push-accepts s store c n e z = ap (λ (a : Answer). answersWith (pushed s store 
 pub push-is : (s : PortedState) (store c : List ℕ) (r : ℕ) (z : PortedState) (store′ out : List ℕ) → PortedPush s store c r z store′ out → r ≡ 0 →
     Pushes (portedIn s) store c (portedIn z) store′
 push-is s store c r z store′ out p e = record {
-  answers = push-accepts (portedIn s) store c r (p .answered) e ∙ ap (λ (x : State). answersWith x Accepted) (reads z _ (p .state-left));
+  answers = push-accepts (portedIn s) store c r (p .answered) e ∙ ap (λ (x : State). answersWith x Accepted) (reads _ z _ (p .state-left));
   leaves = p .store-left;
 }
 
@@ -62,7 +62,7 @@ take-is s store output r z store′ output′ out p e = record {
   output = output;
   answers = take-hands (portedIn s) store output r (p .answered) e
       ∙ ap (λ (n : ℕ). answersWith (taken (portedIn s) store output .state) (Message n)) (sym (length-uncut s store output r z store′ output′ out p))
-      ∙ ap (λ (x : State). answersWith x (Message (lengthTold out))) (reads z _ (p .state-left));
+      ∙ ap (λ (x : State). answersWith x (Message (lengthTold out))) (reads _ z _ (p .state-left));
   leaves = p .store-left;
   hands = ap (take (lengthTold out)) (p .output-left);
 }
@@ -72,11 +72,11 @@ take-is s store output r z store′ output′ out p e = record {
 -- A CALL IN VAIN CHANGES NOTHING, whatever was lent as the store
 pub refused-leaves : {s z : PortedState} {store store′ : List ℕ} → PortedRefused s store z store′ → (portedIn z ≡ portedIn s) × (store′ ≡ store)
 refused-leaves (refused-push {s = s} {z = z} {place = place} {chunk = chunk} around p v) =
-    let k = push-in-vain (portedIn s) place chunk (subst InVain (p .answered) v) in (sym (reads z _ (p .state-left)) ∙ k .0, ap around (p .store-left ∙ k .1))
+    let k = push-in-vain (portedIn s) place chunk (subst InVain (p .answered) v) in (sym (reads _ z _ (p .state-left)) ∙ k .0, ap around (p .store-left ∙ k .1))
 refused-leaves (refused-take {s = s} {z = z} {place = place} {output = output} around p v) =
-    let k = take-in-vain (portedIn s) place output (subst InVain (p .answered) v) in (sym (reads z _ (p .state-left)) ∙ k .state-is, ap around (p .store-left ∙ k .store-is))
+    let k = take-in-vain (portedIn s) place output (subst InVain (p .answered) v) in (sym (reads _ z _ (p .state-left)) ∙ k .state-is, ap around (p .store-left ∙ k .store-is))
 refused-leaves (refused-end {s = s} {z = z} {place = place} p v) =
-    (sym (reads z _ (p .state-left)) ∙ end-in-vain (portedIn s) place (subst InVain (p .answered) v), refl)
+    (sym (reads _ z _ (p .state-left)) ∙ end-in-vain (portedIn s) place (subst InVain (p .answered) v), refl)
 
 -- ---- all that is ready is taken
 
@@ -157,7 +157,7 @@ same-run e l i = rw (e, l) i
 -- A SEQUENCE OF CALLS OF THE EXPORTS IS A RUN OF THE CORE
 pub is-run : {over : Bool} {given : List ℕ} {messages : List (List ℕ)} {s : PortedState} {store : List ℕ} → PortedCalls over given messages s store →
     IsRun over given messages (portedIn s) store
-is-run (after-reset {s = s} size p) = record { going = fresh; run = core.begins size; state-is = sym (reads s fresh (p .state-left)) }
+is-run (after-reset {s = s} size p) = record { going = fresh; run = core.begins size; state-is = ap portedIn (p .state-left) ∙ ported-fresh }
 is-run (after-chunk {given = given} {messages = messages} {new = new} {s = s} {y = y} {z = z} {store = store} {store′ = store′} {store″ = store″} {out = out} {r = r} c calls small p e all) = go (is-run calls)
   where
     go : IsRun false given messages (portedIn s) store → IsRun false (given ++ c) (messages ++ new) (portedIn z) store″
@@ -169,9 +169,9 @@ is-run (after-chunk {given = given} {messages = messages} {new = new} {s = s} {y
 is-run (after-end {given = given} {messages = messages} {s = s} {z = z} {store = store} {r = r} calls p e) = go (is-run calls)
   where
     go : IsRun false given messages (portedIn s) store → IsRun true given messages (portedIn z) store
-    go i = record { going = i .going; run = i .run; state-is = sym (reads z _ (p .state-left)) ∙ end-marks (portedIn s) store r (p .answered) e ∙ ap withEnd (i .state-is) }
+    go i = record { going = i .going; run = i .run; state-is = sym (reads _ z _ (p .state-left)) ∙ end-marks (portedIn s) store r (p .answered) e ∙ ap withEnd (i .state-is) }
 is-run (take-again {s = s} {z = z} {store = store} {output = output} calls long p) =
     let i = is-run calls in
     let n = take-nothing (portedIn s) store output (is-quiet i output long) in
-    same-run (sym (reads z _ (p .state-left)) ∙ n .state-is) (p .store-left ∙ n .store-is) i
+    same-run (sym (reads _ z _ (p .state-left)) ∙ n .state-is) (p .store-left ∙ n .store-is) i
 is-run (call-in-vain calls c) = let k = refused-leaves c in same-run (k .0) (k .1) (is-run calls)

@@ -6,7 +6,7 @@ use mathlib.Core.List.{List}
 use Prim.Native.Nat.{ℕ}
 use native.Mathlib.Omega.{arith}
 use lib.ListN.{length}
-use lib.Dec.{eqb}
+use lib.Dec.{eqb, leb}
 use borrow.Author.Tests.{eq-eqb}
 use Rattle.message_maps.specs.Map.{Map, end, entry, joined, stored, fieldCount, valuesIn}
 use Rattle.message_maps.specs.Rows.{messageWords}
@@ -69,7 +69,9 @@ module _ (words values words′ values′ : List ℕ) (run : Map) (l : LaysOut r
       rw (same-test, same-run)
       (same-by words values words′ values′ (isDraft words′ values′)
       (same-by words values words′ values′ (eqb tag 0) (not-storable words values words′ values′)
-      (same-by words values words′ values′ (isEmpty (runIn words′ values′)) no-run (run-judged true (inLast (stored tag value) (runIn words′ values′)))))
+      (same-by words values words′ values′ (leb (length value) 8192)
+      (same-by words values words′ values′ (isEmpty (runIn words′ values′)) no-run (run-judged true (inLast (stored tag value) (runIn words′ values′))))
+      (not-storable words values words′ values′)))
       (no-message words values words′ values′))
 
   hang-last-alike : (runWords runValues : List ℕ) → Same words values words′ values′ (hangingLast runWords runValues words values) (hangingLast runWords runValues words′ values′)

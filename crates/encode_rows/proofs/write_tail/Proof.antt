@@ -22,7 +22,7 @@ digits-at : (c : tie.After-checksum-digits) → let s = c .before .before .befor
 unfolding sumDigits
 digits-at c = c .checksum-digits .ensures ∙ ap checksumDigits (c .before .sum-before .ensures)
 
-room-at : (c : tie.After-prefix) → let s = c .before .before .before .before .before .before in s .args .at + length (tailOf (s .args .separator) (take (s .args .at) (s .args .output .now))) ≤ length (s .args .output .now)
+room-at : (c : tie.After-write-bytes-arg2) → let s = c .before .before .before .before .before .before in s .args .at + length (tailOf (s .args .separator) (take (s .args .at) (s .args .output .now))) ≤ length (s .args .output .now)
 unfolding tailOf sumDigits checksumDigits
 room-at c = omega (arith, c .before .before .before .before .before .before .pre)
 

@@ -6,7 +6,7 @@ use Rattle.face_framers.proofs.ported_end.Tie as tie
 
 returns : tie.Need-returns
 returns c =
-    (ported-tells _ _ _ (finished-from _ _ _ _ (c .before .before .before .ported-in .ensures) (c .before .before .end .ensures)) (c .ported-told .ensures), c .before .before .before .before .tell .ensures)
+    (ported-tells _ _ _ _ (finished-from _ _ _ _ (c .before .before .before .ported-in .ensures) (c .before .before .end .ensures)) (c .ported-told .ensures), c .before .before .before .before .tell .ensures)
 
 pub ported-end-spec : {M : Type 1} → statement M
 ported-end-spec =

@@ -8,7 +8,7 @@ returns : tie.Need-returns
 returns c =
     let s = c .before .before .before .before .before .before .ported-in .ensures in
     let push = c .before .before .before .before .push .ensures in
-    (ported-tells _ _ _ (pushed-from _ _ _ _ _ s (push .0)) (c .ported-told .ensures), pushed-store-from _ _ _ _ _ s (push .1), c .before .before .before .before .before .before .before .tell .ensures)
+    (ported-tells _ _ _ _ (pushed-from _ _ _ _ _ s (push .0)) (c .ported-told .ensures), pushed-store-from _ _ _ _ _ s (push .1), c .before .before .before .before .before .before .before .tell .ensures)
 
 pub ported-push-spec : {M : Type 1} → statement M
 ported-push-spec =

@@ -9,7 +9,7 @@ returns c =
     let s = c .before .before .before .before .before .before .before .before .before .before .before .before .ported-in .ensures in
     let take = c .before .before .before .before .before .before .before .before .before .take .ensures in
     let e = taken-from _ _ _ _ _ s (take .0) in
-    (ported-tells _ _ _ e (c .ported-told .ensures), taken-store-from _ _ _ _ _ s (take .1 .0), taken-output-from _ _ _ _ _ s (take .1 .1), ported-length _ _ _ _ e (c .before .before .parser-length .ensures) (c .before .tell .ensures))
+    (ported-tells _ _ _ _ e (c .ported-told .ensures), taken-store-from _ _ _ _ _ s (take .1 .0), taken-output-from _ _ _ _ _ s (take .1 .1), ported-length _ _ _ _ e (c .before .before .parser-length .ensures) (c .before .tell .ensures))
 
 pub ported-take-spec : {M : Type 1} → statement M
 ported-take-spec =

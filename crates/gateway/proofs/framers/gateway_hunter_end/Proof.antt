@@ -14,5 +14,5 @@ use Rattle.gateway.proofs.framers.gateway_hunter_end.Code as code
 pub gateway-hunter-end-spec : {M : Type 1} → stated.statement M
 unfolding code.routine
 gateway-hunter-end-spec {M} 𝓤 H 𝓜 𝓖 𝓡 =
-    proved hunter core.name (λ h s. hunterTold (finished (hunterIn h) s .reply .state) (finished (hunterIn h) s .reply .answer)) (λ h s. told 0 (0, 0))
+    proved hunter core.name (λ h s. hunterTold h (finished (hunterIn h) s .reply .state) (finished (hunterIn h) s .reply .answer)) (λ h s. told 0 (0, 0))
     M 𝓤 H 𝓜 𝓖 𝓡 code.env name (code.unfolded 𝓤 H 𝓜 𝓡) (cited 𝓤 H _ 𝓜 𝓡 code.env core.name core.routine code.calls-face-framers·hunter-end (core-thm.met 𝓤 H 𝓜 𝓖 𝓡))

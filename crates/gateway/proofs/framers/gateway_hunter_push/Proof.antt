@@ -14,5 +14,5 @@ use Rattle.gateway.proofs.framers.gateway_hunter_push.Code as code
 pub gateway-hunter-push-spec : {M : Type 1} → stated.statement M
 unfolding code.routine
 gateway-hunter-push-spec {M} 𝓤 H 𝓜 𝓖 𝓡 =
-    proved hunter core.name (λ h s c. hunterTold (pushed (hunterIn h) s c .reply .state) (pushed (hunterIn h) s c .reply .answer)) (λ h s c. pushed (hunterIn h) s c .store) (λ h s c. told 0 (0, 0))
+    proved hunter core.name (λ h s c. hunterTold h (pushed (hunterIn h) s c .reply .state) (pushed (hunterIn h) s c .reply .answer)) (λ h s c. pushed (hunterIn h) s c .store) (λ h s c. told 0 (0, 0))
     M 𝓤 H 𝓜 𝓖 𝓡 code.env name (code.unfolded 𝓤 H 𝓜 𝓡) (cited 𝓤 H _ 𝓜 𝓡 code.env core.name core.routine code.calls-face-framers·hunter-push (core-thm.met 𝓤 H 𝓜 𝓖 𝓡))

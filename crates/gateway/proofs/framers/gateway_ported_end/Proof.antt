@@ -14,5 +14,5 @@ use Rattle.gateway.proofs.framers.gateway_ported_end.Code as code
 pub gateway-ported-end-spec : {M : Type 1} → stated.statement M
 unfolding code.routine
 gateway-ported-end-spec {M} 𝓤 H 𝓜 𝓖 𝓡 =
-    proved ported core.name (λ h s. portedTold (finished (portedIn h) s .state) (finished (portedIn h) s .answer)) (λ h s. told 0 (0, 0))
+    proved ported core.name (λ h s. portedTold h (finished (portedIn h) s .state) (finished (portedIn h) s .answer)) (λ h s. told 0 (0, 0))
     M 𝓤 H 𝓜 𝓖 𝓡 code.env name (code.unfolded 𝓤 H 𝓜 𝓡) (cited 𝓤 H _ 𝓜 𝓡 code.env core.name core.routine code.calls-face-framers·ported-end (core-thm.met 𝓤 H 𝓜 𝓖 𝓡))

@@ -14,5 +14,5 @@ use Rattle.gateway.proofs.framers.gateway_ported_push.Code as code
 pub gateway-ported-push-spec : {M : Type 1} → stated.statement M
 unfolding code.routine
 gateway-ported-push-spec {M} 𝓤 H 𝓜 𝓖 𝓡 =
-    proved ported core.name (λ h s c. portedTold (pushed (portedIn h) s c .state) (pushed (portedIn h) s c .answer)) (λ h s c. pushedStore (portedIn h) s c) (λ h s c. told 0 (0, 0))
+    proved ported core.name (λ h s c. portedTold h (pushed (portedIn h) s c .state) (pushed (portedIn h) s c .answer)) (λ h s c. pushedStore (portedIn h) s c) (λ h s c. told 0 (0, 0))
     M 𝓤 H 𝓜 𝓖 𝓡 code.env name (code.unfolded 𝓤 H 𝓜 𝓡) (cited 𝓤 H _ 𝓜 𝓡 code.env core.name core.routine code.calls-face-framers·ported-push (core-thm.met 𝓤 H 𝓜 𝓖 𝓡))
