@@ -1,6 +1,6 @@
-/* One sample on its whole way: a damaged stream, the hunting framer, a build over a prepared dictionary, an encoding, a change, an encoding again; and
- * what a build over less memory and a plain build answer, and what the settings word decides. Each line that is printed is held against what must
- * come; the exit code is 1 where one differs. */
+/* One sample on its whole way: a damaged stream, the hunting framer, a build over a prepared dictionary, an encoding, a change, an encoding again; what
+ * a value with a separator in it does; and what a build over less memory and a plain build answer, and what the settings word decides. Each line that
+ * is printed is held against what must come; the exit code is 1 where one differs. */
 #include "tinkoraba.h"
 
 #include <stdio.h>
@@ -181,6 +181,9 @@ static void changed(const FieldRecord *records, size_t count, const uint8_t *fra
     number("store answers", stored(words, values, 38, "600"), TINKORABA_VALID);
     number("store answers", stored(words, values, 58, "38 came twice"), TINKORABA_VALID);
     encoded(words, values, "8=FIX.4.4|9=29|35=D|38=600|58=38 came twice|10=052|");
+    /* It is written as it is: these are the bytes of the frame, of which the build above read an order of 800. */
+    number("store of a value with a separator answers", stored(words, values, 58, "x" SOH "38=800"), TINKORABA_VALID);
+    encoded(words, values, "8=FIX.4.4|9=24|35=D|38=600|58=x|38=800|10=139|");
 }
 
 int main(void) {

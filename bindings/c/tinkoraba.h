@@ -147,7 +147,7 @@ uint32_t gateway_build_prepared(const uint8_t *message, size_t message_length, u
 /* Makes what is lent an empty message, whatever it held. */
 uint32_t gateway_empty(uint32_t *words, size_t word_count, uint8_t *values, size_t value_count, uint32_t out[4]);
 
-/* Makes what is lent a message with a BeginString (8) and a MsgType (35). */
+/* Makes what is lent a message with a BeginString (8) and a MsgType (35). A separator in them does what it does in gateway_store. */
 uint32_t gateway_new(uint32_t *words, size_t word_count, uint8_t *values, size_t value_count, const uint8_t *begin_string,
                      size_t begin_string_length, const uint8_t *message_type, size_t message_type_length, uint32_t out[4]);
 
@@ -155,14 +155,21 @@ uint32_t gateway_new(uint32_t *words, size_t word_count, uint8_t *values, size_t
 uint32_t gateway_take_over(const FieldRecord *records, size_t record_count, size_t count, const uint8_t *message, size_t message_length,
                            uint32_t *words, size_t word_count, uint8_t *values, size_t value_count, uint32_t out[4]);
 
-/* Stores a field in a part: in the place of the one with its tag, or last. */
+/* Stores a field in a part: in the place of the one with its tag, or last.
+ *
+ * A value that holds the separator is stored and found as it is, and written as it is: gateway_encode doesn't look for its separator in values.
+ * BodyLength and CheckSum count it like any byte, so both are right; but who reads the encoding takes the value to end there, and what follows for the
+ * next field, or for one that can't be read (10 from a build that needs one there). A 58 with `x`, the separator and `38=800` is read as two fields, and
+ * that 38 takes the place of an earlier one. So look for the separator in values that come from outside. By the standard only a data field may hold
+ * byte 1, right behind its length field (95 and 96), and so it is written; a build here ends its value there all the same. */
 uint32_t gateway_store(uint32_t *words, size_t word_count, uint8_t *values, size_t value_count, uint8_t part, uint32_t tag, const uint8_t *value,
                        size_t value_length, uint32_t out[4]);
 
 /* Removes a field from a part. 0 too where the tag isn't held. A run that hung on it stays. */
 uint32_t gateway_remove(uint32_t *words, size_t word_count, uint8_t *values, size_t value_count, uint8_t part, uint32_t tag, uint32_t out[4]);
 
-/* Encodes at the start of the output; out[1] is the length. The message then holds the new BodyLength (9), and the new CheckSum (10) last. */
+/* Encodes at the start of the output; out[1] is the length. The message then holds the new BodyLength (9), and the new CheckSum (10) last. Values are
+ * written as they are, whatever they hold (gateway_store). */
 uint32_t gateway_encode(uint32_t *words, size_t word_count, uint8_t *values, size_t value_count, uint8_t *output, size_t output_length,
                         uint8_t separator, uint32_t out[4]);
 
@@ -175,7 +182,9 @@ uint32_t gateway_draft(uint32_t *words, size_t word_count, uint8_t *values, size
 uint32_t gateway_add_entry(uint32_t *words, size_t word_count, uint8_t *values, size_t value_count, uint32_t start, uint32_t delimiter,
                            uint32_t out[4]);
 
-/* Stores a field in a draft's last entry. */
+/* Stores a field in a draft's last entry. A value that holds the separator is written as it is, as from gateway_store: who reads the encoding takes it
+ * to end there, and what follows for another field, in the entry or behind it (79 with `A`, the separator and `79=B` is read as two entries), or for
+ * one that can't be read. */
 uint32_t gateway_store_last(uint32_t *words, size_t word_count, uint8_t *values, size_t value_count, uint32_t tag, const uint8_t *value,
                             size_t value_length, uint32_t out[4]);
 

@@ -22,6 +22,13 @@ pub struct FieldRecord {
     pub length: u16,
 }
 
+impl FieldRecord {
+    /// Where its value ends.
+    fn end(&self) -> usize {
+        usize::from(self.place) + usize::from(self.length)
+    }
+}
+
 /// Room for the records of one message; make it once and use it for every build.
 #[derive(Debug, Clone)]
 pub struct Records {
@@ -60,25 +67,53 @@ impl Default for Records {
 /// assert_eq!(refused.number(), 12);
 /// # Ok(()) }
 /// ```
-pub fn build<'a>(bytes: &'a [u8], dictionary: &Dictionary, config: Config, records: &'a mut Records) -> Result<Built<'a>, NotBuilt<'a>> {
+pub fn build<'a>(bytes: &'a [u8], dictionary: &Dictionary, config: Config, records: &'a mut Records) -> Result<Built<'a>, NotBuilt> {
     let mut out = [0; 4];
     let number = dictionary.build(bytes, config, &mut records.lent, &mut out);
     let built = Built { bytes, separator: config.separator, records: &records.lent[..out[0] as usize] };
-    answered(number, &out).map(|()| built).map_err(|error| NotBuilt { error, header: built })
+    answered(number, &out, bytes).map(|()| built).map_err(|error| NotBuilt::new(error, &built))
 }
 
-/// A message that was refused, with what its header held.
-#[derive(Clone, Copy)]
-pub struct NotBuilt<'a> {
+/// A message that was refused, with what its header held. It owns both and takes memory for them when it is made: it goes up by `?` as any error,
+/// to other threads too, while message and records serve the next build.
+///
+/// ```
+/// # fn dictionary() -> Result<tinkoraba::Dictionary, tinkoraba::Error> {
+/// #     tinkoraba::Dictionary::writer().tags(&[8, 9, 35, 10]).component(0).field(8).field(9).field(35).close().component(1).field(10).close()
+/// #         .message("0").close().finish()
+/// # }
+/// use tinkoraba::{build, Config, NotBuilt, Records};
+/// fn fields_of(bytes: &[u8]) -> Result<usize, Box<dyn std::error::Error + Send + Sync>> {
+///     let (dictionary, mut records) = (dictionary()?, Records::new());
+///     Ok(build(bytes, &dictionary, Config::default(), &mut records)?.records().len())
+/// }
+///
+/// let refused = fields_of(b"8=FIX.4.4\x019=6\x0135=XX\x0110=036\x01").unwrap_err();
+/// assert_eq!(refused.to_string(), "the dictionary has no message of MsgType `XX` (3)");
+/// let refused: &NotBuilt = refused.downcast_ref().expect("it is the build's");
+/// assert_eq!(refused.header().to_string(), "8=FIX.4.4|9=6|35=XX|");
+/// ```
+#[derive(Clone, PartialEq, Eq)]
+pub struct NotBuilt {
     error: Error,
-    header: Built<'a>,
+    bytes: Box<[u8]>,
+    separator: u8,
+    records: Box<[FieldRecord]>,
 }
 
-impl<'a> NotBuilt<'a> {
+impl NotBuilt {
+    /// Copies the records and the message's bytes as far as they point, which the header starts: none where no record tells of it.
+    #[cold]
+    fn new(error: Error, header: &Built<'_>) -> Self {
+        let Built { bytes, separator, records } = *header;
+        let size = records.iter().map(|record| record.end() + 1).max().map_or(0, |behind| behind.min(bytes.len()));
+        Self { error, bytes: bytes[..size].into(), separator, records: records.into() }
+    }
+
     /// Why.
     #[must_use]
-    pub fn error(&self) -> Error {
-        self.error
+    pub fn error(&self) -> &Error {
+        &self.error
     }
 
     /// The number of [`NotBuilt::error`].
@@ -87,29 +122,30 @@ impl<'a> NotBuilt<'a> {
         self.error.number()
     }
 
-    /// The header's fields with 1 to 4, for the answer to the sender; nothing with the other numbers.
+    /// The header's fields with 1 to 4, for the answer to the sender; nothing with the other numbers. Its bytes are those of the message up to the
+    /// header's end.
     #[must_use]
-    pub fn header(&self) -> Built<'a> {
-        self.header
+    pub fn header(&self) -> Built<'_> {
+        Built { bytes: &self.bytes, separator: self.separator, records: &self.records }
     }
 }
 
-impl fmt::Debug for NotBuilt<'_> {
+impl fmt::Debug for NotBuilt {
     fn fmt(&self, f: &mut fmt::Formatter<'_>) -> fmt::Result {
-        f.debug_struct("NotBuilt").field("error", &self.error).field("header", &self.header).finish()
+        f.debug_struct("NotBuilt").field("error", &self.error).field("header", &self.header()).finish()
     }
 }
 
-impl fmt::Display for NotBuilt<'_> {
+impl fmt::Display for NotBuilt {
     fn fmt(&self, f: &mut fmt::Formatter<'_>) -> fmt::Result {
         self.error.fmt(f)
     }
 }
 
-impl std::error::Error for NotBuilt<'_> {}
+impl std::error::Error for NotBuilt {}
 
-impl From<NotBuilt<'_>> for Error {
-    fn from(refused: NotBuilt<'_>) -> Self {
+impl From<NotBuilt> for Error {
+    fn from(refused: NotBuilt) -> Self {
         refused.error
     }
 }
@@ -148,7 +184,7 @@ impl<'a> Built<'a> {
     /// CheckSum. A build answers 0 either way. It is found out here, not in the library, and so not proved: each separator must end a record's value.
     #[must_use]
     pub fn holds_every_field(&self) -> bool {
-        let mut ends: Vec<usize> = self.records.iter().map(|record| usize::from(record.place) + usize::from(record.length)).collect();
+        let mut ends: Vec<usize> = self.records.iter().map(FieldRecord::end).collect();
         ends.sort_unstable();
         let mut separators = self.bytes.iter().enumerate().filter(|(_, byte)| **byte == self.separator);
         separators.all(|(place, _)| ends.binary_search(&place).is_ok())
@@ -188,8 +224,7 @@ impl<'a> Built<'a> {
 }
 
 fn field_of<'a>(bytes: &'a [u8], record: &FieldRecord) -> Field<'a> {
-    let from = usize::from(record.place);
-    Field { tag: record.tag, value: &bytes[from..from + usize::from(record.length)] }
+    Field { tag: record.tag, value: &bytes[usize::from(record.place)..record.end()] }
 }
 
 impl fmt::Display for Built<'_> {

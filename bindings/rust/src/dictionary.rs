@@ -49,7 +49,7 @@ impl Dictionary {
         // SAFETY: each pointer goes with the length of what it comes from, copy and memory are borrowed for writing alone, and `out` has its size.
         let number =
             unsafe { raw::gateway_prepare(bytes.as_ptr(), bytes.len(), copy.as_mut_ptr(), copy.len(), memory.as_mut_ptr(), memory.len(), &mut out) };
-        answered(number, &out).map(|()| Self { copy, memory })
+        answered(number, &out, &bytes).map(|()| Self { copy, memory })
     }
 
     /// Writes one record by record.

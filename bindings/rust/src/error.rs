@@ -2,16 +2,17 @@
 use crate::raw::Out;
 use std::fmt;
 
-/// Why a call was refused. [`Error::number`] is its number in docs/ANSWERS.md, which also says what to do about it.
-#[derive(Debug, Clone, Copy, PartialEq, Eq, Hash)]
+/// Why a call was refused. [`Error::number`] is its number in docs/ANSWERS.md, which also says what to do about it. It owns what it says: nothing is
+/// borrowed, and only the errors that hold a text take memory for it, when they are made.
+#[derive(Debug, Clone, PartialEq, Eq, Hash)]
 #[non_exhaustive]
 pub enum Error {
     /// 1: the message's layout has no place for this tag.
     InvalidField { tag: u32 },
     /// 2: after a count its delimiter didn't come, or an entry's tags don't rise in the layout's order.
     InvalidOrderInGroup { tag: u32, group: u32 },
-    /// 3: the dictionary has no such message; place and length of the MsgType's value.
-    InvalidMsgType { place: usize, length: usize },
+    /// 3: the dictionary has no message of this MsgType; and place and length of its value in the message.
+    InvalidMsgType { msg_type: MsgType, place: usize, length: usize },
     /// 4: an entry lacks a field that its group requires.
     RequiredFieldMissing { tag: u32, group: u32 },
     /// 10 to 14: the message is garbled. FIX drops such a message without an answer.
@@ -38,7 +39,7 @@ pub enum Error {
     NoRun,
     /// 43: the header lacks 8 or 35, or a run lacks its count.
     Incomplete,
-    /// A number that this crate doesn't know: its archive is of another version.
+    /// A number that this crate doesn't know, or not from the call that answered it: its archive is of another version.
     Other(u32),
 }
 
@@ -58,7 +59,7 @@ pub enum Garbled {
 }
 
 /// What is wrong with a flat dictionary. A place is that of the record's first byte.
-#[derive(Debug, Clone, Copy, PartialEq, Eq, Hash)]
+#[derive(Debug, Clone, PartialEq, Eq, Hash)]
 pub enum Flaw {
     /// 30: over 60,000 bytes.
     TooLong,
@@ -73,9 +74,60 @@ pub enum Flaw {
     /// 35: groups nested five deep.
     TooDeep { place: usize },
     /// 36: a component or a MsgType for the second time.
-    Twice { place: usize },
+    Twice { opened: Opened, place: usize },
     /// 37: over 1,024 items in one component or message.
     TooManyItems { place: usize },
+}
+
+/// What a record of a dictionary opens.
+#[derive(Debug, Clone, PartialEq, Eq, Hash)]
+pub enum Opened {
+    /// The component of this number.
+    Component(u16),
+    /// The message of this MsgType.
+    Message(MsgType),
+}
+
+impl Opened {
+    /// Reads the record at a place of a dictionary; nothing where it opens neither.
+    fn at(dictionary: &[u8], place: usize) -> Option<Self> {
+        match *dictionary.get(place..)? {
+            [2, low, high, ..] => Some(Opened::Component(u16::from_le_bytes([low, high]))),
+            [3, ref behind @ ..] => behind.get(..8)?.split(|byte| *byte == 0).next().map(|value| Opened::Message(value.into())),
+            _ => None,
+        }
+    }
+}
+
+/// The value of a MsgType (35), whatever bytes it has. `Display` and `Debug` show it for logs: what is no printable ASCII is escaped, as `\x02`
+/// or `\n`, and of more than 32 bytes the first 32 are shown with `..` behind them, so that a message can't fill a log.
+///
+/// ```
+/// use tinkoraba::MsgType;
+/// assert_eq!(MsgType::from(&b"U\x02"[..]).to_string(), r"U\x02");
+/// assert_eq!(MsgType::from(&[b'x'; 33][..]).to_string(), "xxxxxxxxxxxxxxxxxxxxxxxxxxxxxxxx..");
+/// ```
+#[derive(Clone, PartialEq, Eq, Hash)]
+pub struct MsgType(Box<[u8]>);
+
+impl MsgType {
+    /// The value, all of it.
+    #[must_use]
+    pub fn as_bytes(&self) -> &[u8] {
+        &self.0
+    }
+}
+
+impl AsRef<[u8]> for MsgType {
+    fn as_ref(&self) -> &[u8] {
+        &self.0
+    }
+}
+
+impl From<&[u8]> for MsgType {
+    fn from(value: &[u8]) -> Self {
+        Self(value.into())
+    }
 }
 
 impl Error {
@@ -109,8 +161,8 @@ impl Error {
         match *self {
             Error::InvalidField { tag } => (tag, 0),
             Error::InvalidOrderInGroup { tag, group } | Error::RequiredFieldMissing { tag, group } => (tag, group),
-            Error::InvalidMsgType { place, length } => (place as u32, length as u32),
-            Error::Dictionary(flaw) => (flaw.value(), 0),
+            Error::InvalidMsgType { place, length, .. } => (place as u32, length as u32),
+            Error::Dictionary(ref flaw) => (flaw.value(), 0),
             _ => (0, 0),
         }
     }
@@ -129,7 +181,7 @@ impl Garbled {
 }
 
 impl Flaw {
-    fn number(self) -> u32 {
+    fn number(&self) -> u32 {
         match self {
             Flaw::TooLong => 30,
             Flaw::BadRecord { .. } => 31,
@@ -142,25 +194,37 @@ impl Flaw {
         }
     }
 
-    fn value(self) -> u32 {
-        match self {
+    fn value(&self) -> u32 {
+        match *self {
             Flaw::TooLong => 60_000,
-            Flaw::BadRecord { place } | Flaw::TooDeep { place } | Flaw::Twice { place } | Flaw::TooManyItems { place } => place as u32,
+            Flaw::BadRecord { place } | Flaw::TooDeep { place } | Flaw::Twice { place, .. } | Flaw::TooManyItems { place } => place as u32,
             Flaw::NoComponent { number } => number,
             Flaw::UnknownTag { tag } | Flaw::EmptyGroup { tag } => tag,
         }
     }
 }
 
-/// The number and the words that an export left.
-pub(crate) fn answered(number: u32, out: &Out) -> Result<(), Error> {
+/// The number and the words that an export left. What it read, a message or a dictionary, has the places that a refusal names; calls that read neither
+/// give no bytes, and never answer 3 or 36.
+pub(crate) fn answered(number: u32, out: &Out, read: &[u8]) -> Result<(), Error> {
+    if number == 0 {
+        return Ok(());
+    }
+    Err(refused(number, out, read))
+}
+
+#[cold]
+fn refused(number: u32, out: &Out, read: &[u8]) -> Error {
     let [_, first, second, _] = *out;
     let (place, length) = (first as usize, second as usize);
-    Err(match number {
-        0 => return Ok(()),
+    let other = Error::Other(number);
+    match number {
         1 => Error::InvalidField { tag: first },
         2 => Error::InvalidOrderInGroup { tag: first, group: second },
-        3 => Error::InvalidMsgType { place, length },
+        3 => {
+            let value = read.get(place..).and_then(|behind| behind.get(..length));
+            value.map_or(other, |value| Error::InvalidMsgType { msg_type: value.into(), place, length })
+        }
         4 => Error::RequiredFieldMissing { tag: first, group: second },
         10 => Error::Garbled(Garbled::Malformed),
         11 => Error::Garbled(Garbled::InvalidBeginString),
@@ -180,13 +244,13 @@ pub(crate) fn answered(number: u32, out: &Out) -> Result<(), Error> {
         33 => Error::Dictionary(Flaw::UnknownTag { tag: first }),
         34 => Error::Dictionary(Flaw::EmptyGroup { tag: first }),
         35 => Error::Dictionary(Flaw::TooDeep { place }),
-        36 => Error::Dictionary(Flaw::Twice { place }),
+        36 => Opened::at(read, place).map_or(other, |opened| Error::Dictionary(Flaw::Twice { opened, place })),
         37 => Error::Dictionary(Flaw::TooManyItems { place }),
         41 => Error::NotStorable,
         42 => Error::NoRun,
         43 => Error::Incomplete,
-        other => Error::Other(other),
-    })
+        _ => other,
+    }
 }
 
 impl fmt::Display for Error {
@@ -194,7 +258,7 @@ impl fmt::Display for Error {
         match self {
             Error::InvalidField { tag } => write!(f, "tag {tag} has no place in this message"),
             Error::InvalidOrderInGroup { tag, group } => write!(f, "tag {tag} stands wrong in the group of {group}"),
-            Error::InvalidMsgType { place, length } => write!(f, "no message has the MsgType of {length} bytes at place {place}"),
+            Error::InvalidMsgType { msg_type, .. } => write!(f, "the dictionary has no message of MsgType `{msg_type}`"),
             Error::RequiredFieldMissing { tag, group } => write!(f, "an entry of the group of {group} lacks the required tag {tag}"),
             Error::Garbled(garbled) => write!(f, "garbled message: {garbled}"),
             Error::TooLong => write!(f, "a message of over 8,192 bytes"),
@@ -208,7 +272,7 @@ impl fmt::Display for Error {
             Error::NotStorable => write!(f, "tag 0, or values of over 8,192 bytes in all"),
             Error::NoRun => write!(f, "a run without entries, or no entry to store in"),
             Error::Incomplete => write!(f, "the header lacks 8 or 35, or a run lacks its count"),
-            Error::Other(_) => write!(f, "a number that this crate doesn't know"),
+            Error::Other(_) => write!(f, "a number that this crate doesn't know from this call"),
         }?;
         write!(f, " ({})", self.number())
     }
@@ -235,9 +299,31 @@ impl fmt::Display for Flaw {
             Flaw::UnknownTag { tag } => write!(f, "tag {tag} wasn't made known"),
             Flaw::EmptyGroup { tag } => write!(f, "the group of {tag} is empty"),
             Flaw::TooDeep { place } => write!(f, "groups nested five deep at place {place}"),
-            Flaw::Twice { place } => write!(f, "a component or MsgType for the second time at place {place}"),
+            Flaw::Twice { opened, place } => write!(f, "{opened} for the second time at place {place}"),
             Flaw::TooManyItems { place } => write!(f, "over 1,024 items at place {place}"),
         }
+    }
+}
+
+impl fmt::Display for Opened {
+    fn fmt(&self, f: &mut fmt::Formatter<'_>) -> fmt::Result {
+        match self {
+            Opened::Component(number) => write!(f, "component {number}"),
+            Opened::Message(msg_type) => write!(f, "MsgType `{msg_type}`"),
+        }
+    }
+}
+
+impl fmt::Display for MsgType {
+    fn fmt(&self, f: &mut fmt::Formatter<'_>) -> fmt::Result {
+        let (shown, more) = if self.0.len() <= 32 { (&self.0[..], "") } else { (&self.0[..32], "..") };
+        write!(f, "{}{more}", shown.escape_ascii())
+    }
+}
+
+impl fmt::Debug for MsgType {
+    fn fmt(&self, f: &mut fmt::Formatter<'_>) -> fmt::Result {
+        write!(f, "\"{self}\"")
     }
 }
 

@@ -44,7 +44,7 @@ impl Framer {
         let (store, mut out) = (&mut self.store, [0; 4]);
         // SAFETY: each pointer goes with the length of what it comes from, state and `out` have their sizes; so in every call of this file.
         let number = unsafe { raw::gateway_ported_push(&mut self.state, store.as_mut_ptr(), store.len(), chunk.as_ptr(), chunk.len(), &mut out) };
-        answered(number, &out)
+        answered(number, &out, &[])
     }
 
     /// The next message, if one is whole. 20 where a length over 8,192 bytes was announced: every call but reset then gives 20.
@@ -53,7 +53,7 @@ impl Framer {
         // SAFETY: see `push`.
         let number =
             unsafe { raw::gateway_ported_take(&mut self.state, store.as_mut_ptr(), store.len(), output.as_mut_ptr(), output.len(), &mut out) };
-        answered(number, &out)?;
+        answered(number, &out, &[])?;
         Ok(Some(&self.output[..out[1] as usize]).filter(|message| !message.is_empty()))
     }
 
@@ -62,7 +62,7 @@ impl Framer {
         let mut out = [0; 4];
         // SAFETY: see `push`.
         let number = unsafe { raw::gateway_ported_end(&mut self.state, self.store.as_ptr(), self.store.len(), &mut out) };
-        answered(number, &out)
+        answered(number, &out, &[])
     }
 
     /// Makes it fresh and empty, after 20 or for the next connection.
@@ -116,7 +116,7 @@ impl Hunter {
         let (store, mut out) = (&mut self.store, [0; 4]);
         // SAFETY: see `Framer::push`.
         let number = unsafe { raw::gateway_hunter_push(&mut self.state, store.as_mut_ptr(), store.len(), chunk.as_ptr(), chunk.len(), &mut out) };
-        answered(number, &out)
+        answered(number, &out, &[])
     }
 
     /// The next frame, if one is ready. Nothing can be refused here: store and output have their sizes.
@@ -132,7 +132,7 @@ impl Hunter {
         let mut out = [0; 4];
         // SAFETY: see `Framer::push`.
         let number = unsafe { raw::gateway_hunter_end(&mut self.state, self.store.as_ptr(), self.store.len(), &mut out) };
-        answered(number, &out)
+        answered(number, &out, &[])
     }
 
     /// Makes it fresh and empty.

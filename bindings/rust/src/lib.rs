@@ -37,7 +37,8 @@
 //! # Ok(()) }
 //! ```
 //!
-//! Every refusal is an [`Error`] that says in words what happened and carries its number in docs/ANSWERS.md.
+//! Every refusal is an [`Error`] that says in words what happened and carries its number in docs/ANSWERS.md. It borrows nothing, and neither does that
+//! of a build: `?` hands both on, also as a `Box<dyn std::error::Error + Send + Sync>`.
 //!
 //! The library has no variable of its own: all state is lent by these values, which own their memory. They may be sent to other threads, and
 //! values of different threads never meet. A [`Dictionary`] is only read by builds: any number of threads share one.
@@ -52,7 +53,7 @@ mod raw;
 pub use built::{build, Built, Entries, Field, FieldRecord, Map, NotBuilt, Records};
 pub use config::{Config, Settings};
 pub use dictionary::{Dictionary, DictionaryWriter};
-pub use error::{Error, Flaw, Garbled};
+pub use error::{Error, Flaw, Garbled, MsgType, Opened};
 pub use framers::{Framer, Hunter};
 pub use message::{Held, Item, Message, Run};
 use std::fmt;

@@ -20,7 +20,7 @@ impl Lent {
     fn change(&mut self, call: impl FnOnce(*mut u32, usize, *mut u8, usize, *mut Out) -> u32) -> Result<Out, Error> {
         let mut out = [0; 4];
         let number = call(self.words.as_mut_ptr(), self.words.len(), self.values.as_mut_ptr(), self.values.len(), &mut out);
-        answered(number, &out).map(|()| out)
+        answered(number, &out, &[]).map(|()| out)
     }
 
     /// Calls with words and values lent for reading; nothing where it isn't found.
@@ -64,7 +64,7 @@ impl Message {
         Self { lent }
     }
 
-    /// A message with a BeginString (8) and a MsgType (35).
+    /// A message with a BeginString (8) and a MsgType (35). A separator in them does what it does in [`Message::store`].
     pub fn new(begin_string: impl AsRef<[u8]>, msg_type: impl AsRef<[u8]>) -> Result<Self, Error> {
         let (begin, kind, mut lent) = (begin_string.as_ref(), msg_type.as_ref(), Lent::new());
         // SAFETY: see `empty`.
@@ -83,6 +83,37 @@ impl Message {
     }
 
     /// Stores a field: in the place of the one with its tag, or last. Refused with 41 or 21, the message is as it was.
+    ///
+    /// **A value that holds the separator** is stored and found as it is, and written as it is: an encoding doesn't look for the separator in values.
+    /// BodyLength and CheckSum count it like any byte, so both are right; but who reads the encoding takes the value to end there, and what follows for
+    /// the next field, or for one that can't be read (10 from a build that needs one there). So look for the separator in values that come from
+    /// outside. By the standard only a data field may hold byte 1, right behind its length field (95 and 96), and so it is written; a build here ends
+    /// its value there all the same.
+    ///
+    /// ```
+    /// # fn main() -> Result<(), tinkoraba::Error> {
+    /// # let dictionary = tinkoraba::Dictionary::writer().tags(&[8, 9, 35, 10, 38, 58]).component(0).field(8).field(9).field(35).close()
+    /// #     .component(1).field(10).close().message("D").field(38).field(58).close().finish()?;
+    /// use tinkoraba::{build, Config, Message, Part, Records};
+    /// let mut message = Message::new("FIX.4.4", "D")?;
+    /// message.store(Part::Body, 38, "600")?;
+    /// message.store(Part::Body, 58, "x\x0138=800")?; // one value, of eight bytes
+    /// assert_eq!(message.get(Part::Body, 58), Some(&b"x\x0138=800"[..]));
+    /// let bytes = message.encode()?;
+    /// assert_eq!(bytes, b"8=FIX.4.4\x019=24\x0135=D\x0138=600\x0158=x\x0138=800\x0110=139\x01");
+    ///
+    /// // Its reader sees an order of 800.
+    /// let mut records = Records::new();
+    /// let built = build(&bytes, &dictionary, Config::default(), &mut records)?;
+    /// assert_eq!(built.body().get(58), Some(&b"x"[..]));
+    /// assert_eq!(built.body().get(38), Some(&b"800"[..]));
+    ///
+    /// // Where what follows is no field, it can't be read at all.
+    /// message.store(Part::Body, 58, "x\x01y")?;
+    /// let refused = build(&message.encode()?, &dictionary, Config::default(), &mut records).unwrap_err();
+    /// assert_eq!(refused.number(), 10);
+    /// # Ok(()) }
+    /// ```
     pub fn store(&mut self, part: Part, tag: u32, value: impl AsRef<[u8]>) -> Result<(), Error> {
         let value = value.as_ref();
         // SAFETY: see `empty`.
@@ -126,7 +157,7 @@ impl Message {
         self.encode_with(SOH)
     }
 
-    /// Encodes with another separator.
+    /// Encodes with another separator, which isn't looked for in values either ([`Message::store`]).
     pub fn encode_with(&mut self, separator: u8) -> Result<Vec<u8>, Error> {
         let mut output = vec![0; MESSAGE_BYTES];
         let length = self.encode_into(&mut output, separator)?;
@@ -195,6 +226,9 @@ impl Run {
     }
 
     /// Stores a field in the last entry; 42 where there is none.
+    ///
+    /// A value that holds the separator is written as it is, as from [`Message::store`]: who reads the encoding takes it to end there, and what follows
+    /// for another field, in the entry or behind it (79 with `A\x0179=B` is read as two entries), or for one that can't be read.
     pub fn store(&mut self, tag: u32, value: impl AsRef<[u8]>) -> Result<(), Error> {
         let value = value.as_ref();
         let call = |w, wn, v, vn, out| unsafe { raw::gateway_store_last(w, wn, v, vn, tag, value.as_ptr(), value.len(), out) };

@@ -6,7 +6,7 @@ mod raw;
 mod shared;
 
 use shared::whole;
-use tinkoraba::{build, Config, Dictionary, DictionaryWriter, Error, FieldRecord, Flaw, Records, RECORDS, SOH};
+use tinkoraba::{build, Config, Dictionary, DictionaryWriter, Error, FieldRecord, Flaw, Opened, Records, RECORDS, SOH};
 
 /// Orders with groups, the header alone, and two that are refused, with their numbers.
 const FIELDS: [(&str, u32); 5] =
@@ -113,7 +113,8 @@ fn a_bad_dictionary_is_refused_as_its_check_refuses_it() {
         (begun().message("D").field(59).close().finish(), Flaw::UnknownTag { tag: 59 }),
         (begun().message("D").group(78).close().close().finish(), Flaw::EmptyGroup { tag: 78 }),
         (deep.close().close().close().close().close().close().finish(), Flaw::TooDeep { place: plain - 1 + 4 * 6 }),
-        (begun().message("D").close().message("D").close().finish(), Flaw::Twice { place: plain }),
+        (begun().message("D").close().message("D").close().finish(), Flaw::Twice { opened: Opened::Message(b"D"[..].into()), place: plain }),
+        (begun().component(1).close().finish(), Flaw::Twice { opened: Opened::Component(1), place }),
         (items(1_025).finish(), Flaw::TooManyItems { place: plain - 1 + 1_024 * 6 }),
     ];
     for (answer, flaw) in refused {

@@ -1,5 +1,5 @@
 //! The limits that callers meet, and what recovers from them.
-use tinkoraba::{build, Bars, Config, Dictionary, Error, Flaw, Framer, Hunter, Message, Part, Records, Run};
+use tinkoraba::{build, Bars, Config, Dictionary, Error, Flaw, Framer, Garbled, Hunter, Message, Part, Records, Run};
 
 const HEARTBEAT: &[u8] = b"8=FIX.4.4\x019=5\x0135=0\x0110=163\x01";
 
@@ -77,6 +77,29 @@ fn a_refused_change_changes_nothing() {
     assert_eq!(message.hang(Part::Body, &Run::new(78, 79)), Err(Error::NoRun));
     assert_eq!(message.encode_into(&mut [0; 25], 1), Err(Error::NoRoom));
     assert_eq!(Bars(&message.encode().expect("it is whole")).to_string(), "8=FIX.4.4|9=5|35=0|10=163|");
+}
+
+/// A value is written as it is: what follows a separator in it is read as a field of its own, in an entry too.
+#[test]
+fn a_separator_in_a_value_ends_it_for_its_reader() {
+    let writer = Dictionary::writer().tags(&[8, 9, 35, 10, 78, 79, 80]).component(0).field(8).field(9).field(35).close();
+    let writer = writer.component(1).field(10).close().message("D").group(78).field(79).field(80).close().close();
+    let (dictionary, mut records) = (writer.finish().expect("it passes its check"), Records::new());
+    let mut read = |value: &str, separator| {
+        let (mut run, mut message) = (Run::new(78, 79), Message::new("FIX.4.4", "D")?);
+        run.add_entry()?;
+        run.store(79, value)?;
+        message.store(Part::Body, 78, "1")?;
+        message.hang(Part::Body, &run)?;
+        assert_eq!(message.part(Part::Body).entry(78, 0).and_then(|entry| entry.get(79)), Some(value.as_bytes()));
+        let config = Config { separator, ..Config::default() };
+        Ok::<_, Error>(build(&message.encode_with(separator)?, &dictionary, config, &mut records)?.body().entries(78).count())
+    };
+    assert_eq!(read("A", 1), Ok(1));
+    assert_eq!(read("A\x0179=B", 1), Ok(2));
+    assert_eq!(read("A\x0179=B", b'|'), Ok(1));
+    assert_eq!(read("A\x01B", 1), Err(Error::Garbled(Garbled::Malformed)));
+    assert_eq!(read("A\x01", 1), Err(Error::Garbled(Garbled::Malformed)));
 }
 
 #[test]

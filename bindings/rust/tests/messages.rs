@@ -42,7 +42,7 @@ fn shown(message: &Message) -> String {
 fn encoded(message: &mut Message, separator: u8, room: usize) -> String {
     let mut output = vec![b'_'; 8_300];
     let answer = message.encode_into(&mut output[..room], separator);
-    let length = answer.unwrap_or(0);
+    let length = *answer.as_ref().unwrap_or(&0);
     assert!(output[length..].iter().all(|byte| *byte == b'_'), "bytes past the length");
     match answer {
         Ok(length) if length < 200 => format!("0 {length} {}", Bars(&output[..length])),
@@ -63,7 +63,10 @@ fn changed(message: &mut Message, part: Part, text: &str) -> String {
 fn taken_over(message: &mut Message, dictionary: &Dictionary, text: &str) -> String {
     let (bytes, mut records) = (separated(text), Records::new());
     let answer = build(&bytes, dictionary, Config::default(), &mut records);
-    let (first, built) = answer.map_or_else(|refused| (refused.number(), refused.header()), |built| (0, built));
+    let (first, built) = match &answer {
+        Ok(built) => (0, *built),
+        Err(refused) => (refused.number(), refused.header()),
+    };
     let taken = Message::from_built(&built);
     let second = number(&taken);
     taken.into_iter().for_each(|taken| *message = taken);
