@@ -103,6 +103,21 @@ static void prepared(void) {
     number("prepare in the least memory answers", prepare(sizeof DICTIONARY, least, TINKORABA_PREPARED_WORDS), TINKORABA_VALID);
 }
 
+/* "As it was": whatever byte a mark is, a refused call leaves it. */
+static void refused(void) {
+    uint8_t few[16] = {0};
+    HunterState hunter = {.used = 3, .dropped = 5, .ended = 7};
+    PortedState ported = {.used = 3, .ended = 7, .over = 9};
+    uint32_t out[4];
+    number("push into a store of 16 bytes answers", gateway_hunter_push(&hunter, few, sizeof few, (const uint8_t *)"8", 1, out), TINKORABA_NO_MESSAGE);
+    number("used", (uint32_t)hunter.used, 3);
+    number("dropped", (uint32_t)hunter.dropped, 5);
+    number("mark of the end", hunter.ended, 7);
+    number("end with a store of 16 bytes answers", gateway_ported_end(&ported, few, sizeof few, out), TINKORABA_NO_MESSAGE);
+    number("mark of the end", ported.ended, 7);
+    number("mark of a length over 8,192", ported.over, 9);
+}
+
 static size_t hunted(uint8_t *frame) {
     static uint8_t store[TINKORABA_STORE_BYTES];
     HunterState state = {0};
@@ -190,6 +205,7 @@ int main(void) {
     static uint8_t frame[TINKORABA_MESSAGE_BYTES];
     static FieldRecord records[TINKORABA_RECORDS];
     sizes();
+    refused();
     size_t length = hunted(frame);
     prepared();
     size_t count = built(frame, length, records);

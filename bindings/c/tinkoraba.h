@@ -84,7 +84,8 @@ typedef struct FieldRecord {
     uint16_t length;
 } FieldRecord;
 
-/* The ported framer's state; all zero it is fresh. Of the marks 0 means no and everything else yes. */
+/* The ported framer's state; all zero it is fresh. Of the marks 0 means no and everything else yes; one that stays set keeps its byte, so that a
+   refused call leaves the state as it was. */
 typedef struct PortedState {
     size_t used;
     uint8_t ended;

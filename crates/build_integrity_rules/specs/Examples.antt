@@ -7,14 +7,7 @@ use Rattle.field_rules.specs.Computing.{reading-fields}
 use Rattle.field_rules.specs.Text.{bytes}
 use Rattle.field_rules.specs.CheckSum.{sumOf, checksumOf}
 use Rattle.field_rules.specs.Field.{separatedBy}
-use Rattle.build_integrity_rules.specs.declared.Integrity.{Integrity}
-use Rattle.build_integrity_rules.specs.declared.Integrity.the-variants.{Sound, Garbled}
-use Rattle.build_integrity_rules.specs.Integrity.{numberOfReason, integrityOf, begun, counted, summed, typed, lengthIs, lengthAgrees, sumIs, sumAgrees}
-
--- 0 where the message is sound, else the rules' number
-unfoldable pub numberOfIntegrity : Integrity → ℕ
-numberOfIntegrity (Sound v) = 0
-numberOfIntegrity (Garbled reason) = numberOfReason reason
+use Rattle.build_integrity_rules.specs.Integrity.{numberOfReason, numberOfIntegrity, integrityOf, begun, counted, summed, typed, lengthIs, lengthAgrees, sumIs, sumAgrees}
 
 abbrev table : List (String × ℕ)
 table =
@@ -37,6 +30,8 @@ table =
     ∷ ("8=FIX.4.4|9=5|35=0|10=1|||", 0)
     ∷ ("8=FIX.4.4|9=5|36=0|10=164|", 13)
     ∷ ("8=FIX.4.4|9=5|36=0|10=163|", 14)
+    ∷ ("8=FIX.4.4|9=1|x10=abc|", 13)
+    ∷ ("8=FIX.4.4|9=1|x10=000|", 14)
     ∷ []
 
 pub all-hold : map (λ row. numberOfIntegrity (integrityOf (separatedBy 1) (bytes (row .0)))) table ≡ map (λ row. row .1) table

@@ -27,6 +27,11 @@ numberOfReason InvalidBodyLength = 12
 numberOfReason InvalidMsgType = 13
 numberOfReason InvalidChecksum = 14
 
+-- 0 where the message is sound, else the rules' number
+unfoldable pub numberOfIntegrity : Integrity → ℕ
+numberOfIntegrity (Sound v) = 0
+numberOfIntegrity (Garbled reason) = numberOfReason reason
+
 -- "field 3 has tag 35, else 13"
 unfoldable pub typed : Field → Field → Field → FieldRead → Integrity
 typed begin body check (Unreadable cause place) = Garbled InvalidMsgType

@@ -137,7 +137,8 @@ pub fn read_trailer(
     let mut room = progress.room;
     let mut records = progress.records;
     loop {
-        if field.tag == CHECKSUM {
+        let tag = field.tag;
+        if tag == CHECKSUM {
             return TrailerRead::Stopped(field, records);
         }
         if room == 0 {

@@ -3,7 +3,7 @@
 use mathlib.Core.Path.{_≡_, refl}
 use mathlib.Core.List.{List, [], _∷_, _++_, map}
 use mathlib.Core.Bool.{Bool, true, false}
-use Prim.Native.Nat.{ℕ, _+_, _%_}
+use Prim.Native.Nat.{ℕ, zero, suc, _+_, _*_, _%_}
 use Prim.Native.String.{String}
 use lib.ListN.{length}
 use Rattle.build_config.specs.Settings.{validating}
@@ -45,12 +45,20 @@ dictionary = record {
       ∷ [];
 }
 
+unfoldable pub times : ℕ → List ℕ → List ℕ
+times zero text = []
+times (suc n) text = text ++ times n text
+
 -- "the fields between 35 and a right CheckSum"
 abbrev pub closed : List ℕ → List ℕ
 closed message = message ++ (bytes "10=" ++ (checksumDigits (sumOf message % 256) ++ bytes "|"))
 
 abbrev pub order : String → List ℕ
 order text = closed (bytes "8=FIX.4.4|9=" ++ (decimalWithin 3 (length (bytes "35=D|" ++ bytes text)) ++ (bytes "|" ++ (bytes "35=D|" ++ bytes text))))
+
+-- an order with one empty field so many times
+abbrev pub crowd : ℕ → List ℕ
+crowd n = closed (bytes "8=FIX.4.4|9=" ++ (decimalWithin 4 (5 + 4 * n) ++ (bytes "|35=D|" ++ times n (bytes "58=|"))))
 
 -- part, depth, entry number, tag, place and length
 abbrev pub shows : ℕ → ℕ → ℕ → ℕ → ℕ → ℕ → Record
@@ -73,6 +81,16 @@ table =
     ∷ (true, bytes "8=FIX.4.4|9=5|35=0|10=162|", 14, (0, 0), [])
     ∷ (true, bytes "8=FIX.4.4|9=5|35=0|10=abc|", 0, (0, 0), heartbeat)
     ∷ (true, bytes "8=FIX.4.4|9=0|10=200|", 13, (0, 0), [])
+    ∷ (true, bytes "9=5|35=0|10=163|", 11, (0, 0), [])
+    ∷ (true, bytes "8=FIX.4.4|9=6|35=0|10=163|", 12, (0, 0), [])
+    -- "3 | MsgType not in the dictionary | place and length"
+    ∷ (true, closed (bytes "8=FIX.4.4|9=5|35=X|"), 3, (17, 1), shows 1 0 0 8 2 7 ∷ shows 1 0 0 9 12 1 ∷ shows 1 0 0 35 17 1 ∷ [])
+    -- no field where one is needed: in the header, in the body
+    ∷ (true, order "34|", 10, (0, 0), [])
+    ∷ (true, order "38=5|x=1|", 10, (0, 0), [])
+    -- a header past 35, and a trailer past the verified CheckSum, which stands first
+    ∷ (true, order "34=7|49=A|38=5|", 0, (0, 0), header ++ (shows 1 0 0 34 23 1 ∷ shows 1 0 0 49 28 1 ∷ shows 2 0 0 38 33 1 ∷ shows 3 0 0 10 38 3 ∷ []))
+    ∷ (true, order "38=5|93=1|89=x|", 0, (0, 0), header ++ (shows 2 0 0 38 23 1 ∷ shows 3 0 0 10 38 3 ∷ shows 3 0 0 93 28 1 ∷ shows 3 0 0 89 33 1 ∷ []))
     -- "38 is 800 and stands first"
     ∷ (true, order "38=600|58=x|38=800|", 0, (0, 0), header ++ (shows 2 0 0 38 35 3 ∷ shows 2 0 0 58 30 1 ∷ shows 3 0 0 10 42 3 ∷ []))
     ∷ (true, order "78=2|79=A|80=5|", 0, (0, 0), header ++ (shows 2 0 0 78 23 1 ∷ shows 2 1 1 79 28 1 ∷ shows 2 1 1 80 33 1 ∷ shows 3 0 0 10 38 3 ∷ []))
@@ -82,6 +100,13 @@ table =
     ∷ (true, order "78=1|79=A|80=5|539=0|", 2, (10, 539), header)
     ∷ (true, order "5001=x|", 1, (5001, 0), header)
     ∷ (false, order "5001=x|", 0, (0, 0), header ++ (shows 2 0 0 5001 25 1 ∷ shows 3 0 0 10 30 3 ∷ []))
+    ∷ []
+
+-- "over 1,024 fields read", the 10 that stops the trailer included
+abbrev pub crowds : List Row
+crowds =
+    (true, crowd 1020, 0, (0, 0), shows 1 0 0 8 2 7 ∷ shows 1 0 0 9 12 4 ∷ shows 1 0 0 35 20 1 ∷ shows 2 0 0 58 4101 0 ∷ shows 3 0 0 10 4105 3 ∷ [])
+    ∷ (true, crowd 1021, 21, (0, 0), [])
     ∷ []
 
 abbrev pub Answered : Type 0
@@ -99,7 +124,10 @@ marked = record {
   messages = record { msgType = bytes "D"; nodes = fieldItem 38 true (fieldItem 58 false nothing) } ∷ [];
 }
 
--- THE TABLE, and an order without 38 by that other dictionary
-pub all-read : (map (λ (row : Row). answered (messageRead dictionary (validating (row .0)) (row .1))) table ≡ map {B = Answered} (λ (row : Row). (row .2, row .3, row .4)) table) × (numberOf (messageRead marked (validating true) (order "58=x|") .answer) ≡ 0)
-unfolding messageRead numberOf startOf startedBy headerOf verifiedRecords withChecksum headerFrom afterHeader afterType afterBody afterTrailer refusal shownWith msgTypeRecord valueAt trailerFrom partRecord valuesOf bodyFrom bodyWithin takes withRun nextFrom andThen storedRun behindRun bodyOf runFrom ranAs checked bodyKind placedKind groupKind answerOf numberOfReason integrityOf begun counted summed typed lengthIs lengthAgrees sumIs sumAgrees sumOf checksumOf checksumDigits decimalWithin layoutThen positionFrom firstOf positionIn groupSince groupOf delimiterOf requiredTags holdsTag knows plainFields headerTags trailerTags flattened sameBytes messageOf layoutOf stored isDelimiter counting opens declared entryKind inEntry decide entryRecord moved walk accepted openedAs layoutRules joinedList listStore orElse has fieldsLack before shallow runLacks nestedLack entriesLack opensEntry entryLack runLack layoutDemands reading-fields
-all-read = (refl, refl)
+abbrev pub rows-read : List Row → Type 0
+rows-read rows = map (λ (row : Row). answered (messageRead dictionary (validating (row .0)) (row .1))) rows ≡ map {B = Answered} (λ (row : Row). (row .2, row .3, row .4)) rows
+
+-- THE TABLE, the crowds, and an order without 38 by that other dictionary
+pub all-read : rows-read table × rows-read crowds × (numberOf (messageRead marked (validating true) (order "58=x|") .answer) ≡ 0)
+unfolding times messageRead numberOf startOf startedBy headerOf verifiedRecords withChecksum headerFrom afterHeader afterType afterBody afterTrailer refusal shownWith msgTypeRecord valueAt trailerFrom partRecord valuesOf bodyFrom bodyWithin takes withRun nextFrom andThen storedRun behindRun bodyOf runFrom ranAs checked bodyKind placedKind groupKind answerOf numberOfReason integrityOf begun counted summed typed lengthIs lengthAgrees sumIs sumAgrees sumOf checksumOf checksumDigits decimalWithin layoutThen positionFrom firstOf positionIn groupSince groupOf delimiterOf requiredTags holdsTag knows plainFields headerTags trailerTags flattened sameBytes messageOf layoutOf stored isDelimiter counting opens declared entryKind inEntry decide entryRecord moved walk accepted openedAs layoutRules joinedList listStore orElse has fieldsLack before shallow runLacks nestedLack entriesLack opensEntry entryLack runLack layoutDemands reading-fields
+all-read = (refl, refl, refl)

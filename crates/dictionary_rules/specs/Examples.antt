@@ -141,10 +141,13 @@ table =
     ∷ (joined (thousand ∷ message "D" ∷ item 10 ∷ field 8 ∷ []), 37, 142 ∷ [])
     ∷ (joined (thousand ∷ message "D" ∷ item 10 ∷ group 8 ∷ []), 37, 142 ∷ [])
     ∷ (joined (thousand ∷ message "D" ∷ field 8 ∷ item 10 ∷ []), 37, 144 ∷ [])
-    -- in number order: 31 before 33, 33 before 35, 35 before 37
+    -- in number order, where two meet at one record: 31 before 33, 32 before 35, 33 before 35 and 37, 35 before 37 at an item and at a group
     ∷ (field 8, 31, 0 ∷ [])
+    ∷ (joined (tag 8 ∷ component 5 ∷ four ∷ item 300 ∷ []), 32, 300 ∷ [])
     ∷ (joined (tag 8 ∷ component 5 ∷ four ∷ group 9 ∷ []), 33, 9 ∷ [])
+    ∷ (joined (thousand ∷ message "D" ∷ item 10 ∷ field 9 ∷ []), 33, 9 ∷ [])
     ∷ (joined (thousand ∷ message "D" ∷ item 10 ∷ []), 31, 142 ∷ [])
+    ∷ (joined (thousand ∷ component 11 ∷ group 8 ∷ item 9 ∷ close ∷ close ∷ message "D" ∷ four ∷ item 9 ∷ item 11 ∷ []), 35, 181 ∷ [])
     ∷ (joined (thousand ∷ message "D" ∷ four ∷ item 9 ∷ item 8 ∷ item 7 ∷ item 6 ∷ item 5 ∷ item 4 ∷ item 3 ∷ item 2 ∷ group 8 ∷ []), 35, 194 ∷ [])
     ∷ []
 

@@ -34,6 +34,30 @@ with-header more = record { header = field 8 (bytes "FIX.4.4") (field 35 (bytes 
 run : ℕ → Map
 run start = entry start 79 (field 79 (bytes "A") end) end
 
+-- a count and so many entries without any field, each of which counts as one
+entries : ℕ → Map
+entries zero = end
+entries (suc n) = entry 78 79 end (entries n)
+
+many : ℕ → Map
+many n = field 78 (bytes "1") (entries n)
+
+-- the new 9 and 10 count: 1,020 fields beside 8 and 35 are fine, 1,021 are not; a held 10 counts once; 21 comes before 23
+fields-counted : judging 1 (with-body (many 1019)) 0 ∷ judging 1 (with-body (many 1020)) 0 ∷ judging 1 (with-trailer (field 10 (bytes "000") (many 1019))) 0 ∷ []
+    ≡ Refused NoRoom ∷ Refused TooManyFields ∷ Refused NoRoom ∷ []
+unfolding with-body with-trailer many entries judging isRefusedSeparator isDigit isIncomplete hasUncounted lacksCount encoding summed sumDigits messageText headerText textUnder text isFirst isRest measured dropped bodyLength bytesOf withoutField stored holds holdsAny replaced joined withoutRun runOn decimal decimalWithin sumOf checksumDigits encodedMessage fieldTotal fieldCount
+fields-counted = refl
+
+-- a body of one value without 35 in the header
+typeless : ℕ → Message
+typeless size = record { header = field 8 (bytes "FIX.4.4") end; body = field 58 (replicate size 65) end; trailer = end }
+
+-- 8,192 bytes are encoded, 8,193 are not; 43 comes before 20, and 20 before 21 and 23
+bytes-counted : judging 1 (with-body (field 58 (replicate 8159 65) end)) 8192 ∷ judging 1 (with-body (field 58 (replicate 8160 65) end)) 0 ∷ judging 1 (with-body (field 58 (replicate 8160 65) (many 1020))) 0 ∷ judging 1 (typeless 8192) 0 ∷ []
+    ≡ Measured 8168 ∷ Refused TooLong ∷ Refused TooLong ∷ Refused Incomplete ∷ []
+unfolding with-body typeless many entries judging isRefusedSeparator isDigit isIncomplete hasUncounted lacksCount encoding summed sumDigits messageText headerText textUnder text isFirst isRest measured dropped bodyLength bytesOf withoutField stored holds holdsAny replaced joined withoutRun runOn decimal decimalWithin sumOf checksumDigits encodedMessage fieldTotal fieldCount
+bytes-counted = refl
+
 -- P1's 26 bytes have room in 26, and not in 25; `=`, `0` and `9` separate nothing, `/` and `:` do
 rooms : List Verdict
 rooms =
@@ -64,26 +88,6 @@ verdicts : rooms ∷ headless ∷ runs ∷ []
     ∷ (Refused Incomplete ∷ Measured 15 ∷ Refused Incomplete ∷ Refused Incomplete ∷ Measured 10 ∷ Refused Incomplete ∷ Measured 15 ∷ []) ∷ []
 unfolding rooms headless runs with-body with-trailer with-header run judging isRefusedSeparator isDigit isIncomplete hasUncounted lacksCount encoding summed sumDigits messageText headerText textUnder text isFirst isRest measured dropped bodyLength bytesOf withoutField stored holds holdsAny replaced joined withoutRun runOn decimal decimalWithin sumOf checksumDigits encodedMessage fieldTotal fieldCount
 verdicts = refl
-
--- a count and so many entries without any field, each of which counts as one
-entries : ℕ → Map
-entries zero = end
-entries (suc n) = entry 78 79 end (entries n)
-
-many : ℕ → Map
-many n = field 78 (bytes "1") (entries n)
-
--- the new 9 and 10 count: 1,020 fields beside 8 and 35 are fine, 1,021 are not; a held 10 counts once; 21 comes before 23
-fields-counted : judging 1 (with-body (many 1019)) 0 ∷ judging 1 (with-body (many 1020)) 0 ∷ judging 1 (with-trailer (field 10 (bytes "000") (many 1019))) 0 ∷ []
-    ≡ Refused NoRoom ∷ Refused TooManyFields ∷ Refused NoRoom ∷ []
-unfolding with-body with-trailer many entries judging isRefusedSeparator isDigit isIncomplete hasUncounted lacksCount encoding summed sumDigits messageText headerText textUnder text isFirst isRest measured dropped bodyLength bytesOf withoutField stored holds holdsAny replaced joined withoutRun runOn decimal decimalWithin sumOf checksumDigits encodedMessage fieldTotal fieldCount
-fields-counted = refl
-
--- 8,192 bytes are encoded, 8,193 are not; 20 comes before 21 and 23
-bytes-counted : judging 1 (with-body (field 58 (replicate 8159 65) end)) 8192 ∷ judging 1 (with-body (field 58 (replicate 8160 65) end)) 0 ∷ judging 1 (with-body (field 58 (replicate 8160 65) (many 1020))) 0 ∷ []
-    ≡ Measured 8168 ∷ Refused TooLong ∷ Refused TooLong ∷ []
-unfolding with-body many entries judging isRefusedSeparator isDigit isIncomplete hasUncounted lacksCount encoding summed sumDigits messageText headerText textUnder text isFirst isRest measured dropped bodyLength bytesOf withoutField stored holds holdsAny replaced joined withoutRun runOn decimal decimalWithin sumOf checksumDigits encodedMessage fieldTotal fieldCount
-bytes-counted = refl
 
 -- P1 once it is encoded
 heartbeat : Message

@@ -58,6 +58,13 @@ pub left-kept : (mark : ℕ) (set : Bool) → set ≡ true → (mark ≡ 0 → �
 unfolding markLeft
 left-kept mark set e z = rw (e, sym (set-mark mark z)) refl
 
+same-mark : (mark : ℕ) → markLeft mark (isSet mark) ≡ mark
+same-mark mark = go (eqb mark 0) refl
+  where
+    go : (b : Bool) → eqb mark 0 ≡ b → markLeft mark (isSet mark) ≡ mark
+    go true e = let z : mark ≡ 0 = eqb-true mark 0 e in rw (sym (unset mark z)) (sym (left-unset mark false refl) ∙ sym z)
+    go false e = rw (sym (set-mark mark (eqb-false mark 0 e))) (sym (left-kept mark true refl (eqb-false mark 0 e)))
+
 read-back : (mark : ℕ) (b : Bool) → isSet (markLeft mark b) ≡ b
 unfolding markLeft
 read-back mark false = sym (unset 0 refl)
@@ -66,13 +73,6 @@ read-back mark true = go (isSet mark) refl
     go : (c : Bool) → isSet mark ≡ c → isSet (pick c mark 1) ≡ true
     go true e = e
     go false e = sym (set-mark 1 (λ z. omega arith))
-
-same-mark : (mark : ℕ) → markLeft mark (isSet mark) ≡ mark
-same-mark mark = go (eqb mark 0) refl
-  where
-    go : (b : Bool) → eqb mark 0 ≡ b → markLeft mark (isSet mark) ≡ mark
-    go true e = let z : mark ≡ 0 = eqb-true mark 0 e in rw (sym (unset mark z)) (sym (left-unset mark false refl) ∙ sym z)
-    go false e = rw (sym (set-mark mark (eqb-false mark 0 e))) (sym (left-kept mark true refl (eqb-false mark 0 e)))
 
 -- NOTHING OF A STATE IS LOST between two calls, whatever was lent
 pub ported-kept : (lent : PortedState) (s : State) → portedIn (portedOut lent s) ≡ s

@@ -26,40 +26,40 @@ loop-holds : tie.Need-loop-holds Inv-loop μ-loop
 loop-holds c = (refl, omega arith, omega arith, c .before .before .pre .1, refl, refl)
 
 same-length : tie.Need-same-length Inv-loop μ-loop
-same-length c = c .before .before .loop .inv .0
+same-length c = c .before .loop .inv .0
 
 returns : tie.Need-returns Inv-loop μ-loop
 unfolding trailerTold trailerCounts
-returns c = let i = c .before .before .loop .inv in (
+returns c = let i = c .before .loop .inv in (
   sym (i .5 ∙ trailer-stops _ _ _ _ (c .if1 .taken)),
   ((omega arith, omega arith), i .4),
 )
 
 same-length-2 : tie.Need-same-length-2 Inv-loop μ-loop
-same-length-2 c = c .before .before .before .loop .inv .0
+same-length-2 c = c .before .before .loop .inv .0
 
 returns-2 : tie.Need-returns-2 Inv-loop μ-loop
 unfolding trailerTold trailerCounts
-returns-2 c = let i = c .before .before .before .loop .inv in (
+returns-2 c = let i = c .before .before .loop .inv in (
   sym (i .5 ∙ trailer-crowded _ _ _ _ (c .before .if1 .left) (c .if2 .taken)),
   ((omega arith, omega arith), i .4),
 )
 
 record-of-requires : tie.Need-record-of-requires Inv-loop μ-loop
-record-of-requires c κs = let i = c .before .before .before .before .loop .inv .3 in (omega (arith, i .within), omega (arith, i .within))
+record-of-requires c κs = let i = c .before .before .before .loop .inv .3 in (omega (arith, i .within), omega (arith, i .within))
 
 keep-requires : tie.Need-keep-requires Inv-loop μ-loop
 keep-requires c κs = (omega arith, omega arith)
 
 same-length-3 : tie.Need-same-length-3 Inv-loop μ-loop
 same-length-3 c = let k = c .before .before .before .before .before .before in
-    k .keep .kept .0 ∙ k .before .before .before .before .before .before .loop .inv .0
+    k .keep .kept .0 ∙ k .before .before .before .before .before .loop .inv .0
 
 returns-3 : tie.Need-returns-3 Inv-loop μ-loop
 unfolding trailerTold trailerCounts
 returns-3 c = let k = c .before .before .before .before .before .before in
     let e = k .before .before .before in
-    let i = e .before .before .before .loop .inv in (
+    let i = e .before .before .loop .inv in (
       sym (i .5 ∙ trailer-ends _ _ _ _ _ (e .before .if1 .left) (omega arith) _ _ (sym (c .before .before .next-field .ensures) ∙ c .enum-told .given .1) ∙ rw (k .keep .ensures .part, k .before .record-of .ensures)),
       ((omega (arith, k .keep .ensures .grows), omega (arith, k .keep .ensures .by-one)), k .keep .ensures .before ∙ i .4),
     )
@@ -67,7 +67,7 @@ returns-3 c = let k = c .before .before .before .before .before .before in
 loop-again : tie.Need-loop-again Inv-loop μ-loop
 loop-again c = let k = c .before .before .before .before .before .before .before in
     let e = k .before .before .before in
-    let i = e .before .before .before .loop .inv in
+    let i = e .before .before .loop .inv in
     let r = sym (c .before .before .before .next-field .ensures) ∙ c .before .read .given .1 in (
       k .keep .kept .0 ∙ i .0,
       omega (arith, k .keep .ensures .by-one),
