@@ -1,178 +1,165 @@
-// tool_fields: shows the fields of the message on standard input, one to a line, with the place of each. `|` in the input stands for 0x01.
-// A tag that was read before is marked, and BodyLength and CheckSum are held against the bytes. It judges nothing else.
-use field_rules::Cause;
-use field_rules::Field;
-use field_rules::FieldRead;
-use field_rules::Found;
-use field_rules::Number;
-ghost use Prim.Native.Nat.{_≤_};
-ghost use lib.ListN.{length};
+// tool_fields: shows the stream on standard input, of any length: the fields of each message with their places, whether BodyLength and CheckSum
+// are right, and what was dropped between. The separator is 0x01. It knows no dictionary, and judges nothing else.
+mod counting;
+mod dropped;
+mod fields;
+mod integrity;
+mod saying;
 
-fn wide(n: u32) -> u64 {
-    n as u64
+use counting::Counts;
+use dropped::Run;
+use frame_hunter_rules::State;
+use frame_hunter_rules::Taken;
+
+// Chunks of 8,192 bytes that are read at the most: the program ends on every input.
+const CHUNKS: u64 = 0x1_0000_0000;
+
+// `place` is that of the first byte that the framer holds, and the run that of the bytes dropped right before it.
+struct Showing {
+    state: State,
+    place: u64,
+    run: Run,
+    counts: Counts,
 }
 
-fn number(label: &[u8], n: usize) {
-    io::write_all(1, label);
-    io::print_decimal(1, n as u64);
+// The field with which a frame ends is `10=`, three digits and the separator.
+fn checksum_place(frame: &[u8]) -> usize {
+    if frame.len() < 7 {
+        return frame.len();
+    }
+    frame.len() - 7
 }
 
-// A place, so that places up to 9,999 stand in a column.
-fn place_column(place: usize) {
-    if place < 10 {
-        io::write_all(1, b" ");
-    }
-    if place < 100 {
-        io::write_all(1, b" ");
-    }
-    if place < 1000 {
-        io::write_all(1, b" ");
-    }
-    number(b"  ", place);
-    io::write_all(1, b"  ");
+fn message(frame: &[u8], place: u64, counts: Counts) -> Counts {
+    saying::number(b"message ", counting::sum(counts.messages, 1));
+    saying::number(b" at ", place);
+    saying::number(b", ", frame.len() as u64);
+    saying::say(b" bytes\n");
+    let repeated = fields::listed(frame, place, true);
+    integrity::judged(frame, checksum_place(frame), true);
+    fields::repeats(repeated);
+    counting::with_message(counts, fields::is_repeating(repeated))
 }
 
-// A line break at the end of the input is no part of the message.
-fn trimmed(input: &[u8], n: usize) -> usize
-    requires { ⌜ n ≤ length (now input) ⌝ }
-    ensures { λ r. ⌜ r ≤ n ⌝ }
-{
-    if n == 0 {
-        return 0;
-    }
-    let last = n - 1;
-    if input[last] == b'\n' {
-        return last;
-    }
-    n
-}
-
-fn separated(byte: u8) -> u8 {
-    if byte == b'|' { 1 } else { byte }
-}
-
-fn bars_to_separators(input: &mut [u8]) {
-    let mut i: usize = 0;
-    while i < input.len() {
-        input[i] = separated(input[i]);
-        i += 1;
-    }
-}
-
-// Where a tag was first read, among the fields read so far.
-fn first_read(tags: &[u32; 1024], count: usize, tag: u32) -> Found {
-    let mut i: usize = 0;
-    while i < 1024 {
-        if count <= i {
-            return Found::Nothing;
-        }
-        if tags[i] == tag {
-            return Found::At(i);
-        }
-        i += 1;
-    }
-    Found::Nothing
-}
-
-fn agreement(name: &[u8], says: Number, is: usize) {
-    io::write_all(1, name);
-    match says {
-        Number::Worth(n) => {
-            io::write_all(1, b" says ");
-            io::print_decimal(1, wide(n));
-        }
-        Number::NoNumber => {
-            io::write_all(1, b" says no number");
-        }
-    }
-    number(b" and is ", is);
-    io::write_all(1, b"\n");
-}
-
-fn unreadable(cause: Cause, place: usize) {
-    place_column(place);
-    match cause {
-        Cause::NoEquals => {
-            io::write_all(1, b"no field: no `=`\n");
-        }
-        Cause::NoSeparator => {
-            io::write_all(1, b"no field: no separator\n");
-        }
-        Cause::BadTag => {
-            io::write_all(1, b"no field: the tag text is no tag\n");
-        }
-    }
-}
-
-// One field in a line, with a mark where its tag was read before.
-fn show(message: &[u8], f: Field, tags: &[u32; 1024], count: usize) {
-    place_column(f.first);
-    io::print_decimal(1, wide(f.tag));
-    io::write_all(1, b"=");
-    io::write_all(1, field_tagvalue::value_of(message, f));
-    if let Found::At(_) = first_read(tags, count, f.tag) {
-        io::write_all(1, b"   <- tag ");
-        io::print_decimal(1, wide(f.tag));
-        io::write_all(1, b" again");
-    }
-    io::write_all(1, b"\n");
-}
-
-// BodyLength and CheckSum against the bytes, once the field with tag 10 is met; `body` is the place behind the BodyLength field.
-fn verify(message: &[u8], f: Field, body: usize, says: Number) {
-    let first = f.first;
-    if message.len() < first {
-        return;
-    }
-    if first < body {
-        return;
-    }
-    agreement(b"BodyLength", says, first - body);
-    let sum = field_numbers::sum_of(&message[..first]);
-    agreement(
-        b"CheckSum",
-        field_numbers::checksum_of(field_tagvalue::value_of(message, f)),
-        sum as usize,
-    );
-}
-
-fn fields(message: &[u8]) {
-    let mut tags = [0u32; 1024];
-    let mode = field_tagvalue::separated_by(1);
-    let mut cursor = field_tagvalue::start_at(0);
-    let mut body: usize = 0;
-    let mut says = Number::NoNumber;
-    let mut i: usize = 0;
-    while i < 1024 {
-        let read = field_tagvalue::next_field(cursor, message, mode);
-        let f = match read {
-            FieldRead::Read(f) => f,
-            FieldRead::Unreadable(cause, place) => {
-                if place < message.len() {
-                    unreadable(cause, place);
-                }
-                return;
-            }
+// What a take passed, and the frame that it handed out behind that; none, where that is empty.
+fn taken_over(
+    showing: Showing,
+    passed: &[u8],
+    frame: &[u8],
+    state: State,
+    memory: &mut [u8],
+) -> Showing {
+    let run = dropped::more(showing.run, passed, memory);
+    let place = counting::sum(showing.place, passed.len() as u64);
+    let counts = showing.counts;
+    if frame.len() == 0 {
+        return Showing {
+            state,
+            place,
+            run,
+            counts,
         };
-        show(message, f, &tags, i);
-        tags[i] = f.tag;
-        if f.tag == 9 {
-            let next = f.next;
-            body = next.at;
-            says = field_numbers::number_of(field_tagvalue::value_of(message, f));
-        }
-        if f.tag == 10 {
-            verify(message, f, body, says);
-        }
-        cursor = f.next;
-        i += 1;
     }
+    dropped::show(run, memory);
+    let counts = message(frame, place, counting::with_run(counts, run));
+    let place = counting::sum(place, frame.len() as u64);
+    let run = dropped::none(place);
+    Showing {
+        state,
+        place,
+        run,
+        counts,
+    }
+}
+
+// What a take answered, told by the bytes that were held when the takes began, from the place `first` on.
+fn told(
+    showing: Showing,
+    taken: Taken,
+    held: &[u8],
+    first: u64,
+    output: &[u8],
+    memory: &mut [u8],
+) -> Showing {
+    let before = showing.state;
+    let state = taken.state;
+    let at = std::num::wrapping_sub_u64(showing.place, first);
+    let size = std::num::wrapping_sub_u64(state.dropped, before.dropped);
+    let passed = sample_texts::part(held, at as usize, size as usize);
+    let frame = sample_texts::first(output, taken.length);
+    taken_over(showing, passed, frame, state, memory)
+}
+
+// All that is ready is taken.
+fn taken(showing: Showing, held: &[u8], store: &mut [u8], memory: &mut [u8]) -> Showing {
+    let mut output = [0u8; 8192];
+    let first = showing.place;
+    let mut now = showing;
+    let mut takes: usize = 0;
+    while takes < 16384 {
+        let taken = frame_hunter::take(now.state, store, &mut output);
+        now = told(now, taken, held, first, &output, memory);
+        if taken.length == 0 {
+            break;
+        }
+        takes += 1;
+    }
+    now
+}
+
+// Takes from a store that was just given bytes, or the end. A take moves what is held, so a copy of it tells what was passed.
+fn drained(showing: Showing, state: State, store: &mut [u8], memory: &mut [u8]) -> Showing {
+    let mut held = [0u8; 16384];
+    sample_texts::copy(&mut held, 0, store);
+    let place = showing.place;
+    let run = showing.run;
+    let counts = showing.counts;
+    let next = Showing {
+        state,
+        place,
+        run,
+        counts,
+    };
+    taken(next, &held, store, memory)
+}
+
+fn given(showing: Showing, chunk: &[u8], store: &mut [u8], memory: &mut [u8]) -> Showing {
+    let reply = frame_hunter::push(showing.state, store, chunk);
+    drained(showing, reply.state, store, memory)
+}
+
+// At the end of the stream, what is held and is no message is dropped.
+fn finished(showing: Showing, store: &mut [u8], memory: &mut [u8]) -> Counts {
+    let reply = frame_hunter::end(showing.state, store);
+    let last = drained(showing, reply.state, store, memory);
+    let run = last.run;
+    dropped::show(run, memory);
+    counting::with_run(last.counts, run)
+}
+
+// The stream, chunk by chunk, to its end.
+fn shown(store: &mut [u8], memory: &mut [u8]) -> Counts {
+    let mut chunk = [0u8; 8192];
+    let mut showing = Showing {
+        state: frame_hunter::reset(),
+        place: 0,
+        run: dropped::none(0),
+        counts: counting::nothing(),
+    };
+    let mut chunks: u64 = 0;
+    while chunks < CHUNKS {
+        let n = io::read_full(0, &mut chunk);
+        if n == 0 {
+            break;
+        }
+        showing = given(showing, &chunk[..n], store, memory);
+        chunks += 1;
+    }
+    finished(showing, store, memory)
 }
 
 fn main() {
-    let mut input = [0u8; 8192];
-    let n = io::read_full(0, &mut input);
-    let n = trimmed(&input, n);
-    bars_to_separators(&mut input);
-    fields(&input[..n]);
+    let mut store = [0u8; 16384];
+    let mut memory = [0u8; 8192];
+    counting::summary(shown(&mut store, &mut memory));
 }

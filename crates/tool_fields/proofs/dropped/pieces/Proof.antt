@@ -1,0 +1,18 @@
+-- `pieces` ends: it shows so many pieces at the most.
+use Prim.Native.Nat.{_-_, _≤_}
+use borrow.Author.Needs.{needs}
+use Rattle.tool_fields.proofs.dropped.pieces.Statement.{statement}
+use Rattle.tool_fields.proofs.dropped.pieces.Tie as tie
+
+abbrev Inv-loop : tie.InvT-loop
+Inv-loop bytes first whole at₀ turns₀ at turns = turns ≤ 8192
+
+abbrev μ-loop : tie.MeasureT-loop
+μ-loop bytes first whole at₀ turns₀ at turns = 8192 - turns
+
+pub pieces-spec : {M : Type 1} → statement M
+pieces-spec =
+    tie.close
+    (tie.spec Inv-loop μ-loop (λ c. search needs) (λ c. search needs) (λ c κs. search needs) (λ c κs. search needs)
+    (λ c κs. search needs) (λ c κs. search needs) (λ c. search needs) (λ c. search needs) (λ c. search needs)
+    (λ c. search needs))
