@@ -168,7 +168,11 @@ pub fn ported_reset(out: &mut [u32; 4]) -> PortedReply
         ended: 0,
         over: 0,
     };
-    ported_told(zeros, frame_parser::reset(), frame_parser_rules::Answer::Accepted)
+    ported_told(
+        zeros,
+        frame_parser::reset(),
+        frame_parser_rules::Answer::Accepted,
+    )
 }
 
 // A chunk of the stream for the hunting framer.
@@ -229,5 +233,9 @@ pub fn hunter_reset(out: &mut [u32; 4]) -> HunterReply
         dropped: 0,
         ended: 0,
     };
-    hunter_told(zeros, frame_hunter::reset(), frame_hunter_rules::Answer::Fine)
+    hunter_told(
+        zeros,
+        frame_hunter::reset(),
+        frame_hunter_rules::Answer::Fine,
+    )
 }
