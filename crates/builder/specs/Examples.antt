@@ -19,7 +19,7 @@ use Rattle.dictionary_rules.specs.Examples.{examples, examples-pass}
 use Rattle.dictionary_rules.specs.Record.{lowFirst, zeroFilled, recordBodyLength, withTag as tagBytes, withMark, knownTag, opensComponent, opensMessage, recordBody as bodyBytes, withBody, withKind, recordFrom, recordAt}
 use Rattle.dictionary_rules.specs.Record.{fieldItem as fieldBody, componentItem as componentBody, opensGroup as groupBody}
 use Rattle.dictionary_rules.specs.Records.{recordsFrom, recordsWithin, followedBy as recordsThen}
-use Rattle.dictionary_meaning_rules.specs.Meaning.{onTop, groupOnTop, below, innermost, levelsOf, declarationsOf, nodesOf, expanded, definedBy, definedAfter, bytesWithin, msgTypeBytes, messageIn, messagesFrom, tagIn, tagsFrom, meaningOf, dictionaryOf}
+use Rattle.dictionary_meaning_rules.specs.Meaning.{itemBefore, noItems, bodyOf, sizeOf, declarationsIn, declarationsOf, nodesOf, expanded, definedBy, definedAfter, bytesWithin, msgTypeBytes, messageIn, messagesFrom, tagIn, tagsFrom, meaningOf, dictionaryOf}
 use Rattle.builder.specs.Build.{BuildOutcome, wordsWith, shown, checkedRead, buildOf}
 use Rattle.builder.specs.BuildLaws.{check-reads}
 use Rattle.builder.specs.ReadingLaws.{build-reads}
@@ -36,7 +36,7 @@ laterTests (b ∷ bs) = bs
 
 -- the same dictionary in bytes
 means : dictionaryOf examples ≡ dictionary
-unfolding dictionaryOf meaningOf tagsFrom tagIn messagesFrom messageIn msgTypeBytes bytesWithin definedAfter definedBy expanded nodesOf declarationsOf levelsOf innermost below groupOnTop onTop recordsFrom recordsWithin recordsThen recordAt recordFrom withKind withBody bodyBytes recordBodyLength knownTag opensComponent opensMessage fieldBody componentBody groupBody tagBytes withMark zeroFilled lowFirst
+unfolding dictionaryOf meaningOf tagsFrom tagIn messagesFrom messageIn msgTypeBytes bytesWithin definedAfter definedBy expanded nodesOf declarationsOf declarationsIn sizeOf bodyOf noItems itemBefore recordsFrom recordsWithin recordsThen recordAt recordFrom withKind withBody bodyBytes recordBodyLength knownTag opensComponent opensMessage fieldBody componentBody groupBody tagBytes withMark zeroFilled lowFirst
 means = refl
 
 all-short : map (λ (row : Row). leb (length (row .1)) 8192) table ≡ map (λ (row : Row). true) table

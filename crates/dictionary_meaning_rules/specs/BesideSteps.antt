@@ -34,7 +34,8 @@ use Rattle.dictionary_rules.specs.declared.Record.{Record}
 use Rattle.dictionary_rules.specs.declared.Record.the-variants.{KnownTag, OpensComponent, OpensMessage, FieldItem, ComponentItem, OpensGroup, Closes}
 use Rattle.dictionary_rules.specs.declared.Step.{Step}
 use Rattle.dictionary_rules.specs.declared.Step.the-variants.{Refuses, Goes}
-use Rattle.dictionary_meaning_rules.specs.Meaning.{Items, closed, componentThen, groupThen, Declaration, component, message, declarationsOf, Defined, definedBy}
+use Rattle.dictionary_meaning_rules.specs.Meaning.{Items, closed, componentThen, groupThen, Declaration, component, message, Defined, definedBy}
+use Rattle.dictionary_meaning_rules.specs.Levels.{declarationsByLevels, Nested, nested-tag, nested-component, nested-message}
 use Rattle.dictionary_meaning_rules.specs.Layable.{flat}
 use Rattle.dictionary_meaning_rules.specs.ClosedOff.{openAfter, closes, layoutsBy, layoutsAfter, Latest, FiveDeep, OverThousand}
 use Rattle.dictionary_meaning_rules.specs.SoFar.{OpenGroup, continued, joined, wrapped}
@@ -76,8 +77,8 @@ module _ (names : Names) (layouts : Records → List Layout) (place : ℕ) where
     unfolding stepOf onTag atTop looksIn thingsOf openAfter
     top-tag tag = goes (at-top (next (isKnown (names .tags) tag))) refl
       where
-        same : (later : Records) → layouts (whole place (KnownTag tag) later) ≡ layoutsAfter (t .defined) (t .read) (declarationsOf later)
-        same later = t .means (whole place (KnownTag tag) later) ∙ (unfold declarationsOf layoutsAfter layoutsBy definedBy in refl)
+        same : (later : Records) → Nested 0 later → layouts (whole place (KnownTag tag) later) ≡ layoutsAfter (t .defined) (t .read) (declarationsByLevels later)
+        same later n = t .means (whole place (KnownTag tag) later) (nested-tag n) ∙ (unfold declarationsByLevels layoutsAfter layoutsBy definedBy in refl)
 
         next : (b : Bool) → Tree (named names (pick b Unchanged (KnowsTag place tag))) (λ (later : Records). layouts (whole place (KnownTag tag) later))
         next true = unfold named in record { defined = t .defined; read = t .read; measured = t .measured; bounded = t .bounded; means = same }
@@ -93,7 +94,7 @@ module _ (names : Names) (layouts : Records → List Layout) (place : ℕ) where
             record {
               declares = component number;
               sort = declares-component number;
-              means = λ later h. t .means (whole place (OpensComponent number) later) ∙ (unfold declarationsOf joined continued in refl);
+              means = λ later n. t .means (whole place (OpensComponent number) later) (nested-component n) ∙ (unfold declarationsByLevels joined continued in refl);
             }
 
         go : (l : Looked) → Stepped TopLevel names layouts place (OpensComponent number) (onceComponent l place (Goes (Inside (opens (OfComponent number) place)) Unchanged))
@@ -110,7 +111,7 @@ module _ (names : Names) (layouts : Records → List Layout) (place : ℕ) where
             record {
               declares = message msgType;
               sort = declares-message msgType;
-              means = λ later h. t .means (whole place (OpensMessage msgType) later) ∙ (unfold declarationsOf joined continued in refl);
+              means = λ later n. t .means (whole place (OpensMessage msgType) later) (nested-message n) ∙ (unfold declarationsByLevels joined continued in refl);
             }
 
         go : (p : Placed) → Stepped TopLevel names layouts place (OpensMessage msgType) (onceMessage p place (Goes (Inside (opens OfMessage place)) (NamesMessage place msgType)))
@@ -208,7 +209,7 @@ module _ (names : Names) (layouts : Records → List Layout) (place : ℕ) (o : 
       none-left : thingsOf TopLevel ≡ openAfter Closes (thingsOf (Inside o))
       none-left = unfold thingsOf openAfter in omega (arith, c .nests)
 
-      go : (owner : Owner) (declares : Items → Declaration) → Declares owner declares → ((later : Records) → layouts (whole place Closes later) ≡ layoutsAfter (definedBy defined (declares level)) (flat defined level ∷ read) (declarationsOf later)) → Stepped (Inside o) names layouts place Closes (closesOwner o owner)
+      go : (owner : Owner) (declares : Items → Declaration) → Declares owner declares → ((later : Records) → Nested 0 later → layouts (whole place Closes later) ≡ layoutsAfter (definedBy defined (declares level)) (flat defined level ∷ read) (declarationsByLevels later)) → Stepped (Inside o) names layouts place Closes (closesOwner o owner)
       go owner declares (declares-component number) means =
           goes (at-top (record {
             defined = definedBy defined (component number level);

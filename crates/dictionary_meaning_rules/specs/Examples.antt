@@ -17,7 +17,7 @@ use Rattle.dictionary_rules.specs.Record.{fieldItem as fieldBody, componentItem
 use Rattle.dictionary_rules.specs.Records.{Records, recordsFrom, recordsWithin, followedBy}
 use Rattle.dictionary_rules.specs.Names.{componentIn}
 use Rattle.dictionary_rules.specs.declared.Component.{Component}
-use Rattle.dictionary_meaning_rules.specs.Meaning.{onTop, groupOnTop, below, innermost, levelsOf, declarationsOf, nodesOf, expanded, definedBy, definedAfter, bytesWithin, msgTypeBytes, messageIn, messagesFrom, tagIn, tagsFrom, meaningOf, dictionaryOf}
+use Rattle.dictionary_meaning_rules.specs.Meaning.{itemBefore, noItems, bodyOf, sizeOf, declarationsIn, declarationsOf, nodesOf, expanded, definedBy, definedAfter, bytesWithin, msgTypeBytes, messageIn, messagesFrom, tagIn, tagsFrom, meaningOf, dictionaryOf}
 use Rattle.dictionary_meaning_rules.specs.ClosedOff.{openAfter, closes, closedOff, openOf, layoutsBy, layoutsAfter, layoutsOf}
 use Rattle.dictionary_meaning_rules.specs.Laying.{Laying, laying, behindOpening, expanding, standsAt, putRow, afterGroup, afterComponent, onComponent, onRecord, onRead, itemsWithin, itemsFrom, layItems}
 use Rattle.dictionary_meaning_rules.specs.MsgType.{noZero, nameOf}
@@ -66,7 +66,7 @@ tree : dictionaryOf dictionary ≡ record {
   trailer = fieldItem 10 true nothing;
   messages = record { msgType = bytes "D"; nodes = fieldItem 38 false (groupItem 78 true (componentItem true fourth nothing) (componentItem true fourth (fieldItem 58 false nothing))) } ∷ [];
 }
-unfolding dictionaryOf meaningOf tagsFrom tagIn messagesFrom messageIn msgTypeBytes bytesWithin definedAfter definedBy expanded nodesOf declarationsOf levelsOf innermost below groupOnTop onTop recordsFrom recordsWithin followedBy recordAt recordFrom withKind withBody recordBody recordBodyLength knownTag opensComponent opensMessage fieldBody componentBody groupBody withTag withMark zeroFilled lowFirst
+unfolding dictionaryOf meaningOf tagsFrom tagIn messagesFrom messageIn msgTypeBytes bytesWithin definedAfter definedBy expanded nodesOf declarationsOf declarationsIn sizeOf bodyOf noItems itemBefore recordsFrom recordsWithin followedBy recordAt recordFrom withKind withBody recordBody recordBodyLength knownTag opensComponent opensMessage fieldBody componentBody groupBody withTag withMark zeroFilled lowFirst
 tree = refl
 
 -- as far as it was read: 38 in the message with group 78 open, the same with component 4 in the group, and with the group closed
@@ -82,7 +82,7 @@ so-far : map {B = ℕ × List Layout} (λ (first : ℕ). (openOf first 0 (record
     ∷ (2, plainField 38 false (group 78 true pair end) ∷ others)
     ∷ (1, plainField 38 false (group 78 true pair end) ∷ others)
     ∷ []
-unfolding openOf openAfter closedOff closes layoutsOf layoutsAfter layoutsBy flattened followedInPlace definedBy expanded nodesOf declarationsOf levelsOf innermost below groupOnTop onTop recordsFrom recordsWithin followedBy recordAt recordFrom withKind withBody recordBody recordBodyLength knownTag opensComponent opensMessage fieldBody componentBody groupBody withTag withMark zeroFilled lowFirst
+unfolding openOf openAfter closedOff closes layoutsOf layoutsAfter layoutsBy flattened followedInPlace definedBy expanded nodesOf declarationsOf declarationsIn sizeOf bodyOf noItems itemBefore recordsFrom recordsWithin followedBy recordAt recordFrom withKind withBody recordBody recordBodyLength knownTag opensComponent opensMessage fieldBody componentBody groupBody withTag withMark zeroFilled lowFirst
 so-far = refl
 
 abbrev components : List Component

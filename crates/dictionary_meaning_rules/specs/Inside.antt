@@ -26,7 +26,8 @@ use Rattle.dictionary_rules.specs.declared.Held.{Held}
 use Rattle.dictionary_rules.specs.declared.Held.the-variants.{Empty, Only, Several}
 use Rattle.dictionary_rules.specs.declared.Open.{Open}
 use Rattle.dictionary_rules.specs.declared.State.the-variants.{TopLevel, Inside}
-use Rattle.dictionary_meaning_rules.specs.Meaning.{Items, closed, fieldThen, componentThen, groupThen, onTop, groupOnTop, levelsOf, declarationsOf}
+use Rattle.dictionary_meaning_rules.specs.Meaning.{Items, closed, fieldThen, componentThen, groupThen, sizeOf}
+use Rattle.dictionary_meaning_rules.specs.Levels.{onTop, groupOnTop, levelsOf, declarationsByLevels}
 use Rattle.dictionary_meaning_rules.specs.Layable.{Reads, reads-close, reads-field, reads-component, reads-group}
 use Rattle.dictionary_meaning_rules.specs.Counted.{itemsIn, heldBy, countOf, heldFrom}
 use Rattle.dictionary_meaning_rules.specs.Steps.{Passing, noteOf, field-goes, group-goes, item-goes, known-stops, component-stops, message-stops, close-goes, bad-stops, end-stops}
@@ -50,12 +51,6 @@ next-of bytes at place r rest e = go (recordAt bytes at) refl
         let more : recordsFrom bytes next ≡ rest = cc in
         let here : place ≡ at = cc in
         record { next = next; read = rw same at q; there = more; here = here }
-
--- how many records
-unfoldable pub sizeOf : Records → ℕ
-sizeOf (ends size) = 0
-sizeOf (bad place) = 0
-sizeOf (whole place r rest) = 1 + sizeOf rest
 
 -- levels that stand one after the other, the innermost first
 pub data ReadsAll (bytes : List ℕ) : ℕ → List Items → ℕ → Type 0 where
@@ -92,7 +87,7 @@ pub record Closing (bytes : List ℕ) (final names : Names) (at : ℕ) (rs : Rec
   pub last : Open
   pub there : recordsFrom bytes after ≡ rest
   pub split : levelsOf rs ≡ levels ++ levelsOf rest
-  pub declared : declarationsOf rs ≡ declarationsOf rest
+  pub declared : declarationsByLevels rs ≡ declarationsByLevels rest
   pub deep : length levels ≡ 1 + depthOf (o .groups)
   pub reads : ReadsAll bytes at levels after
   pub resolved : AllResolved (lookIn names) levels
@@ -110,7 +105,7 @@ module _ (bytes : List ℕ) (final names : Names) where
 
   -- one item before what is known of the rest
   field-before : (at place : ℕ) (tag : ℕ) (required : Bool) (rest : Records) (o : Open) (depth : ℕ) → (n : Next bytes at (FieldItem tag required) rest place) → o .items + 1 ≤ 1024 → Closing bytes final names (n .next) rest (grown o (o .items + 1) depth Several (o .groups)) → Closing bytes final names at (whole place (FieldItem tag required) rest) o
-  unfolding grown countAll countOf heldAll heldFrom levelsOf onTop declarationsOf sizeOf
+  unfolding grown countAll countOf heldAll heldFrom levelsOf onTop declarationsByLevels sizeOf
   field-before at place tag required rest o depth n h c = go (c .levels) (c .split) (c .deep) (c .reads) (c .resolved) (c .count) (c .held)
     where
       go : (levels : List Items) → levelsOf rest ≡ levels ++ levelsOf (c .rest) → length levels ≡ 1 + depthOf (grown o (o .items + 1) depth Several (o .groups) .groups) → ReadsAll bytes (n .next) levels (c .after) → AllResolved Look levels → c .last .items ≡ grown o (o .items + 1) depth Several (o .groups) .items + countAll Look levels → c .last .held ≡ heldAll Look (grown o (o .items + 1) depth Several (o .groups) .held) levels → Closing bytes final names at (whole place (FieldItem tag required) rest) o
@@ -137,7 +132,7 @@ module _ (bytes : List ℕ) (final names : Names) where
           }
 
   component-before : (at place : ℕ) (number : ℕ) (required : Bool) (rest : Records) (o : Open) (depth : ℕ) (component : Component) → (n : Next bytes at (ComponentItem required number) rest place) → Look number ≡ Closed component → o .items + component .items ≤ 1024 → Closing bytes final names (n .next) rest (grown o (o .items + component .items) depth (heldWith (o .held) component) (o .groups)) → Closing bytes final names at (whole place (ComponentItem required number) rest) o
-  unfolding grown countAll countOf itemsIn heldAll heldFrom heldBy levelsOf onTop declarationsOf sizeOf
+  unfolding grown countAll countOf itemsIn heldAll heldFrom heldBy levelsOf onTop declarationsByLevels sizeOf
   component-before at place number required rest o depth component n looked h c = go (c .levels) (c .split) (c .deep) (c .reads) (c .resolved) (c .count) (c .held)
     where
       go : (levels : List Items) → levelsOf rest ≡ levels ++ levelsOf (c .rest) → length levels ≡ 1 + depthOf (o .groups) → ReadsAll bytes (n .next) levels (c .after) → AllResolved Look levels → c .last .items ≡ o .items + component .items + countAll Look levels → c .last .held ≡ heldAll Look (heldWith (o .held) component) levels → Closing bytes final names at (whole place (ComponentItem required number) rest) o
@@ -172,7 +167,7 @@ module _ (bytes : List ℕ) (final names : Names) where
   opened-depth group (FourGroups a b c d) h = absurd (omega arith)
 
   group-before : (at place : ℕ) (tag : ℕ) (required : Bool) (rest : Records) (o : Open) (depth : ℕ) (group : Group) → (n : Next bytes at (OpensGroup tag required) rest place) → depthOf (o .groups) + 1 ≤ 4 → o .items + 1 ≤ 1024 → Closing bytes final names (n .next) rest (grown o (o .items + 1) depth Several (opened group (o .groups))) → Closing bytes final names at (whole place (OpensGroup tag required) rest) o
-  unfolding grown countAll countOf heldAll heldFrom levelsOf groupOnTop declarationsOf sizeOf
+  unfolding grown countAll countOf heldAll heldFrom levelsOf groupOnTop declarationsByLevels sizeOf
   group-before at place tag required rest o depth group n g h c = go (c .levels) (c .split) (c .deep ∙ ap (λ (k : ℕ). 1 + k) (opened-depth group (o .groups) g)) (c .reads) (c .resolved) (c .count) (c .held)
     where
       go : (levels : List Items) → levelsOf rest ≡ levels ++ levelsOf (c .rest) → length levels ≡ 1 + (1 + depthOf (o .groups)) → ReadsAll bytes (n .next) levels (c .after) → AllResolved Look levels → c .last .items ≡ o .items + 1 + countAll Look levels → c .last .held ≡ heldAll Look Several levels → Closing bytes final names at (whole place (OpensGroup tag required) rest) o
@@ -200,7 +195,7 @@ module _ (bytes : List ℕ) (final names : Names) where
           }
 
   close-before : (at place : ℕ) (rest : Records) (o : Open) (groups : Groups) → (n : Next bytes at Closes rest place) → depthOf (o .groups) ≡ 1 + depthOf groups → Closing bytes final names (n .next) rest (grown o (o .items) (o .depth) (o .held) groups) → Closing bytes final names at (whole place Closes rest) o
-  unfolding grown countAll countOf heldAll heldFrom levelsOf declarationsOf sizeOf
+  unfolding grown countAll countOf heldAll heldFrom levelsOf declarationsByLevels sizeOf
   close-before at place rest o groups n g c =
       record {
         levels = closed ∷ c .levels;
@@ -223,7 +218,7 @@ module _ (bytes : List ℕ) (final names : Names) where
       }
 
   owner-before : (at place : ℕ) (rest : Records) (o : Open) → (n : Next bytes at Closes rest place) → o .groups ≡ NoGroup → Passing final rest TopLevel (named names (noteOf o (o .owner))) → Closing bytes final names at (whole place Closes rest) o
-  unfolding countAll countOf heldAll heldFrom levelsOf declarationsOf sizeOf depthOf
+  unfolding countAll countOf heldAll heldFrom levelsOf declarationsByLevels sizeOf depthOf
   owner-before at place rest o n g p =
       record {
         levels = closed ∷ [];

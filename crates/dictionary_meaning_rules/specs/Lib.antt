@@ -1,6 +1,7 @@
 pub mod Laying
 pub mod LayingLaws
 pub mod Meaning
+pub mod Levels
 pub mod Written
 pub mod Layable
 pub mod Counted
@@ -8,6 +9,7 @@ pub mod Steps
 pub mod Inside
 pub mod Named
 pub mod Passing
+pub mod Nesting
 pub mod Tables
 pub mod Prepared
 pub mod MsgType

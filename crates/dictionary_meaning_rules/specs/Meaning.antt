@@ -1,5 +1,6 @@
--- What the records of a dictionary mean: the tree. Records are read backwards, so that what lies within a thing is known where it opens;
--- then component items are filled in, forwards, with what the components mean that were closed before.
+-- What the records of a dictionary mean: the tree. The records are read from the first to the last, as the rules say them: at top level known
+-- tags, components and messages; in a component, a message or a group its items, and then its close. Then component items are filled in
+-- with what the components mean that were closed before.
 use Prim.Native.Nat.{ℕ, zero, suc, _+_, _/_, _%_}
 use mathlib.Core.List.{List, [], _∷_}
 use mathlib.Core.Bool.{Bool, true, false}
@@ -17,52 +18,66 @@ pub data Items : Type 0 where
   componentThen : ℕ → Bool → Items → Items
   groupThen : ℕ → Bool → Items → Items → Items
 
--- what is open where records begin, the innermost first: an item comes before what the innermost still holds
-unfoldable pub onTop : (Items → Items) → List Items → List Items
-onTop item [] = []
-onTop item (items ∷ levels) = item items ∷ levels
+-- the items of a thing that is open, and the records behind its close
+pub record Body : Type 0 where
+  pub items : Items
+  pub after : Records
 
--- a group holds the innermost, and comes before what the next one still holds
-unfoldable pub groupOnTop : ℕ → Bool → List Items → List Items
-groupOnTop tag required [] = []
-groupOnTop tag required (inner ∷ []) = []
-groupOnTop tag required (inner ∷ (items ∷ levels)) = groupThen tag required inner items ∷ levels
+-- an item comes before the items that follow it
+unfoldable pub itemBefore : (Items → Items) → Body → Body
+itemBefore item body = record { items = item (body .items); after = body .after }
 
-unfoldable pub below : List Items → List Items
-below [] = []
-below (items ∷ levels) = levels
+-- a close ends the items
+unfoldable pub noItems : Records → Body
+noItems records = record { items = closed; after = records }
 
-unfoldable pub innermost : List Items → Items
-innermost [] = closed
-innermost (items ∷ levels) = items
+-- "4 to 7 inside something open": field items, component items and groups, and at last "the innermost open thing closes". A group holds the
+-- items up to its own close, and the items behind that close follow it. One record is taken at each step, so as many steps as there are
+-- records are enough. What is no item ends the items where it stands; the check refuses it, so in no dictionary that passes it is met.
+unfoldable pub bodyOf : ℕ → Records → Body
+bodyOf (suc steps) (whole place (FieldItem tag required) rest) = itemBefore (fieldThen tag required) (bodyOf steps rest)
+bodyOf (suc steps) (whole place (ComponentItem required number) rest) = itemBefore (componentThen number required) (bodyOf steps rest)
+bodyOf (suc steps) (whole place (OpensGroup tag required) rest) =
+    itemBefore (groupThen tag required (bodyOf steps rest .items)) (bodyOf steps (bodyOf steps rest .after))
+bodyOf (suc steps) (whole place Closes rest) = noItems rest
+bodyOf (suc steps) (whole place (KnownTag tag) rest) = noItems (whole place (KnownTag tag) rest)
+bodyOf (suc steps) (whole place (OpensComponent number) rest) = noItems (whole place (OpensComponent number) rest)
+bodyOf (suc steps) (whole place (OpensMessage msgType) rest) = noItems (whole place (OpensMessage msgType) rest)
+bodyOf (suc steps) (ends size) = noItems (ends size)
+bodyOf (suc steps) (bad place) = noItems (bad place)
+bodyOf zero records = noItems records
 
-unfoldable pub levelsOf : Records → List Items
-levelsOf (ends size) = []
-levelsOf (bad place) = []
-levelsOf (whole place Closes rest) = closed ∷ levelsOf rest
-levelsOf (whole place (FieldItem tag required) rest) = onTop (fieldThen tag required) (levelsOf rest)
-levelsOf (whole place (ComponentItem required number) rest) = onTop (componentThen number required) (levelsOf rest)
-levelsOf (whole place (OpensGroup tag required) rest) = groupOnTop tag required (levelsOf rest)
-levelsOf (whole place (OpensComponent number) rest) = below (levelsOf rest)
-levelsOf (whole place (OpensMessage msgType) rest) = below (levelsOf rest)
-levelsOf (whole place (KnownTag tag) rest) = levelsOf rest
-
--- "1 to 3 stand at top level": known tags, and components and messages with their items
+-- what stands at top level: known tags, and components and messages with their items
 pub data Declaration : Type 0 where
   knownTag : ℕ → Declaration
   component : ℕ → Items → Declaration
   message : ℕ → Items → Declaration
 
+-- "1, 2 and 3 stand at top level": a known tag; a component or a message that opens, with its items, and behind its close what stands there.
+-- Anything else ends them, and is refused by the check.
+unfoldable pub declarationsIn : ℕ → Records → List Declaration
+declarationsIn (suc steps) (whole place (KnownTag tag) rest) = knownTag tag ∷ declarationsIn steps rest
+declarationsIn (suc steps) (whole place (OpensComponent number) rest) =
+    component number (bodyOf steps rest .items) ∷ declarationsIn steps (bodyOf steps rest .after)
+declarationsIn (suc steps) (whole place (OpensMessage msgType) rest) =
+    message msgType (bodyOf steps rest .items) ∷ declarationsIn steps (bodyOf steps rest .after)
+declarationsIn (suc steps) (whole place (FieldItem tag required) rest) = []
+declarationsIn (suc steps) (whole place (ComponentItem required number) rest) = []
+declarationsIn (suc steps) (whole place (OpensGroup tag required) rest) = []
+declarationsIn (suc steps) (whole place Closes rest) = []
+declarationsIn (suc steps) (ends size) = []
+declarationsIn (suc steps) (bad place) = []
+declarationsIn zero records = []
+
+-- how many records
+unfoldable pub sizeOf : Records → ℕ
+sizeOf (ends size) = 0
+sizeOf (bad place) = 0
+sizeOf (whole place r rest) = 1 + sizeOf rest
+
+-- all of them, from the first record to the last
 unfoldable pub declarationsOf : Records → List Declaration
-declarationsOf (ends size) = []
-declarationsOf (bad place) = []
-declarationsOf (whole place (KnownTag tag) rest) = knownTag tag ∷ declarationsOf rest
-declarationsOf (whole place (OpensComponent number) rest) = component number (innermost (levelsOf rest)) ∷ declarationsOf rest
-declarationsOf (whole place (OpensMessage msgType) rest) = message msgType (innermost (levelsOf rest)) ∷ declarationsOf rest
-declarationsOf (whole place (FieldItem tag required) rest) = declarationsOf rest
-declarationsOf (whole place (ComponentItem required number) rest) = declarationsOf rest
-declarationsOf (whole place (OpensGroup tag required) rest) = declarationsOf rest
-declarationsOf (whole place Closes rest) = declarationsOf rest
+declarationsOf records = declarationsIn (sizeOf records) records
 
 -- a component with what it means
 pub record Defined : Type 0 where

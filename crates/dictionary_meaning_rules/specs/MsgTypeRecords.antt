@@ -18,7 +18,8 @@ use Rattle.dictionary_rules.specs.declared.Record.the-variants.{KnownTag, Opens
 use Rattle.dictionary_rules.specs.declared.Body.{Body}
 use Rattle.dictionary_rules.specs.declared.Body.the-variants.{Good, Wrong}
 use Rattle.dictionary_rules.specs.declared.RecordRead.the-variants.{Whole, Bad, End}
-use Rattle.dictionary_meaning_rules.specs.Meaning.{Items, innermost, levelsOf, Declaration, knownTag as tagDeclared, component, message, declarationsOf, Defined, expanded, definedBy, msgTypeBytes, messageIn, messagesFrom}
+use Rattle.dictionary_meaning_rules.specs.Meaning.{Items, Declaration, knownTag as tagDeclared, component, message, Defined, expanded, definedBy, msgTypeBytes, messageIn, messagesFrom}
+use Rattle.dictionary_meaning_rules.specs.Levels.{innermost, levelsOf, declarationsByLevels}
 use Rattle.dictionary_meaning_rules.specs.MsgType.{nameOf}
 use Rattle.dictionary_meaning_rules.specs.MsgTypeText.{Bytes, no-bytes, a-byte, NameNumber, hasNumber, same-number, filled-number}
 use Rattle.dictionary_meaning_rules.specs.Inside.{Next, next-of}
@@ -108,8 +109,8 @@ pub data Numbered : List Declaration → Type 0 where
   numbered-component : {number : ℕ} {items : Items} {more : List Declaration} → Numbered more → Numbered (component number items ∷ more)
   numbered-message : {m : ℕ} {items : Items} {more : List Declaration} → NameNumber m → Numbered more → Numbered (message m items ∷ more)
 
-pub numbered : (d : List ℕ) → Bytes d → (rs : Records) (at : ℕ) → recordsFrom d at ≡ rs → Numbered (declarationsOf rs)
-unfolding declarationsOf
+pub numbered : (d : List ℕ) → Bytes d → (rs : Records) (at : ℕ) → recordsFrom d at ≡ rs → Numbered (declarationsByLevels rs)
+unfolding declarationsByLevels
 numbered d bytes (ends size) at e = numbered-none
 numbered d bytes (bad place) at e = numbered-none
 numbered d bytes (whole place (KnownTag tag) rest) at e = let n = next-of d at place _ rest e in numbered-tag (numbered d bytes rest (n .next) (n .there))

@@ -23,7 +23,8 @@ use Rattle.dictionary_rules.specs.declared.Open.{Open}
 use Rattle.dictionary_rules.specs.declared.State.the-variants.{TopLevel, Inside}
 use Rattle.dictionary_rules.specs.declared.Note.the-variants.{Unchanged, ClosesComponent, KnowsTag, NamesMessage}
 use Rattle.dictionary_meaning_rules.specs.Steps.{Passing, noteOf, tag-goes, component-opens, message-opens, field-stops, item-stops, group-stops, close-stops, bad-stops, end-passes}
-use Rattle.dictionary_meaning_rules.specs.Inside.{Next, next-of, sizeOf, lookIn, Closing, closes-inside}
+use Rattle.dictionary_meaning_rules.specs.Meaning.{sizeOf}
+use Rattle.dictionary_meaning_rules.specs.Inside.{Next, next-of, lookIn, Closing, closes-inside}
 
 abbrev pub placeIn : Names → ℕ → Placed
 placeIn names = messageIn (names .messages)

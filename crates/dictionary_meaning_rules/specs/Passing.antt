@@ -27,7 +27,8 @@ use Rattle.dictionary_rules.specs.declared.Open.{Open}
 use Rattle.dictionary_rules.specs.declared.Note.the-variants.{Unchanged, ClosesComponent}
 use Rattle.dictionary_meaning_rules.specs.Laying.{behindOpening, standsAt}
 use Rattle.dictionary_meaning_rules.specs.LayingLaws.{stands-empty, stands-behind, stands-somewhere}
-use Rattle.dictionary_meaning_rules.specs.Meaning.{Items, closed, fieldThen, componentThen, groupThen, innermost, levelsOf, Defined, nodesOf, expanded}
+use Rattle.dictionary_meaning_rules.specs.Meaning.{Items, closed, fieldThen, componentThen, groupThen, Defined, nodesOf, expanded}
+use Rattle.dictionary_meaning_rules.specs.Levels.{innermost, levelsOf}
 use Rattle.dictionary_meaning_rules.specs.Layable.{Reads, Layable, layoutOf, flat, Lays, lays-nothing, lays-items, AllLay, all-close, all-field, all-component, all-group, Room, level-layable, room-any}
 use Rattle.dictionary_meaning_rules.specs.Counted.{Agrees, agrees-close, agrees-field, agrees-component, agrees-group, countOf, heldFrom, count-agrees, items-none, items-some, Single, empty-none, only-one, room-proper}
 use Rattle.dictionary_meaning_rules.specs.Steps.{noteOf}

@@ -32,15 +32,17 @@ use Rattle.dictionary_rules.specs.declared.Note.the-variants.{Unchanged, Closes
 use Rattle.dictionary_meaning_rules.specs.Laying.{laying, layItems}
 use Rattle.dictionary_meaning_rules.specs.MessageTable.{mostCalls}
 use Rattle.dictionary_meaning_rules.specs.LayingLaws.{lay-down}
-use Rattle.dictionary_meaning_rules.specs.Meaning.{Items, innermost, levelsOf, Declaration, knownTag, component, message, declarationsOf, Defined, nodesOf, expanded, definedBy, definedAfter}
+use Rattle.dictionary_meaning_rules.specs.Meaning.{Items, Declaration, knownTag, component, message, Defined, nodesOf, expanded, definedBy, definedAfter, sizeOf, declarationsOf}
+use Rattle.dictionary_meaning_rules.specs.Levels.{innermost, levelsOf, declarationsByLevels}
 use Rattle.dictionary_meaning_rules.specs.Written.{written}
 use Rattle.dictionary_meaning_rules.specs.Layable.{Reads, layoutOf, flat, Lays, lay-level, room-any}
 use Rattle.dictionary_meaning_rules.specs.Counted.{countOf, heldFrom, count-agrees}
 use Rattle.dictionary_meaning_rules.specs.Steps.{Passing, noteOf, tag-goes, component-opens, message-opens, field-stops, item-stops, group-stops, close-stops, bad-stops, end-passes}
-use Rattle.dictionary_meaning_rules.specs.Inside.{Next, next-of, sizeOf, lookIn, Closing, closes-inside}
+use Rattle.dictionary_meaning_rules.specs.Inside.{Next, next-of, lookIn, Closing, closes-inside}
 use Rattle.dictionary_meaning_rules.specs.Named.{placeIn, Kept, kept, component-new, component-old, message-new, message-old}
 use Rattle.dictionary_meaning_rules.specs.Passing.{KnownAs, Known, agrees-known, lay-known, OneLevel, one-level-of, closed-lays}
 use Rattle.dictionary_meaning_rules.specs.TreeBounds.{KeptFrom, kept-tag, kept-component, kept-message}
+use Rattle.dictionary_meaning_rules.specs.Nesting.{passing-declared}
 use Rattle.dictionary_meaning_rules.specs.declared.Laid.the-variants.{Upto, Broken}
 
 -- the layout of the message that has a number among declarations
@@ -132,7 +134,7 @@ module _ (bytes : List ℕ) (components : ℕ → Looked) (final : Names) (sure 
       })
 
   abbrev Here : Names → List Defined → Records → Type 0
-  Here names defined rs = Meant bytes components final names defined (declarationsOf rs)
+  Here names defined rs = Meant bytes components final names defined (declarationsByLevels rs)
 
   -- what comes after one declaration decides
   tag-meant : (names later : Names) (defined : List Defined) (tag : ℕ) (declarations : List Declaration) → later .messages ≡ names .messages → Meant bytes components final later defined declarations → Meant bytes components final names defined (knownTag tag ∷ declarations)
@@ -200,10 +202,10 @@ module _ (bytes : List ℕ) (components : ℕ → Looked) (final : Names) (sure 
   note-components names o e = rw e
 
   meant-step : (rs : Records) (at : ℕ) (names : Names) (defined : List Defined) →
-      ((fewer : Records) (there : ℕ) (later : Names) (more : List Defined) → sizeOf fewer < sizeOf rs → recordsFrom bytes there ≡ fewer → Passing final fewer TopLevel later → Known bytes components later more → KeptFrom more (declarationsOf fewer) → Here later more fewer) →
-      recordsFrom bytes at ≡ rs → Passing final rs TopLevel names → Known bytes components names defined → KeptFrom defined (declarationsOf rs) →
+      ((fewer : Records) (there : ℕ) (later : Names) (more : List Defined) → sizeOf fewer < sizeOf rs → recordsFrom bytes there ≡ fewer → Passing final fewer TopLevel later → Known bytes components later more → KeptFrom more (declarationsByLevels fewer) → Here later more fewer) →
+      recordsFrom bytes at ≡ rs → Passing final rs TopLevel names → Known bytes components names defined → KeptFrom defined (declarationsByLevels rs) →
       Here names defined rs
-  unfolding declarationsOf sizeOf bytesOf
+  unfolding declarationsByLevels sizeOf bytesOf
   meant-step (ends size) at names defined again e p known bounds = end-meant names defined (end-passes final names size p .0) known
   meant-step (bad place) at names defined again e p known bounds = bad-stops final names place TopLevel p
   meant-step (whole place (FieldItem tag required) rest) at names defined again e p known bounds = field-stops final place rest names tag required p
@@ -213,7 +215,7 @@ module _ (bytes : List ℕ) (components : ℕ → Looked) (final : Names) (sure 
   meant-step (whole place (KnownTag tag) rest) at names defined again e p known bounds =
       let n = next-of bytes at place (KnownTag tag) rest e in
       let g = tag-goes final place rest names tag p in
-      tag-meant names (g .later) defined tag (declarationsOf rest) (g .messages) (again rest (n .next) (g .later) defined (omega arith) (n .there) (g .passes) (known-as names (g .later) defined (g .components) known) (kept-tag defined (declarationsOf rest) tag bounds))
+      tag-meant names (g .later) defined tag (declarationsByLevels rest) (g .messages) (again rest (n .next) (g .later) defined (omega arith) (n .there) (g .passes) (known-as names (g .later) defined (g .components) known) (kept-tag defined (declarationsByLevels rest) tag bounds))
   meant-step (whole place (OpensComponent number) rest) at names defined again e p known bounds =
       let n = next-of bytes at place (OpensComponent number) rest e in
       let g = component-opens final place rest names number p in
@@ -221,8 +223,8 @@ module _ (bytes : List ℕ) (components : ℕ → Looked) (final : Names) (sure 
       let c = closes-inside bytes final names rest (n .next) (opens (OfComponent number) place) (n .there) (g .1) in
       let later : Names = named names (noteOf (c .last) (c .last .owner)) in
       let level : Items = innermost (levelsOf rest) in
-      let b = kept-component defined (declarationsOf rest) number level bounds in
-      rw (c .declared) (component-meant names later defined number level (declarationsOf (c .rest)) (note-messages names (c .last) (c .last .owner))
+      let b = kept-component defined (declarationsByLevels rest) number level bounds in
+      rw (c .declared) (component-meant names later defined number level (declarationsByLevels (c .rest)) (note-messages names (c .last) (c .last .owner))
       (again (c .rest) (c .after) later (definedBy defined (component number level)) (omega (arith, c .fewer)) (c .there) (c .passes)
       (component-known names defined number place (n .next) rest known (b .0 .filled) (g .0) (omega (arith, lies .behind, n .here)) c (kept bytes final (c .rest) (c .after) later (c .there) (c .passes)))
       (rw (c .declared) at b .1)))
@@ -235,20 +237,22 @@ module _ (bytes : List ℕ) (components : ℕ → Looked) (final : Names) (sure 
       let c = closes-inside bytes final named-here rest (n .next) (opens OfMessage place) (n .there) (g .1) in
       let later : Names = named named-here (noteOf (c .last) (c .last .owner)) in
       let level : Items = innermost (levelsOf rest) in
-      let b = kept-message defined (declarationsOf rest) msgType level bounds in
-      rw (c .declared) (message-meant names later defined place msgType level (declarationsOf (c .rest)) (note-messages named-here (c .last) (c .last .owner)) (kept bytes final (c .rest) (c .after) later (c .there) (c .passes))
+      let b = kept-message defined (declarationsByLevels rest) msgType level bounds in
+      rw (c .declared) (message-meant names later defined place msgType level (declarationsByLevels (c .rest)) (note-messages named-here (c .last) (c .last .owner)) (kept bytes final (c .rest) (c .after) later (c .there) (c .passes))
       (message-known named-here defined place (n .next) rest known-here (b .0) (omega (arith, lies .behind, n .here)) c)
       (again (c .rest) (c .after) later defined (omega (arith, c .fewer)) (c .there) (c .passes) (known-as named-here later defined (note-components named-here (c .last) (unfold opens in c .owner)) known-here) (rw (c .declared) at b .1)))
 
   meant-within : (fuel : ℕ) (rs : Records) (at : ℕ) (names : Names) (defined : List Defined) → sizeOf rs < fuel → recordsFrom bytes at ≡ rs →
-      Passing final rs TopLevel names → Known bytes components names defined → KeptFrom defined (declarationsOf rs) → Here names defined rs
+      Passing final rs TopLevel names → Known bytes components names defined → KeptFrom defined (declarationsByLevels rs) → Here names defined rs
   meant-within zero rs at names defined h e p known bounds = absurd (omega arith)
   meant-within (suc fuel) rs at names defined h e p known bounds =
       meant-step rs at names defined (λ fewer there later more l q w k b. meant-within fuel fewer there later more (omega arith) q w k b) e p known bounds
 
   pub meant : (rs : Records) (at : ℕ) → recordsFrom bytes at ≡ rs → Passing final rs TopLevel noNames → KeptFrom [] (declarationsOf rs) →
       Meant bytes components final noNames [] (declarationsOf rs)
-  meant rs at e p bounds = meant-within (suc (sizeOf rs)) rs at noNames [] (omega arith) e p (λ number c q. nothing-yet number c q) bounds
+  meant rs at e p bounds =
+      let same = passing-declared final rs noNames p in
+      rw same (meant-within (suc (sizeOf rs)) rs at noNames [] (omega arith) e p (λ number c q. nothing-yet number c q) (rw same at bounds))
     where
       nothing-yet : (number : ℕ) (c : Component) → lookIn noNames number ≡ Closed c → KnownAs bytes components number c (nodesOf [] number)
       nothing-yet number c q = let none : lookIn noNames number ≡ Missing = (unfold noNames componentIn in refl) in let z : _≡_ {A = ℕ} 0 1 = cc in absurd (omega arith)

@@ -18,6 +18,7 @@ use Rattle.dictionary_rules.specs.declared.Checked.the-variants.{Passes}
 use Rattle.dictionary_rules.specs.declared.Placed.{Placed}
 use Rattle.dictionary_rules.specs.declared.Placed.the-variants.{At, Nowhere}
 use Rattle.dictionary_meaning_rules.specs.Meaning.{declarationsOf, messagesFrom, meaningOf, dictionaryOf}
+use Rattle.dictionary_meaning_rules.specs.Levels.{declarationsByLevels}
 use Rattle.dictionary_meaning_rules.specs.Written.{written, written-length, written-stands}
 use Rattle.dictionary_meaning_rules.specs.MsgType.{nameOf}
 use Rattle.dictionary_meaning_rules.specs.MsgTypeText.{Bytes}
@@ -25,7 +26,7 @@ use Rattle.dictionary_meaning_rules.specs.MsgTypeRecords.{numbered, layo
 use Rattle.dictionary_meaning_rules.specs.MessageTable.{Tabling, tabling, messageTable}
 use Rattle.dictionary_meaning_rules.specs.MessageTableLaws.{place-unnamed, place-named, table-nowhere, table-rows}
 use Rattle.dictionary_meaning_rules.specs.Tables.{layoutNumbered, MessageAs}
-use Rattle.dictionary_meaning_rules.specs.Prepared.{message-laid, message-none}
+use Rattle.dictionary_meaning_rules.specs.Prepared.{read-from-behind, message-laid, message-none}
 use Rattle.dictionary_meaning_rules.specs.declared.MsgTypeName.{MsgTypeName}
 use Rattle.dictionary_meaning_rules.specs.declared.MsgTypeName.the-variants.{Named, Unnamed}
 use Rattle.dictionary_meaning_rules.specs.declared.MessageTable.the-variants.{Rows, NoMessage, Unprepared}
@@ -49,7 +50,9 @@ module _ (d : List ℕ) (bytes : Bytes d) (passes : checkOf d ≡ Passes) (index
 
   tree-by-name : (value : List ℕ) → Bytes value → layoutInTree (dictionaryOf d) value ≡ layoutNamed [] (declarationsOf (recordsFrom d 0)) (nameOf value)
   unfolding layoutInTree dictionaryOf meaningOf
-  tree-by-name value text = tree-named [] (declarationsOf (recordsFrom d 0)) value (numbered d bytes (recordsFrom d 0) 0 refl) text
+  tree-by-name value text =
+      rw (read-from-behind d passes)
+      (tree-named [] (declarationsByLevels (recordsFrom d 0)) value (numbered d bytes (recordsFrom d 0) 0 refl) text)
 
   pub tables-mean-tree : (value table : List ℕ) → Bytes value → 4096 ≤ length table → TableOf table (layoutInTree (dictionaryOf d) value) (messageTable d made value table)
   tables-mean-tree value table text room = rw (tree-by-name value text) (by-name (nameOf value) refl)

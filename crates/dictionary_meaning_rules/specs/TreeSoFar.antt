@@ -20,7 +20,8 @@ use Rattle.dictionary_rules.specs.declared.Owner.{Owner}
 use Rattle.dictionary_rules.specs.declared.Owner.the-variants.{OfComponent, OfMessage}
 use Rattle.dictionary_rules.specs.declared.Record.{Record}
 use Rattle.dictionary_rules.specs.declared.Record.the-variants.{FieldItem, ComponentItem, OpensGroup, Closes}
-use Rattle.dictionary_meaning_rules.specs.Meaning.{Items, closed, fieldThen, componentThen, groupThen, onTop, groupOnTop, below, innermost, levelsOf, Declaration, component, message, declarationsOf, Defined, nodesOf, expanded, definedBy}
+use Rattle.dictionary_meaning_rules.specs.Meaning.{Items, closed, fieldThen, componentThen, groupThen, Declaration, component, message, Defined, nodesOf, expanded, definedBy}
+use Rattle.dictionary_meaning_rules.specs.Levels.{onTop, groupOnTop, below, innermost, levelsOf, declarationsByLevels, Nested, nested-end, nested-field, nested-item, nested-group, nested-close, as-many-levels}
 use Rattle.dictionary_meaning_rules.specs.Layable.{layoutOf, flat}
 use Rattle.dictionary_meaning_rules.specs.Inside.{lookIn}
 use Rattle.dictionary_meaning_rules.specs.ClosedOff.{closes, layoutsBy, layoutsAfter, Latest, latest}
@@ -54,24 +55,24 @@ pub record Tree (names : Names) (layouts : Records → List Layout) : Type 0 whe
   pub read : List Layout
   pub measured : AllMeasured names defined
   pub bounded : Each Bounded read
-  pub means : (later : Records) → layouts later ≡ layoutsAfter defined read (declarationsOf later)
+  pub means : (later : Records) → Nested 0 later → layouts later ≡ layoutsAfter defined read (declarationsByLevels later)
 
 -- what was read inside something open
 pub record OpenTree (owner : Owner) (layouts : Records → List Layout) (defined : List Defined) (read : List Layout) (level : Items) (groups : List OpenGroup) : Type 0 where
   pub declares : Items → Declaration
   pub sort : Declares owner declares
-  pub means : (later : Records) → suc (length groups) ≤ length (levelsOf later) → layouts later ≡ layoutsAfter defined read (declares (joined level groups (levelsOf later)) ∷ declarationsOf later)
+  pub means : (later : Records) → Nested (suc (length groups)) later → layouts later ≡ layoutsAfter defined read (declares (joined level groups (levelsOf later)) ∷ declarationsByLevels later)
 
--- closes declare nothing, and each closes a level
-no-declaration : (things : ℕ) → declarationsOf (closes things (ends 0)) ≡ []
-unfolding declarationsOf closes
+-- closes declare nothing, and each closes a thing
+no-declaration : (things : ℕ) → declarationsByLevels (closes things (ends 0)) ≡ []
+unfolding declarationsByLevels closes
 no-declaration zero = refl
 no-declaration (suc things) = no-declaration things
 
-pub as-many-levels : (things : ℕ) (size : ℕ) → length (levelsOf (closes things (ends size))) ≡ things
-unfolding levelsOf closes
-as-many-levels zero size = refl
-as-many-levels (suc things) size = ap suc (as-many-levels things size)
+closes-nested : (things size : ℕ) → Nested things (closes things (ends size))
+unfolding closes
+closes-nested zero size = nested-end
+closes-nested (suc things) size = nested-close (closes-nested things size)
 
 -- what an owner declares comes before the layouts that were read
 declared-layout : {owner : Owner} {declares : Items → Declaration} → Declares owner declares → (defined : List Defined) (read : List Layout) (level : Items) (more : List Declaration) → layoutsAfter defined read (declares level ∷ more) ≡ layoutsAfter (definedBy defined (declares level)) (flat defined level ∷ read) more
@@ -81,75 +82,75 @@ declared-layout (declares-message msgType) defined read level more = refl
 
 module _ (owner : Owner) (layouts : Records → List Layout) (defined : List Defined) (read : List Layout) (level : Items) where
   -- an item that comes next
-  tree-item : (groups : List OpenGroup) (place : ℕ) (r : Record) (more : Items) → ((later : Records) (next : Items) (levels : List Items) → levelsOf later ≡ next ∷ levels → levelsOf (whole place r later) ≡ continued more next ∷ levels) → ((later : Records) → declarationsOf (whole place r later) ≡ declarationsOf later) → OpenTree owner layouts defined read level groups → OpenTree owner (λ (later : Records). layouts (whole place r later)) defined read (continued level more) groups
-  tree-item groups place r more onto same t =
-      record { declares = t .declares; sort = t .sort; means = λ later h. go later (levelsOf later) refl h }
+  tree-item : (groups : List OpenGroup) (place : ℕ) (r : Record) (more : Items) → ((later : Records) → Nested (suc (length groups)) later → Nested (suc (length groups)) (whole place r later)) → ((later : Records) (next : Items) (levels : List Items) → levelsOf later ≡ next ∷ levels → levelsOf (whole place r later) ≡ continued more next ∷ levels) → ((later : Records) → declarationsByLevels (whole place r later) ≡ declarationsByLevels later) → OpenTree owner layouts defined read level groups → OpenTree owner (λ (later : Records). layouts (whole place r later)) defined read (continued level more) groups
+  tree-item groups place r more nests onto same t =
+      record { declares = t .declares; sort = t .sort; means = λ later n. go later n (levelsOf later) refl }
     where
-      go : (later : Records) (levels : List Items) → levelsOf later ≡ levels → suc (length groups) ≤ length levels → layouts (whole place r later) ≡ layoutsAfter defined read (t .declares (joined (continued level more) groups levels) ∷ declarationsOf later)
-      go later [] e h = absurd (omega arith)
-      go later (next ∷ levels) e h =
+      go : (later : Records) → Nested (suc (length groups)) later → (levels : List Items) → levelsOf later ≡ levels → layouts (whole place r later) ≡ layoutsAfter defined read (t .declares (joined (continued level more) groups levels) ∷ declarationsByLevels later)
+      go later n [] e = absurd (omega (arith, as-many-levels n, ap length e))
+      go later n (next ∷ levels) e =
           let l = onto later next levels e in
-          t .means (whole place r later) (rw l h)
+          t .means (whole place r later) (nests later n)
           ∙ ap (λ (ds : List Declaration). layoutsAfter defined read (t .declares (joined level groups (levelsOf (whole place r later))) ∷ ds)) (same later)
-          ∙ ap (λ (x : Items). layoutsAfter defined read (t .declares x ∷ declarationsOf later)) (ap (joined level groups) l ∙ sym (joined-more level more next groups levels))
+          ∙ ap (λ (x : Items). layoutsAfter defined read (t .declares x ∷ declarationsByLevels later)) (ap (joined level groups) l ∙ sym (joined-more level more next groups levels))
 
   pub tree-field : (groups : List OpenGroup) (place tag : ℕ) (required : Bool) → OpenTree owner layouts defined read level groups → OpenTree owner (λ (later : Records). layouts (whole place (FieldItem tag required) later)) defined read (continued level (fieldThen tag required closed)) groups
-  unfolding levelsOf onTop declarationsOf continued
+  unfolding levelsOf onTop declarationsByLevels continued
   tree-field groups place tag required t =
-      tree-item groups place (FieldItem tag required) (fieldThen tag required closed) (λ later next levels e. ap (onTop (fieldThen tag required)) e) (λ later. refl) t
+      tree-item groups place (FieldItem tag required) (fieldThen tag required closed) (λ later n. nested-field n) (λ later next levels e. ap (onTop (fieldThen tag required)) e) (λ later. refl) t
 
   pub tree-component : (groups : List OpenGroup) (place number : ℕ) (required : Bool) → OpenTree owner layouts defined read level groups → OpenTree owner (λ (later : Records). layouts (whole place (ComponentItem required number) later)) defined read (continued level (componentThen number required closed)) groups
-  unfolding levelsOf onTop declarationsOf continued
+  unfolding levelsOf onTop declarationsByLevels continued
   tree-component groups place number required t =
-      tree-item groups place (ComponentItem required number) (componentThen number required closed) (λ later next levels e. ap (onTop (componentThen number required)) e) (λ later. refl) t
+      tree-item groups place (ComponentItem required number) (componentThen number required closed) (λ later n. nested-item n) (λ later next levels e. ap (onTop (componentThen number required)) e) (λ later. refl) t
 
   -- a group that opens
   pub tree-group : (groups : List OpenGroup) (place tag : ℕ) (required : Bool) → OpenTree owner layouts defined read level groups → OpenTree owner (λ (later : Records). layouts (whole place (OpensGroup tag required) later)) defined read closed (record { before = level; tag = tag; required = required } ∷ groups)
   tree-group groups place tag required t =
-      record { declares = t .declares; sort = t .sort; means = λ later h. go later (levelsOf later) refl h }
+      record { declares = t .declares; sort = t .sort; means = λ later n. go later n (levelsOf later) refl }
     where
       onto : (later : Records) (inner next : Items) (levels : List Items) → levelsOf later ≡ inner ∷ next ∷ levels → levelsOf (whole place (OpensGroup tag required) later) ≡ groupThen tag required inner next ∷ levels
       onto later inner next levels e = unfold levelsOf groupOnTop in ap (groupOnTop tag required) e
 
-      go : (later : Records) (levels : List Items) → levelsOf later ≡ levels → suc (suc (length groups)) ≤ length levels → layouts (whole place (OpensGroup tag required) later) ≡ layoutsAfter defined read (t .declares (joined closed (record { before = level; tag = tag; required = required } ∷ groups) levels) ∷ declarationsOf later)
-      go later [] e h = absurd (omega arith)
-      go later (inner ∷ []) e h = absurd (omega arith)
-      go later (inner ∷ (next ∷ levels)) e h =
+      go : (later : Records) → Nested (suc (suc (length groups))) later → (levels : List Items) → levelsOf later ≡ levels → layouts (whole place (OpensGroup tag required) later) ≡ layoutsAfter defined read (t .declares (joined closed (record { before = level; tag = tag; required = required } ∷ groups) levels) ∷ declarationsByLevels later)
+      go later n [] e = absurd (omega (arith, as-many-levels n, ap length e))
+      go later n (inner ∷ []) e = absurd (omega (arith, as-many-levels n, ap length e))
+      go later n (inner ∷ (next ∷ levels)) e =
           let l = onto later inner next levels e in
-          t .means (whole place (OpensGroup tag required) later) (rw l (omega arith))
-          ∙ (unfold declarationsOf joined continued innermost below in ap (λ (x : Items). layoutsAfter defined read (t .declares x ∷ declarationsOf later)) (ap (joined level groups) l))
+          t .means (whole place (OpensGroup tag required) later) (nested-group n)
+          ∙ (unfold declarationsByLevels joined continued innermost below in ap (λ (x : Items). layoutsAfter defined read (t .declares x ∷ declarationsByLevels later)) (ap (joined level groups) l))
 
   -- and one that closes: it is an item of the level around it
   pub tree-close : (g : OpenGroup) (groups : List OpenGroup) (place : ℕ) → OpenTree owner layouts defined read level (g ∷ groups) → OpenTree owner (λ (later : Records). layouts (whole place Closes later)) defined read (continued (g .before) (groupThen (g .tag) (g .required) level closed)) groups
   tree-close g groups place t =
-      record { declares = t .declares; sort = t .sort; means = λ later h. go later (levelsOf later) refl h }
+      record { declares = t .declares; sort = t .sort; means = λ later n. go later n (levelsOf later) refl }
     where
       onto : (later : Records) (levels : List Items) → levelsOf later ≡ levels → levelsOf (whole place Closes later) ≡ closed ∷ levels
       onto later levels e = unfold levelsOf in ap (λ (l : List Items). closed ∷ l) e
 
-      go : (later : Records) (levels : List Items) → levelsOf later ≡ levels → suc (length groups) ≤ length levels → layouts (whole place Closes later) ≡ layoutsAfter defined read (t .declares (joined (continued (g .before) (groupThen (g .tag) (g .required) level closed)) groups levels) ∷ declarationsOf later)
-      go later [] e h = absurd (omega arith)
-      go later (next ∷ levels) e h =
+      go : (later : Records) → Nested (suc (length groups)) later → (levels : List Items) → levelsOf later ≡ levels → layouts (whole place Closes later) ≡ layoutsAfter defined read (t .declares (joined (continued (g .before) (groupThen (g .tag) (g .required) level closed)) groups levels) ∷ declarationsByLevels later)
+      go later n [] e = absurd (omega (arith, as-many-levels n, ap length e))
+      go later n (next ∷ levels) e =
           let l = onto later (next ∷ levels) e in
-          t .means (whole place Closes later) (rw l (omega arith))
-          ∙ (unfold declarationsOf in ap (λ (x : Items). layoutsAfter defined read (t .declares x ∷ declarationsOf later)) (ap (joined level (g ∷ groups)) l ∙ joined-close level next g groups levels))
+          t .means (whole place Closes later) (nested-close n)
+          ∙ (unfold declarationsByLevels in ap (λ (x : Items). layoutsAfter defined read (t .declares x ∷ declarationsByLevels later)) (ap (joined level (g ∷ groups)) l ∙ joined-close level next g groups levels))
 
   -- the owner closes: its layout is the latest
-  pub tree-owner : (place : ℕ) (t : OpenTree owner layouts defined read level []) (later : Records) → layouts (whole place Closes later) ≡ layoutsAfter (definedBy defined (t .declares level)) (flat defined level ∷ read) (declarationsOf later)
-  tree-owner place t later =
+  pub tree-owner : (place : ℕ) (t : OpenTree owner layouts defined read level []) (later : Records) → Nested 0 later → layouts (whole place Closes later) ≡ layoutsAfter (definedBy defined (t .declares level)) (flat defined level ∷ read) (declarationsByLevels later)
+  tree-owner place t later n =
       let own : joined level [] (levelsOf (whole place Closes later)) ≡ level = (unfold levelsOf joined innermost in continued-closed level) in
-      let same : declarationsOf (whole place Closes later) ≡ declarationsOf later = (unfold declarationsOf in refl) in
-      t .means (whole place Closes later) (unfold levelsOf in omega arith)
-      ∙ ap (λ (x : Items). layoutsAfter defined read (t .declares x ∷ declarationsOf (whole place Closes later))) own
+      let same : declarationsByLevels (whole place Closes later) ≡ declarationsByLevels later = (unfold declarationsByLevels in refl) in
+      t .means (whole place Closes later) (nested-close n)
+      ∙ ap (λ (x : Items). layoutsAfter defined read (t .declares x ∷ declarationsByLevels (whole place Closes later))) own
       ∙ ap (λ (ds : List Declaration). layoutsAfter defined read (t .declares level ∷ ds)) same
-      ∙ declared-layout (t .sort) defined read level (declarationsOf later)
+      ∙ declared-layout (t .sort) defined read level (declarationsByLevels later)
 
   -- closed off
   pub tree-off : (groups : List OpenGroup) → OpenTree owner layouts defined read level groups → layouts (closes (suc (length groups)) (ends 0)) ≡ flat defined (wrapped groups level) ∷ read
   unfolding layoutsAfter
   tree-off groups t =
-      t .means (closes (suc (length groups)) (ends 0)) (omega (arith, as-many-levels (suc (length groups)) 0))
-      ∙ ap (λ (x : Items). layoutsAfter defined read (t .declares x ∷ declarationsOf (closes (suc (length groups)) (ends 0)))) (joined-closes level groups)
+      t .means (closes (suc (length groups)) (ends 0)) (closes-nested (suc (length groups)) 0)
+      ∙ ap (λ (x : Items). layoutsAfter defined read (t .declares x ∷ declarationsByLevels (closes (suc (length groups)) (ends 0)))) (joined-closes level groups)
       ∙ ap (λ (ds : List Declaration). layoutsAfter defined read (t .declares (wrapped groups level) ∷ ds)) (no-declaration (suc (length groups)))
       ∙ declared-layout (t .sort) defined read (wrapped groups level) []
 

@@ -2,14 +2,14 @@
 -- tree to its flattened layouts.
 use mathlib.Core.Bool.{Bool, true, false}
 use mathlib.Core.List.{List, [], _∷_}
-use Prim.Native.Nat.{ℕ, _<_, _^_}
+use Prim.Native.Nat.{ℕ, zero, suc, _<_, _^_}
 use lib.Dec.{eqb}
 use Rattle.field_rules.specs.Choice.{pick}
 use Rattle.dictionary_rules.specs.Records.{Records, ends, bad, whole, recordsFrom}
 use Rattle.dictionary_rules.specs.declared.Record.the-variants.{KnownTag, OpensComponent, OpensMessage, FieldItem, ComponentItem, OpensGroup, Closes}
 use Rattle.dictionary_layout_rules.specs.Layout.{Layout, end, field, group, followedBy, Group, none, entries, groupSince, groupOf, requiredTags}
 use Rattle.dictionary_layout_rules.specs.Tree.{Nodes, nothing, fieldItem, componentItem, groupItem, Message, flattened, sameBytes, Choice, noMessage, laidOut, messageOf, layoutOf}
-use Rattle.dictionary_meaning_rules.specs.Meaning.{Items, closed, fieldThen, componentThen, groupThen, onTop, groupOnTop, below, innermost, levelsOf, Declaration, knownTag, component, message, declarationsOf, Defined, nodesOf, expanded, definedBy, messageIn, messagesFrom, meaningOf, dictionaryOf}
+use Rattle.dictionary_meaning_rules.specs.Meaning.{Items, closed, fieldThen, componentThen, groupThen, Body, itemBefore, noItems, bodyOf, Declaration, knownTag, component, message, declarationsIn, sizeOf, declarationsOf, Defined, nodesOf, expanded, definedBy, messageIn, messagesFrom, meaningOf, dictionaryOf}
 use Rattle.dictionary_meaning_rules.specs.MsgTypeText.{Bytes}
 use Rattle.promise_told.specs.DictionaryNumbers.{RecordsSmall, ends-small, bad-small, whole-small, records-small}
 
@@ -27,60 +27,59 @@ data ItemsSmall : Items → Type 0 where
   group-then : {tag : ℕ} {required : Bool} {inner items : Items} → tag < 2 ^ 32 → ItemsSmall inner → ItemsSmall items
       → ItemsSmall (groupThen tag required inner items)
 
-top-small : (item : Items → Items) {levels : List Items} → ((items : Items) → ItemsSmall items → ItemsSmall (item items)) → Every ItemsSmall levels
-    → Every ItemsSmall (onTop item levels)
-unfolding onTop
-top-small item h every-none = every-none
-top-small item h (every-more {x = items} p s) = every-more (h items p) s
+-- the items of a body, and the records behind its close
+record BodySmall (most : ℕ) (body : Body) : Type 0 where
+  pub items : ItemsSmall (body .items)
+  pub after : RecordsSmall most (body .after)
 
-group-top : (tag : ℕ) (required : Bool) {levels : List Items} → tag < 2 ^ 32 → Every ItemsSmall levels → Every ItemsSmall (groupOnTop tag required levels)
-unfolding groupOnTop
-group-top tag required t every-none = every-none
-group-top tag required t (every-more p every-none) = every-none
-group-top tag required t (every-more p (every-more q s)) = every-more (group-then t p q) s
+no-items-small : {most : ℕ} (rs : Records) → RecordsSmall most rs → BodySmall most (noItems rs)
+unfolding noItems
+no-items-small rs small = record { items = closed-small; after = small }
 
-below-small : {levels : List Items} → Every ItemsSmall levels → Every ItemsSmall (below levels)
-unfolding below
-below-small every-none = every-none
-below-small (every-more p s) = s
+item-before-small : {most : ℕ} (item : Items → Items) (body : Body) → ((items : Items) → ItemsSmall items → ItemsSmall (item items)) → BodySmall most body
+    → BodySmall most (itemBefore item body)
+unfolding itemBefore
+item-before-small item body h b = record { items = h (body .items) (b .items); after = b .after }
 
-innermost-small : {levels : List Items} → Every ItemsSmall levels → ItemsSmall (innermost levels)
-unfolding innermost
-innermost-small every-none = closed-small
-innermost-small (every-more p s) = p
-
-levels-small : {most : ℕ} (rs : Records) → RecordsSmall most rs → Every ItemsSmall (levelsOf rs)
-unfolding levelsOf
-levels-small (ends size) (ends-small h) = every-none
-levels-small (bad place) (bad-small h) = every-none
-levels-small (whole place Closes rest) (whole-small h r later) = every-more closed-small (levels-small rest later)
-levels-small (whole place (FieldItem tag required) rest) (whole-small h r later) =
-    top-small (fieldThen tag required) (λ items p. field-then r p) (levels-small rest later)
-levels-small (whole place (ComponentItem required number) rest) (whole-small h r later) =
-    top-small (componentThen number required) (λ items p. component-then p) (levels-small rest later)
-levels-small (whole place (OpensGroup tag required) rest) (whole-small h r later) = group-top tag required r (levels-small rest later)
-levels-small (whole place (OpensComponent number) rest) (whole-small h r later) = below-small (levels-small rest later)
-levels-small (whole place (OpensMessage msgType) rest) (whole-small h r later) = below-small (levels-small rest later)
-levels-small (whole place (KnownTag tag) rest) (whole-small h r later) = levels-small rest later
+body-small : {most : ℕ} (steps : ℕ) (rs : Records) → RecordsSmall most rs → BodySmall most (bodyOf steps rs)
+unfolding bodyOf
+body-small zero rs small = no-items-small rs small
+body-small (suc steps) (ends size) small = no-items-small (ends size) small
+body-small (suc steps) (bad place) small = no-items-small (bad place) small
+body-small (suc steps) (whole place Closes rest) (whole-small h r later) = no-items-small rest later
+body-small (suc steps) (whole place (FieldItem tag required) rest) (whole-small h r later) =
+    item-before-small (fieldThen tag required) (bodyOf steps rest) (λ items p. field-then r p) (body-small steps rest later)
+body-small (suc steps) (whole place (ComponentItem required number) rest) (whole-small h r later) =
+    item-before-small (componentThen number required) (bodyOf steps rest) (λ items p. component-then p) (body-small steps rest later)
+body-small (suc steps) (whole place (OpensGroup tag required) rest) (whole-small h r later) =
+    let inner = body-small steps rest later in
+    item-before-small (groupThen tag required (bodyOf steps rest .items)) (bodyOf steps (bodyOf steps rest .after)) (λ items p. group-then r (inner .items) p)
+    (body-small steps (bodyOf steps rest .after) (inner .after))
+body-small (suc steps) (whole place (KnownTag tag) rest) small = no-items-small (whole place (KnownTag tag) rest) small
+body-small (suc steps) (whole place (OpensComponent number) rest) small = no-items-small (whole place (OpensComponent number) rest) small
+body-small (suc steps) (whole place (OpensMessage msgType) rest) small = no-items-small (whole place (OpensMessage msgType) rest) small
 
 abbrev DeclarationSmall : Declaration → Type 0
 DeclarationSmall (knownTag tag) = Unit {0}
 DeclarationSmall (component number items) = ItemsSmall items
 DeclarationSmall (message msgType items) = ItemsSmall items
 
-declarations-small : {most : ℕ} (rs : Records) → RecordsSmall most rs → Every DeclarationSmall (declarationsOf rs)
-unfolding declarationsOf
-declarations-small (ends size) (ends-small h) = every-none
-declarations-small (bad place) (bad-small h) = every-none
-declarations-small (whole place (KnownTag tag) rest) (whole-small h r later) = every-more tt (declarations-small rest later)
-declarations-small (whole place (OpensComponent number) rest) (whole-small h r later) =
-    every-more (innermost-small (levels-small rest later)) (declarations-small rest later)
-declarations-small (whole place (OpensMessage msgType) rest) (whole-small h r later) =
-    every-more (innermost-small (levels-small rest later)) (declarations-small rest later)
-declarations-small (whole place (FieldItem tag required) rest) (whole-small h r later) = declarations-small rest later
-declarations-small (whole place (ComponentItem required number) rest) (whole-small h r later) = declarations-small rest later
-declarations-small (whole place (OpensGroup tag required) rest) (whole-small h r later) = declarations-small rest later
-declarations-small (whole place Closes rest) (whole-small h r later) = declarations-small rest later
+declarations-small : {most : ℕ} (steps : ℕ) (rs : Records) → RecordsSmall most rs → Every DeclarationSmall (declarationsIn steps rs)
+unfolding declarationsIn
+declarations-small zero rs small = every-none
+declarations-small (suc steps) (ends size) small = every-none
+declarations-small (suc steps) (bad place) small = every-none
+declarations-small (suc steps) (whole place (KnownTag tag) rest) (whole-small h r later) = every-more tt (declarations-small steps rest later)
+declarations-small (suc steps) (whole place (OpensComponent number) rest) (whole-small h r later) =
+    let b = body-small steps rest later in
+    every-more (b .items) (declarations-small steps (bodyOf steps rest .after) (b .after))
+declarations-small (suc steps) (whole place (OpensMessage msgType) rest) (whole-small h r later) =
+    let b = body-small steps rest later in
+    every-more (b .items) (declarations-small steps (bodyOf steps rest .after) (b .after))
+declarations-small (suc steps) (whole place (FieldItem tag required) rest) small = every-none
+declarations-small (suc steps) (whole place (ComponentItem required number) rest) small = every-none
+declarations-small (suc steps) (whole place (OpensGroup tag required) rest) small = every-none
+declarations-small (suc steps) (whole place Closes rest) small = every-none
 
 -- ===== the tree =====
 
@@ -169,9 +168,9 @@ choice-small msgType (every-more {x = m} {s = messages} p s) = by-test (sameByte
     by-test false later = later
 
 pub layout-small : (bytes msgType : List ℕ) → Bytes bytes → ChoiceSmall (layoutOf (dictionaryOf bytes) msgType)
-unfolding layoutOf dictionaryOf meaningOf
+unfolding layoutOf dictionaryOf meaningOf declarationsOf
 layout-small bytes msgType b =
-    choice-small msgType (messages-small [] every-none (declarations-small (recordsFrom bytes 0) (records-small bytes b)))
+    choice-small msgType (messages-small [] every-none (declarations-small (sizeOf (recordsFrom bytes 0)) (recordsFrom bytes 0) (records-small bytes b)))
 
 -- what is looked up in a layout: its required tags, and the layout of a group
 abbrev pub TagSmall : ℕ → Type 0
