@@ -34,7 +34,7 @@ use Rattle.dictionary_rules.specs.declared.Record.{Record}
 use Rattle.dictionary_rules.specs.declared.Record.the-variants.{KnownTag, OpensComponent, OpensMessage, FieldItem, ComponentItem, OpensGroup, Closes}
 use Rattle.dictionary_rules.specs.declared.Step.{Step}
 use Rattle.dictionary_rules.specs.declared.Step.the-variants.{Refuses, Goes}
-use Rattle.dictionary_meaning_rules.specs.Meaning.{Items, closed, componentThen, groupThen, Declaration, component, message, Defined, definedBy}
+use Rattle.dictionary_meaning_rules.specs.Meaning.{Items, closed, componentThen, groupThen, msgTypeBytes, Declaration, component, message, Defined, definedBy}
 use Rattle.dictionary_meaning_rules.specs.Levels.{declarationsByLevels, Nested, nested-tag, nested-component, nested-message}
 use Rattle.dictionary_meaning_rules.specs.Layable.{flat}
 use Rattle.dictionary_meaning_rules.specs.ClosedOff.{openAfter, closes, layoutsBy, layoutsAfter, Latest, FiveDeep, OverThousand}
@@ -109,8 +109,8 @@ module _ (names : Names) (layouts : Records → List Layout) (place : ℕ) where
         begun =
             unfold opens in
             record {
-              declares = message msgType;
-              sort = declares-message msgType;
+              declares = message (msgTypeBytes msgType);
+              sort = declares-message (msgTypeBytes msgType);
               means = λ later n. t .means (whole place (OpensMessage msgType) later) (nested-message n) ∙ (unfold declarationsByLevels joined continued in refl);
             }
 

@@ -10,7 +10,7 @@ use lib.ListN.{length}
 use Rattle.dictionary_rules.specs.Records.{Records, ends, bad, whole}
 use Rattle.dictionary_rules.specs.declared.Record.{Record}
 use Rattle.dictionary_rules.specs.declared.Record.the-variants.{KnownTag, OpensComponent, OpensMessage, FieldItem, ComponentItem, OpensGroup, Closes}
-use Rattle.dictionary_meaning_rules.specs.Meaning.{Items, closed, fieldThen, componentThen, groupThen, Body, itemBefore, noItems, bodyOf, Declaration, knownTag, component, message, declarationsIn, declarationsOf, sizeOf}
+use Rattle.dictionary_meaning_rules.specs.Meaning.{Items, closed, fieldThen, componentThen, groupThen, Body, itemBefore, noItems, bodyOf, msgTypeBytes, Declaration, knownTag, component, message, declarationsIn, declarationsOf, sizeOf}
 
 -- an item comes before what the innermost level still holds
 unfoldable pub onTop : (Items → Items) → List Items → List Items
@@ -48,7 +48,7 @@ declarationsByLevels (ends size) = []
 declarationsByLevels (bad place) = []
 declarationsByLevels (whole place (KnownTag tag) rest) = knownTag tag ∷ declarationsByLevels rest
 declarationsByLevels (whole place (OpensComponent number) rest) = component number (innermost (levelsOf rest)) ∷ declarationsByLevels rest
-declarationsByLevels (whole place (OpensMessage msgType) rest) = message msgType (innermost (levelsOf rest)) ∷ declarationsByLevels rest
+declarationsByLevels (whole place (OpensMessage msgType) rest) = message (msgTypeBytes msgType) (innermost (levelsOf rest)) ∷ declarationsByLevels rest
 declarationsByLevels (whole place (FieldItem tag required) rest) = declarationsByLevels rest
 declarationsByLevels (whole place (ComponentItem required number) rest) = declarationsByLevels rest
 declarationsByLevels (whole place (OpensGroup tag required) rest) = declarationsByLevels rest
@@ -156,7 +156,7 @@ declared-within (suc steps) (nested-component {number = number} {rest = rest} n)
     one-declared steps (component number) rest b (declared-within steps (b .nested) (omega (arith, b .fewer)))
 declared-within (suc steps) (nested-message {msgType = msgType} {rest = rest} n) h =
     let b = body-innermost steps n (omega arith) in
-    one-declared steps (message msgType) rest b (declared-within steps (b .nested) (omega (arith, b .fewer)))
+    one-declared steps (message (msgTypeBytes msgType)) rest b (declared-within steps (b .nested) (omega (arith, b .fewer)))
 
 pub same-declarations : {rs : Records} → Nested 0 rs → declarationsOf rs ≡ declarationsByLevels rs
 unfolding declarationsOf

@@ -47,11 +47,19 @@ bodyOf (suc steps) (ends size) = noItems (ends size)
 bodyOf (suc steps) (bad place) = noItems (bad place)
 bodyOf zero records = noItems records
 
+-- "MsgType of 1 to 8 bytes, zero-filled", from the number that the eight bytes make, low byte first
+unfoldable pub bytesWithin : ℕ → ℕ → List ℕ
+bytesWithin zero msgType = []
+bytesWithin (suc size) msgType = pick (eqb msgType 0) [] (msgType % 256 ∷ bytesWithin size (msgType / 256))
+
+unfoldable pub msgTypeBytes : ℕ → List ℕ
+msgTypeBytes msgType = bytesWithin 8 msgType
+
 -- what stands at top level: known tags, and components and messages with their items
 pub data Declaration : Type 0 where
   knownTag : ℕ → Declaration
   component : ℕ → Items → Declaration
-  message : ℕ → Items → Declaration
+  message : List ℕ → Items → Declaration
 
 -- "1, 2 and 3 stand at top level": a known tag; a component or a message that opens, with its items, and behind its close what stands there.
 -- Anything else ends them, and is refused by the check.
@@ -60,7 +68,7 @@ declarationsIn (suc steps) (whole place (KnownTag tag) rest) = knownTag tag ∷ 
 declarationsIn (suc steps) (whole place (OpensComponent number) rest) =
     component number (bodyOf steps rest .items) ∷ declarationsIn steps (bodyOf steps rest .after)
 declarationsIn (suc steps) (whole place (OpensMessage msgType) rest) =
-    message msgType (bodyOf steps rest .items) ∷ declarationsIn steps (bodyOf steps rest .after)
+    message (msgTypeBytes msgType) (bodyOf steps rest .items) ∷ declarationsIn steps (bodyOf steps rest .after)
 declarationsIn (suc steps) (whole place (FieldItem tag required) rest) = []
 declarationsIn (suc steps) (whole place (ComponentItem required number) rest) = []
 declarationsIn (suc steps) (whole place (OpensGroup tag required) rest) = []
@@ -106,16 +114,8 @@ unfoldable pub definedAfter : List Defined → List Declaration → List Defined
 definedAfter defined [] = defined
 definedAfter defined (d ∷ declarations) = definedAfter (definedBy defined d) declarations
 
--- "MsgType of 1 to 8 bytes, zero-filled", from the number that the eight bytes make, low byte first
-unfoldable pub bytesWithin : ℕ → ℕ → List ℕ
-bytesWithin zero msgType = []
-bytesWithin (suc size) msgType = pick (eqb msgType 0) [] (msgType % 256 ∷ bytesWithin size (msgType / 256))
-
-unfoldable pub msgTypeBytes : ℕ → List ℕ
-msgTypeBytes msgType = bytesWithin 8 msgType
-
 unfoldable pub messageIn : List Defined → Declaration → List Message → List Message
-messageIn defined (message msgType items) messages = record { msgType = msgTypeBytes msgType; nodes = expanded defined items } ∷ messages
+messageIn defined (message msgType items) messages = record { msgType = msgType; nodes = expanded defined items } ∷ messages
 messageIn defined (component number items) messages = messages
 messageIn defined (knownTag tag) messages = messages
 

@@ -1,4 +1,4 @@
--- Each message that a dictionary's bytes declare has the number of a MsgType, so the tree's look-up by bytes is the look-up by number.
+-- Each message that a dictionary's bytes open has the number of a MsgType.
 use mathlib.Core.Path.{_≡_, refl, sym, ap, _∙_}
 use mathlib.Core.Bool.{Bool, true, false}
 use mathlib.Core.List.{List, [], _∷_}
@@ -9,33 +9,14 @@ use lib.Seq.{take-all}
 use lib.Dec.{eqb, ltb}
 use borrow.Author.Tests.{eqb-true, eqb-false, ltb-true, ltb-false}
 use Rattle.field_rules.specs.Choice.{pick}
-use Rattle.dictionary_layout_rules.specs.Tree.{Choice, noMessage, laidOut, sameBytes, messageOf, flattened}
 use Rattle.dictionary_rules.specs.Record.{lowFirst, zeroFilled, recordBodyLength, withTag, withMark, knownTag, opensComponent, opensMessage, fieldItem, componentItem, opensGroup, recordBody, recordAt}
-use Rattle.dictionary_rules.specs.Records.{Records, ends, bad, whole, recordsFrom}
 use Rattle.dictionary_rules.specs.RecordLaws.{at-end, at-cut, at-wrong, at-whole, length-message}
 use Rattle.dictionary_rules.specs.declared.Record.{Record}
 use Rattle.dictionary_rules.specs.declared.Record.the-variants.{KnownTag, OpensComponent, OpensMessage, FieldItem, ComponentItem, OpensGroup, Closes}
 use Rattle.dictionary_rules.specs.declared.Body.{Body}
 use Rattle.dictionary_rules.specs.declared.Body.the-variants.{Good, Wrong}
 use Rattle.dictionary_rules.specs.declared.RecordRead.the-variants.{Whole, Bad, End}
-use Rattle.dictionary_meaning_rules.specs.Meaning.{Items, Declaration, knownTag as tagDeclared, component, message, Defined, expanded, definedBy, msgTypeBytes, messageIn, messagesFrom}
-use Rattle.dictionary_meaning_rules.specs.Levels.{innermost, levelsOf, declarationsByLevels}
-use Rattle.dictionary_meaning_rules.specs.MsgType.{nameOf}
-use Rattle.dictionary_meaning_rules.specs.MsgTypeText.{Bytes, no-bytes, a-byte, NameNumber, hasNumber, same-number, filled-number}
-use Rattle.dictionary_meaning_rules.specs.Inside.{Next, next-of}
-use Rattle.dictionary_meaning_rules.specs.Tables.{layoutIn, layoutNumbered}
-use Rattle.dictionary_meaning_rules.specs.declared.MsgTypeName.{MsgTypeName}
-use Rattle.dictionary_meaning_rules.specs.declared.MsgTypeName.the-variants.{Named, Unnamed}
-
-bytes-take : {s : List ℕ} (n : ℕ) → Bytes s → Bytes (take n s)
-bytes-take zero b = no-bytes
-bytes-take (suc n) no-bytes = no-bytes
-bytes-take (suc n) (a-byte x b) = a-byte x (bytes-take n b)
-
-bytes-drop : {s : List ℕ} (n : ℕ) → Bytes s → Bytes (drop n s)
-bytes-drop zero b = b
-bytes-drop (suc n) no-bytes = no-bytes
-bytes-drop (suc n) (a-byte x b) = bytes-drop n b
+use Rattle.dictionary_meaning_rules.specs.MsgTypeText.{Bytes, take-bytes, drop-bytes, NameNumber, filled-number}
 
 tag-body : (tag : ℕ) (x r : Record) → withTag tag x ≡ Good r → x ≡ r
 unfolding withTag
@@ -92,7 +73,7 @@ message-number d at m next bytes h = in-bytes (ltb at (length d)) refl
         let same : x ≡ OpensMessage m = cc in
         let opening = message-body (getD d at 0) body m (e ∙ ap Good same) in
         let size : length body ≤ 8 = omega (arith, length-take (recordBodyLength (getD d at 0)) (drop (at + 1) d), length-message (getD d at 0) (opening .third)) in
-        rw (opening .number ∙ ap lowFirst (take-all 8 body size)) (filled-number (bytes-take (recordBodyLength (getD d at 0)) (bytes-drop (at + 1) bytes)) size (opening .filled) (opening .some))
+        rw (opening .number ∙ ap lowFirst (take-all 8 body size)) (filled-number (take-bytes (recordBodyLength (getD d at 0)) (drop-bytes (at + 1) bytes)) size (opening .filled) (opening .some))
 
     by-length : (t : Bool) → ltb (length d - (at + 1)) (recordBodyLength (getD d at 0)) ≡ t → at < length d → NameNumber m
     by-length true e l = let z : _≡_ {A = ℕ} 0 1 = cc (at-cut d at l (ltb-true _ _ e)) in absurd (omega arith)
@@ -101,55 +82,3 @@ message-number d at m next bytes h = in-bytes (ltb at (length d)) refl
     in-bytes : (t : Bool) → ltb at (length d) ≡ t → NameNumber m
     in-bytes true e = by-length (ltb (length d - (at + 1)) (recordBodyLength (getD d at 0))) refl (ltb-true _ _ e)
     in-bytes false e = let z : _≡_ {A = ℕ} 0 1 = cc (at-end d at (ltb-false _ _ e)) in absurd (omega arith)
-
--- declarations whose messages have such numbers
-pub data Numbered : List Declaration → Type 0 where
-  numbered-none : Numbered []
-  numbered-tag : {tag : ℕ} {more : List Declaration} → Numbered more → Numbered (tagDeclared tag ∷ more)
-  numbered-component : {number : ℕ} {items : Items} {more : List Declaration} → Numbered more → Numbered (component number items ∷ more)
-  numbered-message : {m : ℕ} {items : Items} {more : List Declaration} → NameNumber m → Numbered more → Numbered (message m items ∷ more)
-
-pub numbered : (d : List ℕ) → Bytes d → (rs : Records) (at : ℕ) → recordsFrom d at ≡ rs → Numbered (declarationsByLevels rs)
-unfolding declarationsByLevels
-numbered d bytes (ends size) at e = numbered-none
-numbered d bytes (bad place) at e = numbered-none
-numbered d bytes (whole place (KnownTag tag) rest) at e = let n = next-of d at place _ rest e in numbered-tag (numbered d bytes rest (n .next) (n .there))
-numbered d bytes (whole place (OpensComponent number) rest) at e = let n = next-of d at place _ rest e in numbered-component (numbered d bytes rest (n .next) (n .there))
-numbered d bytes (whole place (OpensMessage m) rest) at e =
-    let n = next-of d at place (OpensMessage m) rest e in
-    numbered-message (message-number d at m (n .next) bytes (n .read)) (numbered d bytes rest (n .next) (n .there))
-numbered d bytes (whole place (FieldItem tag required) rest) at e = let n = next-of d at place _ rest e in numbered d bytes rest (n .next) (n .there)
-numbered d bytes (whole place (ComponentItem required number) rest) at e = let n = next-of d at place _ rest e in numbered d bytes rest (n .next) (n .there)
-numbered d bytes (whole place (OpensGroup tag required) rest) at e = let n = next-of d at place _ rest e in numbered d bytes rest (n .next) (n .there)
-numbered d bytes (whole place Closes rest) at e = let n = next-of d at place _ rest e in numbered d bytes rest (n .next) (n .there)
-
--- what declarations have under a name
-unfoldable pub layoutNamed : List Defined → List Declaration → MsgTypeName → Choice
-layoutNamed defined declarations Unnamed = noMessage
-layoutNamed defined declarations (Named m) = layoutNumbered defined declarations m
-
-module _ (value : List ℕ) (bytes : Bytes value) where
-  unnamed-none : nameOf value ≡ Unnamed → (defined : List Defined) {declarations : List Declaration} → Numbered declarations → messageOf value (messagesFrom defined declarations) ≡ noMessage
-  unfolding messageOf messagesFrom messageIn hasNumber
-  unnamed-none e defined numbered-none = refl
-  unnamed-none e defined (numbered-tag {tag} n) = unnamed-none e (definedBy defined (tagDeclared tag)) n
-  unnamed-none e defined (numbered-component {number} {items} n) = unnamed-none e (definedBy defined (component number items)) n
-  unnamed-none e defined (numbered-message {m} {items} v n) =
-      rw (same-number m value v bytes ∙ ap (hasNumber m) e) (unnamed-none e (definedBy defined (message m items)) n)
-
-  named-number : (wanted : ℕ) → nameOf value ≡ Named wanted → (defined : List Defined) {declarations : List Declaration} → Numbered declarations → messageOf value (messagesFrom defined declarations) ≡ layoutNumbered defined declarations wanted
-  unfolding messageOf messagesFrom messageIn hasNumber layoutNumbered layoutIn
-  named-number wanted e defined numbered-none = refl
-  named-number wanted e defined (numbered-tag {tag} n) = named-number wanted e (definedBy defined (tagDeclared tag)) n
-  named-number wanted e defined (numbered-component {number} {items} n) = named-number wanted e (definedBy defined (component number items)) n
-  named-number wanted e defined (numbered-message {m} {items} v n) =
-      rw (same-number m value v bytes ∙ ap (hasNumber m) e, named-number wanted e (definedBy defined (message m items)) n)
-
--- the tree's look-up by bytes is the look-up by number
-pub tree-named : (defined : List Defined) (declarations : List Declaration) (value : List ℕ) → Numbered declarations → Bytes value → messageOf value (messagesFrom defined declarations) ≡ layoutNamed defined declarations (nameOf value)
-unfolding layoutNamed
-tree-named defined declarations value n b = go (nameOf value) refl
-  where
-    go : (name : MsgTypeName) → nameOf value ≡ name → messageOf value (messagesFrom defined declarations) ≡ layoutNamed defined declarations name
-    go Unnamed e = unnamed-none value b e defined n
-    go (Named wanted) e = named-number value b wanted e defined n

@@ -107,11 +107,6 @@ pub record NameNumber (m : ℕ) : Type 0 where
   pub text : noZero (msgTypeBytes m) ≡ true
   pub some : m ≡ 0 → ⊥
 
--- whether a name is that of a number
-unfoldable pub hasNumber : ℕ → MsgTypeName → Bool
-hasNumber m Unnamed = false
-hasNumber m (Named n) = eqb m n
-
 name-text : (value : List ℕ) → (length value ≡ 0 → ⊥) → length value ≤ 8 → noZero value ≡ true → nameOf value ≡ Named (lowFirst value)
 unfolding nameOf
 name-text value z l e = rw (ne-eqb _ _ z, le-ltb 8 (length value) l, e)
@@ -134,24 +129,17 @@ module _ (m : ℕ) (v : NameNumber m) where
       let length-some : length (bytesWithin 8 m) ≡ suc (length (bytesWithin 7 (m / 256))) = ap length (bytes-some 7 m (v .some)) in
       name-text (bytesWithin 8 m) (λ z. absurd (omega arith)) (bytes-short 8 m) (v .text) ∙ ap Named (number-back 8 m (v .fits))
 
-  other-number : (value : List ℕ) (name : MsgTypeName) → Bytes value → nameOf value ≡ name → (msgTypeBytes m ≡ value → ⊥) → hasNumber m name ≡ false
-  unfolding hasNumber msgTypeBytes
-  other-number value Unnamed bytes e d = refl
-  other-number value (Named n) bytes e d =
-      let t = name-tells value n e in
-      ne-eqb m n (λ same. d (ap (bytesWithin 8) (same ∙ sym (t .2)) ∙ text-back bytes (t .1) 8 (t .0)))
+  -- the same bytes have its name
+  pub same-named : (value : List ℕ) → sameBytes (msgTypeBytes m) value ≡ true → nameOf value ≡ Named m
+  same-named value e = ap nameOf (sym (same-equal (msgTypeBytes m) value e)) ∙ name-back
 
-pub same-number : (m : ℕ) (value : List ℕ) → NameNumber m → Bytes value → sameBytes (msgTypeBytes m) value ≡ hasNumber m (nameOf value)
-same-number m value v bytes = go (sameBytes (msgTypeBytes m) value) refl
-  where
-    itself : msgTypeBytes m ≡ value → sameBytes (msgTypeBytes m) value ≡ true
-    itself e = rw e (same-self value)
-
-    go : (t : Bool) → sameBytes (msgTypeBytes m) value ≡ t → sameBytes (msgTypeBytes m) value ≡ hasNumber m (nameOf value)
-    go true q =
-        let name : nameOf value ≡ Named m = ap nameOf (sym (same-equal (msgTypeBytes m) value q)) ∙ name-back m v in
-        q ∙ sym (ap (hasNumber m) name ∙ (unfold hasNumber in eq-eqb m m refl))
-    go false q = q ∙ sym (other-number m v value (nameOf value) bytes refl (λ e. absurd (never (sym (itself e) ∙ q))))
+-- and what has the name is the same bytes
+pub named-same : (m : ℕ) (value : List ℕ) → Bytes value → nameOf value ≡ Named m → sameBytes (msgTypeBytes m) value ≡ true
+unfolding msgTypeBytes
+named-same m value bytes e =
+    let t = name-tells value m e in
+    let back : bytesWithin 8 m ≡ value = ap (bytesWithin 8) (sym (t .2)) ∙ text-back bytes (t .1) 8 (t .0) in
+    rw back (same-self value)
 
 -- the number of a zero-filled text
 ended-none : (s : List ℕ) → zeroFilled true s ≡ true → lowFirst s ≡ 0

@@ -9,7 +9,8 @@ use lib.ListN.{length}
 use Rattle.dictionary_chains.specs.Chain.{indexWords}
 use Rattle.field_rules.specs.Choice.{pick}
 use Rattle.dictionary_layout_rules.specs.Layout.{Layout}
-use Rattle.dictionary_layout_rules.specs.Tree.{Choice, noMessage, laidOut}
+use Rattle.dictionary_layout_rules.specs.Tree.{noMessage, laidOut}
+use Rattle.dictionary_layout_rules.specs.Tree.{layoutOf as layoutInTree}
 use Rattle.dictionary_rules.specs.Records.{recordsFrom}
 use Rattle.dictionary_rules.specs.Check.{CheckOutcome, outcome, walked, tooLong, readOf, answerOf, storeOf, checkOf}
 use Rattle.dictionary_rules.specs.Names.{Names, looksIn, named, noNames, messageIn}
@@ -23,13 +24,16 @@ use Rattle.dictionary_rules.specs.declared.Component.{Component}
 use Rattle.dictionary_rules.specs.declared.Looked.the-variants.{Closed}
 use Rattle.dictionary_rules.specs.declared.Placed.the-variants.{At, Nowhere}
 use Rattle.dictionary_rules.specs.declared.State.the-variants.{TopLevel}
-use Rattle.dictionary_meaning_rules.specs.Meaning.{declarationsOf, definedAfter, nodesOf}
+use Rattle.dictionary_meaning_rules.specs.Meaning.{declarationsOf, definedAfter, nodesOf, meaningOf, dictionaryOf}
 use Rattle.dictionary_meaning_rules.specs.Levels.{declarationsByLevels}
+use Rattle.dictionary_meaning_rules.specs.MsgType.{nameOf}
+use Rattle.dictionary_meaning_rules.specs.MsgTypeText.{Bytes}
+use Rattle.dictionary_meaning_rules.specs.declared.MsgTypeName.the-variants.{Named}
 use Rattle.dictionary_meaning_rules.specs.Nesting.{passing-declared}
 use Rattle.dictionary_meaning_rules.specs.Named.{Standard, standard}
 use Rattle.dictionary_meaning_rules.specs.Passing.{KnownAs}
 use Rattle.dictionary_meaning_rules.specs.TreeBounds.{passes-kept}
-use Rattle.dictionary_meaning_rules.specs.Tables.{layoutNumbered, MessageAs, Meant, meant}
+use Rattle.dictionary_meaning_rules.specs.Tables.{MessageAs, Meant, meant}
 
 whole-outcome : {S : Type 0} (x : CheckOutcome S) (checked : Checked) → answerOf x ≡ checked → x ≡ outcome checked (storeOf x)
 unfolding answerOf storeOf
@@ -67,13 +71,18 @@ module _ (d : List ℕ) (passes : checkOf d ≡ Passes) where
     dictionary-meant =
         meant d (componentAt made) (storeOf (readOf d)) (λ number c e. agreeing .1 .components number ∙ e) (recordsFrom d 0) 0 refl reads-passing (passes-kept d passes)
 
-    -- a message that the index finds is laid as the layout of its number
-    pub message-laid : (msgType place : ℕ) → messageAt made msgType ≡ At place → (layout : Layout) × (layoutNumbered [] (declarationsOf (recordsFrom d 0)) msgType ≡ laidOut layout) × MessageAs d (componentAt made) place layout
-    message-laid msgType place e = dictionary-meant .messages msgType place (sym (agreeing .1 .messages msgType) ∙ e) (unfold noNames messageIn in refl)
+    -- a message that the index finds by its number is laid as the layout that the tree has for its bytes
+    pub message-laid : Bytes d → (value : List ℕ) → Bytes value → (msgType place : ℕ) → nameOf value ≡ Named msgType → messageAt made msgType ≡ At place →
+        (layout : Layout) × (layoutInTree (dictionaryOf d) value ≡ laidOut layout) × MessageAs d (componentAt made) place layout
+    unfolding layoutInTree dictionaryOf meaningOf
+    message-laid bytes value text msgType place name e =
+        dictionary-meant .messages bytes value text msgType place name (sym (agreeing .1 .messages msgType) ∙ e) (unfold noNames messageIn in refl)
 
-    -- and one that it doesn't find is none of the dictionary's
-    pub message-none : (msgType : ℕ) → messageAt made msgType ≡ Nowhere → layoutNumbered [] (declarationsOf (recordsFrom d 0)) msgType ≡ noMessage
-    message-none msgType e = dictionary-meant .others msgType (sym (agreeing .1 .messages msgType) ∙ e)
+    -- and one that it doesn't find, or that has no number, is none of the tree's
+    pub message-none : Bytes d → (value : List ℕ) → ((msgType : ℕ) → nameOf value ≡ Named msgType → messageAt made msgType ≡ Nowhere) →
+        layoutInTree (dictionaryOf d) value ≡ noMessage
+    unfolding layoutInTree dictionaryOf meaningOf
+    message-none bytes value e = dictionary-meant .others bytes value (λ msgType name. sym (agreeing .1 .messages msgType) ∙ e msgType name)
 
     -- a component means what it is laid as
     pub component-laid : (number : ℕ) (c : Component) → componentAt made number ≡ Closed c → KnownAs d (componentAt made) number c (nodesOf (definedAfter [] (declarationsOf (recordsFrom d 0))) number)

@@ -9,7 +9,7 @@ use lib.ListN.{length}
 use borrow.Author.Tests.{eq-eqb, ne-eqb, eqb-true, eqb-false}
 use Rattle.field_rules.specs.Choice.{pick}
 use Rattle.dictionary_layout_rules.specs.Layout.{Layout, end, items}
-use Rattle.dictionary_layout_rules.specs.Tree.{flattened, Choice, noMessage, laidOut}
+use Rattle.dictionary_layout_rules.specs.Tree.{flattened, Choice, noMessage, laidOut, messageOf, sameBytes}
 use Rattle.dictionary_layout_rules.specs.Measures.{NoEmptyGroup, Bounded}
 use Rattle.dictionary_rules.specs.Record.{recordAt}
 use Rattle.dictionary_rules.specs.Records.{Records, ends, bad, whole, recordsFrom}
@@ -32,7 +32,7 @@ use Rattle.dictionary_rules.specs.declared.Note.the-variants.{Unchanged, Closes
 use Rattle.dictionary_meaning_rules.specs.Laying.{laying, layItems}
 use Rattle.dictionary_meaning_rules.specs.MessageTable.{mostCalls}
 use Rattle.dictionary_meaning_rules.specs.LayingLaws.{lay-down}
-use Rattle.dictionary_meaning_rules.specs.Meaning.{Items, Declaration, knownTag, component, message, Defined, nodesOf, expanded, definedBy, definedAfter, sizeOf, declarationsOf}
+use Rattle.dictionary_meaning_rules.specs.Meaning.{Items, Declaration, knownTag, component, message, Defined, nodesOf, expanded, definedBy, definedAfter, msgTypeBytes, messageIn, messagesFrom, sizeOf, declarationsOf}
 use Rattle.dictionary_meaning_rules.specs.Levels.{innermost, levelsOf, declarationsByLevels}
 use Rattle.dictionary_meaning_rules.specs.Written.{written}
 use Rattle.dictionary_meaning_rules.specs.Layable.{Reads, layoutOf, flat, Lays, lay-level, room-any}
@@ -42,18 +42,12 @@ use Rattle.dictionary_meaning_rules.specs.Inside.{Next, next-of, lookIn,
 use Rattle.dictionary_meaning_rules.specs.Named.{placeIn, Kept, kept, component-new, component-old, message-new, message-old}
 use Rattle.dictionary_meaning_rules.specs.Passing.{KnownAs, Known, agrees-known, lay-known, OneLevel, one-level-of, closed-lays}
 use Rattle.dictionary_meaning_rules.specs.TreeBounds.{KeptFrom, kept-tag, kept-component, kept-message}
+use Rattle.dictionary_meaning_rules.specs.MsgType.{nameOf}
+use Rattle.dictionary_meaning_rules.specs.MsgTypeText.{Bytes, NameNumber, same-named, named-same}
+use Rattle.dictionary_meaning_rules.specs.MsgTypeRecords.{message-number}
+use Rattle.dictionary_meaning_rules.specs.declared.MsgTypeName.the-variants.{Named}
 use Rattle.dictionary_meaning_rules.specs.Nesting.{passing-declared}
 use Rattle.dictionary_meaning_rules.specs.declared.Laid.the-variants.{Upto, Broken}
-
--- the layout of the message that has a number among declarations
-unfoldable pub layoutIn : List Defined → Declaration → ℕ → Choice → Choice
-layoutIn defined (message msgType items) wanted later = pick (eqb msgType wanted) (laidOut (flat defined items)) later
-layoutIn defined (component number items) wanted later = later
-layoutIn defined (knownTag tag) wanted later = later
-
-unfoldable pub layoutNumbered : List Defined → List Declaration → ℕ → Choice
-layoutNumbered defined [] wanted = noMessage
-layoutNumbered defined (d ∷ declarations) wanted = layoutIn defined d wanted (layoutNumbered (definedBy defined d) declarations wanted)
 
 -- a message that opens at a place is laid as a layout, from the first row on, whatever the table holds
 pub record MessageAs (bytes : List ℕ) (components : ℕ → Looked) (place : ℕ) (layout : Layout) : Type 0 where
@@ -63,8 +57,10 @@ pub record MessageAs (bytes : List ℕ) (components : ℕ → Looked) (place : �
 -- what declarations mean, after those that made the names so far
 pub record Meant (bytes : List ℕ) (components : ℕ → Looked) (final names : Names) (defined : List Defined) (declarations : List Declaration) : Type 0 where
   pub known : Known bytes components final (definedAfter defined declarations)
-  pub messages : (msgType place : ℕ) → placeIn final msgType ≡ At place → placeIn names msgType ≡ Nowhere → (layout : Layout) × (layoutNumbered defined declarations msgType ≡ laidOut layout) × MessageAs bytes components place layout
-  pub others : (msgType : ℕ) → placeIn final msgType ≡ Nowhere → layoutNumbered defined declarations msgType ≡ noMessage
+  pub messages : Bytes bytes → (value : List ℕ) → Bytes value → (msgType place : ℕ) → nameOf value ≡ Named msgType → placeIn final msgType ≡ At place →
+      placeIn names msgType ≡ Nowhere → (layout : Layout) × (messageOf value (messagesFrom defined declarations) ≡ laidOut layout) × MessageAs bytes components place layout
+  pub others : Bytes bytes → (value : List ℕ) → ((msgType : ℕ) → nameOf value ≡ Named msgType → placeIn final msgType ≡ Nowhere) →
+      messageOf value (messagesFrom defined declarations) ≡ noMessage
 
 module _ (defined : List Defined) (d : Defined) where
   defined-new : (number : ℕ) → number ≡ d .number → nodesOf (d ∷ defined) number ≡ d .nodes
@@ -138,51 +134,55 @@ module _ (bytes : List ℕ) (components : ℕ → Looked) (final : Names) (sure 
 
   -- what comes after one declaration decides
   tag-meant : (names later : Names) (defined : List Defined) (tag : ℕ) (declarations : List Declaration) → later .messages ≡ names .messages → Meant bytes components final later defined declarations → Meant bytes components final names defined (knownTag tag ∷ declarations)
-  unfolding definedAfter definedBy layoutNumbered layoutIn
+  unfolding definedAfter definedBy messagesFrom messageIn
   tag-meant names later defined tag declarations e m =
-      record { known = m .known; messages = λ k p q n. m .messages k p q (rw e n); others = m .others }
+      record { known = m .known; messages = λ b v t k p w q n. m .messages b v t k p w q (rw e n); others = m .others }
 
   component-meant : (names later : Names) (defined : List Defined) (number : ℕ) (level : Items) (declarations : List Declaration) → later .messages ≡ names .messages → Meant bytes components final later (definedBy defined (component number level)) declarations → Meant bytes components final names defined (component number level ∷ declarations)
-  unfolding definedAfter layoutNumbered layoutIn
+  unfolding definedAfter messagesFrom messageIn
   component-meant names later defined number level declarations e m =
-      record { known = m .known; messages = λ k p q n. m .messages k p q (rw e n); others = m .others }
+      record { known = m .known; messages = λ b v t k p w q n. m .messages b v t k p w q (rw e n); others = m .others }
 
-  message-meant : (names later : Names) (defined : List Defined) (place msgType : ℕ) (level : Items) (declarations : List Declaration) → later .messages ≡ named names (NamesMessage place msgType) .messages → Kept later final → MessageAs bytes components place (flat defined level) → Meant bytes components final later defined declarations → Meant bytes components final names defined (message msgType level ∷ declarations)
-  unfolding definedAfter definedBy layoutNumbered layoutIn
-  message-meant names later defined place msgType level declarations e keeps laid m =
+  -- a value is looked up by its bytes in the tree and by its number in the names, and finds this message in both or in neither
+  message-meant : (names later : Names) (defined : List Defined) (place msgType : ℕ) (level : Items) (declarations : List Declaration) → (Bytes bytes → NameNumber msgType) → later .messages ≡ named names (NamesMessage place msgType) .messages → Kept later final → MessageAs bytes components place (flat defined level) → Meant bytes components final later defined declarations → Meant bytes components final names defined (message (msgTypeBytes msgType) level ∷ declarations)
+  unfolding definedAfter definedBy messagesFrom messageIn messageOf
+  message-meant names later defined place msgType level declarations number e keeps laid m =
       record {
         known = m .known;
-        messages = λ wanted there q n. found wanted there q n (eqb msgType wanted) refl;
-        others = λ wanted q. missing wanted q (eqb msgType wanted) refl;
+        messages = λ b value text wanted there w q n. found b value text wanted there w q n (sameBytes (msgTypeBytes msgType) value) refl;
+        others = λ b value q. missing b value q (sameBytes (msgTypeBytes msgType) value) refl;
       }
     where
       here : placeIn final msgType ≡ At place
       here = keeps .messages msgType place (rw e (message-new names place msgType))
 
-      found : (wanted there : ℕ) → placeIn final wanted ≡ At there → placeIn names wanted ≡ Nowhere → (t : Bool) → eqb msgType wanted ≡ t → (layout : Layout) × (pick t (laidOut (flat defined level)) (layoutNumbered defined declarations wanted) ≡ laidOut layout) × MessageAs bytes components there layout
-      found wanted there q n true t =
-          let same : msgType ≡ wanted = eqb-true _ _ t in
+      found : (b : Bytes bytes) (value : List ℕ) → Bytes value → (wanted there : ℕ) → nameOf value ≡ Named wanted → placeIn final wanted ≡ At there → placeIn names wanted ≡ Nowhere → (t : Bool) → sameBytes (msgTypeBytes msgType) value ≡ t → (layout : Layout) × (pick t (laidOut (flat defined level)) (messageOf value (messagesFrom defined declarations)) ≡ laidOut layout) × MessageAs bytes components there layout
+      found b value text wanted there w q n true t =
+          let name = same-named msgType (number b) value t in
+          let same : msgType ≡ wanted = cc in
           let found : placeIn final wanted ≡ At place = rw same at here in
           let at-place : place ≡ there = cc in
           (flat defined level, refl, rw at-place at laid)
-      found wanted there q n false t =
-          let other = eqb-false _ _ t in
-          m .messages wanted there q (rw e (message-old names place msgType wanted (λ z. other (sym z)) ∙ n))
+      found b value text wanted there w q n false t =
+          m .messages b value text wanted there w q (rw e (message-old names place msgType wanted other ∙ n))
+        where
+          other : wanted ≡ msgType → ⊥
+          other z = let same = named-same msgType value text (w ∙ ap Named z) in let clash : _≡_ {A = ℕ} 0 1 = cc in omega arith
 
-      missing : (wanted : ℕ) → placeIn final wanted ≡ Nowhere → (t : Bool) → eqb msgType wanted ≡ t → pick t (laidOut (flat defined level)) (layoutNumbered defined declarations wanted) ≡ noMessage
-      missing wanted q true t =
-          let same : msgType ≡ wanted = eqb-true _ _ t in
-          let found : placeIn final wanted ≡ At place = rw same at here in
+      missing : (b : Bytes bytes) (value : List ℕ) → ((wanted : ℕ) → nameOf value ≡ Named wanted → placeIn final wanted ≡ Nowhere) → (t : Bool) → sameBytes (msgTypeBytes msgType) value ≡ t → pick t (laidOut (flat defined level)) (messageOf value (messagesFrom defined declarations)) ≡ noMessage
+      missing b value q true t =
+          let nowhere = q msgType (same-named msgType (number b) value t) in
+          let placed = here in
           let z : _≡_ {A = ℕ} 0 1 = cc in absurd (omega arith)
-      missing wanted q false t = m .others wanted q
+      missing b value q false t = m .others b value q
 
   end-meant : (names : Names) (defined : List Defined) → names ≡ final → Known bytes components names defined → Meant bytes components final names defined []
-  unfolding definedAfter layoutNumbered
+  unfolding definedAfter messagesFrom messageOf
   end-meant names defined same known =
       record {
         known = subst (λ (n : Names). Known bytes components n defined) same known;
-        messages = λ wanted there q n. absurd (clash wanted there q (subst (λ (x : Names). placeIn x wanted ≡ Nowhere) same n));
-        others = λ wanted q. refl;
+        messages = λ b value text wanted there w q n. absurd (clash wanted there q (subst (λ (x : Names). placeIn x wanted ≡ Nowhere) same n));
+        others = λ b value q. refl;
       }
     where
       clash : (wanted there : ℕ) → placeIn final wanted ≡ At there → placeIn final wanted ≡ Nowhere → ⊥
@@ -237,8 +237,8 @@ module _ (bytes : List ℕ) (components : ℕ → Looked) (final : Names) (sure 
       let c = closes-inside bytes final named-here rest (n .next) (opens OfMessage place) (n .there) (g .1) in
       let later : Names = named named-here (noteOf (c .last) (c .last .owner)) in
       let level : Items = innermost (levelsOf rest) in
-      let b = kept-message defined (declarationsByLevels rest) msgType level bounds in
-      rw (c .declared) (message-meant names later defined place msgType level (declarationsByLevels (c .rest)) (note-messages named-here (c .last) (c .last .owner)) (kept bytes final (c .rest) (c .after) later (c .there) (c .passes))
+      let b = kept-message defined (declarationsByLevels rest) (msgTypeBytes msgType) level bounds in
+      rw (c .declared) (message-meant names later defined place msgType level (declarationsByLevels (c .rest)) (λ text. message-number bytes at msgType (n .next) text (n .read)) (note-messages named-here (c .last) (c .last .owner)) (kept bytes final (c .rest) (c .after) later (c .there) (c .passes))
       (message-known named-here defined place (n .next) rest known-here (b .0) (omega (arith, lies .behind, n .here)) c)
       (again (c .rest) (c .after) later defined (omega (arith, c .fewer)) (c .there) (c .passes) (known-as named-here later defined (note-components named-here (c .last) (unfold opens in c .owner)) known-here) (rw (c .declared) at b .1)))
 

@@ -7,26 +7,23 @@ use native.Mathlib.Omega.{arith}
 use lib.ListN.{length}
 use Rattle.dictionary_chains.specs.Chain.{indexWords}
 use Rattle.dictionary_layout_rules.specs.Layout.{Layout, items}
-use Rattle.dictionary_layout_rules.specs.Tree.{Choice, noMessage, laidOut, messageOf}
+use Rattle.dictionary_layout_rules.specs.Tree.{Choice, noMessage, laidOut}
 use Rattle.dictionary_layout_rules.specs.Tree.{layoutOf as layoutInTree}
 use Rattle.dictionary_layout_rules.specs.Tabled.{Tabled}
-use Rattle.dictionary_rules.specs.Records.{recordsFrom}
 use Rattle.dictionary_rules.specs.Check.{storeOf, checkOf}
 use Rattle.dictionary_rules.specs.Index.{componentAt, messageAt}
 use Rattle.dictionary_rules.specs.Check.{preparedOf}
 use Rattle.dictionary_rules.specs.declared.Checked.the-variants.{Passes}
 use Rattle.dictionary_rules.specs.declared.Placed.{Placed}
 use Rattle.dictionary_rules.specs.declared.Placed.the-variants.{At, Nowhere}
-use Rattle.dictionary_meaning_rules.specs.Meaning.{declarationsOf, messagesFrom, meaningOf, dictionaryOf}
-use Rattle.dictionary_meaning_rules.specs.Levels.{declarationsByLevels}
+use Rattle.dictionary_meaning_rules.specs.Meaning.{dictionaryOf}
 use Rattle.dictionary_meaning_rules.specs.Written.{written, written-length, written-stands}
 use Rattle.dictionary_meaning_rules.specs.MsgType.{nameOf}
 use Rattle.dictionary_meaning_rules.specs.MsgTypeText.{Bytes}
-use Rattle.dictionary_meaning_rules.specs.MsgTypeRecords.{numbered, layoutNamed, tree-named}
-use Rattle.dictionary_meaning_rules.specs.MessageTable.{Tabling, tabling, messageTable}
+use Rattle.dictionary_meaning_rules.specs.MessageTable.{Tabling, tabling, placeOf, messageTable}
 use Rattle.dictionary_meaning_rules.specs.MessageTableLaws.{place-unnamed, place-named, table-nowhere, table-rows}
-use Rattle.dictionary_meaning_rules.specs.Tables.{layoutNumbered, MessageAs}
-use Rattle.dictionary_meaning_rules.specs.Prepared.{read-from-behind, message-laid, message-none}
+use Rattle.dictionary_meaning_rules.specs.Tables.{MessageAs}
+use Rattle.dictionary_meaning_rules.specs.Prepared.{message-laid, message-none}
 use Rattle.dictionary_meaning_rules.specs.declared.MsgTypeName.{MsgTypeName}
 use Rattle.dictionary_meaning_rules.specs.declared.MsgTypeName.the-variants.{Named, Unnamed}
 use Rattle.dictionary_meaning_rules.specs.declared.MessageTable.the-variants.{Rows, NoMessage, Unprepared}
@@ -48,21 +45,19 @@ module _ (d : List ℕ) (bytes : Bytes d) (passes : checkOf d ≡ Passes) (index
       rw (table-rows d made value table place (place-named made value msgType name ∙ placed) (w .0) (items layout) (written 0 layout table) (w .1))
       (a-table limit (written-length 0 layout table) (record { stands = written-stands 0 layout table (omega arith); ends = omega arith }))
 
-  tree-by-name : (value : List ℕ) → Bytes value → layoutInTree (dictionaryOf d) value ≡ layoutNamed [] (declarationsOf (recordsFrom d 0)) (nameOf value)
-  unfolding layoutInTree dictionaryOf meaningOf
-  tree-by-name value text =
-      rw (read-from-behind d passes)
-      (tree-named [] (declarationsByLevels (recordsFrom d 0)) value (numbered d bytes (recordsFrom d 0) 0 refl) text)
-
   pub tables-mean-tree : (value table : List ℕ) → Bytes value → 4096 ≤ length table → TableOf table (layoutInTree (dictionaryOf d) value) (messageTable d made value table)
-  tables-mean-tree value table text room = rw (tree-by-name value text) (by-name (nameOf value) refl)
+  tables-mean-tree value table text room = by-name (nameOf value) refl
     where
-      by-place : (msgType : ℕ) (placed : Placed) → nameOf value ≡ Named msgType → messageAt made msgType ≡ placed → TableOf table (layoutNumbered [] (declarationsOf (recordsFrom d 0)) msgType) (messageTable d made value table)
-      by-place msgType Nowhere name e = rw (message-none d passes index size msgType e, table-nowhere d made value table (place-named made value msgType name ∙ e)) no-table
+      none : ((msgType : ℕ) → nameOf value ≡ Named msgType → messageAt made msgType ≡ Nowhere) → placeOf made value ≡ Nowhere → TableOf table (layoutInTree (dictionaryOf d) value) (messageTable d made value table)
+      none nowhere e = rw (message-none d passes index size bytes value nowhere, table-nowhere d made value table e) no-table
+
+      by-place : (msgType : ℕ) (placed : Placed) → nameOf value ≡ Named msgType → messageAt made msgType ≡ placed → TableOf table (layoutInTree (dictionaryOf d) value) (messageTable d made value table)
+      by-place msgType Nowhere name e =
+          none (λ wanted other. let same : wanted ≡ msgType = cc in rw same e) (place-named made value msgType name ∙ e)
       by-place msgType (At place) name e =
-          let l = message-laid d passes index size msgType place e in
+          let l = message-laid d passes index size bytes value text msgType place name e in
           rw (l .1) (laid-table value table msgType place (l .0) room name e (l .2))
 
-      by-name : (name : MsgTypeName) → nameOf value ≡ name → TableOf table (layoutNamed [] (declarationsOf (recordsFrom d 0)) name) (messageTable d made value table)
-      by-name Unnamed e = unfold layoutNamed in rw (table-nowhere d made value table (place-unnamed made value e)) no-table
-      by-name (Named msgType) e = unfold layoutNamed in by-place msgType (messageAt made msgType) e refl
+      by-name : (name : MsgTypeName) → nameOf value ≡ name → TableOf table (layoutInTree (dictionaryOf d) value) (messageTable d made value table)
+      by-name Unnamed e = none (λ wanted other. let z : _≡_ {A = ℕ} 0 1 = cc in absurd (omega arith)) (place-unnamed made value e)
+      by-name (Named msgType) e = by-place msgType (messageAt made msgType) e refl

@@ -75,7 +75,7 @@ module _ (defined : List Defined) (declarations : List Declaration) where
       let more : List Layout = flat defined level ∷ k .read in
       (first-bounded (read-stay declarations (definedBy defined (component number level)) more (k .each)), record { read = more; each = k .each })
 
-  pub kept-message : (msgType : ℕ) (level : Items) → KeptFrom defined (message msgType level ∷ declarations) →
+  pub kept-message : (msgType : List ℕ) (level : Items) → KeptFrom defined (message msgType level ∷ declarations) →
       Bounded (flat defined level) × KeptFrom defined declarations
   unfolding layoutsAfter layoutsBy definedBy
   kept-message msgType level k =

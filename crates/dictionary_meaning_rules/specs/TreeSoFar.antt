@@ -47,7 +47,7 @@ measured-more names defined c level known new number d e = go (eqb number (c .nu
 -- what an owner declares by its items
 pub data Declares : Owner → (Items → Declaration) → Type 0 where
   declares-component : (number : ℕ) → Declares (OfComponent number) (component number)
-  declares-message : (msgType : ℕ) → Declares OfMessage (message msgType)
+  declares-message : (msgType : List ℕ) → Declares OfMessage (message msgType)
 
 -- what was read at top level: the components that are defined, and all layouts
 pub record Tree (names : Names) (layouts : Records → List Layout) : Type 0 where
