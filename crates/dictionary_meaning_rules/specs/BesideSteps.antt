@@ -34,11 +34,11 @@ use Rattle.dictionary_rules.specs.declared.Record.{Record}
 use Rattle.dictionary_rules.specs.declared.Record.the-variants.{KnownTag, OpensComponent, OpensMessage, FieldItem, ComponentItem, OpensGroup, Closes}
 use Rattle.dictionary_rules.specs.declared.Step.{Step}
 use Rattle.dictionary_rules.specs.declared.Step.the-variants.{Refuses, Goes}
-use Rattle.dictionary_meaning_rules.specs.Meaning.{Items, closed, componentThen, groupThen, msgTypeBytes, Declaration, component, message, Defined, definedBy}
-use Rattle.dictionary_meaning_rules.specs.Levels.{declarationsByLevels, Nested, nested-tag, nested-component, nested-message}
+use Rattle.dictionary_meaning_rules.specs.Meaning.{Items, closed, componentThen, groupThen, msgTypeBytes, Declaration, component, message, declarationsOf, Defined, definedBy}
 use Rattle.dictionary_meaning_rules.specs.Layable.{flat}
 use Rattle.dictionary_meaning_rules.specs.ClosedOff.{openAfter, closes, layoutsBy, layoutsAfter, Latest, FiveDeep, OverThousand}
-use Rattle.dictionary_meaning_rules.specs.SoFar.{OpenGroup, continued, joined, wrapped}
+use Rattle.dictionary_meaning_rules.specs.Bodies.{Holds, HoldsAll, holds-none, holds-more, declared-tag, declared-component, declared-message}
+use Rattle.dictionary_meaning_rules.specs.SoFar.{OpenGroup, innermost, continued, joined, wrapped}
 use Rattle.dictionary_meaning_rules.specs.TreeSoFar.{AllMeasured, measured-more, Declares, declares-component, declares-message, Tree, OpenTree, tree-field, tree-component, tree-group, tree-close, tree-owner, latest-off}
 use Rattle.dictionary_meaning_rules.specs.Beside.{listed, listed-opened, Counted, count-whole, counted-opens, field-whole, field-shallow, counted-field, component-whole, component-deep, component-shallow, counted-component, group-whole, group-deep, group-shallow, counted-group, closes-empty, counted-close}
 
@@ -66,6 +66,13 @@ pub data Stepped (state : State) (names : Names) (layouts : Records → List Lay
   goes : {later : State} {note : Note} → Beside later (named names note) (λ (q : Records). layouts (whole place r q)) → thingsOf later ≡ openAfter r (thingsOf state) → Stepped state names layouts place r (Goes later note)
   refuses : {checked : Checked} → Breaks layouts (thingsOf state) place r checked → Stepped state names layouts place r (Refuses checked)
 
+-- what opens declares the one level that it holds
+opening-declares : {later behind : Records} {levels : List Items} (rs : Records) (declares : Items → Declaration) → ((items : Items) (after : Records) → Holds later items after → declarationsOf rs ≡ declares items ∷ declarationsOf after) → length levels ≡ 1 → HoldsAll later levels behind → declarationsOf rs ≡ declares (joined closed [] levels) ∷ declarationsOf behind
+unfolding joined continued innermost
+opening-declares rs declares declared n holds-none = absurd (omega arith)
+opening-declares rs declares declared n (holds-more h (holds-more g hs)) = absurd (omega arith)
+opening-declares rs declares declared n (holds-more h holds-none) = declared _ _ h
+
 module _ (names : Names) (layouts : Records → List Layout) (place : ℕ) where
   picked : (state : State) (r : Record) (b : Bool) (then other : Step) → (b ≡ true → Stepped state names layouts place r then) → (b ≡ false → Stepped state names layouts place r other) → Stepped state names layouts place r (pick b then other)
   picked state r true then other t f = t refl
@@ -77,8 +84,11 @@ module _ (names : Names) (layouts : Records → List Layout) (place : ℕ) where
     unfolding stepOf onTag atTop looksIn thingsOf openAfter
     top-tag tag = goes (at-top (next (isKnown (names .tags) tag))) refl
       where
-        same : (later : Records) → Nested 0 later → layouts (whole place (KnownTag tag) later) ≡ layoutsAfter (t .defined) (t .read) (declarationsByLevels later)
-        same later n = t .means (whole place (KnownTag tag) later) (nested-tag n) ∙ (unfold declarationsByLevels layoutsAfter layoutsBy definedBy in refl)
+        same : (later : Records) → layouts (whole place (KnownTag tag) later) ≡ layoutsAfter (t .defined) (t .read) (declarationsOf later)
+        same later =
+            t .means (whole place (KnownTag tag) later)
+            ∙ ap (layoutsAfter (t .defined) (t .read)) (declared-tag place later tag)
+            ∙ (unfold layoutsAfter layoutsBy definedBy in refl)
 
         next : (b : Bool) → Tree (named names (pick b Unchanged (KnowsTag place tag))) (λ (later : Records). layouts (whole place (KnownTag tag) later))
         next true = unfold named in record { defined = t .defined; read = t .read; measured = t .measured; bounded = t .bounded; means = same }
@@ -94,7 +104,7 @@ module _ (names : Names) (layouts : Records → List Layout) (place : ℕ) where
             record {
               declares = component number;
               sort = declares-component number;
-              means = λ later n. t .means (whole place (OpensComponent number) later) (nested-component n) ∙ (unfold declarationsByLevels joined continued in refl);
+              means = λ later behind levels n h. t .means (whole place (OpensComponent number) later) ∙ ap (layoutsAfter (t .defined) (t .read)) (opening-declares (whole place (OpensComponent number) later) (component number) (λ items after g. declared-component place later number g) n h);
             }
 
         go : (l : Looked) → Stepped TopLevel names layouts place (OpensComponent number) (onceComponent l place (Goes (Inside (opens (OfComponent number) place)) Unchanged))
@@ -111,7 +121,7 @@ module _ (names : Names) (layouts : Records → List Layout) (place : ℕ) where
             record {
               declares = message (msgTypeBytes msgType);
               sort = declares-message (msgTypeBytes msgType);
-              means = λ later n. t .means (whole place (OpensMessage msgType) later) (nested-message n) ∙ (unfold declarationsByLevels joined continued in refl);
+              means = λ later behind levels n h. t .means (whole place (OpensMessage msgType) later) ∙ ap (layoutsAfter (t .defined) (t .read)) (opening-declares (whole place (OpensMessage msgType) later) (message (msgTypeBytes msgType)) (λ items after g. declared-message place later msgType g) n h);
             }
 
         go : (p : Placed) → Stepped TopLevel names layouts place (OpensMessage msgType) (onceMessage p place (Goes (Inside (opens OfMessage place)) (NamesMessage place msgType)))
@@ -209,7 +219,7 @@ module _ (names : Names) (layouts : Records → List Layout) (place : ℕ) (o : 
       none-left : thingsOf TopLevel ≡ openAfter Closes (thingsOf (Inside o))
       none-left = unfold thingsOf openAfter in omega (arith, c .nests)
 
-      go : (owner : Owner) (declares : Items → Declaration) → Declares owner declares → ((later : Records) → Nested 0 later → layouts (whole place Closes later) ≡ layoutsAfter (definedBy defined (declares level)) (flat defined level ∷ read) (declarationsByLevels later)) → Stepped (Inside o) names layouts place Closes (closesOwner o owner)
+      go : (owner : Owner) (declares : Items → Declaration) → Declares owner declares → ((later : Records) → layouts (whole place Closes later) ≡ layoutsAfter (definedBy defined (declares level)) (flat defined level ∷ read) (declarationsOf later)) → Stepped (Inside o) names layouts place Closes (closesOwner o owner)
       go owner declares (declares-component number) means =
           goes (at-top (record {
             defined = definedBy defined (component number level);

@@ -21,7 +21,7 @@ use Rattle.dictionary_rules.specs.declared.State.the-variants.{TopLevel, Inside
 use Rattle.dictionary_rules.specs.declared.Note.{Note}
 use Rattle.dictionary_rules.specs.declared.Step.{Step}
 use Rattle.dictionary_meaning_rules.specs.Meaning.{component}
-use Rattle.dictionary_meaning_rules.specs.Levels.{declarationsByLevels, nested-end}
+use Rattle.dictionary_meaning_rules.specs.Bodies.{declared-end}
 use Rattle.dictionary_meaning_rules.specs.Layable.{flat}
 use Rattle.dictionary_meaning_rules.specs.ClosedOff.{openAfter, closes, closedOff, openOf, recordsAfter, layoutsAfter, goesOn, takenFrom, AllBounded, nothing-read, latest-bounded, KeepsBounds, FirstWith, FirstEmpty, FiveDeep, OverThousand}
 use Rattle.dictionary_meaning_rules.specs.SoFar.{wrapped}
@@ -35,7 +35,7 @@ all-bounded (each-more b more) = latest-bounded (bounded-closed b) more
 
 -- at top level, whatever ends it
 top-read : {names : Names} {layouts : Records → List Layout} (t : Tree names layouts) (size : ℕ) → layouts (ends size) ≡ t .read
-top-read t size = t .means (ends size) nested-end ∙ (unfold declarationsByLevels layoutsAfter in refl)
+top-read t size = t .means (ends size) ∙ ap (layoutsAfter (t .defined) (t .read)) (declared-end size) ∙ (unfold layoutsAfter in refl)
 
 -- beside the tree the bounds are kept
 beside-bounded : (state : State) (names : Names) (layouts : Records → List Layout) → Beside state names layouts → AllBounded (thingsOf state - 1) (layouts (closes (thingsOf state) (ends 0)))

@@ -27,7 +27,6 @@ use Rattle.dictionary_rules.specs.declared.Held.the-variants.{Empty, Only, Seve
 use Rattle.dictionary_rules.specs.declared.Open.{Open}
 use Rattle.dictionary_rules.specs.declared.State.the-variants.{TopLevel, Inside}
 use Rattle.dictionary_meaning_rules.specs.Meaning.{Items, closed, fieldThen, componentThen, groupThen, sizeOf}
-use Rattle.dictionary_meaning_rules.specs.Levels.{onTop, groupOnTop, levelsOf, declarationsByLevels}
 use Rattle.dictionary_meaning_rules.specs.Layable.{Reads, reads-close, reads-field, reads-component, reads-group}
 use Rattle.dictionary_meaning_rules.specs.Counted.{itemsIn, heldBy, countOf, heldFrom}
 use Rattle.dictionary_meaning_rules.specs.Steps.{Passing, noteOf, field-goes, group-goes, item-goes, known-stops, component-stops, message-stops, close-goes, bad-stops, end-stops}
@@ -86,8 +85,6 @@ pub record Closing (bytes : List ℕ) (final names : Names) (at : ℕ) (rs : Rec
   pub rest : Records
   pub last : Open
   pub there : recordsFrom bytes after ≡ rest
-  pub split : levelsOf rs ≡ levels ++ levelsOf rest
-  pub declared : declarationsByLevels rs ≡ declarationsByLevels rest
   pub deep : length levels ≡ 1 + depthOf (o .groups)
   pub reads : ReadsAll bytes at levels after
   pub resolved : AllResolved (lookIn names) levels
@@ -105,20 +102,18 @@ module _ (bytes : List ℕ) (final names : Names) where
 
   -- one item before what is known of the rest
   field-before : (at place : ℕ) (tag : ℕ) (required : Bool) (rest : Records) (o : Open) (depth : ℕ) → (n : Next bytes at (FieldItem tag required) rest place) → o .items + 1 ≤ 1024 → Closing bytes final names (n .next) rest (grown o (o .items + 1) depth Several (o .groups)) → Closing bytes final names at (whole place (FieldItem tag required) rest) o
-  unfolding grown countAll countOf heldAll heldFrom levelsOf onTop declarationsByLevels sizeOf
-  field-before at place tag required rest o depth n h c = go (c .levels) (c .split) (c .deep) (c .reads) (c .resolved) (c .count) (c .held)
+  unfolding grown countAll countOf heldAll heldFrom sizeOf
+  field-before at place tag required rest o depth n h c = go (c .levels) (c .deep) (c .reads) (c .resolved) (c .count) (c .held)
     where
-      go : (levels : List Items) → levelsOf rest ≡ levels ++ levelsOf (c .rest) → length levels ≡ 1 + depthOf (grown o (o .items + 1) depth Several (o .groups) .groups) → ReadsAll bytes (n .next) levels (c .after) → AllResolved Look levels → c .last .items ≡ grown o (o .items + 1) depth Several (o .groups) .items + countAll Look levels → c .last .held ≡ heldAll Look (grown o (o .items + 1) depth Several (o .groups) .held) levels → Closing bytes final names at (whole place (FieldItem tag required) rest) o
-      go [] s d r v k l = absurd (omega arith)
-      go (level ∷ levels) s d (one-level r rs) (one-resolved v vs) k l =
+      go : (levels : List Items) → length levels ≡ 1 + depthOf (grown o (o .items + 1) depth Several (o .groups) .groups) → ReadsAll bytes (n .next) levels (c .after) → AllResolved Look levels → c .last .items ≡ grown o (o .items + 1) depth Several (o .groups) .items + countAll Look levels → c .last .held ≡ heldAll Look (grown o (o .items + 1) depth Several (o .groups) .held) levels → Closing bytes final names at (whole place (FieldItem tag required) rest) o
+      go [] d r v k l = absurd (omega arith)
+      go (level ∷ levels) d (one-level r rs) (one-resolved v vs) k l =
           record {
             levels = fieldThen tag required level ∷ levels;
             after = c .after;
             rest = c .rest;
             last = c .last;
             there = c .there;
-            split = rw s;
-            declared = c .declared;
             deep = d;
             reads = one-level (reads-field (n .read) r) rs;
             resolved = one-resolved (resolved-field v) vs;
@@ -132,20 +127,18 @@ module _ (bytes : List ℕ) (final names : Names) where
           }
 
   component-before : (at place : ℕ) (number : ℕ) (required : Bool) (rest : Records) (o : Open) (depth : ℕ) (component : Component) → (n : Next bytes at (ComponentItem required number) rest place) → Look number ≡ Closed component → o .items + component .items ≤ 1024 → Closing bytes final names (n .next) rest (grown o (o .items + component .items) depth (heldWith (o .held) component) (o .groups)) → Closing bytes final names at (whole place (ComponentItem required number) rest) o
-  unfolding grown countAll countOf itemsIn heldAll heldFrom heldBy levelsOf onTop declarationsByLevels sizeOf
-  component-before at place number required rest o depth component n looked h c = go (c .levels) (c .split) (c .deep) (c .reads) (c .resolved) (c .count) (c .held)
+  unfolding grown countAll countOf itemsIn heldAll heldFrom heldBy sizeOf
+  component-before at place number required rest o depth component n looked h c = go (c .levels) (c .deep) (c .reads) (c .resolved) (c .count) (c .held)
     where
-      go : (levels : List Items) → levelsOf rest ≡ levels ++ levelsOf (c .rest) → length levels ≡ 1 + depthOf (o .groups) → ReadsAll bytes (n .next) levels (c .after) → AllResolved Look levels → c .last .items ≡ o .items + component .items + countAll Look levels → c .last .held ≡ heldAll Look (heldWith (o .held) component) levels → Closing bytes final names at (whole place (ComponentItem required number) rest) o
-      go [] s d r v k l = absurd (omega arith)
-      go (level ∷ levels) s d (one-level r rs) (one-resolved v vs) k l =
+      go : (levels : List Items) → length levels ≡ 1 + depthOf (o .groups) → ReadsAll bytes (n .next) levels (c .after) → AllResolved Look levels → c .last .items ≡ o .items + component .items + countAll Look levels → c .last .held ≡ heldAll Look (heldWith (o .held) component) levels → Closing bytes final names at (whole place (ComponentItem required number) rest) o
+      go [] d r v k l = absurd (omega arith)
+      go (level ∷ levels) d (one-level r rs) (one-resolved v vs) k l =
           record {
             levels = componentThen number required level ∷ levels;
             after = c .after;
             rest = c .rest;
             last = c .last;
             there = c .there;
-            split = rw s;
-            declared = c .declared;
             deep = d;
             reads = one-level (reads-component (n .read) r) rs;
             resolved = one-resolved (resolved-component component looked v) vs;
@@ -167,21 +160,19 @@ module _ (bytes : List ℕ) (final names : Names) where
   opened-depth group (FourGroups a b c d) h = absurd (omega arith)
 
   group-before : (at place : ℕ) (tag : ℕ) (required : Bool) (rest : Records) (o : Open) (depth : ℕ) (group : Group) → (n : Next bytes at (OpensGroup tag required) rest place) → depthOf (o .groups) + 1 ≤ 4 → o .items + 1 ≤ 1024 → Closing bytes final names (n .next) rest (grown o (o .items + 1) depth Several (opened group (o .groups))) → Closing bytes final names at (whole place (OpensGroup tag required) rest) o
-  unfolding grown countAll countOf heldAll heldFrom levelsOf groupOnTop declarationsByLevels sizeOf
-  group-before at place tag required rest o depth group n g h c = go (c .levels) (c .split) (c .deep ∙ ap (λ (k : ℕ). 1 + k) (opened-depth group (o .groups) g)) (c .reads) (c .resolved) (c .count) (c .held)
+  unfolding grown countAll countOf heldAll heldFrom sizeOf
+  group-before at place tag required rest o depth group n g h c = go (c .levels) (c .deep ∙ ap (λ (k : ℕ). 1 + k) (opened-depth group (o .groups) g)) (c .reads) (c .resolved) (c .count) (c .held)
     where
-      go : (levels : List Items) → levelsOf rest ≡ levels ++ levelsOf (c .rest) → length levels ≡ 1 + (1 + depthOf (o .groups)) → ReadsAll bytes (n .next) levels (c .after) → AllResolved Look levels → c .last .items ≡ o .items + 1 + countAll Look levels → c .last .held ≡ heldAll Look Several levels → Closing bytes final names at (whole place (OpensGroup tag required) rest) o
-      go [] s d r v k l = absurd (omega arith)
-      go (inner ∷ []) s d r v k l = absurd (omega arith)
-      go (inner ∷ (level ∷ levels)) s d (one-level i (one-level r rs)) (one-resolved w (one-resolved v vs)) k l =
+      go : (levels : List Items) → length levels ≡ 1 + (1 + depthOf (o .groups)) → ReadsAll bytes (n .next) levels (c .after) → AllResolved Look levels → c .last .items ≡ o .items + 1 + countAll Look levels → c .last .held ≡ heldAll Look Several levels → Closing bytes final names at (whole place (OpensGroup tag required) rest) o
+      go [] d r v k l = absurd (omega arith)
+      go (inner ∷ []) d r v k l = absurd (omega arith)
+      go (inner ∷ (level ∷ levels)) d (one-level i (one-level r rs)) (one-resolved w (one-resolved v vs)) k l =
           record {
             levels = groupThen tag required inner level ∷ levels;
             after = c .after;
             rest = c .rest;
             last = c .last;
             there = c .there;
-            split = rw s;
-            declared = c .declared;
             deep = omega arith;
             reads = one-level (reads-group (n .read) i r) rs;
             resolved = one-resolved (resolved-group w v) vs;
@@ -195,7 +186,7 @@ module _ (bytes : List ℕ) (final names : Names) where
           }
 
   close-before : (at place : ℕ) (rest : Records) (o : Open) (groups : Groups) → (n : Next bytes at Closes rest place) → depthOf (o .groups) ≡ 1 + depthOf groups → Closing bytes final names (n .next) rest (grown o (o .items) (o .depth) (o .held) groups) → Closing bytes final names at (whole place Closes rest) o
-  unfolding grown countAll countOf heldAll heldFrom levelsOf declarationsByLevels sizeOf
+  unfolding grown countAll countOf heldAll heldFrom sizeOf
   close-before at place rest o groups n g c =
       record {
         levels = closed ∷ c .levels;
@@ -203,8 +194,6 @@ module _ (bytes : List ℕ) (final names : Names) where
         rest = c .rest;
         last = c .last;
         there = c .there;
-        split = rw (c .split);
-        declared = c .declared;
         deep = omega (arith, c .deep);
         reads = one-level (reads-close (n .read)) (c .reads);
         resolved = one-resolved resolved-close (c .resolved);
@@ -218,7 +207,7 @@ module _ (bytes : List ℕ) (final names : Names) where
       }
 
   owner-before : (at place : ℕ) (rest : Records) (o : Open) → (n : Next bytes at Closes rest place) → o .groups ≡ NoGroup → Passing final rest TopLevel (named names (noteOf o (o .owner))) → Closing bytes final names at (whole place Closes rest) o
-  unfolding countAll countOf heldAll heldFrom levelsOf declarationsByLevels sizeOf depthOf
+  unfolding countAll countOf heldAll heldFrom sizeOf depthOf
   owner-before at place rest o n g p =
       record {
         levels = closed ∷ [];
@@ -226,8 +215,6 @@ module _ (bytes : List ℕ) (final names : Names) where
         rest = rest;
         last = o;
         there = n .there;
-        split = refl;
-        declared = refl;
         deep = rw g;
         reads = one-level (reads-close (n .read)) no-level;
         resolved = one-resolved resolved-close none-resolved;

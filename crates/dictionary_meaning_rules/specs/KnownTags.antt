@@ -23,11 +23,12 @@ use Rattle.dictionary_rules.specs.declared.Owner.the-variants.{OfComponent, OfM
 use Rattle.dictionary_rules.specs.declared.Open.{Open}
 use Rattle.dictionary_rules.specs.declared.State.the-variants.{TopLevel, Inside}
 use Rattle.dictionary_rules.specs.declared.Note.the-variants.{NamesMessage}
-use Rattle.dictionary_meaning_rules.specs.Meaning.{Declaration, knownTag, tagIn, tagsFrom, meaningOf, dictionaryOf, sizeOf}
-use Rattle.dictionary_meaning_rules.specs.Levels.{declarationsByLevels}
+use Rattle.dictionary_meaning_rules.specs.Meaning.{Declaration, knownTag, tagIn, tagsFrom, meaningOf, dictionaryOf, sizeOf, declarationsOf}
 use Rattle.dictionary_meaning_rules.specs.Steps.{Passing, noteOf, TagGoes, tag-goes, component-opens, message-opens, field-stops, item-stops, group-stops, close-stops, bad-stops, end-passes}
+use Rattle.dictionary_meaning_rules.specs.Bodies.{declared-end, declared-tag, declared-component, declared-message}
 use Rattle.dictionary_meaning_rules.specs.Inside.{Next, next-of, Closing, closes-inside}
-use Rattle.dictionary_meaning_rules.specs.Prepared.{reads-passing, read-from-behind, agreeing}
+use Rattle.dictionary_meaning_rules.specs.Passing.{OneLevel, one-level-of}
+use Rattle.dictionary_meaning_rules.specs.Prepared.{reads-passing, agreeing}
 
 -- known so far, or among declarations
 abbrev knownWith : Names → List Declaration → ℕ → Bool
@@ -65,14 +66,12 @@ unfolding noteOf named
 note-tags names o (OfComponent number) = refl
 note-tags names o OfMessage = refl
 
-same-known : (names other : Names) (declarations others : List Declaration) (tag : ℕ) → names .tags ≡ other .tags → declarations ≡ others → knownWith names declarations tag ≡ knownWith other others tag
-same-known names other declarations others tag t d =
-    ap (λ (tags : List ℕ). pick (isKnown tags tag) true (holdsTag tag (tagsFrom declarations))) t
-    ∙ ap (λ (l : List Declaration). pick (isKnown (other .tags) tag) true (holdsTag tag (tagsFrom l))) d
+same-known : (names other : Names) (declarations : List Declaration) (tag : ℕ) → names .tags ≡ other .tags → knownWith names declarations tag ≡ knownWith other declarations tag
+same-known names other declarations tag t = ap (λ (tags : List ℕ). pick (isKnown tags tag) true (holdsTag tag (tagsFrom declarations))) t
 
-known-step : (bytes : List ℕ) (final : Names) (tag : ℕ) (rs : Records) (at : ℕ) (names : Names) → ((fewer : Records) (there : ℕ) (later : Names) → sizeOf fewer < sizeOf rs → recordsFrom bytes there ≡ fewer → Passing final fewer TopLevel later → isKnown (final .tags) tag ≡ knownWith later (declarationsByLevels fewer) tag) → recordsFrom bytes at ≡ rs → Passing final rs TopLevel names → isKnown (final .tags) tag ≡ knownWith names (declarationsByLevels rs) tag
-unfolding sizeOf declarationsByLevels tagsFrom tagIn
-known-step bytes final tag (ends size) at names again e p = end-known final names tag (end-passes final names size p .0)
+known-step : (bytes : List ℕ) (final : Names) (tag : ℕ) (rs : Records) (at : ℕ) (names : Names) → ((fewer : Records) (there : ℕ) (later : Names) → sizeOf fewer < sizeOf rs → recordsFrom bytes there ≡ fewer → Passing final fewer TopLevel later → isKnown (final .tags) tag ≡ knownWith later (declarationsOf fewer) tag) → recordsFrom bytes at ≡ rs → Passing final rs TopLevel names → isKnown (final .tags) tag ≡ knownWith names (declarationsOf rs) tag
+unfolding sizeOf tagsFrom tagIn
+known-step bytes final tag (ends size) at names again e p = rw (declared-end size) (end-known final names tag (end-passes final names size p .0))
 known-step bytes final tag (bad place) at names again e p = bad-stops final names place TopLevel p
 known-step bytes final tag (whole place (FieldItem t required) rest) at names again e p = field-stops final place rest names t required p
 known-step bytes final tag (whole place (ComponentItem required number) rest) at names again e p = item-stops final place rest names number required p
@@ -81,23 +80,28 @@ known-step bytes final tag (whole place Closes rest) at names again e p = close-
 known-step bytes final tag (whole place (KnownTag new) rest) at names again e p =
     let n = next-of bytes at place (KnownTag new) rest e in
     let g = tag-goes final place rest names new p in
-    again rest (n .next) (g .later) (omega arith) (n .there) (g .passes) ∙ tag-known names (g .later) new tag (declarationsByLevels rest) (g .tags tag)
+    again rest (n .next) (g .later) (omega arith) (n .there) (g .passes) ∙ tag-known names (g .later) new tag (declarationsOf rest) (g .tags tag)
+    ∙ ap (λ (declared : List Declaration). knownWith names declared tag) (sym (declared-tag place rest new))
 known-step bytes final tag (whole place (OpensComponent number) rest) at names again e p =
     let n = next-of bytes at place (OpensComponent number) rest e in
     let g = component-opens final place rest names number p in
     let c = closes-inside bytes final names rest (n .next) (opens (OfComponent number) place) (n .there) (g .1) in
+    let o = one-level-of bytes final names (n .next) rest (OfComponent number) place (n .there) c in
     again (c .rest) (c .after) (named names (noteOf (c .last) (c .last .owner))) (omega (arith, c .fewer)) (c .there) (c .passes)
-    ∙ same-known (named names (noteOf (c .last) (c .last .owner))) names _ _ tag (note-tags names (c .last) (c .last .owner)) (sym (c .declared))
+    ∙ same-known (named names (noteOf (c .last) (c .last .owner))) names (declarationsOf (c .rest)) tag (note-tags names (c .last) (c .last .owner))
+    ∙ ap (λ (declared : List Declaration). knownWith names declared tag) (sym (declared-component place rest number (o .holds)))
 known-step bytes final tag (whole place (OpensMessage msgType) rest) at names again e p =
     let n = next-of bytes at place (OpensMessage msgType) rest e in
     let g = message-opens final place rest names msgType p in
     let later : Names = named names (NamesMessage place msgType) in
     let same : later .tags ≡ names .tags = (unfold named in refl) in
     let c = closes-inside bytes final later rest (n .next) (opens OfMessage place) (n .there) (g .1) in
+    let o = one-level-of bytes final later (n .next) rest OfMessage place (n .there) c in
     again (c .rest) (c .after) (named later (noteOf (c .last) (c .last .owner))) (omega (arith, c .fewer)) (c .there) (c .passes)
-    ∙ same-known (named later (noteOf (c .last) (c .last .owner))) names _ _ tag (note-tags later (c .last) (c .last .owner) ∙ same) (sym (c .declared))
+    ∙ same-known (named later (noteOf (c .last) (c .last .owner))) names (declarationsOf (c .rest)) tag (note-tags later (c .last) (c .last .owner) ∙ same)
+    ∙ ap (λ (declared : List Declaration). knownWith names declared tag) (sym (declared-message place rest msgType (o .holds)))
 
-known-within : (bytes : List ℕ) (final : Names) (tag fuel : ℕ) (rs : Records) (at : ℕ) (names : Names) → sizeOf rs < fuel → recordsFrom bytes at ≡ rs → Passing final rs TopLevel names → isKnown (final .tags) tag ≡ knownWith names (declarationsByLevels rs) tag
+known-within : (bytes : List ℕ) (final : Names) (tag fuel : ℕ) (rs : Records) (at : ℕ) (names : Names) → sizeOf rs < fuel → recordsFrom bytes at ≡ rs → Passing final rs TopLevel names → isKnown (final .tags) tag ≡ knownWith names (declarationsOf rs) tag
 known-within bytes final tag zero rs at names h e p = absurd (omega arith)
 known-within bytes final tag (suc fuel) rs at names h e p = known-step bytes final tag rs at names (λ fewer there later l q w. known-within bytes final tag fuel fewer there later (omega arith) q w) e p
 
@@ -106,4 +110,4 @@ unfolding knows dictionaryOf meaningOf
 tags-known d passes index size tag =
     agreeing d passes index size .1 .tags tag
     ∙ known-within d (storeOf (readOf d)) tag (suc (sizeOf (recordsFrom d 0))) (recordsFrom d 0) 0 noNames (omega arith) refl (reads-passing d passes)
-    ∙ (unfold noNames isKnown in ap (λ (declared : List Declaration). holdsTag tag (tagsFrom declared)) (sym (read-from-behind d passes)))
+    ∙ (unfold noNames isKnown in refl)

@@ -1,15 +1,14 @@
 pub mod Laying
 pub mod LayingLaws
 pub mod Meaning
-pub mod Levels
 pub mod Written
 pub mod Layable
+pub mod Bodies
 pub mod Counted
 pub mod Steps
 pub mod Inside
 pub mod Named
 pub mod Passing
-pub mod Nesting
 pub mod MsgType
 pub mod MsgTypeLaws
 pub mod MsgTypeText

@@ -81,7 +81,7 @@ declarationsIn zero records = []
 unfoldable pub sizeOf : Records → ℕ
 sizeOf (ends size) = 0
 sizeOf (bad place) = 0
-sizeOf (whole place r rest) = 1 + sizeOf rest
+sizeOf (whole place r rest) = suc (sizeOf rest)
 
 -- all of them, from the first record to the last
 unfoldable pub declarationsOf : Records → List Declaration

@@ -28,8 +28,8 @@ use Rattle.dictionary_rules.specs.declared.Note.the-variants.{Unchanged, Closes
 use Rattle.dictionary_meaning_rules.specs.Laying.{behindOpening, standsAt}
 use Rattle.dictionary_meaning_rules.specs.LayingLaws.{stands-empty, stands-behind, stands-somewhere}
 use Rattle.dictionary_meaning_rules.specs.Meaning.{Items, closed, fieldThen, componentThen, groupThen, Defined, nodesOf, expanded}
-use Rattle.dictionary_meaning_rules.specs.Levels.{innermost, levelsOf}
 use Rattle.dictionary_meaning_rules.specs.Layable.{Reads, Layable, layoutOf, flat, Lays, lays-nothing, lays-items, AllLay, all-close, all-field, all-component, all-group, Room, level-layable, room-any}
+use Rattle.dictionary_meaning_rules.specs.Bodies.{Holds, reads-hold}
 use Rattle.dictionary_meaning_rules.specs.Counted.{Agrees, agrees-close, agrees-field, agrees-component, agrees-group, countOf, heldFrom, count-agrees, items-none, items-some, Single, empty-none, only-one, room-proper}
 use Rattle.dictionary_meaning_rules.specs.Steps.{noteOf}
 use Rattle.dictionary_meaning_rules.specs.declared.Expansion.the-variants.{ItemsAt, NoItems}
@@ -74,20 +74,20 @@ pub record OneLevel (bytes : List ℕ) (names : Names) (at : ℕ) (rs : Records)
   pub level : Items
   pub reads : Reads bytes at level after
   pub resolved : Resolved (lookIn names) level
-  pub inner : innermost (levelsOf rs) ≡ level
+  pub holds : Holds rs level rest
   pub count : last .items ≡ countOf (lookIn names) level
   pub held : last .held ≡ heldFrom (lookIn names) Empty level
   pub limit : last .items ≤ 1024
 
-pub one-level-of : (bytes : List ℕ) (final names : Names) (at : ℕ) (rs : Records) (owner : Owner) (place : ℕ) (c : Closing bytes final names at rs (opens owner place)) → OneLevel bytes names at rs (c .after) (c .rest) (c .last)
-unfolding opens depthOf innermost countAll heldAll
-one-level-of bytes final names at rs owner place c = go (c .levels) (c .split) (c .deep) (c .reads) (c .resolved) (c .count) (c .held) (c .limit (omega arith))
+pub one-level-of : (bytes : List ℕ) (final names : Names) (at : ℕ) (rs : Records) (owner : Owner) (place : ℕ) → recordsFrom bytes at ≡ rs → (c : Closing bytes final names at rs (opens owner place)) → OneLevel bytes names at rs (c .after) (c .rest) (c .last)
+unfolding opens depthOf countAll heldAll
+one-level-of bytes final names at rs owner place e c = go (c .levels) (c .deep) (c .reads) (c .resolved) (c .count) (c .held) (c .limit (omega arith))
   where
-    go : (levels : List Items) → levelsOf rs ≡ levels ++ levelsOf (c .rest) → length levels ≡ 1 + 0 → ReadsAll bytes at levels (c .after) → AllResolved (lookIn names) levels → c .last .items ≡ 0 + countAll (lookIn names) levels → c .last .held ≡ heldAll (lookIn names) Empty levels → c .last .items ≤ 1024 → OneLevel bytes names at rs (c .after) (c .rest) (c .last)
-    go [] s d r v k l m = absurd (omega arith)
-    go (level ∷ (more ∷ levels)) s d r v k l m = absurd (omega arith)
-    go (level ∷ []) s d (one-level r no-level) (one-resolved v none-resolved) k l m =
-        record { level = level; reads = r; resolved = v; inner = rw s; count = omega arith; held = l; limit = m }
+    go : (levels : List Items) → length levels ≡ 1 + 0 → ReadsAll bytes at levels (c .after) → AllResolved (lookIn names) levels → c .last .items ≡ 0 + countAll (lookIn names) levels → c .last .held ≡ heldAll (lookIn names) Empty levels → c .last .items ≤ 1024 → OneLevel bytes names at rs (c .after) (c .rest) (c .last)
+    go [] d r v k l m = absurd (omega arith)
+    go (level ∷ (more ∷ levels)) d r v k l m = absurd (omega arith)
+    go (level ∷ []) d (one-level r no-level) (one-resolved v none-resolved) k l m =
+        record { level = level; reads = r; resolved = v; holds = rw (← e, ← c .there) (reads-hold bytes r); count = omega arith; held = l; limit = m }
 
 pub items-end : items end ≡ 0
 unfolding items

@@ -25,11 +25,9 @@ use Rattle.dictionary_rules.specs.declared.Looked.the-variants.{Closed}
 use Rattle.dictionary_rules.specs.declared.Placed.the-variants.{At, Nowhere}
 use Rattle.dictionary_rules.specs.declared.State.the-variants.{TopLevel}
 use Rattle.dictionary_meaning_rules.specs.Meaning.{declarationsOf, definedAfter, nodesOf, meaningOf, dictionaryOf}
-use Rattle.dictionary_meaning_rules.specs.Levels.{declarationsByLevels}
 use Rattle.dictionary_meaning_rules.specs.MsgType.{nameOf}
 use Rattle.dictionary_meaning_rules.specs.MsgTypeText.{Bytes}
 use Rattle.dictionary_meaning_rules.specs.declared.MsgTypeName.the-variants.{Named}
-use Rattle.dictionary_meaning_rules.specs.Nesting.{passing-declared}
 use Rattle.dictionary_meaning_rules.specs.Named.{Standard, standard}
 use Rattle.dictionary_meaning_rules.specs.Passing.{KnownAs}
 use Rattle.dictionary_meaning_rules.specs.TreeBounds.{passes-kept}
@@ -54,10 +52,6 @@ module _ (d : List ℕ) (passes : checkOf d ≡ Passes) where
     where
       whole : readOf d ≡ walked looksIn named (recordsFrom d 0) TopLevel noNames
       whole = unfold readOf in rw short
-
-  -- its declarations, read from behind
-  pub read-from-behind : declarationsOf (recordsFrom d 0) ≡ declarationsByLevels (recordsFrom d 0)
-  read-from-behind = passing-declared (storeOf (readOf d)) (recordsFrom d 0) noNames reads-passing
 
   module _ (index : List ℕ) (size : length index ≡ indexWords) where
     -- the index that the check leaves

@@ -5,14 +5,13 @@ use mathlib.Core.Bool.{Bool}
 use mathlib.Core.List.{List, [], _∷_}
 use Prim.Native.Nat.{ℕ, suc, _+_, _-_, _≤_}
 use native.Mathlib.Omega.{arith}
-use lib.ListN.{length}
+use lib.ListN.{length, replicate}
 use Rattle.dictionary_layout_rules.specs.Layout.{Layout, end, field, group, followedBy, items, larger, depth}
 use Rattle.dictionary_layout_rules.specs.Tree.{flattened}
 use Rattle.dictionary_layout_rules.specs.Measures.{NoEmptyGroup, FilledSoFar, filled-around, InnermostOpen, innermost-within, larger-first, larger-second, larger-least, depth-followed}
 use Rattle.dictionary_rules.specs.Records.{ends, whole}
 use Rattle.dictionary_rules.specs.declared.Group.{Group}
 use Rattle.dictionary_meaning_rules.specs.Meaning.{Items, closed, fieldThen, componentThen, groupThen, Defined, expanded}
-use Rattle.dictionary_meaning_rules.specs.Levels.{below, innermost, levelsOf}
 use Rattle.dictionary_meaning_rules.specs.ClosedOff.{closes}
 use Rattle.dictionary_meaning_rules.specs.Written.{items-followed}
 use Rattle.dictionary_meaning_rules.specs.Layable.{layoutOf, flat}
@@ -29,6 +28,15 @@ continued closed more = more
 continued (fieldThen tag required rest) more = fieldThen tag required (continued rest more)
 continued (componentThen number required rest) more = componentThen number required (continued rest more)
 continued (groupThen tag required inner rest) more = groupThen tag required inner (continued rest more)
+
+-- the innermost of some levels, and those below it
+unfoldable pub innermost : List Items → Items
+innermost [] = closed
+innermost (items ∷ levels) = items
+
+unfoldable pub below : List Items → List Items
+below [] = []
+below (items ∷ levels) = levels
 
 -- what is open, with the levels that the records to come still hold
 unfoldable pub joined : Items → List OpenGroup → List Items → Items
@@ -69,13 +77,12 @@ joined-close level next g groups levels =
     ap (λ (x : Items). joined (g .before) groups (groupThen (g .tag) (g .required) x next ∷ levels)) (continued-closed level)
     ∙ sym (joined-more (g .before) (groupThen (g .tag) (g .required) level closed) next groups levels)
 
-joined-last : (level more : Items) (groups : List OpenGroup) → joined level groups (more ∷ levelsOf (closes (length groups) (ends 0))) ≡ wrapped groups (continued level more)
-unfolding joined wrapped innermost below closes levelsOf
+joined-last : (level more : Items) (groups : List OpenGroup) → joined level groups (more ∷ replicate (length groups) closed) ≡ wrapped groups (continued level more)
+unfolding joined wrapped innermost below
 joined-last level more [] = refl
 joined-last level more (g ∷ groups) = joined-last (g .before) (groupThen (g .tag) (g .required) (continued level more) closed) groups
 
-pub joined-closes : (level : Items) (groups : List OpenGroup) → joined level groups (levelsOf (closes (suc (length groups)) (ends 0))) ≡ wrapped groups level
-unfolding closes levelsOf
+pub joined-closes : (level : Items) (groups : List OpenGroup) → joined level groups (replicate (suc (length groups)) closed) ≡ wrapped groups level
 joined-closes level groups = joined-last level closed groups ∙ ap (wrapped groups) (continued-closed level)
 
 followed-more : (a b c : Layout) → followedBy (followedBy a b) c ≡ followedBy a (followedBy b c)

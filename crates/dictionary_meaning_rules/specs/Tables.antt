@@ -33,9 +33,9 @@ use Rattle.dictionary_meaning_rules.specs.Laying.{laying, layItems}
 use Rattle.dictionary_meaning_rules.specs.MessageTable.{mostCalls}
 use Rattle.dictionary_meaning_rules.specs.LayingLaws.{lay-down}
 use Rattle.dictionary_meaning_rules.specs.Meaning.{Items, Declaration, knownTag, component, message, Defined, nodesOf, expanded, definedBy, definedAfter, msgTypeBytes, messageIn, messagesFrom, sizeOf, declarationsOf}
-use Rattle.dictionary_meaning_rules.specs.Levels.{innermost, levelsOf, declarationsByLevels}
 use Rattle.dictionary_meaning_rules.specs.Written.{written}
 use Rattle.dictionary_meaning_rules.specs.Layable.{Reads, layoutOf, flat, Lays, lay-level, room-any}
+use Rattle.dictionary_meaning_rules.specs.Bodies.{declared-end, declared-tag, declared-component, declared-message}
 use Rattle.dictionary_meaning_rules.specs.Counted.{countOf, heldFrom, count-agrees}
 use Rattle.dictionary_meaning_rules.specs.Steps.{Passing, noteOf, tag-goes, component-opens, message-opens, field-stops, item-stops, group-stops, close-stops, bad-stops, end-passes}
 use Rattle.dictionary_meaning_rules.specs.Inside.{Next, next-of, lookIn, Closing, closes-inside}
@@ -46,7 +46,6 @@ use Rattle.dictionary_meaning_rules.specs.MsgType.{nameOf}
 use Rattle.dictionary_meaning_rules.specs.MsgTypeText.{Bytes, NameNumber, same-named, named-same}
 use Rattle.dictionary_meaning_rules.specs.MsgTypeRecords.{message-number}
 use Rattle.dictionary_meaning_rules.specs.declared.MsgTypeName.the-variants.{Named}
-use Rattle.dictionary_meaning_rules.specs.Nesting.{passing-declared}
 use Rattle.dictionary_meaning_rules.specs.declared.Laid.the-variants.{Upto, Broken}
 
 -- a message that opens at a place is laid as a layout, from the first row on, whatever the table holds
@@ -89,21 +88,20 @@ known-more bytes components names defined c level known new number d e = go (eqb
 module _ (bytes : List ℕ) (components : ℕ → Looked) (final : Names) (sure : (number : ℕ) (c : Component) → lookIn final number ≡ Closed c → components number ≡ Closed c) where
   -- a component that opens at a place and closes
   component-known : (names : Names) (defined : List Defined) (number place at : ℕ) (rs : Records) → Known bytes components names defined →
-      NoEmptyGroup (flat defined (innermost (levelsOf rs))) → lookIn names number ≡ Missing → at ≡ place + 3 →
-      (c : Closing bytes final names at rs (opens (OfComponent number) place)) → Kept (named names (noteOf (c .last) (c .last .owner))) final →
-      Known bytes components (named names (noteOf (c .last) (c .last .owner))) (definedBy defined (component number (innermost (levelsOf rs))))
+      lookIn names number ≡ Missing → at ≡ place + 3 → (c : Closing bytes final names at rs (opens (OfComponent number) place)) →
+      (o : OneLevel bytes names at rs (c .after) (c .rest) (c .last)) → NoEmptyGroup (flat defined (o .level)) → Kept (named names (noteOf (c .last) (c .last .owner))) final →
+      Known bytes components (named names (noteOf (c .last) (c .last .owner))) (definedBy defined (component number (o .level)))
   unfolding opens noteOf
-  component-known names defined number place at rs known filled missing next c keeps =
-      let o = one-level-of bytes final names at rs (OfComponent number) place c in
+  component-known names defined number place at rs known missing next c o filled keeps =
       let closing : Component = record { number = number; place = c .last .place; items = c .last .items; depth = c .last .depth; stands = standsFor number (c .last .held) } in
       let note : noteOf (c .last) (c .last .owner) ≡ ClosesComponent closing = ap (noteOf (c .last)) (c .owner) in
       let keeps : Kept (named names (ClosesComponent closing)) final = rw note at keeps in
       let looked : components number ≡ Closed closing = sure number closing (keeps .components number closing (component-new names closing number refl)) in
       let count : c .last .items ≡ items (flat defined (o .level)) = o .count ∙ count-agrees (lookIn names) defined (agrees-known bytes components names defined known (o .resolved)) in
       let stands : c .last .place + 3 ≡ at = omega (arith, c .place) in
-      rw (note, o .inner) (known-more bytes components names defined closing (o .level) known (record {
+      rw note (known-more bytes components names defined closing (o .level) known (record {
         count = count;
-        lays = closed-lays bytes components names defined known number closing looked at (c .after) (o .level) (o .reads) (o .resolved) (rw (o .inner) at filled) count (ap (standsFor number) (o .held)) stands;
+        lays = closed-lays bytes components names defined known number closing looked at (c .after) (o .level) (o .reads) (o .resolved) filled count (ap (standsFor number) (o .held)) stands;
         limit = o .limit;
         looked = looked;
         own = record { level = o .level; after = c .after; before = defined; reads = subst (λ (x : ℕ). Reads bytes x (o .level) (c .after)) (sym stands) (o .reads); same = refl };
@@ -111,15 +109,13 @@ module _ (bytes : List ℕ) (components : ℕ → Looked) (final : Names) (sure 
 
   -- a message that opens at a place and closes
   message-known : (names : Names) (defined : List Defined) (place at : ℕ) (rs : Records) → Known bytes components names defined →
-      Bounded (flat defined (innermost (levelsOf rs))) → at ≡ place + 9 → (c : Closing bytes final names at rs (opens OfMessage place)) →
-      MessageAs bytes components place (flat defined (innermost (levelsOf rs)))
-  message-known names defined place at rs known bounded next c =
-      let o = one-level-of bytes final names at rs OfMessage place c in
-      let b : Bounded (flat defined (o .level)) = rw (o .inner) at bounded in
+      at ≡ place + 9 → (c : Closing bytes final names at rs (opens OfMessage place)) → (o : OneLevel bytes names at rs (c .after) (c .rest) (c .last)) →
+      Bounded (flat defined (o .level)) → MessageAs bytes components place (flat defined (o .level))
+  message-known names defined place at rs known next c o b =
       let all = lay-known bytes components names defined known (o .resolved) (b .filled) in
       let room = room-any defined (mostCalls - 1) (o .level) (omega (arith, b .few, b .shallow)) in
       let reads : Reads bytes (place + 9) (o .level) (c .after) = subst (λ (x : ℕ). Reads bytes x (o .level) (c .after)) next (o .reads) in
-      rw (o .inner) (record {
+      record {
         limit = b .few;
         laid = λ table. (
           c .after,
@@ -127,10 +123,10 @@ module _ (bytes : List ℕ) (components : ℕ → Looked) (final : Names) (sure 
               ∙ lay-level bytes components defined reads all (mostCalls - 1) room 0 table (omega (arith, b .few))
               ∙ ap (λ (n : ℕ). laying (Upto (c .after) n) (written 0 (flat defined (o .level)) table)) (omega arith),
         );
-      })
+      }
 
   abbrev Here : Names → List Defined → Records → Type 0
-  Here names defined rs = Meant bytes components final names defined (declarationsByLevels rs)
+  Here names defined rs = Meant bytes components final names defined (declarationsOf rs)
 
   -- what comes after one declaration decides
   tag-meant : (names later : Names) (defined : List Defined) (tag : ℕ) (declarations : List Declaration) → later .messages ≡ names .messages → Meant bytes components final later defined declarations → Meant bytes components final names defined (knownTag tag ∷ declarations)
@@ -202,11 +198,11 @@ module _ (bytes : List ℕ) (components : ℕ → Looked) (final : Names) (sure 
   note-components names o e = rw e
 
   meant-step : (rs : Records) (at : ℕ) (names : Names) (defined : List Defined) →
-      ((fewer : Records) (there : ℕ) (later : Names) (more : List Defined) → sizeOf fewer < sizeOf rs → recordsFrom bytes there ≡ fewer → Passing final fewer TopLevel later → Known bytes components later more → KeptFrom more (declarationsByLevels fewer) → Here later more fewer) →
-      recordsFrom bytes at ≡ rs → Passing final rs TopLevel names → Known bytes components names defined → KeptFrom defined (declarationsByLevels rs) →
+      ((fewer : Records) (there : ℕ) (later : Names) (more : List Defined) → sizeOf fewer < sizeOf rs → recordsFrom bytes there ≡ fewer → Passing final fewer TopLevel later → Known bytes components later more → KeptFrom more (declarationsOf fewer) → Here later more fewer) →
+      recordsFrom bytes at ≡ rs → Passing final rs TopLevel names → Known bytes components names defined → KeptFrom defined (declarationsOf rs) →
       Here names defined rs
-  unfolding declarationsByLevels sizeOf bytesOf
-  meant-step (ends size) at names defined again e p known bounds = end-meant names defined (end-passes final names size p .0) known
+  unfolding sizeOf bytesOf
+  meant-step (ends size) at names defined again e p known bounds = rw (declared-end size) (end-meant names defined (end-passes final names size p .0) known)
   meant-step (bad place) at names defined again e p known bounds = bad-stops final names place TopLevel p
   meant-step (whole place (FieldItem tag required) rest) at names defined again e p known bounds = field-stops final place rest names tag required p
   meant-step (whole place (ComponentItem required number) rest) at names defined again e p known bounds = item-stops final place rest names number required p
@@ -215,19 +211,22 @@ module _ (bytes : List ℕ) (components : ℕ → Looked) (final : Names) (sure 
   meant-step (whole place (KnownTag tag) rest) at names defined again e p known bounds =
       let n = next-of bytes at place (KnownTag tag) rest e in
       let g = tag-goes final place rest names tag p in
-      tag-meant names (g .later) defined tag (declarationsByLevels rest) (g .messages) (again rest (n .next) (g .later) defined (omega arith) (n .there) (g .passes) (known-as names (g .later) defined (g .components) known) (kept-tag defined (declarationsByLevels rest) tag bounds))
+      let d = declared-tag place rest tag in
+      rw d (tag-meant names (g .later) defined tag (declarationsOf rest) (g .messages) (again rest (n .next) (g .later) defined (omega arith) (n .there) (g .passes) (known-as names (g .later) defined (g .components) known) (kept-tag defined (declarationsOf rest) tag (rw d at bounds))))
   meant-step (whole place (OpensComponent number) rest) at names defined again e p known bounds =
       let n = next-of bytes at place (OpensComponent number) rest e in
       let g = component-opens final place rest names number p in
       let lies = record-lies bytes at (OpensComponent number) (n .next) (n .read) in
       let c = closes-inside bytes final names rest (n .next) (opens (OfComponent number) place) (n .there) (g .1) in
       let later : Names = named names (noteOf (c .last) (c .last .owner)) in
-      let level : Items = innermost (levelsOf rest) in
-      let b = kept-component defined (declarationsByLevels rest) number level bounds in
-      rw (c .declared) (component-meant names later defined number level (declarationsByLevels (c .rest)) (note-messages names (c .last) (c .last .owner))
+      let o = one-level-of bytes final names (n .next) rest (OfComponent number) place (n .there) c in
+      let level : Items = o .level in
+      let d = declared-component place rest number (o .holds) in
+      let b = kept-component defined (declarationsOf (c .rest)) number level (rw d at bounds) in
+      rw d (component-meant names later defined number level (declarationsOf (c .rest)) (note-messages names (c .last) (c .last .owner))
       (again (c .rest) (c .after) later (definedBy defined (component number level)) (omega (arith, c .fewer)) (c .there) (c .passes)
-      (component-known names defined number place (n .next) rest known (b .0 .filled) (g .0) (omega (arith, lies .behind, n .here)) c (kept bytes final (c .rest) (c .after) later (c .there) (c .passes)))
-      (rw (c .declared) at b .1)))
+      (component-known names defined number place (n .next) rest known (g .0) (omega (arith, lies .behind, n .here)) c o (b .0 .filled) (kept bytes final (c .rest) (c .after) later (c .there) (c .passes)))
+      (b .1)))
   meant-step (whole place (OpensMessage msgType) rest) at names defined again e p known bounds =
       let n = next-of bytes at place (OpensMessage msgType) rest e in
       let g = message-opens final place rest names msgType p in
@@ -236,14 +235,16 @@ module _ (bytes : List ℕ) (components : ℕ → Looked) (final : Names) (sure 
       let known-here : Known bytes components named-here defined = known-as names named-here defined (unfold named in refl) known in
       let c = closes-inside bytes final named-here rest (n .next) (opens OfMessage place) (n .there) (g .1) in
       let later : Names = named named-here (noteOf (c .last) (c .last .owner)) in
-      let level : Items = innermost (levelsOf rest) in
-      let b = kept-message defined (declarationsByLevels rest) (msgTypeBytes msgType) level bounds in
-      rw (c .declared) (message-meant names later defined place msgType level (declarationsByLevels (c .rest)) (λ text. message-number bytes at msgType (n .next) text (n .read)) (note-messages named-here (c .last) (c .last .owner)) (kept bytes final (c .rest) (c .after) later (c .there) (c .passes))
-      (message-known named-here defined place (n .next) rest known-here (b .0) (omega (arith, lies .behind, n .here)) c)
-      (again (c .rest) (c .after) later defined (omega (arith, c .fewer)) (c .there) (c .passes) (known-as named-here later defined (note-components named-here (c .last) (unfold opens in c .owner)) known-here) (rw (c .declared) at b .1)))
+      let o = one-level-of bytes final named-here (n .next) rest OfMessage place (n .there) c in
+      let level : Items = o .level in
+      let d = declared-message place rest msgType (o .holds) in
+      let b = kept-message defined (declarationsOf (c .rest)) (msgTypeBytes msgType) level (rw d at bounds) in
+      rw d (message-meant names later defined place msgType level (declarationsOf (c .rest)) (λ text. message-number bytes at msgType (n .next) text (n .read)) (note-messages named-here (c .last) (c .last .owner)) (kept bytes final (c .rest) (c .after) later (c .there) (c .passes))
+      (message-known named-here defined place (n .next) rest known-here (omega (arith, lies .behind, n .here)) c o (b .0))
+      (again (c .rest) (c .after) later defined (omega (arith, c .fewer)) (c .there) (c .passes) (known-as named-here later defined (note-components named-here (c .last) (unfold opens in c .owner)) known-here) (b .1)))
 
   meant-within : (fuel : ℕ) (rs : Records) (at : ℕ) (names : Names) (defined : List Defined) → sizeOf rs < fuel → recordsFrom bytes at ≡ rs →
-      Passing final rs TopLevel names → Known bytes components names defined → KeptFrom defined (declarationsByLevels rs) → Here names defined rs
+      Passing final rs TopLevel names → Known bytes components names defined → KeptFrom defined (declarationsOf rs) → Here names defined rs
   meant-within zero rs at names defined h e p known bounds = absurd (omega arith)
   meant-within (suc fuel) rs at names defined h e p known bounds =
       meant-step rs at names defined (λ fewer there later more l q w k b. meant-within fuel fewer there later more (omega arith) q w k b) e p known bounds
@@ -251,8 +252,7 @@ module _ (bytes : List ℕ) (components : ℕ → Looked) (final : Names) (sure 
   pub meant : (rs : Records) (at : ℕ) → recordsFrom bytes at ≡ rs → Passing final rs TopLevel noNames → KeptFrom [] (declarationsOf rs) →
       Meant bytes components final noNames [] (declarationsOf rs)
   meant rs at e p bounds =
-      let same = passing-declared final rs noNames p in
-      rw same (meant-within (suc (sizeOf rs)) rs at noNames [] (omega arith) e p (λ number c q. nothing-yet number c q) (rw same at bounds))
+      meant-within (suc (sizeOf rs)) rs at noNames [] (omega arith) e p (λ number c q. nothing-yet number c q) bounds
     where
       nothing-yet : (number : ℕ) (c : Component) → lookIn noNames number ≡ Closed c → KnownAs bytes components number c (nodesOf [] number)
       nothing-yet number c q = let none : lookIn noNames number ≡ Missing = (unfold noNames componentIn in refl) in let z : _≡_ {A = ℕ} 0 1 = cc in absurd (omega arith)

@@ -25,7 +25,6 @@ use Rattle.dictionary_rules.specs.declared.Component.{Component}
 use Rattle.dictionary_rules.specs.declared.Looked.the-variants.{Closed, Missing}
 use Rattle.dictionary_rules.specs.declared.State.the-variants.{TopLevel}
 use Rattle.dictionary_meaning_rules.specs.Meaning.{Items, Declaration, knownTag, component, message, declarationsOf, Defined, definedBy, definedAfter, messageIn, messagesFrom, meaningOf, dictionaryOf}
-use Rattle.dictionary_meaning_rules.specs.Levels.{same-declarations}
 use Rattle.dictionary_meaning_rules.specs.Layable.{layoutOf, flat}
 use Rattle.dictionary_meaning_rules.specs.Inside.{lookIn}
 use Rattle.dictionary_meaning_rules.specs.ClosedOff.{openAfter, openOf, recordsAfter, layoutsBy, layoutsAfter, layoutsOf, takenFrom, taken, AllBounded, latest-bounded, Latest, latest, KeepsBounds, ClosesEmpty, FiveDeep, NestsTooDeep, OverThousand, HoldsTooMany}
@@ -102,7 +101,7 @@ messages-bounded (message msgType level ∷ declarations) defined read e =
 -- before the first record there is nothing
 nothing-yet : Beside TopLevel noNames layoutsOf
 unfolding layoutsOf
-nothing-yet = at-top (record { defined = []; read = []; measured = none; bounded = each-none; means = λ later n. ap (layoutsAfter [] []) (same-declarations n) })
+nothing-yet = at-top (record { defined = []; read = []; measured = none; bounded = each-none; means = λ later. refl })
   where
     none : (number : ℕ) (c : Component) → lookIn noNames number ≡ Closed c → Measured c (layoutOf [] number)
     none number c e = let missing : lookIn noNames number ≡ Missing = (unfold noNames componentIn in refl) in let z : _≡_ {A = ℕ} 0 1 = cc in absurd (omega arith)

@@ -6,7 +6,7 @@ use mathlib.Core.List.{List, [], _∷_}
 use Prim.Native.Nat.{ℕ, zero, suc, _≤_}
 use native.Mathlib.Omega.{arith}
 use lib.Dec.{eqb}
-use lib.ListN.{length}
+use lib.ListN.{length, replicate, length-replicate}
 use Rattle.field_rules.specs.Choice.{pick}
 use Rattle.dictionary_layout_rules.specs.Layout.{Layout, items, depth}
 use Rattle.dictionary_layout_rules.specs.Tree.{flattened}
@@ -20,12 +20,12 @@ use Rattle.dictionary_rules.specs.declared.Owner.{Owner}
 use Rattle.dictionary_rules.specs.declared.Owner.the-variants.{OfComponent, OfMessage}
 use Rattle.dictionary_rules.specs.declared.Record.{Record}
 use Rattle.dictionary_rules.specs.declared.Record.the-variants.{FieldItem, ComponentItem, OpensGroup, Closes}
-use Rattle.dictionary_meaning_rules.specs.Meaning.{Items, closed, fieldThen, componentThen, groupThen, Declaration, component, message, Defined, nodesOf, expanded, definedBy}
-use Rattle.dictionary_meaning_rules.specs.Levels.{onTop, groupOnTop, below, innermost, levelsOf, declarationsByLevels, Nested, nested-end, nested-field, nested-item, nested-group, nested-close, as-many-levels}
+use Rattle.dictionary_meaning_rules.specs.Meaning.{Items, closed, fieldThen, componentThen, groupThen, Declaration, component, message, declarationsOf, Defined, nodesOf, expanded, definedBy}
 use Rattle.dictionary_meaning_rules.specs.Layable.{layoutOf, flat}
+use Rattle.dictionary_meaning_rules.specs.Bodies.{Holds, holds-close, holds-field, holds-component, holds-group, HoldsAll, holds-none, holds-more, declared-end}
 use Rattle.dictionary_meaning_rules.specs.Inside.{lookIn}
 use Rattle.dictionary_meaning_rules.specs.ClosedOff.{closes, layoutsBy, layoutsAfter, Latest, latest}
-use Rattle.dictionary_meaning_rules.specs.SoFar.{OpenGroup, continued, joined, wrapped, continued-closed, joined-more, joined-close, joined-closes}
+use Rattle.dictionary_meaning_rules.specs.SoFar.{OpenGroup, innermost, below, continued, joined, wrapped, continued-closed, joined-more, joined-close, joined-closes}
 
 -- a closed component's numbers are those of what it means
 pub record Measured (c : Component) (layout : Layout) : Type 0 where
@@ -55,24 +55,19 @@ pub record Tree (names : Names) (layouts : Records → List Layout) : Type 0 whe
   pub read : List Layout
   pub measured : AllMeasured names defined
   pub bounded : Each Bounded read
-  pub means : (later : Records) → Nested 0 later → layouts later ≡ layoutsAfter defined read (declarationsByLevels later)
+  pub means : (later : Records) → layouts later ≡ layoutsAfter defined read (declarationsOf later)
 
--- what was read inside something open
+-- what was read inside something open: the records that close it hold the rest of each level
 pub record OpenTree (owner : Owner) (layouts : Records → List Layout) (defined : List Defined) (read : List Layout) (level : Items) (groups : List OpenGroup) : Type 0 where
   pub declares : Items → Declaration
   pub sort : Declares owner declares
-  pub means : (later : Records) → Nested (suc (length groups)) later → layouts later ≡ layoutsAfter defined read (declares (joined level groups (levelsOf later)) ∷ declarationsByLevels later)
+  pub means : (later behind : Records) (levels : List Items) → length levels ≡ suc (length groups) → HoldsAll later levels behind → layouts later ≡ layoutsAfter defined read (declares (joined level groups levels) ∷ declarationsOf behind)
 
--- closes declare nothing, and each closes a thing
-no-declaration : (things : ℕ) → declarationsByLevels (closes things (ends 0)) ≡ []
-unfolding declarationsByLevels closes
-no-declaration zero = refl
-no-declaration (suc things) = no-declaration things
-
-closes-nested : (things size : ℕ) → Nested things (closes things (ends size))
+-- closes hold no more items
+closes-hold : (things size : ℕ) → HoldsAll (closes things (ends size)) (replicate things closed) (ends size)
 unfolding closes
-closes-nested zero size = nested-end
-closes-nested (suc things) size = nested-close (closes-nested things size)
+closes-hold zero size = holds-none
+closes-hold (suc things) size = holds-more holds-close (closes-hold things size)
 
 -- what an owner declares comes before the layouts that were read
 declared-layout : {owner : Owner} {declares : Items → Declaration} → Declares owner declares → (defined : List Defined) (read : List Layout) (level : Items) (more : List Declaration) → layoutsAfter defined read (declares level ∷ more) ≡ layoutsAfter (definedBy defined (declares level)) (flat defined level ∷ read) more
@@ -82,76 +77,60 @@ declared-layout (declares-message msgType) defined read level more = refl
 
 module _ (owner : Owner) (layouts : Records → List Layout) (defined : List Defined) (read : List Layout) (level : Items) where
   -- an item that comes next
-  tree-item : (groups : List OpenGroup) (place : ℕ) (r : Record) (more : Items) → ((later : Records) → Nested (suc (length groups)) later → Nested (suc (length groups)) (whole place r later)) → ((later : Records) (next : Items) (levels : List Items) → levelsOf later ≡ next ∷ levels → levelsOf (whole place r later) ≡ continued more next ∷ levels) → ((later : Records) → declarationsByLevels (whole place r later) ≡ declarationsByLevels later) → OpenTree owner layouts defined read level groups → OpenTree owner (λ (later : Records). layouts (whole place r later)) defined read (continued level more) groups
-  tree-item groups place r more nests onto same t =
-      record { declares = t .declares; sort = t .sort; means = λ later n. go later n (levelsOf later) refl }
+  tree-item : (groups : List OpenGroup) (place : ℕ) (r : Record) (more : Items) → ((later behind : Records) (next : Items) → Holds later next behind → Holds (whole place r later) (continued more next) behind) → OpenTree owner layouts defined read level groups → OpenTree owner (λ (later : Records). layouts (whole place r later)) defined read (continued level more) groups
+  tree-item groups place r more onto t =
+      record { declares = t .declares; sort = t .sort; means = λ later behind levels n h. go n h }
     where
-      go : (later : Records) → Nested (suc (length groups)) later → (levels : List Items) → levelsOf later ≡ levels → layouts (whole place r later) ≡ layoutsAfter defined read (t .declares (joined (continued level more) groups levels) ∷ declarationsByLevels later)
-      go later n [] e = absurd (omega (arith, as-many-levels n, ap length e))
-      go later n (next ∷ levels) e =
-          let l = onto later next levels e in
-          t .means (whole place r later) (nests later n)
-          ∙ ap (λ (ds : List Declaration). layoutsAfter defined read (t .declares (joined level groups (levelsOf (whole place r later))) ∷ ds)) (same later)
-          ∙ ap (λ (x : Items). layoutsAfter defined read (t .declares x ∷ declarationsByLevels later)) (ap (joined level groups) l ∙ sym (joined-more level more next groups levels))
+      go : {later behind : Records} {levels : List Items} → length levels ≡ suc (length groups) → HoldsAll later levels behind → layouts (whole place r later) ≡ layoutsAfter defined read (t .declares (joined (continued level more) groups levels) ∷ declarationsOf behind)
+      go n holds-none = absurd (omega arith)
+      go {behind = behind} n (holds-more {level = next} {levels = levels} h hs) =
+          t .means _ _ _ n (holds-more (onto _ _ _ h) hs)
+          ∙ ap (λ (x : Items). layoutsAfter defined read (t .declares x ∷ declarationsOf behind)) (sym (joined-more level more next groups levels))
 
   pub tree-field : (groups : List OpenGroup) (place tag : ℕ) (required : Bool) → OpenTree owner layouts defined read level groups → OpenTree owner (λ (later : Records). layouts (whole place (FieldItem tag required) later)) defined read (continued level (fieldThen tag required closed)) groups
-  unfolding levelsOf onTop declarationsByLevels continued
-  tree-field groups place tag required t =
-      tree-item groups place (FieldItem tag required) (fieldThen tag required closed) (λ later n. nested-field n) (λ later next levels e. ap (onTop (fieldThen tag required)) e) (λ later. refl) t
+  unfolding continued
+  tree-field groups place tag required t = tree-item groups place (FieldItem tag required) (fieldThen tag required closed) (λ later behind next h. holds-field h) t
 
   pub tree-component : (groups : List OpenGroup) (place number : ℕ) (required : Bool) → OpenTree owner layouts defined read level groups → OpenTree owner (λ (later : Records). layouts (whole place (ComponentItem required number) later)) defined read (continued level (componentThen number required closed)) groups
-  unfolding levelsOf onTop declarationsByLevels continued
-  tree-component groups place number required t =
-      tree-item groups place (ComponentItem required number) (componentThen number required closed) (λ later n. nested-item n) (λ later next levels e. ap (onTop (componentThen number required)) e) (λ later. refl) t
+  unfolding continued
+  tree-component groups place number required t = tree-item groups place (ComponentItem required number) (componentThen number required closed) (λ later behind next h. holds-component h) t
 
   -- a group that opens
   pub tree-group : (groups : List OpenGroup) (place tag : ℕ) (required : Bool) → OpenTree owner layouts defined read level groups → OpenTree owner (λ (later : Records). layouts (whole place (OpensGroup tag required) later)) defined read closed (record { before = level; tag = tag; required = required } ∷ groups)
   tree-group groups place tag required t =
-      record { declares = t .declares; sort = t .sort; means = λ later n. go later n (levelsOf later) refl }
+      record { declares = t .declares; sort = t .sort; means = λ later behind levels n h. go n h }
     where
-      onto : (later : Records) (inner next : Items) (levels : List Items) → levelsOf later ≡ inner ∷ next ∷ levels → levelsOf (whole place (OpensGroup tag required) later) ≡ groupThen tag required inner next ∷ levels
-      onto later inner next levels e = unfold levelsOf groupOnTop in ap (groupOnTop tag required) e
-
-      go : (later : Records) → Nested (suc (suc (length groups))) later → (levels : List Items) → levelsOf later ≡ levels → layouts (whole place (OpensGroup tag required) later) ≡ layoutsAfter defined read (t .declares (joined closed (record { before = level; tag = tag; required = required } ∷ groups) levels) ∷ declarationsByLevels later)
-      go later n [] e = absurd (omega (arith, as-many-levels n, ap length e))
-      go later n (inner ∷ []) e = absurd (omega (arith, as-many-levels n, ap length e))
-      go later n (inner ∷ (next ∷ levels)) e =
-          let l = onto later inner next levels e in
-          t .means (whole place (OpensGroup tag required) later) (nested-group n)
-          ∙ (unfold declarationsByLevels joined continued innermost below in ap (λ (x : Items). layoutsAfter defined read (t .declares x ∷ declarationsByLevels later)) (ap (joined level groups) l))
+      go : {later behind : Records} {levels : List Items} → length levels ≡ suc (suc (length groups)) → HoldsAll later levels behind → layouts (whole place (OpensGroup tag required) later) ≡ layoutsAfter defined read (t .declares (joined closed (record { before = level; tag = tag; required = required } ∷ groups) levels) ∷ declarationsOf behind)
+      go n holds-none = absurd (omega arith)
+      go n (holds-more h holds-none) = absurd (omega arith)
+      go n (holds-more i (holds-more h hs)) = unfold joined continued innermost below in t .means _ _ _ (omega arith) (holds-more (holds-group i h) hs)
 
   -- and one that closes: it is an item of the level around it
   pub tree-close : (g : OpenGroup) (groups : List OpenGroup) (place : ℕ) → OpenTree owner layouts defined read level (g ∷ groups) → OpenTree owner (λ (later : Records). layouts (whole place Closes later)) defined read (continued (g .before) (groupThen (g .tag) (g .required) level closed)) groups
   tree-close g groups place t =
-      record { declares = t .declares; sort = t .sort; means = λ later n. go later n (levelsOf later) refl }
+      record { declares = t .declares; sort = t .sort; means = λ later behind levels n h. go n h }
     where
-      onto : (later : Records) (levels : List Items) → levelsOf later ≡ levels → levelsOf (whole place Closes later) ≡ closed ∷ levels
-      onto later levels e = unfold levelsOf in ap (λ (l : List Items). closed ∷ l) e
-
-      go : (later : Records) → Nested (suc (length groups)) later → (levels : List Items) → levelsOf later ≡ levels → layouts (whole place Closes later) ≡ layoutsAfter defined read (t .declares (joined (continued (g .before) (groupThen (g .tag) (g .required) level closed)) groups levels) ∷ declarationsByLevels later)
-      go later n [] e = absurd (omega (arith, as-many-levels n, ap length e))
-      go later n (next ∷ levels) e =
-          let l = onto later (next ∷ levels) e in
-          t .means (whole place Closes later) (nested-close n)
-          ∙ (unfold declarationsByLevels in ap (λ (x : Items). layoutsAfter defined read (t .declares x ∷ declarationsByLevels later)) (ap (joined level (g ∷ groups)) l ∙ joined-close level next g groups levels))
+      go : {later behind : Records} {levels : List Items} → length levels ≡ suc (length groups) → HoldsAll later levels behind → layouts (whole place Closes later) ≡ layoutsAfter defined read (t .declares (joined (continued (g .before) (groupThen (g .tag) (g .required) level closed)) groups levels) ∷ declarationsOf behind)
+      go n holds-none = absurd (omega arith)
+      go {behind = behind} n (holds-more {level = next} {levels = levels} h hs) =
+          t .means _ _ _ (omega arith) (holds-more holds-close (holds-more h hs))
+          ∙ ap (λ (x : Items). layoutsAfter defined read (t .declares x ∷ declarationsOf behind)) (joined-close level next g groups levels)
 
   -- the owner closes: its layout is the latest
-  pub tree-owner : (place : ℕ) (t : OpenTree owner layouts defined read level []) (later : Records) → Nested 0 later → layouts (whole place Closes later) ≡ layoutsAfter (definedBy defined (t .declares level)) (flat defined level ∷ read) (declarationsByLevels later)
-  tree-owner place t later n =
-      let own : joined level [] (levelsOf (whole place Closes later)) ≡ level = (unfold levelsOf joined innermost in continued-closed level) in
-      let same : declarationsByLevels (whole place Closes later) ≡ declarationsByLevels later = (unfold declarationsByLevels in refl) in
-      t .means (whole place Closes later) (nested-close n)
-      ∙ ap (λ (x : Items). layoutsAfter defined read (t .declares x ∷ declarationsByLevels (whole place Closes later))) own
-      ∙ ap (λ (ds : List Declaration). layoutsAfter defined read (t .declares level ∷ ds)) same
-      ∙ declared-layout (t .sort) defined read level (declarationsByLevels later)
+  pub tree-owner : (place : ℕ) (t : OpenTree owner layouts defined read level []) (later : Records) → layouts (whole place Closes later) ≡ layoutsAfter (definedBy defined (t .declares level)) (flat defined level ∷ read) (declarationsOf later)
+  tree-owner place t later =
+      let own : joined level [] (closed ∷ []) ≡ level = (unfold joined innermost in continued-closed level) in
+      t .means _ _ _ refl (holds-more holds-close holds-none)
+      ∙ ap (λ (x : Items). layoutsAfter defined read (t .declares x ∷ declarationsOf later)) own
+      ∙ declared-layout (t .sort) defined read level (declarationsOf later)
 
   -- closed off
   pub tree-off : (groups : List OpenGroup) → OpenTree owner layouts defined read level groups → layouts (closes (suc (length groups)) (ends 0)) ≡ flat defined (wrapped groups level) ∷ read
   unfolding layoutsAfter
   tree-off groups t =
-      t .means (closes (suc (length groups)) (ends 0)) (closes-nested (suc (length groups)) 0)
-      ∙ ap (λ (x : Items). layoutsAfter defined read (t .declares x ∷ declarationsByLevels (closes (suc (length groups)) (ends 0)))) (joined-closes level groups)
-      ∙ ap (λ (ds : List Declaration). layoutsAfter defined read (t .declares (wrapped groups level) ∷ ds)) (no-declaration (suc (length groups)))
+      t .means _ _ _ (length-replicate (suc (length groups)) closed) (closes-hold (suc (length groups)) 0)
+      ∙ ap (λ (x : Items). layoutsAfter defined read (t .declares x ∷ declarationsOf (ends 0))) (joined-closes level groups)
+      ∙ ap (λ (ds : List Declaration). layoutsAfter defined read (t .declares (wrapped groups level) ∷ ds)) (declared-end 0)
       ∙ declared-layout (t .sort) defined read (wrapped groups level) []
 
   pub latest-off : (P : Layout → Type 0) (groups : List OpenGroup) (things : ℕ) → OpenTree owner layouts defined read level groups → things ≡ suc (length groups) → P (flat defined (wrapped groups level)) → Latest P (layouts (closes things (ends 0)))
