@@ -1,16 +1,15 @@
 -- The same grammar once more as a relation: which items records hold up to a close, and which records stand behind it. What holds by it is
 -- what the definition reads (`holds-body`), and more steps than there are records change nothing, so later proofs cite three laws only:
 -- what a known tag, a component and a message that open at top level declare.
-use mathlib.Core.Path.{_≡_, refl, sym, ap, _∙_, subst}
+use mathlib.Core.Path.{_≡_, refl}
 use mathlib.Core.Bool.{Bool}
 use mathlib.Core.List.{List, [], _∷_}
 use Prim.Native.Nat.{ℕ, zero, suc, _≤_, _<_}
 use native.Mathlib.Omega.{arith}
 use Rattle.dictionary_rules.specs.Records.{Records, ends, bad, whole, recordsFrom}
 use Rattle.dictionary_rules.specs.RecordsLaws.{records-whole}
-use Rattle.dictionary_rules.specs.declared.Record.{Record}
 use Rattle.dictionary_rules.specs.declared.Record.the-variants.{KnownTag, OpensComponent, OpensMessage, FieldItem, ComponentItem, OpensGroup, Closes}
-use Rattle.dictionary_meaning_rules.specs.Meaning.{Items, closed, fieldThen, componentThen, groupThen, Body, itemBefore, noItems, bodyOf, msgTypeBytes, Declaration, knownTag, component, message, declarationsIn, sizeOf, declarationsOf}
+use Rattle.dictionary_meaning_rules.specs.Meaning.{Items, closed, fieldThen, componentThen, groupThen, itemBefore, noItems, bodyOf, msgTypeBytes, Declaration, knownTag, component, message, declarationsIn, sizeOf, declarationsOf}
 use Rattle.dictionary_meaning_rules.specs.Layable.{Reads, reads-close, reads-field, reads-component, reads-group}
 
 pub data Holds : Records → Items → Records → Type 0 where
@@ -21,6 +20,15 @@ pub data Holds : Records → Items → Records → Type 0 where
       Holds (whole place (ComponentItem required number) rest) (componentThen number required items) after
   holds-group : {place tag : ℕ} {required : Bool} {rest behind after : Records} {inner items : Items} → Holds rest inner behind → Holds behind items after →
       Holds (whole place (OpensGroup tag required) rest) (groupThen tag required inner items) after
+
+-- known tags, components and messages with their items, one after the other up to the end, and nothing else
+pub data Declared : Records → List Declaration → Type 0 where
+  declared-none : {size : ℕ} → Declared (ends size) []
+  tag-then : {place tag : ℕ} {rest : Records} {more : List Declaration} → Declared rest more → Declared (whole place (KnownTag tag) rest) (knownTag tag ∷ more)
+  component-then : {place number : ℕ} {rest after : Records} {items : Items} {more : List Declaration} → Holds rest items after → Declared after more →
+      Declared (whole place (OpensComponent number) rest) (component number items ∷ more)
+  message-then : {place msgType : ℕ} {rest after : Records} {items : Items} {more : List Declaration} → Holds rest items after → Declared after more →
+      Declared (whole place (OpensMessage msgType) rest) (message (msgTypeBytes msgType) items ∷ more)
 
 -- several levels that are open: what each of them still holds, the innermost first
 pub data HoldsAll : Records → List Items → Records → Type 0 where

@@ -42,9 +42,9 @@ abbrev joined : List (List ℕ) → List ℕ
 joined [] = 7 ∷ []
 joined (part ∷ parts) = part ++ joined parts
 
--- opens group 78
-abbrev opening : List ℕ
-opening = 6 ∷ (tag 78 ++ (1 ∷ []))
+-- a group opens
+abbrev opening : ℕ → ℕ → List ℕ
+opening t required = 6 ∷ (tag t ++ (required ∷ []))
 
 -- component 3 is empty; component 2 holds 79 and 80; component 4 holds 3 and 2, so it stands for 2
 abbrev dictionary : List ℕ
@@ -55,7 +55,7 @@ dictionary =
     ++ (joined ((2 ∷ 1 ∷ 0 ∷ []) ∷ field 10 1 ∷ [])
     ++ (joined ((2 ∷ 2 ∷ 0 ∷ []) ∷ field 79 1 ∷ field 80 0 ∷ [])
     ++ (joined ((2 ∷ 4 ∷ 0 ∷ []) ∷ item 3 1 ∷ item 2 0 ∷ [])
-    ++ joined ((3 ∷ 68 ∷ 0 ∷ 0 ∷ 0 ∷ 0 ∷ 0 ∷ 0 ∷ 0 ∷ []) ∷ field 38 0 ∷ opening ∷ joined (item 4 1 ∷ []) ∷ item 4 1 ∷ field 58 0 ∷ []))))))
+    ++ joined ((3 ∷ 68 ∷ 0 ∷ 0 ∷ 0 ∷ 0 ∷ 0 ∷ 0 ∷ 0 ∷ []) ∷ field 38 0 ∷ opening 78 1 ∷ joined (item 4 1 ∷ []) ∷ item 4 1 ∷ field 58 0 ∷ []))))))
 
 abbrev fourth : Nodes
 fourth = componentItem true nothing (componentItem false (fieldItem 79 true (fieldItem 80 false nothing)) nothing)
@@ -68,6 +68,27 @@ tree : dictionaryOf dictionary ≡ record {
 }
 unfolding dictionaryOf meaningOf tagsFrom tagIn messagesFrom messageIn msgTypeBytes bytesWithin definedAfter definedBy expanded nodesOf declarationsOf declarationsIn sizeOf bodyOf noItems itemBefore recordsFrom recordsWithin followedBy recordAt recordFrom withKind withBody recordBody recordBodyLength knownTag opensComponent opensMessage fieldBody componentBody groupBody withTag withMark zeroFilled lowFirst
 tree = refl
+
+-- groups in a group, one with items behind it and one that stands last, an item behind the whole, and a message behind that
+abbrev nested : List ℕ
+nested =
+    known (8 ∷ 10 ∷ 78 ∷ 79 ∷ 539 ∷ 524 ∷ 80 ∷ 804 ∷ 545 ∷ 58 ∷ [])
+    ++ (joined ((2 ∷ 0 ∷ 0 ∷ []) ∷ field 8 1 ∷ [])
+    ++ (joined ((2 ∷ 1 ∷ 0 ∷ []) ∷ field 10 1 ∷ [])
+    ++ (joined ((3 ∷ 65 ∷ 69 ∷ 0 ∷ 0 ∷ 0 ∷ 0 ∷ 0 ∷ 0 ∷ []) ∷ opening 78 1 ∷ joined (field 79 1 ∷ opening 539 0 ∷ joined (field 524 1 ∷ []) ∷ field 80 0 ∷ opening 804 1 ∷ joined (field 545 0 ∷ []) ∷ []) ∷ field 58 0 ∷ [])
+    ++ joined ((3 ∷ 68 ∷ 0 ∷ 0 ∷ 0 ∷ 0 ∷ 0 ∷ 0 ∷ 0 ∷ []) ∷ field 58 1 ∷ []))))
+
+nested-tree : dictionaryOf nested .messages ≡
+    record {
+      msgType = bytes "AE";
+      nodes = groupItem 78 true
+          (fieldItem 79 true (groupItem 539 false (fieldItem 524 true nothing) (fieldItem 80 false (groupItem 804 true (fieldItem 545 false nothing) nothing))))
+          (fieldItem 58 false nothing);
+    }
+    ∷ record { msgType = bytes "D"; nodes = fieldItem 58 true nothing }
+    ∷ []
+unfolding dictionaryOf meaningOf tagsFrom tagIn messagesFrom messageIn msgTypeBytes bytesWithin definedAfter definedBy expanded nodesOf declarationsOf declarationsIn sizeOf bodyOf noItems itemBefore recordsFrom recordsWithin followedBy recordAt recordFrom withKind withBody recordBody recordBodyLength knownTag opensComponent opensMessage fieldBody componentBody groupBody withTag withMark zeroFilled lowFirst
+nested-tree = refl
 
 -- as far as it was read: 38 in the message with group 78 open, the same with component 4 in the group, and with the group closed
 abbrev pair : Layout
@@ -113,7 +134,7 @@ unfolding layItems itemsFrom itemsWithin onRead onRecord onComponent afterCompon
 forged = refl
 
 -- a group that holds nothing, or an empty component only, breaks the laying off too; one that holds 79 is laid
-grouped : map (λ (inner : List (List ℕ)). layItems 3 (joined (opening ∷ joined inner ∷ [])) (componentIn components) 0 0 (replicate 8 9))
+grouped : map (λ (inner : List (List ℕ)). layItems 3 (joined (opening 78 1 ∷ joined inner ∷ [])) (componentIn components) 0 0 (replicate 8 9))
     ([] ∷ (item 3 1 ∷ []) ∷ (field 79 1 ∷ []) ∷ []) ≡
     laying Broken (replicate 8 9) ∷ laying Broken (replicate 8 9) ∷ laying (Upto 14 2) (78 ∷ 0 ∷ 3 ∷ 2 ∷ 79 ∷ 0 ∷ 1 ∷ 2 ∷ []) ∷ []
 unfolding layItems itemsFrom itemsWithin onRead onRecord onComponent afterGroup putRow standsAt expanding componentIn marks mark recordAt recordFrom withKind withBody recordBody recordBodyLength fieldBody componentBody groupBody withTag withMark zeroFilled lowFirst

@@ -27,7 +27,7 @@ use Rattle.dictionary_meaning_rules.specs.Meaning.{Declaration, knownTag
 use Rattle.dictionary_meaning_rules.specs.Steps.{Passing, noteOf, TagGoes, tag-goes, component-opens, message-opens, field-stops, item-stops, group-stops, close-stops, bad-stops, end-passes}
 use Rattle.dictionary_meaning_rules.specs.Bodies.{declared-end, declared-tag, declared-component, declared-message}
 use Rattle.dictionary_meaning_rules.specs.Inside.{Next, next-of, Closing, closes-inside}
-use Rattle.dictionary_meaning_rules.specs.Passing.{OneLevel, one-level-of}
+use Rattle.dictionary_meaning_rules.specs.Passing.{one-level-of}
 use Rattle.dictionary_meaning_rules.specs.Prepared.{reads-passing, agreeing}
 
 -- known so far, or among declarations

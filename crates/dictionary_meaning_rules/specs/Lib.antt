@@ -15,6 +15,7 @@ pub mod MsgTypeText
 pub mod MsgTypeRecords
 pub mod Tables
 pub mod Prepared
+pub mod ReadWhole
 pub mod MessageTable
 pub mod MessageTableLaws
 pub mod Theorem

@@ -1,14 +1,13 @@
 -- What the records of a dictionary mean: the tree. The records are read from the first to the last, as the rules say them: at top level known
 -- tags, components and messages; in a component, a message or a group its items, and then its close. Then component items are filled in
 -- with what the components mean that were closed before.
-use Prim.Native.Nat.{ℕ, zero, suc, _+_, _/_, _%_}
+use Prim.Native.Nat.{ℕ, zero, suc, _/_, _%_}
 use mathlib.Core.List.{List, [], _∷_}
-use mathlib.Core.Bool.{Bool, true, false}
+use mathlib.Core.Bool.{Bool}
 use lib.Dec.{eqb}
 use Rattle.field_rules.specs.Choice.{pick}
 use Rattle.dictionary_layout_rules.specs.Tree.{Nodes, nothing, fieldItem, componentItem, groupItem, Message, Dictionary}
 use Rattle.dictionary_rules.specs.Records.{Records, ends, bad, whole, recordsFrom}
-use Rattle.dictionary_rules.specs.declared.Record.{Record}
 use Rattle.dictionary_rules.specs.declared.Record.the-variants.{KnownTag, OpensComponent, OpensMessage, FieldItem, ComponentItem, OpensGroup, Closes}
 
 -- the items of something up to its close, as they are written: a component item only names its component
@@ -27,13 +26,13 @@ pub record Body : Type 0 where
 unfoldable pub itemBefore : (Items → Items) → Body → Body
 itemBefore item body = record { items = item (body .items); after = body .after }
 
--- a close ends the items
+-- no item comes any more, and these records stand behind
 unfoldable pub noItems : Records → Body
 noItems records = record { items = closed; after = records }
 
 -- "4 to 7 inside something open": field items, component items and groups, and at last "the innermost open thing closes". A group holds the
 -- items up to its own close, and the items behind that close follow it. One record is taken at each step, so as many steps as there are
--- records are enough. What is no item ends the items where it stands; the check refuses it, so in no dictionary that passes it is met.
+-- records are enough. What is no item ends the items where it stands; in a dictionary that passes the check there is none (`passes-whole`).
 unfoldable pub bodyOf : ℕ → Records → Body
 bodyOf (suc steps) (whole place (FieldItem tag required) rest) = itemBefore (fieldThen tag required) (bodyOf steps rest)
 bodyOf (suc steps) (whole place (ComponentItem required number) rest) = itemBefore (componentThen number required) (bodyOf steps rest)
@@ -62,7 +61,7 @@ pub data Declaration : Type 0 where
   message : List ℕ → Items → Declaration
 
 -- "1, 2 and 3 stand at top level": a known tag; a component or a message that opens, with its items, and behind its close what stands there.
--- Anything else ends them, and is refused by the check.
+-- Anything else ends them; in a dictionary that passes the check there is none (`passes-whole`).
 unfoldable pub declarationsIn : ℕ → Records → List Declaration
 declarationsIn (suc steps) (whole place (KnownTag tag) rest) = knownTag tag ∷ declarationsIn steps rest
 declarationsIn (suc steps) (whole place (OpensComponent number) rest) =

@@ -1,8 +1,8 @@
 -- Each message that a dictionary's bytes open has the number of a MsgType.
 use mathlib.Core.Path.{_≡_, refl, sym, ap, _∙_}
 use mathlib.Core.Bool.{Bool, true, false}
-use mathlib.Core.List.{List, [], _∷_}
-use Prim.Native.Nat.{ℕ, zero, suc, _+_, _-_, _*_, _≤_, _<_}
+use mathlib.Core.List.{List}
+use Prim.Native.Nat.{ℕ, _+_, _-_, _≤_, _<_}
 use native.Mathlib.Omega.{arith}
 use lib.ListN.{length, getD, take, drop, length-take}
 use lib.Seq.{take-all}
@@ -12,10 +12,10 @@ use Rattle.field_rules.specs.Choice.{pick}
 use Rattle.dictionary_rules.specs.Record.{lowFirst, zeroFilled, recordBodyLength, withTag, withMark, knownTag, opensComponent, opensMessage, fieldItem, componentItem, opensGroup, recordBody, recordAt}
 use Rattle.dictionary_rules.specs.RecordLaws.{at-end, at-cut, at-wrong, at-whole, length-message}
 use Rattle.dictionary_rules.specs.declared.Record.{Record}
-use Rattle.dictionary_rules.specs.declared.Record.the-variants.{KnownTag, OpensComponent, OpensMessage, FieldItem, ComponentItem, OpensGroup, Closes}
+use Rattle.dictionary_rules.specs.declared.Record.the-variants.{OpensMessage, Closes}
 use Rattle.dictionary_rules.specs.declared.Body.{Body}
 use Rattle.dictionary_rules.specs.declared.Body.the-variants.{Good, Wrong}
-use Rattle.dictionary_rules.specs.declared.RecordRead.the-variants.{Whole, Bad, End}
+use Rattle.dictionary_rules.specs.declared.RecordRead.the-variants.{Whole}
 use Rattle.dictionary_meaning_rules.specs.MsgTypeText.{Bytes, take-bytes, drop-bytes, NameNumber, filled-number}
 
 tag-body : (tag : ℕ) (x r : Record) → withTag tag x ≡ Good r → x ≡ r

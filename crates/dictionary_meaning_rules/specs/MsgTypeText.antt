@@ -14,7 +14,6 @@ use Rattle.dictionary_rules.specs.Record.{lowFirst, zeroFilled}
 use Rattle.dictionary_meaning_rules.specs.Meaning.{bytesWithin, msgTypeBytes}
 use Rattle.dictionary_meaning_rules.specs.MsgType.{noZero, nameOf}
 use Rattle.dictionary_meaning_rules.specs.MsgTypeLaws.{room}
-use Rattle.dictionary_meaning_rules.specs.declared.MsgTypeName.{MsgTypeName}
 use Rattle.dictionary_meaning_rules.specs.declared.MsgTypeName.the-variants.{Named, Unnamed}
 
 -- numbers that are bytes

@@ -9,10 +9,8 @@ use lib.ListN.{length, replicate}
 use Rattle.dictionary_layout_rules.specs.Layout.{Layout, end, field, group, followedBy, items, larger, depth}
 use Rattle.dictionary_layout_rules.specs.Tree.{flattened}
 use Rattle.dictionary_layout_rules.specs.Measures.{NoEmptyGroup, FilledSoFar, filled-around, InnermostOpen, innermost-within, larger-first, larger-second, larger-least, depth-followed}
-use Rattle.dictionary_rules.specs.Records.{ends, whole}
 use Rattle.dictionary_rules.specs.declared.Group.{Group}
 use Rattle.dictionary_meaning_rules.specs.Meaning.{Items, closed, fieldThen, componentThen, groupThen, Defined, expanded}
-use Rattle.dictionary_meaning_rules.specs.ClosedOff.{closes}
 use Rattle.dictionary_meaning_rules.specs.Written.{items-followed}
 use Rattle.dictionary_meaning_rules.specs.Layable.{layoutOf, flat}
 

@@ -9,7 +9,7 @@ use lib.ListN.{length}
 use borrow.Author.Tests.{eq-eqb, ne-eqb, eqb-true, eqb-false}
 use Rattle.field_rules.specs.Choice.{pick}
 use Rattle.dictionary_layout_rules.specs.Layout.{Layout, end, items}
-use Rattle.dictionary_layout_rules.specs.Tree.{flattened, Choice, noMessage, laidOut, messageOf, sameBytes}
+use Rattle.dictionary_layout_rules.specs.Tree.{noMessage, laidOut, messageOf, sameBytes}
 use Rattle.dictionary_layout_rules.specs.Measures.{NoEmptyGroup, Bounded}
 use Rattle.dictionary_rules.specs.Record.{recordAt}
 use Rattle.dictionary_rules.specs.Records.{Records, ends, bad, whole, recordsFrom}

@@ -1,7 +1,7 @@
 -- "A dictionary that passes has tables for each of its messages, and the tables mean the tree's layout": what `message_table` answers and
 -- writes, for any value of MsgType and whatever the table held before.
 use mathlib.Core.Path.{_≡_, refl, sym, ap, _∙_}
-use mathlib.Core.List.{List, []}
+use mathlib.Core.List.{List}
 use Prim.Native.Nat.{ℕ, _+_, _*_, _≤_}
 use native.Mathlib.Omega.{arith}
 use lib.ListN.{length}

@@ -11,7 +11,7 @@ use Rattle.dictionary_layout_rules.specs.Layout.{Layout, end, field, group, fol
 use Rattle.dictionary_layout_rules.specs.Tree.{Nodes, nothing, fieldItem, componentItem, groupItem, Message, flattened, sameBytes, Choice, noMessage, laidOut, messageOf, layoutOf}
 use Rattle.dictionary_meaning_rules.specs.Meaning.{Items, closed, fieldThen, componentThen, groupThen, Body, itemBefore, noItems, bodyOf, Declaration, knownTag, component, message, declarationsIn, sizeOf, declarationsOf, Defined, nodesOf, expanded, definedBy, messageIn, messagesFrom, meaningOf, dictionaryOf}
 use Rattle.dictionary_meaning_rules.specs.MsgTypeText.{Bytes}
-use Rattle.promise_told.specs.DictionaryNumbers.{RecordsSmall, ends-small, bad-small, whole-small, records-small}
+use Rattle.promise_told.specs.DictionaryNumbers.{RecordsSmall, whole-small, records-small}
 
 -- each of a list has a property
 pub data Every {A : Type 0} (P : A → Type 0) : List A → Type 0 where
