@@ -11,8 +11,12 @@ use Rattle.dictionary_layout_rules.specs.declared.Position.{Position}
 use Rattle.dictionary_layout_rules.specs.declared.Position.the-variants.{At, Nowhere}
 use Rattle.dictionary_layout_rules.specs.declared.FirstTag.{FirstTag}
 use Rattle.build_records.specs.declared.Record.{Record}
-use Rattle.build_group_rules.specs.Groups.{Opened, none, opened, Rules, isDelimiter, opens, Kind, plain, count, joins, wrong, ends, counting, declared, entryKind, Frame, run, entry, Move, adds, joinsAt, disorders, leaves, inEntry, decide, Store, RunOutcome, ended, refused, moved, walk}
+use Rattle.build_group_rules.specs.Groups.{Opened, none, opened, Rules, isDelimiter, opens, Kind, plain, count, joins, wrong, ends, counting, declared, entryKind, OpenGroup, OpenEntry, Frame, run, entry, Standing, Move, adds, joinsAt, disorders, leaves, startingAt, standing, inEntry, decide, Store, RunOutcome, ended, refused, moved, walk}
 use Rattle.build_group_rules.specs.declared.Refusal.{Refusal}
+
+-- the group with its entries' level as other rules have it
+abbrev pub onLevel : {L M : Type 0} → M → OpenGroup L → OpenGroup M
+onLevel level group = record { level = level; tag = group .tag; depth = group .depth }
 
 module _ {L M : Type 0} (Same : L → M → Type 0) where
   pub data OpenedAlike : Opened L → Opened M → Type 0 where
@@ -28,8 +32,10 @@ module _ {L M : Type 0} (Same : L → M → Type 0) where
 
   pub data StackAlike : List (Frame L) → List (Frame M) → Type 0 where
     empty-alike : StackAlike [] []
-    run-alike : {l : L} {m : M} {group depth entries : ℕ} {stack : List (Frame L)} {other : List (Frame M)} → Same l m → StackAlike stack other → StackAlike (run l group depth entries ∷ stack) (run m group depth entries ∷ other)
-    entry-alike : {l : L} {m : M} {group depth number last start : ℕ} {stack : List (Frame L)} {other : List (Frame M)} → Same l m → StackAlike stack other → StackAlike (entry l group depth number last start ∷ stack) (entry m group depth number last start ∷ other)
+    run-alike : {group : OpenGroup L} {m : M} {entries : ℕ} {stack : List (Frame L)} {other : List (Frame M)} → Same (group .level) m → StackAlike stack other
+        → StackAlike (run group entries ∷ stack) (run (onLevel m group) entries ∷ other)
+    entry-alike : {group : OpenGroup L} {m : M} {own : OpenEntry} {stack : List (Frame L)} {other : List (Frame M)} → Same (group .level) m → StackAlike stack other
+        → StackAlike (entry group own ∷ stack) (entry (onLevel m group) own ∷ other)
 
   data KindAlike : Kind L → Kind M → Type 0 where
     plain-alike : {position : ℕ} → KindAlike (plain position) (plain position)
@@ -39,8 +45,9 @@ module _ {L M : Type 0} (Same : L → M → Type 0) where
     ends-alike : KindAlike ends ends
 
   data MoveAlike : Move L → Move M → Type 0 where
-    adds-alike : {stack : List (Frame L)} {other : List (Frame M)} {depth number : ℕ} → StackAlike stack other → MoveAlike (adds stack depth number) (adds other depth number)
-    joinsAt-alike : {stack : List (Frame L)} {other : List (Frame M)} {start depth number : ℕ} → StackAlike stack other → MoveAlike (joinsAt stack start depth number) (joinsAt other start depth number)
+    adds-alike : {stack : List (Frame L)} {other : List (Frame M)} {stands : Standing} → StackAlike stack other → MoveAlike (adds stack stands) (adds other stands)
+    joinsAt-alike : {stack : List (Frame L)} {other : List (Frame M)} {start : ℕ} {stands : Standing} → StackAlike stack other
+        → MoveAlike (joinsAt stack start stands) (joinsAt other start stands)
     disorders-alike : {group : ℕ} → MoveAlike (disorders group) (disorders group)
     leaves-alike : MoveAlike leaves leaves
 
@@ -79,28 +86,29 @@ module _ {L M : Type 0} (Same : L → M → Type 0) where
         go true k = ends-alike
         go false k = k
 
-    in-entry : (l : L) (m : M) → Same l m → (group depth number last start : ℕ) (stack : List (Frame L)) (other : List (Frame M)) → StackAlike stack other → (tag : ℕ) (x : Move L) (y : Move M) → MoveAlike x y → {k : Kind L} {j : Kind M} → KindAlike k j →
-        MoveAlike (inEntry l group depth number last start stack tag x k) (inEntry m group depth number last start other tag y j)
+    in-entry : (group : OpenGroup L) (m : M) → Same (group .level) m → (own : OpenEntry) (stack : List (Frame L)) (other : List (Frame M)) → StackAlike stack other → (tag : ℕ) (x : Move L) (y : Move M) → MoveAlike x y → {k : Kind L} {j : Kind M} → KindAlike k j →
+        MoveAlike (inEntry group own stack tag x k) (inEntry (onLevel m group) own other tag y j)
     unfolding inEntry
-    in-entry l m s group depth number last start stack other below tag x y xy plain-alike = adds-alike (entry-alike s below)
-    in-entry l m s group depth number last start stack other below tag x y xy (count-alike ab) = adds-alike (run-alike ab (entry-alike s below))
-    in-entry l m s group depth number last start stack other below tag x y xy joins-alike = joinsAt-alike (entry-alike s below)
-    in-entry l m s group depth number last start stack other below tag x y xy wrong-alike = disorders-alike
-    in-entry l m s group depth number last start stack other below tag x y xy ends-alike = xy
+    in-entry group m s own stack other below tag x y xy plain-alike = adds-alike (entry-alike s below)
+    in-entry group m s own stack other below tag x y xy (count-alike ab) = adds-alike (run-alike ab (entry-alike s below))
+    in-entry group m s own stack other below tag x y xy joins-alike = joinsAt-alike (entry-alike s below)
+    in-entry group m s own stack other below tag x y xy wrong-alike = disorders-alike
+    in-entry group m s own stack other below tag x y xy ends-alike = xy
 
-    run-decides : (here : ℕ) (l : L) (m : M) → Same l m → (group depth entries : ℕ) (stack : List (Frame L)) (other : List (Frame M)) → StackAlike stack other → (b c : Bool) (x : Move L) (y : Move M) → MoveAlike x y →
-        MoveAlike (pick b (adds (entry l group depth (entries + 1) 0 here ∷ run l group depth (entries + 1) ∷ stack) depth (entries + 1)) (pick c (disorders group) x)) (pick b (adds (entry m group depth (entries + 1) 0 here ∷ run m group depth (entries + 1) ∷ other) depth (entries + 1)) (pick c (disorders group) y))
-    run-decides here l m s group depth entries stack other below true c x y d = adds-alike (entry-alike s (run-alike s below))
-    run-decides here l m s group depth entries stack other below false true x y d = disorders-alike
-    run-decides here l m s group depth entries stack other below false false x y d = d
+    run-decides : (here : ℕ) (group : OpenGroup L) (m : M) → Same (group .level) m → (entries : ℕ) (stack : List (Frame L)) (other : List (Frame M)) → StackAlike stack other → (b c : Bool) (x : Move L) (y : Move M) → MoveAlike x y →
+        MoveAlike (pick b (adds (entry group (startingAt here (entries + 1)) ∷ run group (entries + 1) ∷ stack) (standing group (entries + 1))) (pick c (disorders (group .tag)) x))
+        (pick b (adds (entry (onLevel m group) (startingAt here (entries + 1)) ∷ run (onLevel m group) (entries + 1) ∷ other) (standing (onLevel m group) (entries + 1))) (pick c (disorders (group .tag)) y))
+    run-decides here group m s entries stack other below true c x y d = adds-alike (entry-alike s (run-alike s below))
+    run-decides here group m s entries stack other below false true x y d = disorders-alike
+    run-decides here group m s entries stack other below false false x y d = d
 
     decide-alike : (here : ℕ) {stack : List (Frame L)} {other : List (Frame M)} → StackAlike stack other → (tag : ℕ) → MoveAlike (decide rules here stack tag) (decide others here other tag)
     unfolding decide
     decide-alike here empty-alike tag = leaves-alike
-    decide-alike here (run-alike {l} {m} {group} {depth} {entries} {stack} {other} s below) tag =
-        rw (opens-same l m s tag) (run-decides here l m s group depth entries stack other below (opens others m tag) (eqb entries 0) _ _ (decide-alike here below tag))
-    decide-alike here (entry-alike {l} {m} {group} {depth} {number} {last} {start} {stack} {other} s below) tag =
-        in-entry l m s group depth number last start stack other below tag _ _ (decide-alike here below tag) (kind-alike l m s depth last tag)
+    decide-alike here (run-alike {group} {m} {entries} {stack} {other} s below) tag =
+        rw (opens-same (group .level) m s tag) (run-decides here group m s entries stack other below (opens others m tag) (eqb entries 0) _ _ (decide-alike here below tag))
+    decide-alike here (entry-alike {group} {m} {own} {stack} {other} s below) tag =
+        in-entry group m s own stack other below tag _ _ (decide-alike here below tag) (kind-alike (group .level) m s (group .depth) (own .last) tag)
 
 -- what two stores keep is alike for the room that is left, and so is what their refusals leave
 module _ {S W T X : Type 0} (Keeps : ℕ → S → T → Type 0) (Leaves : W → X → Type 0) where

@@ -34,7 +34,7 @@ allocations = field 79 true (field 80 true (group 539 false (field 524 true (fie
 -- the fields behind `78=..|`, of which so many may be read; 5002 is known, and stands in no layout
 unfoldable reading : Bool → Layout → ℕ → String → RunTold
 reading validate layout room text =
-    runTold (walk (layoutRules (accepted (validating validate) (λ (tag : ℕ). eqb tag 5002))) listStore room (run layout 78 1 0 ∷ []) [] (fieldsFrom (separatedBy 1) (bytes text) (startAt 0)))
+    runTold (walk (layoutRules (accepted (validating validate) (λ (tag : ℕ). eqb tag 5002))) listStore room (run (record { level = layout; tag = 78; depth = 1 }) 0 ∷ []) [] (fieldsFrom (separatedBy 1) (bytes text) (startAt 0)))
 
 abbrev strict : List (String × RunTold)
 strict =

@@ -12,48 +12,49 @@ use Rattle.field_rules.specs.Fields.{Fields, unreadable, field, Each, each-fiel
 use Rattle.field_rules.specs.declared.Cause.{Cause}
 use Rattle.field_rules.specs.declared.Field.{Field}
 use Rattle.build_records.specs.declared.Record.{Record}
-use Rattle.build_group_rules.specs.Groups.{Rules, opens, Kind, plain, count, joins, wrong, ends, entryKind, Frame, run, entry, Move, adds, joinsAt, disorders, leaves, inEntry, decide, entryRecord, Store, ended, refused, moved, walk, taking, andThen}
+use Rattle.build_group_rules.specs.Groups.{Rules, opens, Kind, plain, count, joins, wrong, ends, entryKind, OpenGroup, OpenEntry, Frame, run, entry, Standing, Move, adds, joinsAt, disorders, leaves, startingAt, reaching, standing, nested, inEntry, decide, entryRecord, Store, ended, refused, moved, walk, taking, andThen}
 use Rattle.build_group_rules.specs.declared.Refusal.the-variants.{Malformed, TooManyFields, InvalidOrderInGroup}
 
 -- what a tag does to a stack with more below it
 unfoldable pub extended : {L : Type 0} → Move L → List (Frame L) → Move L → Move L
-extended (adds stack depth number) below otherwise = adds (stack ++ below) depth number
-extended (joinsAt stack start depth number) below otherwise = joinsAt (stack ++ below) start depth number
+extended (adds stack stands) below otherwise = adds (stack ++ below) stands
+extended (joinsAt stack start stands) below otherwise = joinsAt (stack ++ below) start stands
 extended (disorders group) below otherwise = disorders group
 extended leaves below otherwise = otherwise
 
 module _ {L : Type 0} (rules : Rules L) (here : ℕ) where
-  extended-run : (b c : Bool) (f g : Frame L) (stack below : List (Frame L)) (depth number group : ℕ) (x otherwise : Move L) →
-      pick b (adds (f ∷ g ∷ (stack ++ below)) depth number) (pick c (disorders group) (extended x below otherwise)) ≡ extended (pick b (adds (f ∷ g ∷ stack) depth number) (pick c (disorders group) x)) below otherwise
+  extended-run : (b c : Bool) (f g : Frame L) (stack below : List (Frame L)) (stands : Standing) (group : ℕ) (x otherwise : Move L) →
+      pick b (adds (f ∷ g ∷ (stack ++ below)) stands) (pick c (disorders group) (extended x below otherwise))
+      ≡ extended (pick b (adds (f ∷ g ∷ stack) stands) (pick c (disorders group) x)) below otherwise
   unfolding extended
-  extended-run true c f g stack below depth number group x otherwise = refl
-  extended-run false true f g stack below depth number group x otherwise = refl
-  extended-run false false f g stack below depth number group x otherwise = refl
+  extended-run true c f g stack below stands group x otherwise = refl
+  extended-run false true f g stack below stands group x otherwise = refl
+  extended-run false false f g stack below stands group x otherwise = refl
 
-  extended-entry : (level : L) (group depth number last start : ℕ) (stack below : List (Frame L)) (tag : ℕ) (x otherwise : Move L) (kind : Kind L) →
-      inEntry level group depth number last start (stack ++ below) tag (extended x below otherwise) kind ≡ extended (inEntry level group depth number last start stack tag x kind) below otherwise
+  extended-entry : (group : OpenGroup L) (own : OpenEntry) (stack below : List (Frame L)) (tag : ℕ) (x otherwise : Move L) (kind : Kind L) →
+      inEntry group own (stack ++ below) tag (extended x below otherwise) kind ≡ extended (inEntry group own stack tag x kind) below otherwise
   unfolding extended inEntry
-  extended-entry level group depth number last start stack below tag x otherwise (plain position) = refl
-  extended-entry level group depth number last start stack below tag x otherwise (count inner position) = refl
-  extended-entry level group depth number last start stack below tag x otherwise joins = refl
-  extended-entry level group depth number last start stack below tag x otherwise wrong = refl
-  extended-entry level group depth number last start stack below tag x otherwise ends = refl
+  extended-entry group own stack below tag x otherwise (plain position) = refl
+  extended-entry group own stack below tag x otherwise (count inner position) = refl
+  extended-entry group own stack below tag x otherwise joins = refl
+  extended-entry group own stack below tag x otherwise wrong = refl
+  extended-entry group own stack below tag x otherwise ends = refl
 
   decide-append : (stack below : List (Frame L)) (tag : ℕ) → decide rules here (stack ++ below) tag ≡ extended (decide rules here stack tag) below (decide rules here below tag)
   unfolding decide extended
   decide-append [] below tag = refl
-  decide-append (run level group depth entries ∷ stack) below tag =
-      rw (decide-append stack below tag) (extended-run (opens rules level tag) (eqb entries 0) (entry level group depth (entries + 1) 0 here) (run level group depth (entries + 1)) stack below depth (entries + 1) group (decide rules here stack tag) (decide rules here below tag))
-  decide-append (entry level group depth number last start ∷ stack) below tag =
-      rw (decide-append stack below tag) (extended-entry level group depth number last start stack below tag (decide rules here stack tag) (decide rules here below tag) (entryKind rules level depth last tag))
+  decide-append (run group entries ∷ stack) below tag =
+      rw (decide-append stack below tag) (extended-run (opens rules (group .level) tag) (eqb entries 0) (entry group (startingAt here (entries + 1))) (run group (entries + 1)) stack below (standing group (entries + 1)) (group .tag) (decide rules here stack tag) (decide rules here below tag))
+  decide-append (entry group own ∷ stack) below tag =
+      rw (decide-append stack below tag) (extended-entry group own stack below tag (decide rules here stack tag) (decide rules here below tag) (entryKind rules (group .level) (group .depth) (own .last) tag))
 
 module _ {L S W : Type 0} (rules : Rules L) (store : Store S W) where
   compose-move : (room : ℕ) (s : S) (f : Field) (rest : Fields) (below : List (Frame L)) →
       ((stack : List (Frame L)) (s₁ : S) → walk rules store room (stack ++ below) s₁ rest ≡ andThen (walk rules store room stack s₁ rest) (λ room s f rest. taking rules store room below s f rest)) →
       (m : Move L) → moved store room s f rest (λ stack s₁. walk rules store room stack s₁ rest) (extended m below (decide rules (store .place s) below (f .tag))) ≡ andThen (moved store room s f rest (λ stack s₁. walk rules store room stack s₁ rest) m) (λ room s f rest. taking rules store room below s f rest)
   unfolding moved extended andThen taking
-  compose-move room s f rest below later (adds stack depth number) = later stack (store .add (entryRecord depth number f) s)
-  compose-move room s f rest below later (joinsAt stack start depth number) = later stack (store .join start (entryRecord depth number f) s)
+  compose-move room s f rest below later (adds stack stands) = later stack (store .add (entryRecord (stands .depth) (stands .number) f) s)
+  compose-move room s f rest below later (joinsAt stack start stands) = later stack (store .join start (entryRecord (stands .depth) (stands .number) f) s)
   compose-move room s f rest below later (disorders group) = refl
   compose-move room s f rest below later leaves = refl
 
@@ -79,51 +80,51 @@ module _ {L S W : Type 0} (rules : Rules L) (store : Store S W) where
   walk-field room stack s f rest = refl
 
   -- a field in a run
-  module _ (room : ℕ) (s : S) (f : Field) (rest : Fields) (level : L) (group depth entries : ℕ) where
-    pub run-entry : opens rules level (f .tag) ≡ true →
-        taking rules store room (run level group depth entries ∷ []) s f rest
-        ≡ andThen (walk rules store room (entry level group depth (entries + 1) 0 (store .place s) ∷ []) (store .add (entryRecord depth (entries + 1) f) s) rest) (λ room s f rest. taking rules store room (run level group depth (entries + 1) ∷ []) s f rest)
+  module _ (room : ℕ) (s : S) (f : Field) (rest : Fields) (group : OpenGroup L) (entries : ℕ) where
+    pub run-entry : opens rules (group .level) (f .tag) ≡ true →
+        taking rules store room (run group entries ∷ []) s f rest
+        ≡ andThen (walk rules store room (entry group (startingAt (store .place s) (entries + 1)) ∷ []) (store .add (entryRecord (group .depth) (entries + 1) f) s) rest) (λ room s f rest. taking rules store room (run group (entries + 1) ∷ []) s f rest)
     unfolding taking decide moved
-    run-entry e = rw e (compose room (entry level group depth (entries + 1) 0 (store .place s) ∷ []) (run level group depth (entries + 1) ∷ []) (store .add (entryRecord depth (entries + 1) f) s) rest)
+    run-entry e = rw e (compose room (entry group (startingAt (store .place s) (entries + 1)) ∷ []) (run group (entries + 1) ∷ []) (store .add (entryRecord (group .depth) (entries + 1) f) s) rest)
 
-    pub run-first : opens rules level (f .tag) ≡ false → entries ≡ 0 →
-        taking rules store room (run level group depth entries ∷ []) s f rest ≡ refused (InvalidOrderInGroup (f .tag) group) (store .left s)
+    pub run-first : opens rules (group .level) (f .tag) ≡ false → entries ≡ 0 →
+        taking rules store room (run group entries ∷ []) s f rest ≡ refused (InvalidOrderInGroup (f .tag) (group .tag)) (store .left s)
     unfolding taking decide moved
     run-first e z = rw (e, eq-eqb _ _ z)
 
-    pub run-over : opens rules level (f .tag) ≡ false → (entries ≡ 0 → ⊥) →
-        taking rules store room (run level group depth entries ∷ []) s f rest ≡ ended f rest room s
+    pub run-over : opens rules (group .level) (f .tag) ≡ false → (entries ≡ 0 → ⊥) →
+        taking rules store room (run group entries ∷ []) s f rest ≡ ended f rest room s
     unfolding taking decide moved
     run-over e z = rw (e, ne-eqb _ _ z)
 
   -- a field in an entry
-  module _ (room : ℕ) (s : S) (f : Field) (rest : Fields) (level : L) (group depth number last start : ℕ) where
-    pub entry-plain : (position : ℕ) → entryKind rules level depth last (f .tag) ≡ plain position →
-        taking rules store room (entry level group depth number last start ∷ []) s f rest
-        ≡ walk rules store room (entry level group depth number position start ∷ []) (store .add (entryRecord depth number f) s) rest
+  module _ (room : ℕ) (s : S) (f : Field) (rest : Fields) (group : OpenGroup L) (own : OpenEntry) where
+    pub entry-plain : (position : ℕ) → entryKind rules (group .level) (group .depth) (own .last) (f .tag) ≡ plain position →
+        taking rules store room (entry group own ∷ []) s f rest
+        ≡ walk rules store room (entry group (reaching own position) ∷ []) (store .add (entryRecord (group .depth) (own .number) f) s) rest
     unfolding taking decide inEntry moved
     entry-plain position k = rw k
 
-    pub entry-count : (inner : L) (position : ℕ) → entryKind rules level depth last (f .tag) ≡ count inner position →
-        taking rules store room (entry level group depth number last start ∷ []) s f rest
-        ≡ andThen (walk rules store room (run inner (f .tag) (depth + 1) 0 ∷ []) (store .add (entryRecord depth number f) s) rest) (λ room s f rest. taking rules store room (entry level group depth number position start ∷ []) s f rest)
+    pub entry-count : (inner : L) (position : ℕ) → entryKind rules (group .level) (group .depth) (own .last) (f .tag) ≡ count inner position →
+        taking rules store room (entry group own ∷ []) s f rest
+        ≡ andThen (walk rules store room (run (nested group (f .tag) inner) 0 ∷ []) (store .add (entryRecord (group .depth) (own .number) f) s) rest) (λ room s f rest. taking rules store room (entry group (reaching own position) ∷ []) s f rest)
     unfolding taking decide inEntry moved
     entry-count inner position k =
-        rw k (compose room (run inner (f .tag) (depth + 1) 0 ∷ []) (entry level group depth number position start ∷ []) (store .add (entryRecord depth number f) s) rest)
+        rw k (compose room (run (nested group (f .tag) inner) 0 ∷ []) (entry group (reaching own position) ∷ []) (store .add (entryRecord (group .depth) (own .number) f) s) rest)
 
-    pub entry-joins : entryKind rules level depth last (f .tag) ≡ joins →
-        taking rules store room (entry level group depth number last start ∷ []) s f rest
-        ≡ walk rules store room (entry level group depth number last start ∷ []) (store .join start (entryRecord depth number f) s) rest
+    pub entry-joins : entryKind rules (group .level) (group .depth) (own .last) (f .tag) ≡ joins →
+        taking rules store room (entry group own ∷ []) s f rest
+        ≡ walk rules store room (entry group own ∷ []) (store .join (own .start) (entryRecord (group .depth) (own .number) f) s) rest
     unfolding taking decide inEntry moved
     entry-joins k = rw k
 
-    pub entry-wrong : entryKind rules level depth last (f .tag) ≡ wrong →
-        taking rules store room (entry level group depth number last start ∷ []) s f rest ≡ refused (InvalidOrderInGroup (f .tag) group) (store .left s)
+    pub entry-wrong : entryKind rules (group .level) (group .depth) (own .last) (f .tag) ≡ wrong →
+        taking rules store room (entry group own ∷ []) s f rest ≡ refused (InvalidOrderInGroup (f .tag) (group .tag)) (store .left s)
     unfolding taking decide inEntry moved
     entry-wrong k = rw k
 
-    pub entry-ends : entryKind rules level depth last (f .tag) ≡ ends →
-        taking rules store room (entry level group depth number last start ∷ []) s f rest ≡ ended f rest room s
+    pub entry-ends : entryKind rules (group .level) (group .depth) (own .last) (f .tag) ≡ ends →
+        taking rules store room (entry group own ∷ []) s f rest ≡ ended f rest room s
     unfolding taking decide inEntry moved
     entry-ends k = rw k
 
@@ -140,8 +141,8 @@ module _ {L S W : Type 0} (rules : Rules L) (store : Store S W) (P : ℕ → S �
       ((stack : List (Frame L)) (s₂ : S) → P room s₂ → walk rules store room stack s₂ rest ≡ ended f₁ rest₁ room₁ s₁ → Kept f₁ rest₁ room₁ s₁) →
       (m : Move L) → moved store room s f rest (λ stack s₂. walk rules store room stack s₂ rest) m ≡ ended f₁ rest₁ room₁ s₁ → Kept f₁ rest₁ room₁ s₁
   unfolding moved
-  keeps-move room s f rest p q qs f₁ rest₁ room₁ s₁ later (adds stack depth number) e = later stack _ (on-add room _ s p) e
-  keeps-move room s f rest p q qs f₁ rest₁ room₁ s₁ later (joinsAt stack start depth number) e = later stack _ (on-join room start _ s p) e
+  keeps-move room s f rest p q qs f₁ rest₁ room₁ s₁ later (adds stack stands) e = later stack _ (on-add room _ s p) e
+  keeps-move room s f rest p q qs f₁ rest₁ room₁ s₁ later (joinsAt stack start stands) e = later stack _ (on-join room start _ s p) e
   keeps-move room s f rest p q qs f₁ rest₁ room₁ s₁ later (disorders group) e = let z : _≡_ {A = ℕ} 0 1 = cc in absurd (omega arith)
   keeps-move room s f rest p q qs f₁ rest₁ room₁ s₁ later leaves e =
       let a : f ≡ f₁ = cc in

@@ -58,27 +58,59 @@ module _ {L : Type 0} (rules : Rules L) where
   unfoldable pub entryKind : L → ℕ → ℕ → ℕ → Kind L
   entryKind level depth last tag = pick (opens level tag) ends (declared level depth last tag (rules .position level tag))
 
--- what is open: a run with its level, its count's tag, its depth and how many entries it has; or an entry with the same, its number, the
--- position of its last declared tag, and where its records start
-pub data Frame (L : Type 0) : Type 0 where
-  run : L → ℕ → ℕ → ℕ → Frame L
-  entry : L → ℕ → ℕ → ℕ → ℕ → ℕ → Frame L
+-- a group whose count was read: the level of its entries, the count's tag, and the depth of its records
+pub record OpenGroup (L : Type 0) : Type 0 where
+  pub level : L
+  pub tag : ℕ
+  pub depth : ℕ
 
--- what a tag does: it makes a record with a depth and an entry number; it joins the entry that starts at a place; it is out of order in
--- the group of a count's tag; or nothing that is open takes it
+-- an entry that is open: its number in the group, the position of its last declared tag, and where its records start
+pub record OpenEntry : Type 0 where
+  pub number : ℕ
+  pub last : ℕ
+  pub start : ℕ
+
+-- what is open: the run of a group, with how many of its entries were opened; or an entry of a group
+pub data Frame (L : Type 0) : Type 0 where
+  run : OpenGroup L → ℕ → Frame L
+  entry : OpenGroup L → OpenEntry → Frame L
+
+-- where a record stands in groups: its depth and the number of its entry
+pub record Standing : Type 0 where
+  pub depth : ℕ
+  pub number : ℕ
+
+-- what a tag does: it makes a record that stands in an entry; it joins the entry that starts at a place; it is out of order in the group
+-- of a count's tag; or nothing that is open takes it
 pub data Move (L : Type 0) : Type 0 where
-  adds : List (Frame L) → ℕ → ℕ → Move L
-  joinsAt : List (Frame L) → ℕ → ℕ → ℕ → Move L
+  adds : List (Frame L) → Standing → Move L
+  joinsAt : List (Frame L) → ℕ → Standing → Move L
   disorders : ℕ → Move L
   leaves : Move L
 
-module _ {L : Type 0} (level : L) (group depth number last start : ℕ) (below : List (Frame L)) (tag : ℕ) (otherwise : Move L) where
+-- the entry whose records start at a place, with no declared tag as yet
+abbrev pub startingAt : ℕ → ℕ → OpenEntry
+startingAt start number = record { number = number; last = 0; start = start }
+
+-- the entry once a tag of a position was taken
+abbrev pub reaching : OpenEntry → ℕ → OpenEntry
+reaching own position = record { number = own .number; last = position; start = own .start }
+
+-- the records of an entry stand at the group's depth
+abbrev pub standing : {L : Type 0} → OpenGroup L → ℕ → Standing
+standing group number = record { depth = group .depth; number = number }
+
+-- the group that a count in the entry of a group starts
+abbrev pub nested : {L : Type 0} → OpenGroup L → ℕ → L → OpenGroup L
+nested group tag inner = record { level = inner; tag = tag; depth = group .depth + 1 }
+
+module _ {L : Type 0} (group : OpenGroup L) (own : OpenEntry) (below : List (Frame L)) (tag : ℕ) (otherwise : Move L) where
   -- what a tag of each kind does to the entry
   unfoldable pub inEntry : Kind L → Move L
-  inEntry (plain position) = adds (entry level group depth number position start ∷ below) depth number
-  inEntry (count inner position) = adds (run inner tag (depth + 1) 0 ∷ entry level group depth number position start ∷ below) depth number
-  inEntry joins = joinsAt (entry level group depth number last start ∷ below) start depth number
-  inEntry wrong = disorders group
+  inEntry (plain position) = adds (entry group (reaching own position) ∷ below) (standing group (own .number))
+  inEntry (count inner position) = adds (run (nested group tag inner) 0 ∷ entry group (reaching own position) ∷ below) (standing group (own .number))
+  inEntry joins = joinsAt (entry group own ∷ below) (own .start) (standing group (own .number))
+  inEntry wrong = disorders (group .tag)
   inEntry ends = otherwise
 
 module _ {L : Type 0} (rules : Rules L) (here : ℕ) where
@@ -86,12 +118,12 @@ module _ {L : Type 0} (rules : Rules L) (here : ℕ) where
   -- The records of the next entry start here.
   unfoldable pub decide : List (Frame L) → ℕ → Move L
   decide [] tag = leaves
-  decide (run level group depth entries ∷ below) tag =
-      pick (opens rules level tag)
-      (adds (entry level group depth (entries + 1) 0 here ∷ run level group depth (entries + 1) ∷ below) depth (entries + 1))
-      (pick (eqb entries 0) (disorders group) (decide below tag))
-  decide (entry level group depth number last start ∷ below) tag =
-      inEntry level group depth number last start below tag (decide below tag) (entryKind rules level depth last tag)
+  decide (run group entries ∷ below) tag =
+      pick (opens rules (group .level) tag)
+      (adds (entry group (startingAt here (entries + 1)) ∷ run group (entries + 1) ∷ below) (standing group (entries + 1)))
+      (pick (eqb entries 0) (disorders (group .tag)) (decide below tag))
+  decide (entry group own ∷ below) tag =
+      inEntry group own below tag (decide below tag) (entryKind rules (group .level) (group .depth) (own .last) tag)
 
 -- the record of a field of the body that stands in an entry
 unfoldable pub entryRecord : ℕ → ℕ → Field → Record
@@ -112,8 +144,8 @@ pub data RunOutcome (S W : Type 0) : Type 0 where
 module _ {L S W : Type 0} (store : Store S W) (room : ℕ) (s : S) (f : Field) (rest : Fields) where
   -- what is done with a field, and how reading goes on
   unfoldable pub moved : (List (Frame L) → S → RunOutcome S W) → Move L → RunOutcome S W
-  moved on (adds stack depth number) = on stack (store .add (entryRecord depth number f) s)
-  moved on (joinsAt stack start depth number) = on stack (store .join start (entryRecord depth number f) s)
+  moved on (adds stack stands) = on stack (store .add (entryRecord (stands .depth) (stands .number) f) s)
+  moved on (joinsAt stack start stands) = on stack (store .join start (entryRecord (stands .depth) (stands .number) f) s)
   moved on (disorders group) = refused (InvalidOrderInGroup (f .tag) group) (store .left s)
   moved on leaves = ended f rest room s
 

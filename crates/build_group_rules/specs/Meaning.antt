@@ -20,9 +20,9 @@ use Rattle.build_records.specs.RecordLaws.{HeldAs, inserted-parts, between-new,
 use Rattle.build_records.specs.declared.Record.{Record}
 use Rattle.build_records.specs.declared.Standing.{Standing}
 use Rattle.build_records.specs.declared.Standing.the-variants.{At as held-at, Nowhere as not-held}
-use Rattle.build_group_rules.specs.Groups.{run, Store, RunOutcome, ended, refused, walk}
-use Rattle.build_group_rules.specs.Alike.{OpenedAlike, none-alike, opened-alike, RulesAlike, empty-alike, run-alike, StoresAlike, OutcomeAlike, ended-alike, refused-alike, walk-alike}
-use Rattle.build_group_rules.specs.Reading.{accepted, openedBy, tableRules, openedAs, layoutRules, joinedList, listStore, Memory, memory, addedWords, makes, standingIn, joinedWords, wordStore, runOf}
+use Rattle.build_group_rules.specs.Groups.{OpenGroup, run, Store, RunOutcome, ended, refused, walk}
+use Rattle.build_group_rules.specs.Alike.{OpenedAlike, none-alike, opened-alike, RulesAlike, onLevel, empty-alike, run-alike, StoresAlike, OutcomeAlike, ended-alike, refused-alike, walk-alike}
+use Rattle.build_group_rules.specs.Reading.{accepted, openedBy, tableRules, openedAs, layoutRules, joinedList, listStore, Memory, memory, addedWords, makes, standingIn, joinedWords, wordStore, openGroup, runOf}
 use Rattle.build_group_rules.specs.ReadingLaws.{opened-none, opened-some}
 use Rattle.build_group_rules.specs.declared.Group.{Group}
 use Rattle.build_group_rules.specs.declared.Progress.{Progress}
@@ -45,9 +45,9 @@ outcome-same (ended-alike {f} {rest} {room} e) = ap (ended f rest room) e
 outcome-same (refused-alike {refusal} e) = ap (refused refusal) e
 
 -- whatever keeps the records, a level of a table is read as the layout that the table holds there
-pub table-reads : {S W : Type 0} (store : Store S W) (config : Config) (table : List ℕ) (known has : ℕ → Bool) → ((tag : ℕ) → known tag ≡ has tag) → (level : ℕ) (layout : Layout) → Tabled table level layout → (room group depth number : ℕ) (s : S) (fields : Fields) →
-    walk (tableRules config table known) store room (run level group depth number ∷ []) s fields ≡ walk (layoutRules (accepted config has)) store room (run layout group depth number ∷ []) s fields
-table-reads store config table known has same level layout t room group depth number s fields =
+pub table-reads : {S W : Type 0} (store : Store S W) (config : Config) (table : List ℕ) (known has : ℕ → Bool) → ((tag : ℕ) → known tag ≡ has tag) → (group : OpenGroup ℕ) (layout : Layout) → Tabled table (group .level) layout → (room number : ℕ) (s : S) (fields : Fields) →
+    walk (tableRules config table known) store room (run group number ∷ []) s fields ≡ walk (layoutRules (accepted config has)) store room (run (onLevel layout group) number ∷ []) s fields
+table-reads store config table known has same group layout t room number s fields =
     outcome-same (walk-alike (Tabled table) (λ room s t. s ≡ t) (λ w x. w ≡ x) _ _ (rules-alike config table known has same) store store (same-store store) room _ _ s s fields (run-alike t empty-alike) refl)
 
 -- words hold a list of records, then others, then slack; words that make no record stay as they are
@@ -157,7 +157,7 @@ stores-alike after tail = record { places = λ room m done h. h .place; adding =
 
 -- a run that was read from a table into words is the run of the layout that the table holds, its records as a list
 pub run-means : (message : List ℕ) (config : Config) (table : List ℕ) (known has : ℕ → Bool) → ((tag : ℕ) → known tag ≡ has tag) → (group : Group) (layout : Layout) → Tabled table (group .level) layout → (cursor : Cursor) (progress : Progress) (words : List ℕ) (done after : List Record) (tail : List ℕ) → Holds after tail (progress .room) (memory progress words) done →
-    OutcomeAlike (Holds after tail) (Lays after tail) (runOf message config table known group cursor progress words) (walk (layoutRules (accepted config has)) listStore (progress .room) (run layout (group .tag) (group .depth) 0 ∷ []) done (fieldsFrom (config .mode) message cursor))
+    OutcomeAlike (Holds after tail) (Lays after tail) (runOf message config table known group cursor progress words) (walk (layoutRules (accepted config has)) listStore (progress .room) (run (onLevel layout (openGroup group)) 0 ∷ []) done (fieldsFrom (config .mode) message cursor))
 unfolding runOf
 run-means message config table known has same group layout t cursor progress words done after tail h =
     walk-alike (Tabled table) (Holds after tail) (Lays after tail) _ _ (rules-alike config table known has same) wordStore listStore (stores-alike after tail) (progress .room) _ _ (memory progress words) done _ (run-alike t empty-alike) h

@@ -22,7 +22,7 @@ use Rattle.build_records.specs.Records.{recordsOf, onRecords, inserted, between
 use Rattle.build_records.specs.declared.Record.{Record}
 use Rattle.build_records.specs.declared.Standing.{Standing}
 use Rattle.build_records.specs.declared.Standing.the-variants.{At as held-at, Nowhere as not-held}
-use Rattle.build_group_rules.specs.Groups.{Opened, none, opened, Rules, isDelimiter, Kind, plain, count, joins, wrong, ends, entryKind, run, entry, entryRecord, Store, RunOutcome, ended, refused, walk}
+use Rattle.build_group_rules.specs.Groups.{Opened, none, opened, Rules, isDelimiter, Kind, plain, count, joins, wrong, ends, entryKind, OpenGroup, run, entry, startingAt, entryRecord, Store, RunOutcome, ended, refused, walk}
 use Rattle.build_group_rules.specs.declared.Group.{Group}
 use Rattle.build_group_rules.specs.declared.Progress.{Progress}
 use Rattle.build_group_rules.specs.declared.Refusal.{Refusal}
@@ -145,13 +145,17 @@ module _ (mode : Mode) (message : List ℕ) where
   toldBy (At f progress) words = ended f (fieldsFrom mode message (f .next)) (progress .room) (memory progress words)
   toldBy (Refused refusal) words = refused refusal words
 
+-- the code's group, as what is open
+abbrev pub openGroup : Group → OpenGroup ℕ
+openGroup group = record { level = group .level; tag = group .tag; depth = group .depth }
+
 module _ (message : List ℕ) (config : Config) (table : List ℕ) (known : ℕ → Bool) where
   -- the entries of a group, from the field behind its count on
   unfoldable pub runOf : Group → Cursor → Progress → List ℕ → RunOutcome Memory (List ℕ)
   runOf group cursor progress words =
-      walk (tableRules config table known) wordStore (progress .room) (run (group .level) (group .tag) (group .depth) 0 ∷ []) (memory progress words) (fieldsFrom (config .mode) message cursor)
+      walk (tableRules config table known) wordStore (progress .room) (run (openGroup group) 0 ∷ []) (memory progress words) (fieldsFrom (config .mode) message cursor)
 
   -- an entry of a number, from its delimiter on
   unfoldable pub entryOf : Group → ℕ → Field → Progress → List ℕ → RunOutcome Memory (List ℕ)
   entryOf group number delimiter progress words =
-      walk (tableRules config table known) wordStore (progress .room) (entry (group .level) (group .tag) (group .depth) number 0 (progress .place) ∷ []) (addedWords (entryRecord (group .depth) number delimiter) (memory progress words)) (fieldsFrom (config .mode) message (delimiter .next))
+      walk (tableRules config table known) wordStore (progress .room) (entry (openGroup group) (startingAt (progress .place) number) ∷ []) (addedWords (entryRecord (group .depth) number delimiter) (memory progress words)) (fieldsFrom (config .mode) message (delimiter .next))

@@ -18,9 +18,9 @@ use Rattle.dictionary_layout_rules.specs.declared.Position.{Position}
 use Rattle.dictionary_layout_rules.specs.declared.Position.the-variants.{At as position-at, Nowhere}
 use Rattle.build_records.specs.Records.{onRecords, inserted, storedBetween}
 use Rattle.build_records.specs.declared.Record.{Record}
-use Rattle.build_group_rules.specs.Groups.{Opened, none, opened, Rules, opens, plain, count, joins, wrong, ends, counting, declared, entryKind, Frame, run, entry, entryRecord, RunOutcome, walk, taking}
+use Rattle.build_group_rules.specs.Groups.{Opened, none, opened, Rules, opens, plain, count, joins, wrong, ends, counting, declared, entryKind, OpenEntry, Frame, run, entry, startingAt, entryRecord, RunOutcome, walk, taking}
 use Rattle.build_group_rules.specs.GroupLaws.{run-entry, run-first, run-over, entry-plain, entry-count, entry-joins, entry-wrong, entry-ends}
-use Rattle.build_group_rules.specs.Reading.{tableRules, opensAt, meant, kindAt, Memory, memory, addedWords, makes, standingIn, joinedWords, wordStore, further, nextReading, toldBy, runOf, entryOf, Fits, FitsAt}
+use Rattle.build_group_rules.specs.Reading.{tableRules, opensAt, meant, kindAt, Memory, memory, addedWords, makes, standingIn, joinedWords, wordStore, openGroup, further, nextReading, toldBy, runOf, entryOf, Fits, FitsAt}
 use Rattle.build_group_rules.specs.ReadingLaws.{going, walk-next, going-on, Follows, roomOf, next-follows, told-follows}
 use Rattle.build_group_rules.specs.declared.Group.{Group}
 use Rattle.build_group_rules.specs.declared.Progress.{Progress}
@@ -72,11 +72,11 @@ left-refused message config table known stack reading words refusal e = rw e
 
 module _ (message : List ℕ) (config : Config) (table : List ℕ) (known : ℕ → Bool) (group : Group) where
   -- what is left of an entry, and of a run
-  abbrev pub entryLeft : ℕ → ℕ → ℕ → Reading → List ℕ → RunOutcome Memory (List ℕ)
-  entryLeft number last start reading words = going (tableRules config table known) (config .mode) message (entry (group .level) (group .tag) (group .depth) number last start ∷ []) reading words
+  abbrev pub entryLeft : OpenEntry → Reading → List ℕ → RunOutcome Memory (List ℕ)
+  entryLeft own reading words = going (tableRules config table known) (config .mode) message (entry (openGroup group) own ∷ []) reading words
 
   abbrev pub runLeft : ℕ → Reading → List ℕ → RunOutcome Memory (List ℕ)
-  runLeft number reading words = going (tableRules config table known) (config .mode) message (run (group .level) (group .tag) (group .depth) number ∷ []) reading words
+  runLeft number reading words = going (tableRules config table known) (config .mode) message (run (openGroup group) number ∷ []) reading words
 
   pub run-starts : (cursor : Cursor) (progress : Progress) (words : List ℕ) (reading : Reading) → reading ≡ nextReading (fieldAt (config .mode) message cursor) progress →
       runOf message config table known group cursor progress words ≡ runLeft 0 reading words
@@ -85,7 +85,7 @@ module _ (message : List ℕ) (config : Config) (table : List ℕ) (known : ℕ 
 
   pub entry-starts : (number : ℕ) (delimiter : Field) (progress begun : Progress) (words words₁ : List ℕ) (r : Record) (reading : Reading) →
       r ≡ entryRecord (group .depth) number delimiter → begun ≡ further 1 progress → words₁ ≡ onRecords (inserted (progress .records) (progress .place) r) words → reading ≡ nextReading (fieldAt (config .mode) message (delimiter .next)) begun →
-      entryOf message config table known group number delimiter progress words ≡ entryLeft number 0 (progress .place) reading words₁
+      entryOf message config table known group number delimiter progress words ≡ entryLeft (startingAt (progress .place) number) reading words₁
   unfolding entryOf addedWords memory further
   entry-starts number delimiter progress begun words words₁ r reading a b c d =
       rw (d, c, b, a) (walk-next _ _ _ _ (further 1 progress) (onRecords (inserted (progress .records) (progress .place) (entryRecord (group .depth) number delimiter)) words) (delimiter .next))
@@ -111,40 +111,43 @@ module _ (message : List ℕ) (config : Config) (table : List ℕ) (known : ℕ 
     joined-field stack start = refl
 
     module _ (last start : ℕ) (kind : CodeKind) (k : meant kind ≡ kindAt config table known group last (f .tag)) where
-      pub left-ends : kind ≡ Ends → toldBy (config .mode) message (At f progress) words ≡ entryLeft number last start reading words
+      pub left-ends : kind ≡ Ends → toldBy (config .mode) message (At f progress) words ≡ entryLeft (record { number = number; last = last; start = start }) reading words
       unfolding going toldBy meant kindAt
-      left-ends q = rw e (sym (entry-ends _ _ _ _ _ _ _ _ _ _ _ _ (sym k ∙ ap meant q)))
+      left-ends q = rw e (sym (entry-ends _ _ _ _ _ _ _ _ (sym k ∙ ap meant q)))
 
-      pub left-wrong : kind ≡ Wrong → toldBy (config .mode) message (Refused (InvalidOrderInGroup (f .tag) (group .tag))) words ≡ entryLeft number last start reading words
+      pub left-wrong : kind ≡ Wrong → toldBy (config .mode) message (Refused (InvalidOrderInGroup (f .tag) (group .tag))) words ≡ entryLeft (record { number = number; last = last; start = start }) reading words
       unfolding going toldBy meant kindAt wordStore memory
-      left-wrong q = rw e (sym (entry-wrong _ _ _ _ _ _ _ _ _ _ _ _ (sym k ∙ ap meant q)))
+      left-wrong q = rw e (sym (entry-wrong _ _ _ _ _ _ _ _ (sym k ∙ ap meant q)))
 
       module _ (r : Record) (is : r ≡ entryRecord (group .depth) number f) (stored : Progress) (words₁ : List ℕ) (reading₁ : Reading) where
         pub turn-joins : kind ≡ Joins → stored ≡ further (makes (standingIn start (progress .place) r words)) progress → words₁ ≡ onRecords (storedBetween (progress .records) start (progress .place) r) words →
             reading₁ ≡ nextReading (fieldAt (config .mode) message (f .next)) stored →
-            entryLeft number last start reading words ≡ entryLeft number last start reading₁ words₁
+            entryLeft (record { number = number; last = last; start = start }) reading words
+            ≡ entryLeft (record { number = number; last = last; start = start }) reading₁ words₁
         unfolding meant kindAt
         turn-joins q a b c =
             at-field _ reading words f progress e
-            ∙ entry-joins _ _ _ _ _ _ _ _ _ _ _ _ (sym k ∙ ap meant q)
+            ∙ entry-joins _ _ _ _ _ _ _ _ (sym k ∙ ap meant q)
             ∙ rw (c, b, a, is) (joined-field _ start ∙ walk-next _ _ _ _ (further (makes (standingIn start (progress .place) (entryRecord (group .depth) number f) words)) progress) (onRecords (storedBetween (progress .records) start (progress .place) (entryRecord (group .depth) number f)) words) (f .next))
 
         module _ (a : stored ≡ further 1 progress) (b : words₁ ≡ onRecords (inserted (progress .records) (progress .place) r) words) where
           pub turn-plain : (position : ℕ) → kind ≡ Plain position → reading₁ ≡ nextReading (fieldAt (config .mode) message (f .next)) stored →
-              entryLeft number last start reading words ≡ entryLeft number position start reading₁ words₁
+              entryLeft (record { number = number; last = last; start = start }) reading words
+              ≡ entryLeft (record { number = number; last = position; start = start }) reading₁ words₁
           unfolding meant kindAt
           turn-plain position q c =
               at-field _ reading words f progress e
-              ∙ entry-plain _ _ _ _ _ _ _ _ _ _ _ _ position (sym k ∙ ap meant q)
+              ∙ entry-plain _ _ _ _ _ _ _ _ position (sym k ∙ ap meant q)
               ∙ rw (c, b, a, is) (added-field _ ∙ walk-next _ _ _ _ (further 1 progress) (onRecords (inserted (progress .records) (progress .place) (entryRecord (group .depth) number f)) words) (f .next))
 
           pub turn-count : (inner position : ℕ) → kind ≡ Count inner position → (words₂ : List ℕ) →
               toldBy (config .mode) message reading₁ words₂ ≡ runOf message config table known (record { level = inner; tag = f .tag; depth = group .depth + 1 }) (f .next) stored words₁ →
-              entryLeft number last start reading words ≡ entryLeft number position start reading₁ words₂
+              entryLeft (record { number = number; last = last; start = start }) reading words
+              ≡ entryLeft (record { number = number; last = position; start = start }) reading₁ words₂
           unfolding meant kindAt runOf
           turn-count inner position q words₂ t =
               at-field _ reading words f progress e
-              ∙ entry-count _ _ _ _ _ _ _ _ _ _ _ _ inner position (sym k ∙ ap meant q)
+              ∙ entry-count _ _ _ _ _ _ _ _ inner position (sym k ∙ ap meant q)
               ∙ going-on _ _ _ _ reading₁ words₂ _ (t ∙ rw (b, a, is) (sym (added-field _)))
 
     -- a field in a run
@@ -154,18 +157,18 @@ module _ (message : List ℕ) (config : Config) (table : List ℕ) (known : ℕ 
     unfolding entryOf wordStore memory
     turn-entry o reading₁ words₁ t =
         at-field _ reading words f progress e
-        ∙ run-entry _ _ _ _ _ _ _ _ _ _ (opens-table config table known (group .level) (f .tag) ∙ o)
+        ∙ run-entry _ _ _ _ _ _ _ _ (opens-table config table known (group .level) (f .tag) ∙ o)
         ∙ going-on _ _ _ _ reading₁ words₁ _ t
 
     pub left-first : opensAt table (group .level) (f .tag) ≡ false → number ≡ 0 →
         toldBy (config .mode) message (Refused (InvalidOrderInGroup (f .tag) (group .tag))) words ≡ runLeft number reading words
     unfolding going toldBy wordStore memory
-    left-first o z = rw e (sym (run-first _ _ _ _ _ _ _ _ _ _ (opens-table config table known (group .level) (f .tag) ∙ o) z))
+    left-first o z = rw e (sym (run-first _ _ _ _ _ _ _ _ (opens-table config table known (group .level) (f .tag) ∙ o) z))
 
     pub left-over : opensAt table (group .level) (f .tag) ≡ false → (number ≡ 0 → ⊥) →
         toldBy (config .mode) message (At f progress) words ≡ runLeft number reading words
     unfolding going toldBy
-    left-over o n = rw e (sym (run-over _ _ _ _ _ _ _ _ _ _ (opens-table config table known (group .level) (f .tag) ∙ o) n))
+    left-over o n = rw e (sym (run-over _ _ _ _ _ _ _ _ (opens-table config table known (group .level) (f .tag) ∙ o) n))
 
 pub count-below : (config : Config) (table : List ℕ) (known : ℕ → Bool) (group : Group) (last tag : ℕ) (kind : CodeKind) (inner position : ℕ) → meant kind ≡ kindAt config table known group last tag → kind ≡ Count inner position → group .depth < 4
 unfolding meant kindAt

@@ -60,7 +60,7 @@ abbrev run-calls : ℕ → read-run-lts.Claims
 run-calls t = (next-field-reads.Asked, next-field-reads.Learnt, opens-reads.Asked, opens-reads.Learnt, read-entry-below t, read-entry.Post)
 
 abbrev read-entry-Inv-loop : read-entry-lts.InvT-loop
-read-entry-Inv-loop message config table index group number words₀ start reading₀ last₀ words reading last = (length words ≡ length words₀) × ((f : Field) (progress : Progress) → reading ≡ At f progress → FitsAt message f progress) × (entryLeft message config table (tagAt index) group number last₀ start reading₀ words₀ ≡ entryLeft message config table (tagAt index) group number last start reading words)
+read-entry-Inv-loop message config table index group number words₀ start reading₀ last₀ words reading last = (length words ≡ length words₀) × ((f : Field) (progress : Progress) → reading ≡ At f progress → FitsAt message f progress) × (entryLeft message config table (tagAt index) group (record { number = number; last = last₀; start = start }) reading₀ words₀ ≡ entryLeft message config table (tagAt index) group (record { number = number; last = last; start = start }) reading words)
 
 abbrev read-entry-μ-loop : read-entry-lts.MeasureT-loop
 read-entry-μ-loop message config table index group number words₀ start reading₀ last₀ words reading last = roomOf reading
@@ -97,7 +97,7 @@ entry-index t c = entry-loop t c .before .before .before .before .before .before
 -- the whole is what is left at the loop
 entry-whole : (t : ℕ) (l : EntryLoop t) → let a = l .before .before .before .before .before .before .before .before .before .before .before .args in
     entryOf (a .message .now) (a .config) (a .table .now) (tagAt (a .index .now)) (a .group) (a .number) (a .delimiter) (a .progress) (a .words .now)
-    ≡ entryLeft (a .message .now) (a .config) (a .table .now) (tagAt (a .index .now)) (a .group) (a .number) (l .loop .last) (a .progress .place) (l .loop .reading) (l .loop .words)
+    ≡ entryLeft (a .message .now) (a .config) (a .table .now) (tagAt (a .index .now)) (a .group) (record { number = a .number; last = l .loop .last; start = a .progress .place }) (l .loop .reading) (l .loop .words)
 entry-whole t l =
     entry-starts _ _ _ _ _ _ _ _ _ _ _ _ _ (l .before .before .before .before .before .record-of .ensures) (l .before .before .before .before .add .ensures .0) (l .before .before .before .before .add .ensures .1) (l .before .next-field .ensures)
     ∙ l .loop .inv .2
