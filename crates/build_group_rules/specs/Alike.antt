@@ -11,7 +11,7 @@ use Rattle.dictionary_layout_rules.specs.declared.Position.{Position}
 use Rattle.dictionary_layout_rules.specs.declared.Position.the-variants.{At, Nowhere}
 use Rattle.dictionary_layout_rules.specs.declared.FirstTag.{FirstTag}
 use Rattle.build_records.specs.declared.Record.{Record}
-use Rattle.build_group_rules.specs.Groups.{Opened, none, opened, Rules, isDelimiter, opens, Kind, plain, count, joins, wrong, ends, counting, declared, entryKind, OpenGroup, OpenEntry, Frame, run, entry, Standing, Move, adds, joinsAt, disorders, leaves, startingAt, standing, inEntry, decide, Store, RunOutcome, ended, refused, moved, walk}
+use Rattle.build_group_rules.specs.Groups.{Opened, none, opened, Rules, isDelimiter, opens, Kind, plain, count, joins, wrong, ends, counting, declared, entryKind, OpenGroup, OpenEntry, Frame, run, entry, Numbers, Move, adds, joinsAt, disorders, leaves, numbersIn, inEntry, decide, Store, RunOutcome, ended, refused, moved, walk}
 use Rattle.build_group_rules.specs.declared.Refusal.{Refusal}
 
 -- the group with its entries' level as other rules have it
@@ -45,9 +45,9 @@ module _ {L M : Type 0} (Same : L → M → Type 0) where
     ends-alike : KindAlike ends ends
 
   data MoveAlike : Move L → Move M → Type 0 where
-    adds-alike : {stack : List (Frame L)} {other : List (Frame M)} {stands : Standing} → StackAlike stack other → MoveAlike (adds stack stands) (adds other stands)
-    joinsAt-alike : {stack : List (Frame L)} {other : List (Frame M)} {start : ℕ} {stands : Standing} → StackAlike stack other
-        → MoveAlike (joinsAt stack start stands) (joinsAt other start stands)
+    adds-alike : {stack : List (Frame L)} {other : List (Frame M)} {numbers : Numbers} → StackAlike stack other → MoveAlike (adds stack numbers) (adds other numbers)
+    joinsAt-alike : {stack : List (Frame L)} {other : List (Frame M)} {start : ℕ} {numbers : Numbers} → StackAlike stack other
+        → MoveAlike (joinsAt stack start numbers) (joinsAt other start numbers)
     disorders-alike : {group : ℕ} → MoveAlike (disorders group) (disorders group)
     leaves-alike : MoveAlike leaves leaves
 
@@ -96,8 +96,8 @@ module _ {L M : Type 0} (Same : L → M → Type 0) where
     in-entry group m s own stack other below tag x y xy ends-alike = xy
 
     run-decides : (here : ℕ) (group : OpenGroup L) (m : M) → Same (group .level) m → (entries : ℕ) (stack : List (Frame L)) (other : List (Frame M)) → StackAlike stack other → (b c : Bool) (x : Move L) (y : Move M) → MoveAlike x y →
-        MoveAlike (pick b (adds (entry group (startingAt here (entries + 1)) ∷ run group (entries + 1) ∷ stack) (standing group (entries + 1))) (pick c (disorders (group .tag)) x))
-        (pick b (adds (entry (onLevel m group) (startingAt here (entries + 1)) ∷ run (onLevel m group) (entries + 1) ∷ other) (standing (onLevel m group) (entries + 1))) (pick c (disorders (group .tag)) y))
+        MoveAlike (pick b (adds (entry group (record { number = entries + 1; last = 0; start = here }) ∷ run group (entries + 1) ∷ stack) (numbersIn group (entries + 1))) (pick c (disorders (group .tag)) x))
+        (pick b (adds (entry (onLevel m group) (record { number = entries + 1; last = 0; start = here }) ∷ run (onLevel m group) (entries + 1) ∷ other) (numbersIn (onLevel m group) (entries + 1))) (pick c (disorders (group .tag)) y))
     run-decides here group m s entries stack other below true c x y d = adds-alike (entry-alike s (run-alike s below))
     run-decides here group m s entries stack other below false true x y d = disorders-alike
     run-decides here group m s entries stack other below false false x y d = d

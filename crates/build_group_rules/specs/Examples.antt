@@ -15,7 +15,7 @@ use lib.Dec.{eqb}
 use Rattle.build_records.specs.Records.{stored}
 use Rattle.build_records.specs.declared.Record.{Record}
 use Rattle.build_answers.specs.Answer.{numberOf, valuesOf, listed}
-use Rattle.build_group_rules.specs.Groups.{isDelimiter, opens, counting, declared, entryKind, run, inEntry, decide, entryRecord, RunOutcome, ended, refused, moved, walk}
+use Rattle.build_group_rules.specs.Groups.{isDelimiter, opens, counting, declared, entryKind, run, outermost, inEntry, decide, entryRecord, RunOutcome, ended, refused, moved, walk}
 use Rattle.build_group_rules.specs.Reading.{answerOf, accepted, openedAs, layoutRules, joinedList, listStore}
 
 -- what is told of a run: 0, the tag that ended it and the room left, and for each record its depth, entry number, tag and place; or the
@@ -34,7 +34,7 @@ allocations = field 79 true (field 80 true (group 539 false (field 524 true (fie
 -- the fields behind `78=..|`, of which so many may be read; 5002 is known, and stands in no layout
 unfoldable reading : Bool → Layout → ℕ → String → RunTold
 reading validate layout room text =
-    runTold (walk (layoutRules (accepted (validating validate) (λ (tag : ℕ). eqb tag 5002))) listStore room (run (record { level = layout; tag = 78; depth = 1 }) 0 ∷ []) [] (fieldsFrom (separatedBy 1) (bytes text) (startAt 0)))
+    runTold (walk (layoutRules (accepted (validating validate) (λ (tag : ℕ). eqb tag 5002))) listStore room (run (outermost 78 layout) 0 ∷ []) [] (fieldsFrom (separatedBy 1) (bytes text) (startAt 0)))
 
 abbrev strict : List (String × RunTold)
 strict =

@@ -16,23 +16,23 @@ use Rattle.dictionary_layout_rules.specs.Layout.{end as layout-end, field as la
 use Rattle.dictionary_layout_rules.specs.Measures.{mostDepth, larger-first, larger-second}
 use Rattle.dictionary_layout_rules.specs.declared.Position.{Position}
 use Rattle.dictionary_layout_rules.specs.declared.Position.the-variants.{At, Nowhere}
-use Rattle.build_group_rules.specs.Groups.{Rules, opens, Kind, plain, count, joins, wrong, ends, counting, declared, entryKind, OpenGroup, OpenEntry, Frame, run, entry, Standing, Move, adds, joinsAt, disorders, leaves, startingAt, standing, inEntry, decide, entryRecord, Store, moved, walk}
+use Rattle.build_group_rules.specs.Groups.{Rules, opens, Kind, plain, count, joins, wrong, ends, counting, declared, entryKind, OpenGroup, OpenEntry, Frame, run, entry, Numbers, Move, adds, joinsAt, disorders, leaves, numbersIn, outermost, inEntry, decide, entryRecord, Store, moved, walk}
 use Rattle.build_group_rules.specs.Reading.{openedAs, layoutRules}
 
 -- the stacks that reading comes to, field by field
 pub data ComesTo {L S W : Type 0} (rules : Rules L) (store : Store S W) : ℕ → List (Frame L) → S → Fields → List (Frame L) → Type 0 where
   comes-here : {room : ℕ} {stack : List (Frame L)} {s : S} {fields : Fields} → ComesTo rules store room stack s fields stack
-  comes-adding : {room : ℕ} {stack later : List (Frame L)} {s : S} {f : Field} {rest : Fields} (next : List (Frame L)) (stands : Standing) → decide rules (store .place s) stack (f .tag) ≡ adds next stands
-      → ComesTo rules store room next (store .add (entryRecord (stands .depth) (stands .number) f) s) rest later → ComesTo rules store (suc room) stack s (field f rest) later
-  comes-joining : {room : ℕ} {stack later : List (Frame L)} {s : S} {f : Field} {rest : Fields} (next : List (Frame L)) (start : ℕ) (stands : Standing) → decide rules (store .place s) stack (f .tag) ≡ joinsAt next start stands
-      → ComesTo rules store room next (store .join start (entryRecord (stands .depth) (stands .number) f) s) rest later → ComesTo rules store (suc room) stack s (field f rest) later
+  comes-adding : {room : ℕ} {stack later : List (Frame L)} {s : S} {f : Field} {rest : Fields} (next : List (Frame L)) (numbers : Numbers) → decide rules (store .place s) stack (f .tag) ≡ adds next numbers
+      → ComesTo rules store room next (store .add (entryRecord (numbers .depth) (numbers .number) f) s) rest later → ComesTo rules store (suc room) stack s (field f rest) later
+  comes-joining : {room : ℕ} {stack later : List (Frame L)} {s : S} {f : Field} {rest : Fields} (next : List (Frame L)) (start : ℕ) (numbers : Numbers) → decide rules (store .place s) stack (f .tag) ≡ joinsAt next start numbers
+      → ComesTo rules store room next (store .join start (entryRecord (numbers .depth) (numbers .number) f) s) rest later → ComesTo rules store (suc room) stack s (field f rest) later
 
 -- reading goes on from there
 pub comes-reading : {L S W : Type 0} (rules : Rules L) (store : Store S W) {room : ℕ} {stack later : List (Frame L)} {s : S} {fields : Fields} → ComesTo rules store room stack s fields later → (room₁ : ℕ) × (s₁ : S) × (rest : Fields) × (walk rules store room stack s fields ≡ walk rules store room₁ later s₁ rest)
 unfolding walk moved
 comes-reading rules store {room} {s} {fields} comes-here = (room, s, fields, refl)
-comes-reading rules store (comes-adding next stands e c) = let r = comes-reading rules store c in (r .0, r .1, r .2, rw e (r .3))
-comes-reading rules store (comes-joining next start stands e c) = let r = comes-reading rules store c in (r .0, r .1, r .2, rw e (r .3))
+comes-reading rules store (comes-adding next numbers e c) = let r = comes-reading rules store c in (r .0, r .1, r .2, rw e (r .3))
+comes-reading rules store (comes-joining next start numbers e c) = let r = comes-reading rules store c in (r .0, r .1, r .2, rw e (r .3))
 
 -- what is open is within four levels, and so is all that may open in it
 pub data WithinFour : List (Frame Layout) → Type 0 where
@@ -81,8 +81,8 @@ data KindWithin (depth : ℕ) : Kind Layout → Type 0 where
   within-ends : KindWithin depth ends
 
 data MoveWithin : Move Layout → Type 0 where
-  within-adds : {stack : List (Frame Layout)} {stands : Standing} → WithinFour stack → MoveWithin (adds stack stands)
-  within-joining : {stack : List (Frame Layout)} {start : ℕ} {stands : Standing} → WithinFour stack → MoveWithin (joinsAt stack start stands)
+  within-adds : {stack : List (Frame Layout)} {numbers : Numbers} → WithinFour stack → MoveWithin (adds stack numbers)
+  within-joining : {stack : List (Frame Layout)} {start : ℕ} {numbers : Numbers} → WithinFour stack → MoveWithin (joinsAt stack start numbers)
   within-disorders : {group : ℕ} → MoveWithin (disorders group)
   within-leaves : MoveWithin leaves
 
@@ -119,7 +119,7 @@ module _ (accepts : ℕ → Bool) where
   decide-within here tag within-none = within-leaves
   decide-within here tag (within-run {group} {number} {below} h f) = go (opens (layoutRules accepts) (group .level) tag) (eqb number 0) (decide-within here tag f)
     where
-      go : (b c : Bool) → MoveWithin (decide (layoutRules accepts) here below tag) → MoveWithin (pick b (adds (entry group (startingAt here (number + 1)) ∷ run group (number + 1) ∷ below) (standing group (number + 1))) (pick c (disorders (group .tag)) (decide (layoutRules accepts) here below tag)))
+      go : (b c : Bool) → MoveWithin (decide (layoutRules accepts) here below tag) → MoveWithin (pick b (adds (entry group (record { number = number + 1; last = 0; start = here }) ∷ run group (number + 1) ∷ below) (numbersIn group (number + 1))) (pick c (disorders (group .tag)) (decide (layoutRules accepts) here below tag)))
       go true c m = within-adds (within-entry h (within-run h f))
       go false true m = within-disorders
       go false false m = m
@@ -132,31 +132,31 @@ module _ (accepts : ℕ → Bool) where
       go kind within-wrong m = unfold inEntry in within-disorders
       go kind within-ends m = unfold inEntry in m
 
-  adds-within : {move : Move Layout} → MoveWithin move → (stack : List (Frame Layout)) (stands : Standing) → move ≡ adds stack stands → WithinFour stack
-  adds-within (within-adds {stack = other} f) stack stands e = let same : other ≡ stack = cc in rw same at f
-  adds-within (within-joining f) stack stands e = let z : _≡_ {A = ℕ} 0 1 = cc in absurd (omega arith)
-  adds-within within-disorders stack stands e = let z : _≡_ {A = ℕ} 0 1 = cc in absurd (omega arith)
-  adds-within within-leaves stack stands e = let z : _≡_ {A = ℕ} 0 1 = cc in absurd (omega arith)
+  adds-within : {move : Move Layout} → MoveWithin move → (stack : List (Frame Layout)) (numbers : Numbers) → move ≡ adds stack numbers → WithinFour stack
+  adds-within (within-adds {stack = other} f) stack numbers e = let same : other ≡ stack = cc in rw same at f
+  adds-within (within-joining f) stack numbers e = let z : _≡_ {A = ℕ} 0 1 = cc in absurd (omega arith)
+  adds-within within-disorders stack numbers e = let z : _≡_ {A = ℕ} 0 1 = cc in absurd (omega arith)
+  adds-within within-leaves stack numbers e = let z : _≡_ {A = ℕ} 0 1 = cc in absurd (omega arith)
 
-  joins-within : {move : Move Layout} → MoveWithin move → (stack : List (Frame Layout)) (start : ℕ) (stands : Standing) → move ≡ joinsAt stack start stands → WithinFour stack
-  joins-within (within-joining {stack = other} f) stack start stands e = let same : other ≡ stack = cc in rw same at f
-  joins-within (within-adds f) stack start stands e = let z : _≡_ {A = ℕ} 0 1 = cc in absurd (omega arith)
-  joins-within within-disorders stack start stands e = let z : _≡_ {A = ℕ} 0 1 = cc in absurd (omega arith)
-  joins-within within-leaves stack start stands e = let z : _≡_ {A = ℕ} 0 1 = cc in absurd (omega arith)
+  joins-within : {move : Move Layout} → MoveWithin move → (stack : List (Frame Layout)) (start : ℕ) (numbers : Numbers) → move ≡ joinsAt stack start numbers → WithinFour stack
+  joins-within (within-joining {stack = other} f) stack start numbers e = let same : other ≡ stack = cc in rw same at f
+  joins-within (within-adds f) stack start numbers e = let z : _≡_ {A = ℕ} 0 1 = cc in absurd (omega arith)
+  joins-within within-disorders stack start numbers e = let z : _≡_ {A = ℕ} 0 1 = cc in absurd (omega arith)
+  joins-within within-leaves stack start numbers e = let z : _≡_ {A = ℕ} 0 1 = cc in absurd (omega arith)
 
   comes-within : {S W : Type 0} (store : Store S W) {room : ℕ} {stack later : List (Frame Layout)} {s : S} {fields : Fields} → WithinFour stack → ComesTo (layoutRules accepts) store room stack s fields later → WithinFour later
   comes-within store f comes-here = f
-  comes-within store {s = s} f (comes-adding {f = x} next stands e c) = comes-within store (adds-within (decide-within (store .place s) (x .tag) f) next stands e) c
-  comes-within store {s = s} f (comes-joining {f = x} next start stands e c) = comes-within store (joins-within (decide-within (store .place s) (x .tag) f) next start stands e) c
+  comes-within store {s = s} f (comes-adding {f = x} next numbers e c) = comes-within store (adds-within (decide-within (store .place s) (x .tag) f) next numbers e) c
+  comes-within store {s = s} f (comes-joining {f = x} next start numbers e c) = comes-within store (joins-within (decide-within (store .place s) (x .tag) f) next start numbers e) c
 
   -- the run of a tag of a message's layout, wherever reading comes in it
   module _ {S W : Type 0} (store : Store S W) (layout : Layout) (shallow : nesting layout ≤ mostDepth) (tag : ℕ) (inner : Layout) (counts : groupOf tag layout ≡ entries-of inner) {room : ℕ} {s : S} {fields : Fields} where
-    pub run-within : (later : List (Frame Layout)) → ComesTo (layoutRules accepts) store room (run (record { level = inner; tag = tag; depth = 1 }) 0 ∷ []) s fields later → WithinFour later
+    pub run-within : (later : List (Frame Layout)) → ComesTo (layoutRules accepts) store room (run (outermost tag inner) 0 ∷ []) s fields later → WithinFour later
     run-within later c = comes-within store (within-run (omega (arith, group-nests tag layout inner counts)) within-none) c
 
     -- a tag that counts entries in an open entry starts their run: the stop is never met
     pub nested-runs : (above below : List (Frame Layout)) (group : OpenGroup Layout) (own : OpenEntry)
-        → ComesTo (layoutRules accepts) store room (run (record { level = inner; tag = tag; depth = 1 }) 0 ∷ []) s fields (above ++ (entry group own ∷ below))
+        → ComesTo (layoutRules accepts) store room (run (outermost tag inner) 0 ∷ []) s fields (above ++ (entry group own ∷ below))
         → (wanted : ℕ) (nested : Layout) → groupOf wanted (group .level) ≡ entries-of nested → (position : ℕ) → counting (group .depth) position (openedAs (groupOf wanted (group .level))) ≡ count nested position
     nested-runs above below group own c wanted nested e position =
         count-runs (group .depth) (group .level) (entry-within (below-within above (run-within _ c))) wanted nested e position

@@ -12,24 +12,24 @@ use Rattle.field_rules.specs.Fields.{Fields, unreadable, field, Each, each-fiel
 use Rattle.field_rules.specs.declared.Cause.{Cause}
 use Rattle.field_rules.specs.declared.Field.{Field}
 use Rattle.build_records.specs.declared.Record.{Record}
-use Rattle.build_group_rules.specs.Groups.{Rules, opens, Kind, plain, count, joins, wrong, ends, entryKind, OpenGroup, OpenEntry, Frame, run, entry, Standing, Move, adds, joinsAt, disorders, leaves, startingAt, reaching, standing, nested, inEntry, decide, entryRecord, Store, ended, refused, moved, walk, taking, andThen}
+use Rattle.build_group_rules.specs.Groups.{Rules, opens, Kind, plain, count, joins, wrong, ends, entryKind, OpenGroup, OpenEntry, Frame, run, entry, Numbers, Move, adds, joinsAt, disorders, leaves, reaching, numbersIn, nested, inEntry, decide, entryRecord, Store, ended, refused, moved, walk, taking, andThen}
 use Rattle.build_group_rules.specs.declared.Refusal.the-variants.{Malformed, TooManyFields, InvalidOrderInGroup}
 
 -- what a tag does to a stack with more below it
 unfoldable pub extended : {L : Type 0} → Move L → List (Frame L) → Move L → Move L
-extended (adds stack stands) below otherwise = adds (stack ++ below) stands
-extended (joinsAt stack start stands) below otherwise = joinsAt (stack ++ below) start stands
+extended (adds stack numbers) below otherwise = adds (stack ++ below) numbers
+extended (joinsAt stack start numbers) below otherwise = joinsAt (stack ++ below) start numbers
 extended (disorders group) below otherwise = disorders group
 extended leaves below otherwise = otherwise
 
 module _ {L : Type 0} (rules : Rules L) (here : ℕ) where
-  extended-run : (b c : Bool) (f g : Frame L) (stack below : List (Frame L)) (stands : Standing) (group : ℕ) (x otherwise : Move L) →
-      pick b (adds (f ∷ g ∷ (stack ++ below)) stands) (pick c (disorders group) (extended x below otherwise))
-      ≡ extended (pick b (adds (f ∷ g ∷ stack) stands) (pick c (disorders group) x)) below otherwise
+  extended-run : (b c : Bool) (f g : Frame L) (stack below : List (Frame L)) (numbers : Numbers) (group : ℕ) (x otherwise : Move L) →
+      pick b (adds (f ∷ g ∷ (stack ++ below)) numbers) (pick c (disorders group) (extended x below otherwise))
+      ≡ extended (pick b (adds (f ∷ g ∷ stack) numbers) (pick c (disorders group) x)) below otherwise
   unfolding extended
-  extended-run true c f g stack below stands group x otherwise = refl
-  extended-run false true f g stack below stands group x otherwise = refl
-  extended-run false false f g stack below stands group x otherwise = refl
+  extended-run true c f g stack below numbers group x otherwise = refl
+  extended-run false true f g stack below numbers group x otherwise = refl
+  extended-run false false f g stack below numbers group x otherwise = refl
 
   extended-entry : (group : OpenGroup L) (own : OpenEntry) (stack below : List (Frame L)) (tag : ℕ) (x otherwise : Move L) (kind : Kind L) →
       inEntry group own (stack ++ below) tag (extended x below otherwise) kind ≡ extended (inEntry group own stack tag x kind) below otherwise
@@ -44,7 +44,7 @@ module _ {L : Type 0} (rules : Rules L) (here : ℕ) where
   unfolding decide extended
   decide-append [] below tag = refl
   decide-append (run group entries ∷ stack) below tag =
-      rw (decide-append stack below tag) (extended-run (opens rules (group .level) tag) (eqb entries 0) (entry group (startingAt here (entries + 1))) (run group (entries + 1)) stack below (standing group (entries + 1)) (group .tag) (decide rules here stack tag) (decide rules here below tag))
+      rw (decide-append stack below tag) (extended-run (opens rules (group .level) tag) (eqb entries 0) (entry group (record { number = entries + 1; last = 0; start = here })) (run group (entries + 1)) stack below (numbersIn group (entries + 1)) (group .tag) (decide rules here stack tag) (decide rules here below tag))
   decide-append (entry group own ∷ stack) below tag =
       rw (decide-append stack below tag) (extended-entry group own stack below tag (decide rules here stack tag) (decide rules here below tag) (entryKind rules (group .level) (group .depth) (own .last) tag))
 
@@ -53,8 +53,8 @@ module _ {L S W : Type 0} (rules : Rules L) (store : Store S W) where
       ((stack : List (Frame L)) (s₁ : S) → walk rules store room (stack ++ below) s₁ rest ≡ andThen (walk rules store room stack s₁ rest) (λ room s f rest. taking rules store room below s f rest)) →
       (m : Move L) → moved store room s f rest (λ stack s₁. walk rules store room stack s₁ rest) (extended m below (decide rules (store .place s) below (f .tag))) ≡ andThen (moved store room s f rest (λ stack s₁. walk rules store room stack s₁ rest) m) (λ room s f rest. taking rules store room below s f rest)
   unfolding moved extended andThen taking
-  compose-move room s f rest below later (adds stack stands) = later stack (store .add (entryRecord (stands .depth) (stands .number) f) s)
-  compose-move room s f rest below later (joinsAt stack start stands) = later stack (store .join start (entryRecord (stands .depth) (stands .number) f) s)
+  compose-move room s f rest below later (adds stack numbers) = later stack (store .add (entryRecord (numbers .depth) (numbers .number) f) s)
+  compose-move room s f rest below later (joinsAt stack start numbers) = later stack (store .join start (entryRecord (numbers .depth) (numbers .number) f) s)
   compose-move room s f rest below later (disorders group) = refl
   compose-move room s f rest below later leaves = refl
 
@@ -83,9 +83,9 @@ module _ {L S W : Type 0} (rules : Rules L) (store : Store S W) where
   module _ (room : ℕ) (s : S) (f : Field) (rest : Fields) (group : OpenGroup L) (entries : ℕ) where
     pub run-entry : opens rules (group .level) (f .tag) ≡ true →
         taking rules store room (run group entries ∷ []) s f rest
-        ≡ andThen (walk rules store room (entry group (startingAt (store .place s) (entries + 1)) ∷ []) (store .add (entryRecord (group .depth) (entries + 1) f) s) rest) (λ room s f rest. taking rules store room (run group (entries + 1) ∷ []) s f rest)
+        ≡ andThen (walk rules store room (entry group (record { number = entries + 1; last = 0; start = store .place s }) ∷ []) (store .add (entryRecord (group .depth) (entries + 1) f) s) rest) (λ room s f rest. taking rules store room (run group (entries + 1) ∷ []) s f rest)
     unfolding taking decide moved
-    run-entry e = rw e (compose room (entry group (startingAt (store .place s) (entries + 1)) ∷ []) (run group (entries + 1) ∷ []) (store .add (entryRecord (group .depth) (entries + 1) f) s) rest)
+    run-entry e = rw e (compose room (entry group (record { number = entries + 1; last = 0; start = store .place s }) ∷ []) (run group (entries + 1) ∷ []) (store .add (entryRecord (group .depth) (entries + 1) f) s) rest)
 
     pub run-first : opens rules (group .level) (f .tag) ≡ false → entries ≡ 0 →
         taking rules store room (run group entries ∷ []) s f rest ≡ refused (InvalidOrderInGroup (f .tag) (group .tag)) (store .left s)
@@ -141,8 +141,8 @@ module _ {L S W : Type 0} (rules : Rules L) (store : Store S W) (P : ℕ → S �
       ((stack : List (Frame L)) (s₂ : S) → P room s₂ → walk rules store room stack s₂ rest ≡ ended f₁ rest₁ room₁ s₁ → Kept f₁ rest₁ room₁ s₁) →
       (m : Move L) → moved store room s f rest (λ stack s₂. walk rules store room stack s₂ rest) m ≡ ended f₁ rest₁ room₁ s₁ → Kept f₁ rest₁ room₁ s₁
   unfolding moved
-  keeps-move room s f rest p q qs f₁ rest₁ room₁ s₁ later (adds stack stands) e = later stack _ (on-add room _ s p) e
-  keeps-move room s f rest p q qs f₁ rest₁ room₁ s₁ later (joinsAt stack start stands) e = later stack _ (on-join room start _ s p) e
+  keeps-move room s f rest p q qs f₁ rest₁ room₁ s₁ later (adds stack numbers) e = later stack _ (on-add room _ s p) e
+  keeps-move room s f rest p q qs f₁ rest₁ room₁ s₁ later (joinsAt stack start numbers) e = later stack _ (on-join room start _ s p) e
   keeps-move room s f rest p q qs f₁ rest₁ room₁ s₁ later (disorders group) e = let z : _≡_ {A = ℕ} 0 1 = cc in absurd (omega arith)
   keeps-move room s f rest p q qs f₁ rest₁ room₁ s₁ later leaves e =
       let a : f ≡ f₁ = cc in

@@ -75,30 +75,30 @@ pub data Frame (L : Type 0) : Type 0 where
   run : OpenGroup L → ℕ → Frame L
   entry : OpenGroup L → OpenEntry → Frame L
 
--- where a record stands in groups: its depth and the number of its entry
-pub record Standing : Type 0 where
+-- the numbers of a record in a group: its depth, and that of its entry
+pub record Numbers : Type 0 where
   pub depth : ℕ
   pub number : ℕ
 
--- what a tag does: it makes a record that stands in an entry; it joins the entry that starts at a place; it is out of order in the group
+-- what a tag does: it makes a record with these numbers; it joins the entry that starts at a place; it is out of order in the group
 -- of a count's tag; or nothing that is open takes it
 pub data Move (L : Type 0) : Type 0 where
-  adds : List (Frame L) → Standing → Move L
-  joinsAt : List (Frame L) → ℕ → Standing → Move L
+  adds : List (Frame L) → Numbers → Move L
+  joinsAt : List (Frame L) → ℕ → Numbers → Move L
   disorders : ℕ → Move L
   leaves : Move L
-
--- the entry whose records start at a place, with no declared tag as yet
-abbrev pub startingAt : ℕ → ℕ → OpenEntry
-startingAt start number = record { number = number; last = 0; start = start }
 
 -- the entry once a tag of a position was taken
 abbrev pub reaching : OpenEntry → ℕ → OpenEntry
 reaching own position = record { number = own .number; last = position; start = own .start }
 
--- the records of an entry stand at the group's depth
-abbrev pub standing : {L : Type 0} → OpenGroup L → ℕ → Standing
-standing group number = record { depth = group .depth; number = number }
+-- the numbers of an entry's records, which stand at the depth of the group
+abbrev pub numbersIn : {L : Type 0} → OpenGroup L → ℕ → Numbers
+numbersIn group number = record { depth = group .depth; number = number }
+
+-- the group that a count outside all groups starts
+abbrev pub outermost : {L : Type 0} → ℕ → L → OpenGroup L
+outermost tag inner = record { level = inner; tag = tag; depth = 1 }
 
 -- the group that a count in the entry of a group starts
 abbrev pub nested : {L : Type 0} → OpenGroup L → ℕ → L → OpenGroup L
@@ -107,9 +107,9 @@ nested group tag inner = record { level = inner; tag = tag; depth = group .depth
 module _ {L : Type 0} (group : OpenGroup L) (own : OpenEntry) (below : List (Frame L)) (tag : ℕ) (otherwise : Move L) where
   -- what a tag of each kind does to the entry
   unfoldable pub inEntry : Kind L → Move L
-  inEntry (plain position) = adds (entry group (reaching own position) ∷ below) (standing group (own .number))
-  inEntry (count inner position) = adds (run (nested group tag inner) 0 ∷ entry group (reaching own position) ∷ below) (standing group (own .number))
-  inEntry joins = joinsAt (entry group own ∷ below) (own .start) (standing group (own .number))
+  inEntry (plain position) = adds (entry group (reaching own position) ∷ below) (numbersIn group (own .number))
+  inEntry (count inner position) = adds (run (nested group tag inner) 0 ∷ entry group (reaching own position) ∷ below) (numbersIn group (own .number))
+  inEntry joins = joinsAt (entry group own ∷ below) (own .start) (numbersIn group (own .number))
   inEntry wrong = disorders (group .tag)
   inEntry ends = otherwise
 
@@ -120,7 +120,7 @@ module _ {L : Type 0} (rules : Rules L) (here : ℕ) where
   decide [] tag = leaves
   decide (run group entries ∷ below) tag =
       pick (opens rules (group .level) tag)
-      (adds (entry group (startingAt here (entries + 1)) ∷ run group (entries + 1) ∷ below) (standing group (entries + 1)))
+      (adds (entry group (record { number = entries + 1; last = 0; start = here }) ∷ run group (entries + 1) ∷ below) (numbersIn group (entries + 1)))
       (pick (eqb entries 0) (disorders (group .tag)) (decide below tag))
   decide (entry group own ∷ below) tag =
       inEntry group own below tag (decide below tag) (entryKind rules (group .level) (group .depth) (own .last) tag)
@@ -144,8 +144,8 @@ pub data RunOutcome (S W : Type 0) : Type 0 where
 module _ {L S W : Type 0} (store : Store S W) (room : ℕ) (s : S) (f : Field) (rest : Fields) where
   -- what is done with a field, and how reading goes on
   unfoldable pub moved : (List (Frame L) → S → RunOutcome S W) → Move L → RunOutcome S W
-  moved on (adds stack stands) = on stack (store .add (entryRecord (stands .depth) (stands .number) f) s)
-  moved on (joinsAt stack start stands) = on stack (store .join start (entryRecord (stands .depth) (stands .number) f) s)
+  moved on (adds stack numbers) = on stack (store .add (entryRecord (numbers .depth) (numbers .number) f) s)
+  moved on (joinsAt stack start numbers) = on stack (store .join start (entryRecord (numbers .depth) (numbers .number) f) s)
   moved on (disorders group) = refused (InvalidOrderInGroup (f .tag) group) (store .left s)
   moved on leaves = ended f rest room s
 

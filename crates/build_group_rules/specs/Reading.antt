@@ -22,7 +22,7 @@ use Rattle.build_records.specs.Records.{recordsOf, onRecords, inserted, between
 use Rattle.build_records.specs.declared.Record.{Record}
 use Rattle.build_records.specs.declared.Standing.{Standing}
 use Rattle.build_records.specs.declared.Standing.the-variants.{At as held-at, Nowhere as not-held}
-use Rattle.build_group_rules.specs.Groups.{Opened, none, opened, Rules, isDelimiter, Kind, plain, count, joins, wrong, ends, entryKind, OpenGroup, run, entry, startingAt, entryRecord, Store, RunOutcome, ended, refused, walk}
+use Rattle.build_group_rules.specs.Groups.{Opened, none, opened, Rules, isDelimiter, Kind, plain, count, joins, wrong, ends, entryKind, OpenGroup, run, entry, entryRecord, Store, RunOutcome, ended, refused, walk}
 use Rattle.build_group_rules.specs.declared.Group.{Group}
 use Rattle.build_group_rules.specs.declared.Progress.{Progress}
 use Rattle.build_group_rules.specs.declared.Refusal.{Refusal}
@@ -158,4 +158,4 @@ module _ (message : List ℕ) (config : Config) (table : List ℕ) (known : ℕ 
   -- an entry of a number, from its delimiter on
   unfoldable pub entryOf : Group → ℕ → Field → Progress → List ℕ → RunOutcome Memory (List ℕ)
   entryOf group number delimiter progress words =
-      walk (tableRules config table known) wordStore (progress .room) (entry (openGroup group) (startingAt (progress .place) number) ∷ []) (addedWords (entryRecord (group .depth) number delimiter) (memory progress words)) (fieldsFrom (config .mode) message (delimiter .next))
+      walk (tableRules config table known) wordStore (progress .room) (entry (openGroup group) (record { number = number; last = 0; start = progress .place }) ∷ []) (addedWords (entryRecord (group .depth) number delimiter) (memory progress words)) (fieldsFrom (config .mode) message (delimiter .next))

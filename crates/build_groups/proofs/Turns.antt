@@ -18,7 +18,7 @@ use Rattle.dictionary_layout_rules.specs.declared.Position.{Position}
 use Rattle.dictionary_layout_rules.specs.declared.Position.the-variants.{At as position-at, Nowhere}
 use Rattle.build_records.specs.Records.{onRecords, inserted, storedBetween}
 use Rattle.build_records.specs.declared.Record.{Record}
-use Rattle.build_group_rules.specs.Groups.{Opened, none, opened, Rules, opens, plain, count, joins, wrong, ends, counting, declared, entryKind, OpenEntry, Frame, run, entry, startingAt, entryRecord, RunOutcome, walk, taking}
+use Rattle.build_group_rules.specs.Groups.{Opened, none, opened, Rules, opens, plain, count, joins, wrong, ends, counting, declared, entryKind, OpenEntry, Frame, run, entry, entryRecord, RunOutcome, walk, taking}
 use Rattle.build_group_rules.specs.GroupLaws.{run-entry, run-first, run-over, entry-plain, entry-count, entry-joins, entry-wrong, entry-ends}
 use Rattle.build_group_rules.specs.Reading.{tableRules, opensAt, meant, kindAt, Memory, memory, addedWords, makes, standingIn, joinedWords, wordStore, openGroup, further, nextReading, toldBy, runOf, entryOf, Fits, FitsAt}
 use Rattle.build_group_rules.specs.ReadingLaws.{going, walk-next, going-on, Follows, roomOf, next-follows, told-follows}
@@ -85,7 +85,7 @@ module _ (message : List ℕ) (config : Config) (table : List ℕ) (known : ℕ 
 
   pub entry-starts : (number : ℕ) (delimiter : Field) (progress begun : Progress) (words words₁ : List ℕ) (r : Record) (reading : Reading) →
       r ≡ entryRecord (group .depth) number delimiter → begun ≡ further 1 progress → words₁ ≡ onRecords (inserted (progress .records) (progress .place) r) words → reading ≡ nextReading (fieldAt (config .mode) message (delimiter .next)) begun →
-      entryOf message config table known group number delimiter progress words ≡ entryLeft (startingAt (progress .place) number) reading words₁
+      entryOf message config table known group number delimiter progress words ≡ entryLeft (record { number = number; last = 0; start = progress .place }) reading words₁
   unfolding entryOf addedWords memory further
   entry-starts number delimiter progress begun words words₁ r reading a b c d =
       rw (d, c, b, a) (walk-next _ _ _ _ (further 1 progress) (onRecords (inserted (progress .records) (progress .place) (entryRecord (group .depth) number delimiter)) words) (delimiter .next))

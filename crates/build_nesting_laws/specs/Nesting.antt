@@ -16,7 +16,7 @@ use Rattle.dictionary_layout_rules.specs.declared.Position.{Position}
 use Rattle.dictionary_layout_rules.specs.declared.Position.the-variants.{At, Nowhere}
 use Rattle.build_records.specs.Records.{stored}
 use Rattle.build_records.specs.declared.Record.{Record}
-use Rattle.build_group_rules.specs.Groups.{Opened, none, opened, Rules, opens, Kind, plain, count, joins, wrong, ends, counting, declared, entryKind, Frame, run, entry, Move, adds, joinsAt, disorders, leaves, inEntry, decide, entryRecord, ended, moved, walk}
+use Rattle.build_group_rules.specs.Groups.{Opened, none, opened, Rules, opens, Kind, plain, count, joins, wrong, ends, counting, declared, entryKind, OpenGroup, Frame, run, entry, Numbers, Move, adds, joinsAt, disorders, leaves, numbersIn, nested, inEntry, decide, entryRecord, ended, moved, walk}
 use Rattle.build_group_rules.specs.Reading.{joinedList, listStore}
 use Rattle.build_nesting_laws.specs.Formed.{entriesOf, fieldsOf, Own, Formed, no-entry, next-entry, starts, rises, hangs, user}
 
@@ -72,67 +72,74 @@ module _ {L : Type 0} (rules : Rules L) where
       go true = says-ends
       go false = declared-says level depth last tag (rules .position level tag) refl
 
-  module _ (base : List Record) (bottom : L) (base-depth : ℕ) where
+  module _ (base : List Record) (bottom : OpenGroup L) where
     -- an entry, and a count that rises behind it
-    pub record Counted (level : L) (depth number last position : ℕ) (own : List Record) (c : Record) : Type 0 where
-      pub entry-formed : Formed rules (fieldsOf level depth number last) own
-      pub placed : rules .position level (c .tag) ≡ At position
+    pub record Counted (group : OpenGroup L) (number last position : ℕ) (own : List Record) (c : Record) : Type 0 where
+      pub entry-formed : Formed rules (fieldsOf (group .level) (group .depth) number last) own
+      pub placed : rules .position (group .level) (c .tag) ≡ At position
       pub rises-to : last < position
-      pub count-own : Own depth number c
+      pub count-own : Own (group .depth) number c
 
     -- what is open, and the records so far
     pub data Open : List (Frame L) → List Record → Type 0 where
-      first-run : {group entries : ℕ} (rs : List Record) → Formed rules (entriesOf bottom base-depth entries) rs → Open (run bottom group base-depth entries ∷ []) (base ++ rs)
-      nested-run : {level inner : L} {group depth number last position entries : ℕ} {stack : List (Frame L)} (c : Record) (before own more : List Record) → Open (run level group depth number ∷ stack) before → Counted level depth (number + 1) last position own c → rules .group level (c .tag) ≡ opened inner → Formed rules (entriesOf inner (depth + 1) entries) more →
-          Open (run inner (c .tag) (depth + 1) entries ∷ entry level group depth (number + 1) position (length before) ∷ run level group depth (number + 1) ∷ stack) ((before ++ (own ++ (c ∷ []))) ++ more)
-      in-entry : {level : L} {group depth number last : ℕ} {stack : List (Frame L)} (before own : List Record) → Open (run level group depth number ∷ stack) before → Formed rules (fieldsOf level depth (number + 1) last) own →
-          Open (entry level group depth (number + 1) last (length before) ∷ run level group depth (number + 1) ∷ stack) (before ++ own)
+      first-run : {entries : ℕ} (rs : List Record) → Formed rules (entriesOf (bottom .level) (bottom .depth) entries) rs → Open (run bottom entries ∷ []) (base ++ rs)
+      nested-run : {group : OpenGroup L} {inner : L} {number last position entries : ℕ} {stack : List (Frame L)} (c : Record) (before own more : List Record) → Open (run group number ∷ stack) before → Counted group (number + 1) last position own c
+          → rules .group (group .level) (c .tag) ≡ opened inner → Formed rules (entriesOf inner (group .depth + 1) entries) more →
+          Open (run (nested group (c .tag) inner) entries ∷ entry group (record { number = number + 1; last = position; start = length before }) ∷ run group (number + 1) ∷ stack)
+          ((before ++ (own ++ (c ∷ []))) ++ more)
+      in-entry : {group : OpenGroup L} {number last : ℕ} {stack : List (Frame L)} (before own : List Record) → Open (run group number ∷ stack) before → Formed rules (fieldsOf (group .level) (group .depth) (number + 1) last) own →
+          Open (entry group (record { number = number + 1; last = last; start = length before }) ∷ run group (number + 1) ∷ stack) (before ++ own)
 
     -- an entry is over, and counts for its run
-    close-entry : {level : L} {group depth number last : ℕ} {stack : List (Frame L)} {before : List Record} (own : List Record) → Open (run level group depth number ∷ stack) before → Formed rules (fieldsOf level depth (number + 1) last) own → Open (run level group depth (number + 1) ∷ stack) (before ++ own)
+    close-entry : {group : OpenGroup L} {number last : ℕ} {stack : List (Frame L)} {before : List Record} (own : List Record) → Open (run group number ∷ stack) before → Formed rules (fieldsOf (group .level) (group .depth) (number + 1) last) own → Open (run group (number + 1) ∷ stack) (before ++ own)
     close-entry own (first-run rs f) e = rw (append-assoc base rs own) (first-run (rs ++ own) (next-entry f e))
     close-entry own (nested-run c before entry-own more o f g m) e = rw (append-assoc (before ++ (entry-own ++ (c ∷ []))) more own) (nested-run c before entry-own (more ++ own) o f g (next-entry m e))
 
     -- a nested run is over, and belongs to its entry
-    close-run : {level inner : L} {group depth number last position entries : ℕ} {stack : List (Frame L)} (c : Record) (before own more : List Record) → Open (run level group depth number ∷ stack) before → Counted level depth (number + 1) last position own c → rules .group level (c .tag) ≡ opened inner → Formed rules (entriesOf inner (depth + 1) entries) more →
-        Open (entry level group depth (number + 1) position (length before) ∷ run level group depth (number + 1) ∷ stack) ((before ++ (own ++ (c ∷ []))) ++ more)
+    close-run : {group : OpenGroup L} {inner : L} {number last position entries : ℕ} {stack : List (Frame L)} (c : Record) (before own more : List Record) → Open (run group number ∷ stack) before → Counted group (number + 1) last position own c
+          → rules .group (group .level) (c .tag) ≡ opened inner → Formed rules (entriesOf inner (group .depth + 1) entries) more →
+        Open (entry group (record { number = number + 1; last = position; start = length before }) ∷ run group (number + 1) ∷ stack) ((before ++ (own ++ (c ∷ []))) ++ more)
     close-run c before own more o f g m = rw (append-assoc before (own ++ (c ∷ [])) more) (in-entry before ((own ++ (c ∷ [])) ++ more) o (hangs _ c (f .entry-formed) (f .placed) (f .rises-to) (f .count-own) g m))
 
     -- what a move leaves open
     data Goes (rs : List Record) (f : Field) : Move L → Type 0 where
-      goes-adds : {stack : List (Frame L)} {depth number : ℕ} → Open stack (rs ++ (entryRecord depth number f ∷ [])) → Goes rs f (adds stack depth number)
-      goes-joins : {stack : List (Frame L)} {start depth number : ℕ} → Open stack (joinedList start (entryRecord depth number f) rs) → Goes rs f (joinsAt stack start depth number)
+      goes-adds : {stack : List (Frame L)} {numbers : Numbers} → Open stack (rs ++ (entryRecord (numbers .depth) (numbers .number) f ∷ [])) → Goes rs f (adds stack numbers)
+      goes-joins : {stack : List (Frame L)} {start : ℕ} {numbers : Numbers} → Open stack (joinedList start (entryRecord (numbers .depth) (numbers .number) f) rs)
+          → Goes rs f (joinsAt stack start numbers)
       goes-disorders : {group : ℕ} → Goes rs f (disorders group)
       goes-leaves : Goes rs f leaves
 
     module _ (f : Field) where
-      opens-entry : {level : L} {group depth entries : ℕ} {stack : List (Frame L)} (rs : List Record) → Open (run level group depth entries ∷ stack) rs → (otherwise : Move L) → Goes rs f otherwise → (b c : Bool) → opens rules level (f .tag) ≡ b →
-          Goes rs f (pick b (adds (entry level group depth (entries + 1) 0 (length rs) ∷ run level group depth (entries + 1) ∷ stack) depth (entries + 1)) (pick c (disorders group) otherwise))
+      opens-entry : {group : OpenGroup L} {entries : ℕ} {stack : List (Frame L)} (rs : List Record) → Open (run group entries ∷ stack) rs → (otherwise : Move L) → Goes rs f otherwise → (b c : Bool)
+          → opens rules (group .level) (f .tag) ≡ b →
+          Goes rs f (pick b (adds (entry group (record { number = entries + 1; last = 0; start = length rs }) ∷ run group (entries + 1) ∷ stack) (numbersIn group (entries + 1))) (pick c (disorders (group .tag)) otherwise))
       unfolding entryRecord
-      opens-entry {depth = depth} {entries = entries} rs o otherwise d true c e = goes-adds (in-entry rs (entryRecord depth (entries + 1) f ∷ []) o (starts e (own-record depth (entries + 1) f)))
+      opens-entry {group = group} {entries = entries} rs o otherwise d true c e =
+          goes-adds (in-entry rs (entryRecord (group .depth) (entries + 1) f ∷ []) o (starts e (own-record (group .depth) (entries + 1) f)))
       opens-entry rs o otherwise d false true e = goes-disorders
       opens-entry rs o otherwise d false false e = d
 
-      module _ {level : L} {group depth number last : ℕ} {stack : List (Frame L)} (before own : List Record) (o : Open (run level group depth number ∷ stack) before) (fm : Formed rules (fieldsOf level depth (number + 1) last) own) where
-        open-plain : (position : ℕ) → rules .position level (f .tag) ≡ At position → last < position →
-            Open (entry level group depth (number + 1) position (length before) ∷ run level group depth (number + 1) ∷ stack) ((before ++ own) ++ (entryRecord depth (number + 1) f ∷ []))
+      module _ {group : OpenGroup L} {number last : ℕ} {stack : List (Frame L)} (before own : List Record) (o : Open (run group number ∷ stack) before) (fm : Formed rules (fieldsOf (group .level) (group .depth) (number + 1) last) own) where
+        open-plain : (position : ℕ) → rules .position (group .level) (f .tag) ≡ At position → last < position →
+            Open (entry group (record { number = number + 1; last = position; start = length before }) ∷ run group (number + 1) ∷ stack) ((before ++ own) ++ (entryRecord (group .depth) (number + 1) f ∷ []))
         unfolding entryRecord
-        open-plain position p l = rw (append-assoc before own (entryRecord depth (number + 1) f ∷ [])) (in-entry before (own ++ (entryRecord depth (number + 1) f ∷ [])) o (rises position fm p l (own-record depth (number + 1) f)))
+        open-plain position p l = rw (append-assoc before own (entryRecord (group .depth) (number + 1) f ∷ [])) (in-entry before (own ++ (entryRecord (group .depth) (number + 1) f ∷ [])) o (rises position fm p l (own-record (group .depth) (number + 1) f)))
 
-        open-count : (inner : L) (position : ℕ) → rules .position level (f .tag) ≡ At position → last < position → rules .group level (f .tag) ≡ opened inner →
-            Open (run inner (f .tag) (depth + 1) 0 ∷ entry level group depth (number + 1) position (length before) ∷ run level group depth (number + 1) ∷ stack) ((before ++ own) ++ (entryRecord depth (number + 1) f ∷ []))
+        open-count : (inner : L) (position : ℕ) → rules .position (group .level) (f .tag) ≡ At position → last < position → rules .group (group .level) (f .tag) ≡ opened inner →
+            Open (run (nested group (f .tag) inner) 0 ∷ entry group (record { number = number + 1; last = position; start = length before }) ∷ run group (number + 1) ∷ stack)
+            ((before ++ own) ++ (entryRecord (group .depth) (number + 1) f ∷ []))
         unfolding entryRecord
         open-count inner position p l g =
-            let counted = nested-run (entryRecord depth (number + 1) f) before own [] o (record { entry-formed = fm; placed = p; rises-to = l; count-own = own-record depth (number + 1) f }) g no-entry in
-            rw (append-assoc before own (entryRecord depth (number + 1) f ∷ [])) (rw (append-nil (before ++ (own ++ (entryRecord depth (number + 1) f ∷ [])))) at counted)
+            let counted = nested-run (entryRecord (group .depth) (number + 1) f) before own [] o (record { entry-formed = fm; placed = p; rises-to = l; count-own = own-record (group .depth) (number + 1) f }) g no-entry in
+            rw (append-assoc before own (entryRecord (group .depth) (number + 1) f ∷ [])) (rw (append-nil (before ++ (own ++ (entryRecord (group .depth) (number + 1) f ∷ [])))) at counted)
 
-        open-user : rules .position level (f .tag) ≡ Nowhere → rules .accepts (f .tag) ≡ true →
-            Open (entry level group depth (number + 1) last (length before) ∷ run level group depth (number + 1) ∷ stack) (joinedList (length before) (entryRecord depth (number + 1) f) (before ++ own))
+        open-user : rules .position (group .level) (f .tag) ≡ Nowhere → rules .accepts (f .tag) ≡ true →
+            Open (entry group (record { number = number + 1; last = last; start = length before }) ∷ run group (number + 1) ∷ stack) (joinedList (length before) (entryRecord (group .depth) (number + 1) f) (before ++ own))
         unfolding entryRecord
-        open-user p a = rw (join-own before own (entryRecord depth (number + 1) f)) (in-entry before (stored (entryRecord depth (number + 1) f) own) o (user fm p a (own-record depth (number + 1) f)))
+        open-user p a = rw (join-own before own (entryRecord (group .depth) (number + 1) f)) (in-entry before (stored (entryRecord (group .depth) (number + 1) f) own) o (user fm p a (own-record (group .depth) (number + 1) f)))
 
-        takes-field : (otherwise : Move L) → Goes (before ++ own) f otherwise → {k : Kind L} → Says level last (f .tag) k →
-            Goes (before ++ own) f (inEntry level group depth (number + 1) last (length before) (run level group depth (number + 1) ∷ stack) (f .tag) otherwise k)
+        takes-field : (otherwise : Move L) → Goes (before ++ own) f otherwise → {k : Kind L} → Says (group .level) last (f .tag) k →
+            Goes (before ++ own) f (inEntry group (record { number = number + 1; last = last; start = length before }) (run group (number + 1) ∷ stack) (f .tag) otherwise k)
         unfolding inEntry
         takes-field otherwise d (says-plain {position} p l) = goes-adds (open-plain position p l)
         takes-field otherwise d (says-count {inner} {position} p l g) = goes-adds (open-count inner position p l g)
@@ -142,11 +149,11 @@ module _ {L : Type 0} (rules : Rules L) where
 
       step-frame : {frame : Frame L} {below : List (Frame L)} {rs : List Record} → Open (frame ∷ below) rs → ((rs₁ : List Record) → Open below rs₁ → Goes rs₁ f (decide rules (length rs₁) below (f .tag))) → Goes rs f (decide rules (length rs) (frame ∷ below) (f .tag))
       unfolding decide
-      step-frame (first-run {group} {entries} rs fm) later = opens-entry (base ++ rs) (first-run rs fm) leaves goes-leaves (opens rules bottom (f .tag)) (eqb entries 0) refl
+      step-frame (first-run {entries} rs fm) later = opens-entry (base ++ rs) (first-run rs fm) leaves goes-leaves (opens rules (bottom .level) (f .tag)) (eqb entries 0) refl
       step-frame (nested-run {inner = inner} {entries = entries} c before own more o fm g m) later =
           opens-entry ((before ++ (own ++ (c ∷ []))) ++ more) (nested-run c before own more o fm g m) _ (later _ (close-run c before own more o fm g m)) (opens rules inner (f .tag)) (eqb entries 0) refl
-      step-frame (in-entry {level = level} {depth = depth} {last = last} before own o fm) later =
-          takes-field before own o fm _ (later _ (close-entry own o fm)) (kind-says level depth last (f .tag))
+      step-frame (in-entry {group = group} {last = last} before own o fm) later =
+          takes-field before own o fm _ (later _ (close-entry own o fm)) (kind-says (group .level) (group .depth) last (f .tag))
 
       step : (stack : List (Frame L)) (rs : List Record) → Open stack rs → Goes rs f (decide rules (length rs) stack (f .tag))
       step [] rs o = unfold decide in goes-leaves
@@ -179,7 +186,7 @@ module _ {L : Type 0} (rules : Rules L) where
       pub entries : ℕ
       pub records : List Record
       pub whole : rs ≡ base ++ records
-      pub formed : Formed rules (entriesOf bottom base-depth entries) records
+      pub formed : Formed rules (entriesOf (bottom .level) (bottom .depth) entries) records
 
     close-frame : {frame : Frame L} {below : List (Frame L)} {rs : List Record} → Open (frame ∷ below) rs → ((rs₁ : List Record) → Open below rs₁ → Read rs₁) → Read rs
     close-frame (first-run rs fm) later = record { entries = _; records = rs; whole = refl; formed = fm }
@@ -196,8 +203,8 @@ module _ {L : Type 0} (rules : Rules L) where
     close-all (frame ∷ below) rs o = close-frame o (λ rs₁ o₁. close-all below rs₁ o₁)
 
     -- a run that was read to its end
-    pub run-formed : (room group : ℕ) (fields : Fields) (f : Field) (rest : Fields) (room₁ : ℕ) (rs : List Record) → walk rules listStore room (run bottom group base-depth 0 ∷ []) base fields ≡ ended f rest room₁ rs → Read rs
-    run-formed room group fields f rest room₁ rs e =
-        let begun : Open (run bottom group base-depth 0 ∷ []) (base ++ []) = first-run [] no-entry in
-        let w = walk-open room (run bottom group base-depth 0 ∷ []) base fields (rw (append-nil base) at begun) f rest room₁ rs e in
+    pub run-formed : (room : ℕ) (fields : Fields) (f : Field) (rest : Fields) (room₁ : ℕ) (rs : List Record) → walk rules listStore room (run bottom 0 ∷ []) base fields ≡ ended f rest room₁ rs → Read rs
+    run-formed room fields f rest room₁ rs e =
+        let begun : Open (run bottom 0 ∷ []) (base ++ []) = first-run [] no-entry in
+        let w = walk-open room (run bottom 0 ∷ []) base fields (rw (append-nil base) at begun) f rest room₁ rs e in
         close-all (w .stack) rs (w .still)
