@@ -9,7 +9,7 @@ use Rattle.field_rules.specs.Fields.{Fields, unreadable, field, fieldsFrom, Eac
 use Rattle.field_rules.specs.declared.Field.{Field}
 use Rattle.build_records.specs.Records.{stored}
 use Rattle.build_records.specs.declared.Record.{Record}
-use Rattle.build_group_rules.specs.Groups.{Rules, run, RunOutcome, walk}
+use Rattle.build_group_rules.specs.Groups.{Rules, run, outermost, RunOutcome, walk}
 use Rattle.build_group_rules.specs.Groups.{ended as ran, refused as stops}
 use Rattle.build_group_rules.specs.GroupLaws.{keeps}
 use Rattle.build_group_rules.specs.Reading.{listStore}
@@ -38,16 +38,16 @@ module _ {L : Type 0} (rules : Rules L) (demands : Demands L) where
   -- a run reads at least the field that ends it
   pub run-falls : (inner : L) (tag : ℕ) → Falls (runFrom rules demands inner tag)
   unfolding runFrom ranAs checked
-  run-falls inner tag rest after room left f records e = by-outcome (walk rules listStore room (run inner tag 1 0 ∷ []) [] rest) refl e
+  run-falls inner tag rest after room left f records e = by-outcome (walk rules listStore room (run (outermost tag inner) 0 ∷ []) [] rest) refl e
     where
       by-lack : (g : Field) (behind : Fields) (here : ℕ) (entries : List Record) (lack : Lack) → checked g behind here entries lack ≡ ended f after left records → here ≡ left
       by-lack g behind here entries Complete e = cc
       by-lack g behind here entries (Missing wanted group) e = let z : _≡_ {A = ℕ} 0 1 = cc in absurd (omega arith)
 
-      by-outcome : (o : RunOutcome (List Record) (List Record)) → walk rules listStore room (run inner tag 1 0 ∷ []) [] rest ≡ o → ranAs rules demands inner tag o ≡ ended f after left records → left < room
+      by-outcome : (o : RunOutcome (List Record) (List Record)) → walk rules listStore room (run (outermost tag inner) 0 ∷ []) [] rest ≡ o → ranAs rules demands inner tag o ≡ ended f after left records → left < room
       by-outcome (stops refusal entries) w e = let z : _≡_ {A = ℕ} 0 1 = cc in absurd (omega arith)
       by-outcome (ran g behind here entries) w e =
-          let k = keeps rules listStore (λ n s. n ≤ room) (λ (f : Field). f .tag ≡ f .tag) (λ n r s h. omega arith) (λ n start r s h. omega arith) room (run inner tag 1 0 ∷ []) [] rest (each-field-is rest) (omega arith) g behind here entries w in
+          let k = keeps rules listStore (λ n s. n ≤ room) (λ (f : Field). f .tag ≡ f .tag) (λ n r s h. omega arith) (λ n start r s h. omega arith) room (run (outermost tag inner) 0 ∷ []) [] rest (each-field-is rest) (omega arith) g behind here entries w in
           let same = by-lack g behind here entries (runLack demands 4 inner tag 1 entries) e in
           omega (arith, k .holds)
 

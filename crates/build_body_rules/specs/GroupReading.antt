@@ -14,7 +14,7 @@ use Rattle.build_records.specs.Records.{recordsOf, between, stride}
 use Rattle.build_records.specs.WordLaws.{records-length}
 use Rattle.build_records.specs.RecordLaws.{between-parts}
 use Rattle.build_records.specs.declared.Record.{Record}
-use Rattle.build_group_rules.specs.Groups.{run, RunOutcome, ended, refused, walk}
+use Rattle.build_group_rules.specs.Groups.{run, outermost, RunOutcome, ended, refused, walk}
 use Rattle.build_group_rules.specs.Reading.{Memory, memory, listStore, tableRules, toldBy, runOf, Fits, answerOf}
 use Rattle.build_group_rules.specs.ReadingLaws.{roomOf, told-follows}
 use Rattle.build_group_rules.specs.declared.Reading.{Reading}
@@ -67,7 +67,7 @@ module _ (message : List ℕ) (config : Config) (table : List ℕ) (known : ℕ 
   start = record { room = room; records = opening .records; place = opening .place }
 
   abbrev pub alone : RunOutcome (List Record) (List Record)
-  alone = walk (tableRules config table known) listStore room (run inner tag 1 0 ∷ []) [] (fieldsFrom (config .mode) message cursor)
+  alone = walk (tableRules config table known) listStore room (run (outermost tag inner) 0 ∷ []) [] (fieldsFrom (config .mode) message cursor)
 
   abbrev before : List Record
   before = take (opening .place) (recordsOf mid)
@@ -91,7 +91,7 @@ module _ (message : List ℕ) (config : Config) (table : List ℕ) (known : ℕ 
 
   agrees : (reading : Reading) → toldBy (config .mode) message reading exit ≡ runOf message config table known (record { level = inner; tag = tag; depth = 1 }) cursor start mid → Agrees before after (toldBy (config .mode) message reading exit) alone
   unfolding runOf shifted
-  agrees reading told = rw told (walk-agrees before after (tableRules config table known) room (run inner tag 1 0 ∷ []) (memory start mid) [] (fieldsFrom (config .mode) message cursor) stands)
+  agrees reading told = rw told (walk-agrees before after (tableRules config table known) room (run (outermost tag inner) 0 ∷ []) (memory start mid) [] (fieldsFrom (config .mode) message cursor) stands)
 
   front-kept : take (length before) (recordsOf exit) ≡ before → partOf 0 from exit ≡ partOf 0 from entry
   unfolding partOf
@@ -125,7 +125,7 @@ module _ (message : List ℕ) (config : Config) (table : List ℕ) (known : ℕ 
   pub group-ended : Fits message start → (f : Field) (p : Progress) → toldBy (config .mode) message (At f p) exit ≡ runOf message config table known (record { level = inner; tag = tag; depth = 1 }) cursor start mid → GroupEnded f p
   unfolding toldBy memory partOf roomOf runOf
   group-ended short f p told =
-      let follows = told-follows (tableRules config table known) (config .mode) message (run inner tag 1 0 ∷ []) cursor start mid short (At f p) exit told in
+      let follows = told-follows (tableRules config table known) (config .mode) message (run (outermost tag inner) 0 ∷ []) cursor start mid short (At f p) exit told in
       let at = follows .fits f p refl in
       let a = agrees-ended before after alone (agrees (At f p) told) in
       let s = a .stands in

@@ -8,7 +8,7 @@ use Rattle.field_rules.specs.declared.Field.{Field}
 use Rattle.build_records.specs.declared.Record.{Record}
 use Rattle.dictionary_layout_rules.specs.declared.Position.{Position}
 use Rattle.dictionary_layout_rules.specs.declared.Position.the-variants.{At, Nowhere}
-use Rattle.build_group_rules.specs.Groups.{Opened, none, opened, Rules, run, RunOutcome, walk}
+use Rattle.build_group_rules.specs.Groups.{Opened, none, opened, Rules, run, outermost, RunOutcome, walk}
 use Rattle.build_group_rules.specs.Groups.{ended as ran, refused as stops}
 use Rattle.build_group_rules.specs.Reading.{listStore, answerOf}
 use Rattle.build_required_rules.specs.Required.{Demands, runLack}
@@ -52,7 +52,7 @@ module _ {L : Type 0} (rules : Rules L) (demands : Demands L) where
 
   -- the run of a count
   unfoldable pub runFrom : L → ℕ → Fields → ℕ → Reading
-  runFrom inner tag rest room = ranAs inner tag (walk rules listStore room (run inner tag 1 0 ∷ []) [] rest)
+  runFrom inner tag rest room = ranAs inner tag (walk rules listStore room (run (outermost tag inner) 0 ∷ []) [] rest)
 
   -- the body of a message with a layout
   unfoldable pub bodyOf : List ℕ → L → Body L

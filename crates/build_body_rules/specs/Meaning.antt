@@ -15,7 +15,7 @@ use Rattle.dictionary_layout_rules.specs.declared.Position.the-variants.{At, No
 use Rattle.build_records.specs.Records.{stored}
 use Rattle.build_records.specs.declared.Record.{Record}
 use Rattle.build_group_rules.specs.Alike.{OpenedAlike, none-alike, opened-alike, RulesAlike}
-use Rattle.build_group_rules.specs.Groups.{Opened, Rules, RunOutcome}
+use Rattle.build_group_rules.specs.Groups.{Opened, Rules, outermost, RunOutcome}
 use Rattle.build_group_rules.specs.Groups.{ended as ran, refused as stops}
 use Rattle.build_group_rules.specs.Meaning.{rules-alike, table-reads}
 use Rattle.build_group_rules.specs.Reading.{accepted, tableRules, layoutRules, listStore}
@@ -90,7 +90,7 @@ module _ (config : Config) (table : List ℕ) (known has : ℕ → Bool) (same :
   run-same : (rest : Fields) (room : ℕ) → runFrom (tableRules config table known) (tableDemands table) level tag rest room ≡ runFrom (layoutRules (accepted config has)) layoutDemands layout tag rest room
   unfolding runFrom
   run-same rest room =
-      ap (ranAs (tableRules config table known) (tableDemands table) level tag) (table-reads listStore config table known has same level layout t room tag 1 0 [] rest) ∙ checks-same _
+      ap (ranAs (tableRules config table known) (tableDemands table) level tag) (table-reads listStore config table known has same (outermost tag level) layout t room 0 [] rest) ∙ checks-same _
 
 -- reading a body through a table is reading it through the layout that the table holds
 pub body-means : (config : Config) (table : List ℕ) (known has : ℕ → Bool) → ((tag : ℕ) → known tag ≡ has tag) →

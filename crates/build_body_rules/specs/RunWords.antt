@@ -18,47 +18,51 @@ use Rattle.build_records.specs.RecordLaws.{inserted-parts, between-parts, betwe
 use Rattle.build_records.specs.declared.Record.{Record}
 use Rattle.build_records.specs.declared.Standing.{Standing}
 use Rattle.build_records.specs.declared.Standing.the-variants.{At, Nowhere}
-use Rattle.build_group_rules.specs.Groups.{Rules, opens, Kind, plain, count, joins, wrong, ends, entryKind, Frame, run, entry, Move, adds, joinsAt, disorders, leaves, inEntry, decide, entryRecord, RunOutcome, ended, refused, moved, walk}
+use Rattle.build_group_rules.specs.Groups.{Rules, opens, Kind, plain, count, joins, wrong, ends, entryKind, OpenGroup, OpenEntry, Frame, run, entry, Move, adds, joinsAt, disorders, leaves, numbersIn, inEntry, decide, entryRecord, RunOutcome, ended, refused, moved, walk}
 use Rattle.build_group_rules.specs.Reading.{Memory, listStore, joinedList, wordStore, addedWords, joinedWords, makes, standingIn}
 use Rattle.build_group_rules.specs.declared.Refusal.{Refusal}
+
+-- the entry whose records start so much further on
+abbrev pub shiftedEntry : ℕ → OpenEntry → OpenEntry
+shiftedEntry n own = record { number = own .number; last = own .last; start = n + own .start }
 
 module _ {L : Type 0} (n : ℕ) where
   -- the same stack where entries start so much further on
   unfoldable pub shifted : List (Frame L) → List (Frame L)
   shifted [] = []
-  shifted (run level group depth entries ∷ below) = run level group depth entries ∷ shifted below
-  shifted (entry level group depth number last start ∷ below) = entry level group depth number last (n + start) ∷ shifted below
+  shifted (run group entries ∷ below) = run group entries ∷ shifted below
+  shifted (entry group own ∷ below) = entry group (shiftedEntry n own) ∷ shifted below
 
   unfoldable pub shiftedMove : Move L → Move L
-  shiftedMove (adds stack depth number) = adds (shifted stack) depth number
-  shiftedMove (joinsAt stack start depth number) = joinsAt (shifted stack) (n + start) depth number
+  shiftedMove (adds stack numbers) = adds (shifted stack) numbers
+  shiftedMove (joinsAt stack start numbers) = joinsAt (shifted stack) (n + start) numbers
   shiftedMove (disorders group) = disorders group
   shiftedMove leaves = leaves
 
-  entry-shift : (level : L) (group depth number last start : ℕ) (below : List (Frame L)) (tag : ℕ) (otherwise : Move L) (k : Kind L) →
-      inEntry level group depth number last (n + start) (shifted below) tag (shiftedMove otherwise) k ≡ shiftedMove (inEntry level group depth number last start below tag otherwise k)
+  entry-shift : (group : OpenGroup L) (own : OpenEntry) (below : List (Frame L)) (tag : ℕ) (otherwise : Move L) (k : Kind L) →
+      inEntry group (shiftedEntry n own) (shifted below) tag (shiftedMove otherwise) k ≡ shiftedMove (inEntry group own below tag otherwise k)
   unfolding inEntry shifted shiftedMove
-  entry-shift level group depth number last start below tag otherwise (plain position) = refl
-  entry-shift level group depth number last start below tag otherwise (count inner position) = refl
-  entry-shift level group depth number last start below tag otherwise joins = refl
-  entry-shift level group depth number last start below tag otherwise wrong = refl
-  entry-shift level group depth number last start below tag otherwise ends = refl
+  entry-shift group own below tag otherwise (plain position) = refl
+  entry-shift group own below tag otherwise (count inner position) = refl
+  entry-shift group own below tag otherwise joins = refl
+  entry-shift group own below tag otherwise wrong = refl
+  entry-shift group own below tag otherwise ends = refl
 
   -- a tag does the same
   decide-shift : (rules : Rules L) (here : ℕ) (stack : List (Frame L)) (tag : ℕ) → decide rules (n + here) (shifted stack) tag ≡ shiftedMove (decide rules here stack tag)
   unfolding decide shifted shiftedMove
   decide-shift rules here [] tag = refl
-  decide-shift rules here (run level group depth entries ∷ below) tag = go (opens rules level tag) (eqb entries 0) (decide-shift rules here below tag)
+  decide-shift rules here (run group entries ∷ below) tag = go (opens rules (group .level) tag) (eqb entries 0) (decide-shift rules here below tag)
     where
       go : (b c : Bool) → decide rules (n + here) (shifted below) tag ≡ shiftedMove (decide rules here below tag) →
-          pick b (adds (entry level group depth (entries + 1) 0 (n + here) ∷ run level group depth (entries + 1) ∷ shifted below) depth (entries + 1)) (pick c (disorders group) (decide rules (n + here) (shifted below) tag))
-          ≡ shiftedMove (pick b (adds (entry level group depth (entries + 1) 0 here ∷ run level group depth (entries + 1) ∷ below) depth (entries + 1)) (pick c (disorders group) (decide rules here below tag)))
+          pick b (adds (entry group (record { number = entries + 1; last = 0; start = n + here }) ∷ run group (entries + 1) ∷ shifted below) (numbersIn group (entries + 1))) (pick c (disorders (group .tag)) (decide rules (n + here) (shifted below) tag))
+          ≡ shiftedMove (pick b (adds (entry group (record { number = entries + 1; last = 0; start = here }) ∷ run group (entries + 1) ∷ below) (numbersIn group (entries + 1))) (pick c (disorders (group .tag)) (decide rules here below tag)))
       go true c later = refl
       go false true later = refl
       go false false later = later
-  decide-shift rules here (entry level group depth number last start ∷ below) tag =
-      ap (λ (m : Move L). inEntry level group depth number last (n + start) (shifted below) tag m (entryKind rules level depth last tag)) (decide-shift rules here below tag)
-      ∙ entry-shift level group depth number last start below tag (decide rules here below tag) (entryKind rules level depth last tag)
+  decide-shift rules here (entry group own ∷ below) tag =
+      ap (λ (m : Move L). inEntry group (shiftedEntry n own) (shifted below) tag m (entryKind rules (group .level) (group .depth) (own .last) tag)) (decide-shift rules here below tag)
+      ∙ entry-shift group own below tag (decide rules here below tag) (entryKind rules (group .level) (group .depth) (own .last) tag)
 
 module _ (before after : List Record) where
   -- the entries stand between the records before the place and those from it on, and there are words for as many records as there is room
@@ -183,8 +187,8 @@ module _ (before after : List Record) where
         ((stack : List (Frame L)) (m₁ : Memory) (entries₁ : List Record) → WordsStand room m₁ entries₁ → Agrees (walk rules wordStore room (shifted (length before) stack) m₁ rest) (walk rules listStore room stack entries₁ rest)) →
         (move : Move L) → Agrees (moved wordStore room m f rest (λ stack m₁. walk rules wordStore room stack m₁ rest) (shiftedMove (length before) move)) (moved listStore room entries f rest (λ stack entries₁. walk rules listStore room stack entries₁ rest) move)
     unfolding moved shiftedMove wordStore listStore
-    move-agrees room m entries f rest s later (adds stack depth number) = later stack _ _ (stands-add room m entries (entryRecord depth number f) s)
-    move-agrees room m entries f rest s later (joinsAt stack start depth number) = later stack _ _ (stands-join room start m entries (entryRecord depth number f) s)
+    move-agrees room m entries f rest s later (adds stack numbers) = later stack _ _ (stands-add room m entries (entryRecord (numbers .depth) (numbers .number) f) s)
+    move-agrees room m entries f rest s later (joinsAt stack start numbers) = later stack _ _ (stands-join room start m entries (entryRecord (numbers .depth) (numbers .number) f) s)
     move-agrees room m entries f rest s later (disorders group) = both-refuse (front-stands (suc room) m entries s)
     move-agrees room m entries f rest s later leaves = both-end s
 

@@ -18,7 +18,7 @@ use Rattle.build_records.specs.WordLaws.{records-length, on-same}
 use Rattle.build_records.specs.RecordLaws.{inserted-last, between-new, between-end}
 use Rattle.build_records.specs.declared.Record.{Record}
 use Rattle.build_records.specs.declared.Standing.the-variants.{At as held-at, Nowhere}
-use Rattle.build_group_rules.specs.Groups.{Rules, run, RunOutcome, walk}
+use Rattle.build_group_rules.specs.Groups.{Rules, run, outermost, RunOutcome, walk}
 use Rattle.build_group_rules.specs.Groups.{ended as ran, refused as stops}
 use Rattle.build_group_rules.specs.Reading.{listStore}
 use Rattle.build_nesting_laws.specs.Nesting.{run-formed}
@@ -141,16 +141,16 @@ module _ (seen : List Bool) (r : Record) {rs : List Record} (covers : Covers see
 module _ {L : Type 0} (rules : Rules L) (demands : Demands L) (inner : L) (tag : ℕ) where
   run-deep : (rest : Fields) (room : ℕ) (f : Field) (after : Fields) (left : ℕ) (records : List Record) → runFrom rules demands inner tag rest room ≡ ended f after left records → All (Deep 1) records
   unfolding runFrom ranAs checked
-  run-deep rest room f after left records e = by-outcome (walk rules listStore room (run inner tag 1 0 ∷ []) [] rest) refl e
+  run-deep rest room f after left records e = by-outcome (walk rules listStore room (run (outermost tag inner) 0 ∷ []) [] rest) refl e
     where
       by-lack : (g : Field) (behind : Fields) (here : ℕ) (entries : List Record) (lack : Lack) → checked g behind here entries lack ≡ ended f after left records → entries ≡ records
       by-lack g behind here entries Complete e = cc
       by-lack g behind here entries (Missing wanted group) e = let z : _≡_ {A = ℕ} 0 1 = cc in absurd (omega arith)
 
-      by-outcome : (o : RunOutcome (List Record) (List Record)) → walk rules listStore room (run inner tag 1 0 ∷ []) [] rest ≡ o → ranAs rules demands inner tag o ≡ ended f after left records → All (Deep 1) records
+      by-outcome : (o : RunOutcome (List Record) (List Record)) → walk rules listStore room (run (outermost tag inner) 0 ∷ []) [] rest ≡ o → ranAs rules demands inner tag o ≡ ended f after left records → All (Deep 1) records
       by-outcome (stops refusal entries) w e = let z : _≡_ {A = ℕ} 0 1 = cc in absurd (omega arith)
       by-outcome (ran g behind here entries) w e =
-          let read = run-formed rules [] inner 1 room tag rest g behind here entries w in
+          let read = run-formed rules [] (outermost tag inner) room rest g behind here entries w in
           rw (← by-lack g behind here entries (runLack demands 4 inner tag 1 entries) e, read .whole) (formed-deep rules (read .formed))
 
 next-records : (fields : Fields) (room : ℕ) (records : List Record) (f : Field) (after : Fields) (left : ℕ) (kept : List Record) → nextFrom fields room records ≡ ended f after left kept → records ≡ kept

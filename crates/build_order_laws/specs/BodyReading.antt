@@ -11,7 +11,7 @@ use Rattle.field_rules.specs.declared.Field.{Field}
 use Rattle.dictionary_layout_rules.specs.Tree.{holdsTag}
 use Rattle.build_records.specs.Records.{stored}
 use Rattle.build_records.specs.declared.Record.{Record}
-use Rattle.build_group_rules.specs.Groups.{Rules, run, RunOutcome, walk}
+use Rattle.build_group_rules.specs.Groups.{Rules, run, outermost, RunOutcome, walk}
 use Rattle.build_group_rules.specs.Groups.{ended as ran, refused as stops}
 use Rattle.build_group_rules.specs.Reading.{listStore}
 use Rattle.build_required_rules.specs.Required.{Demands, runLack}
@@ -34,7 +34,7 @@ module _ {L : Type 0} (rules : Rules L) (demands : Demands L) where
     behind : Fields
     room-left : ℕ
     entries : List Record
-    walked : walk rules listStore room (run inner tag 1 0 ∷ []) [] fields ≡ ran found behind room-left entries
+    walked : walk rules listStore room (run (outermost tag inner) 0 ∷ []) [] fields ≡ ran found behind room-left entries
     complete : runLack demands 4 inner tag 1 entries ≡ Complete
     goes-on : on (field found behind) (suc room-left) (storedRun count entries rs) ≡ reading
 
@@ -46,14 +46,14 @@ module _ {L : Type 0} (rules : Rules L) (demands : Demands L) where
     run-taken : (f : Field) (rest : Fields) (room₁ : ℕ) (rs₁ : List Record) → andThen (withRun count rs (runFrom rules demands inner tag fields room)) on ≡ ended f rest room₁ rs₁
         → RunTaken inner tag room count rs fields on (ended f rest room₁ rs₁)
     unfolding runFrom
-    run-taken f rest room₁ rs₁ e = by-outcome (walk rules listStore room (run inner tag 1 0 ∷ []) [] fields) refl e
+    run-taken f rest room₁ rs₁ e = by-outcome (walk rules listStore room (run (outermost tag inner) 0 ∷ []) [] fields) refl e
       where
-        by-lack : (h : Field) (last : Fields) (room₂ : ℕ) (es : List Record) → walk rules listStore room (run inner tag 1 0 ∷ []) [] fields ≡ ran h last room₂ es
+        by-lack : (h : Field) (last : Fields) (room₂ : ℕ) (es : List Record) → walk rules listStore room (run (outermost tag inner) 0 ∷ []) [] fields ≡ ran h last room₂ es
             → (lack : Lack) → runLack demands 4 inner tag 1 es ≡ lack → andThen (withRun count rs (checked h last room₂ es lack)) on ≡ ended f rest room₁ rs₁ → RunTaken inner tag room count rs fields on (ended f rest room₁ rs₁)
         by-lack h last room₂ es w Complete c e = record { found = h; behind = last; room-left = room₂; entries = es; walked = w; complete = c; goes-on = (unfold checked withRun andThen in e) }
         by-lack h last room₂ es w (Missing t u) c e = let z : _≡_ {A = ℕ} 0 1 = unfold checked withRun andThen in cc in absurd (omega arith)
 
-        by-outcome : (o : RunOutcome (List Record) (List Record)) → walk rules listStore room (run inner tag 1 0 ∷ []) [] fields ≡ o → andThen (withRun count rs (ranAs rules demands inner tag o)) on ≡ ended f rest room₁ rs₁
+        by-outcome : (o : RunOutcome (List Record) (List Record)) → walk rules listStore room (run (outermost tag inner) 0 ∷ []) [] fields ≡ o → andThen (withRun count rs (ranAs rules demands inner tag o)) on ≡ ended f rest room₁ rs₁
             → RunTaken inner tag room count rs fields on (ended f rest room₁ rs₁)
         by-outcome (ran h last room₂ es) w e = by-lack h last room₂ es w (runLack demands 4 inner tag 1 es) refl (unfold ranAs in e)
         by-outcome (stops refusal es) w e = let z : _≡_ {A = ℕ} 0 1 = unfold ranAs withRun andThen in cc in absurd (omega arith)
@@ -96,7 +96,7 @@ module _ {L : Type 0} (rules : Rules L) (demands : Demands L) where
         by-kind (counts inner) e later =
             let t = run-taken inner (g .tag) room (partRecord 2 g) rs last (bodyWithin body turns) f rest room₁ rs₁ (unfold takes bodyOf in e) in
             let l = later (field (t .found) (t .behind)) (suc (t .room-left)) (storedRun (partRecord 2 g) (t .entries) rs) (t .goes-on) in
-            let w = walk-falls rules room (run inner (g .tag) 1 0 ∷ []) [] last (t .found) (t .behind) (t .room-left) (t .entries) (t .walked) in
+            let w = walk-falls rules room (run (outermost (g .tag) inner) 0 ∷ []) [] last (t .found) (t .behind) (t .room-left) (t .entries) (t .walked) in
             omega arith
         by-kind other e later = by-tag (holdsTag (g .tag) (body .trailer)) (unfold takes in e)
 
@@ -112,7 +112,7 @@ module _ {L : Type 0} (rules : Rules L) (demands : Demands L) where
             → Alongside ended (andThen (withRun (partRecord 2 h) qs (runFrom rules demands inner (h .tag) others room)) (bodyWithin body turns)) (suc n) (suc room) f rest room₁ rs₁
         run-same inner r =
             let k = body-falls turns (field (r .found) (r .behind)) (suc (r .room-left)) (storedRun (partRecord 2 g) (r .entries) rs) f rest room₁ rs₁ (r .goes-on) in
-            let w = walk-same rules room (run inner (g .tag) 1 0 ∷ []) [] [] last others n (r .found) (r .behind) (r .room-left) (r .entries) (r .walked) none a (omega arith) in
+            let w = walk-same rules room (run (outermost (g .tag) inner) 0 ∷ []) [] [] last others n (r .found) (r .behind) (r .room-left) (r .entries) (r .walked) none a (omega arith) in
             let b = later (field (r .found) (r .behind)) (field (w .found) (w .behind)) (suc (r .room-left)) (suc (w .left)) (storedRun (partRecord 2 g) (r .entries) rs) (storedRun (partRecord 2 h) (w .kept) qs)
             (r .goes-on) (similar-run (alike-field 2 g h t) (w .similar) s) (same (w .tag) (w .agree)) (omega (arith, w .counted)) in
             record {
@@ -125,7 +125,7 @@ module _ {L : Type 0} (rules : Rules L) (demands : Demands L) where
                     behind = w .behind;
                     room-left = r .room-left;
                     entries = w .kept;
-                    walked = ap (λ (tag : ℕ). walk rules listStore room (run inner tag 1 0 ∷ []) [] others) (sym t) ∙ w .is;
+                    walked = ap (λ (tag : ℕ). walk rules listStore room (run (outermost tag inner) 0 ∷ []) [] others) (sym t) ∙ w .is;
                     complete = ap (λ (tag : ℕ). runLack demands 4 inner tag 1 (w .kept)) (sym t) ∙ sym (run-lack-same demands 4 inner (g .tag) 1 (w .similar)) ∙ r .complete;
                     goes-on = b .is;
                   });

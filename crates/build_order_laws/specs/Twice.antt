@@ -15,7 +15,7 @@ use Rattle.build_integrity_rules.specs.declared.Integrity.the-variants.{Sound, 
 use Rattle.dictionary_layout_rules.specs.Tree.{Dictionary, knows, headerTags, trailerTags, holdsTag, Choice, noMessage, laidOut, layoutOf}
 use Rattle.build_records.specs.Records.{stored, valueAt}
 use Rattle.build_records.specs.declared.Record.{Record}
-use Rattle.build_group_rules.specs.Groups.{Rules, Frame, run, Move, adds, joinsAt, disorders, leaves, decide}
+use Rattle.build_group_rules.specs.Groups.{Rules, Frame, run, outermost, Move, adds, joinsAt, disorders, leaves, decide}
 use Rattle.build_group_rules.specs.Groups.{entryRecord}
 use Rattle.build_group_rules.specs.Reading.{accepted, layoutRules, joinedList}
 use Rattle.build_required_rules.specs.Required.{Demands, has}
@@ -63,7 +63,7 @@ module _ {L : Type 0} (rules : Rules L) (body : Body L) where
   twiceTaking on f rest room records plain = pick (has 0 (f .tag) records) true (on rest room (stored (partRecord 2 f) records))
   twiceTaking on f rest room records (counts inner) =
       pick (has 0 (f .tag) records) true
-      (pick (twiceInRun rules (run inner (f .tag) 1 0 ∷ []) [] rest) true (twiceBehind (withRun (partRecord 2 f) records (body .run inner (f .tag) rest room)) on))
+      (pick (twiceInRun rules (run (outermost (f .tag) inner) 0 ∷ []) [] rest) true (twiceBehind (withRun (partRecord 2 f) records (body .run inner (f .tag) rest room)) on))
   twiceTaking on f rest room records other = false
 
   -- so many turns, which is enough where it is more than the room

@@ -14,7 +14,7 @@ use Rattle.dictionary_layout_rules.specs.Tree.{holdsTag}
 use Rattle.build_records.specs.Records.{stored}
 use Rattle.build_records.specs.declared.Record.{Record}
 use Rattle.build_answers.specs.Answer.{numberOf, valuesOf, listed}
-use Rattle.build_group_rules.specs.Groups.{isDelimiter, opens, counting, declared, entryKind, run, inEntry, decide, entryRecord, RunOutcome, ended, refused, moved, walk}
+use Rattle.build_group_rules.specs.Groups.{isDelimiter, opens, counting, declared, entryKind, run, outermost, inEntry, decide, entryRecord, RunOutcome, ended, refused, moved, walk}
 use Rattle.build_group_rules.specs.Reading.{answerOf, accepted, openedAs, layoutRules, joinedList, listStore}
 use Rattle.build_required_rules.specs.Required.{orElse, has, fieldsLack, before, shallow, runLacks, nestedLack, entriesLack, opensEntry, entryLack, runLack}
 use Rattle.build_required_rules.specs.Checking.{answerOfLack, layoutDemands}
@@ -33,7 +33,7 @@ checked layout (refused refusal rs) = (numberOf (answerOf refusal), listed (answ
 
 unfoldable verdict : Layout → String → Told
 verdict layout text =
-    checked layout (walk (layoutRules (accepted (validating false) (λ (tag : ℕ). false))) listStore 100 (run layout 78 1 0 ∷ []) [] (fieldsFrom (separatedBy 1) (bytes text) (startAt 0)))
+    checked layout (walk (layoutRules (accepted (validating false) (λ (tag : ℕ). false))) listStore 100 (run (outermost 78 layout) 0 ∷ []) [] (fieldsFrom (separatedBy 1) (bytes text) (startAt 0)))
 
 -- "group 78 (79 and 80 required; group 539 with 524 required, 525)"
 abbrev allocations : Layout

@@ -12,15 +12,15 @@ use Rattle.dictionary_rules.specs.Check.{checkOf}
 use Rattle.dictionary_rules.specs.declared.Checked.the-variants.{Passes}
 use Rattle.dictionary_meaning_rules.specs.Meaning.{dictionaryOf}
 use Rattle.dictionary_meaning_rules.specs.TreeBounds.{message-bounded}
-use Rattle.build_group_rules.specs.Groups.{count, counting, Frame, run, entry, Store}
+use Rattle.build_group_rules.specs.Groups.{count, counting, Frame, run, outermost, entry, Store}
 use Rattle.build_group_rules.specs.Reading.{openedAs, layoutRules}
 use Rattle.build_group_rules.specs.FourLevels.{ComesTo, WithinFour, run-within, nested-runs}
 
 module _ (bytes : List ℕ) (passes : checkOf bytes ≡ Passes) (msgType : List ℕ) (layout : Layout) (laid : layoutOf (dictionaryOf bytes) msgType ≡ laidOut layout) (accepts : ℕ → Bool) {S W : Type 0} (store : Store S W) (tag : ℕ) (inner : Layout) (counts : groupOf tag layout ≡ entries-of inner) {room : ℕ} {s : S} {fields : Fields} where
-  pub message-within : (later : List (Frame Layout)) → ComesTo (layoutRules accepts) store room (run inner tag 1 0 ∷ []) s fields later → WithinFour later
+  pub message-within : (later : List (Frame Layout)) → ComesTo (layoutRules accepts) store room (run (outermost tag inner) 0 ∷ []) s fields later → WithinFour later
   message-within later comes = run-within accepts store layout (message-bounded bytes passes msgType layout laid .shallow) tag inner counts later comes
 
   -- so a nested count always starts a nested run
-  pub message-runs : (above below : List (Frame Layout)) (level : Layout) (group depth number last start : ℕ) → ComesTo (layoutRules accepts) store room (run inner tag 1 0 ∷ []) s fields (above ++ (entry level group depth number last start ∷ below)) → (wanted : ℕ) (nested : Layout) → groupOf wanted level ≡ entries-of nested → (position : ℕ) → counting depth position (openedAs (groupOf wanted level)) ≡ count nested position
+  pub message-runs : (above below : List (Frame Layout)) (level : Layout) (group depth number last start : ℕ) → ComesTo (layoutRules accepts) store room (run (outermost tag inner) 0 ∷ []) s fields (above ++ (entry level group depth number last start ∷ below)) → (wanted : ℕ) (nested : Layout) → groupOf wanted level ≡ entries-of nested → (position : ℕ) → counting depth position (openedAs (groupOf wanted level)) ≡ count nested position
   message-runs above below level group depth number last start comes wanted nested e position =
       nested-runs accepts store layout (message-bounded bytes passes msgType layout laid .shallow) tag inner counts above below level group depth number last start comes wanted nested e position

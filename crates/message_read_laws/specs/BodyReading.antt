@@ -13,7 +13,7 @@ use Rattle.dictionary_layout_rules.specs.Tree.{holdsTag}
 use Rattle.dictionary_layout_rules.specs.declared.Position.the-variants.{At}
 use Rattle.build_records.specs.Records.{stored, valueAt}
 use Rattle.build_records.specs.declared.Record.{Record}
-use Rattle.build_group_rules.specs.Groups.{Rules, opens, run, RunOutcome, walk}
+use Rattle.build_group_rules.specs.Groups.{Rules, opens, run, outermost, RunOutcome, walk}
 use Rattle.build_group_rules.specs.Groups.{ended as ran, refused as stops}
 use Rattle.build_group_rules.specs.Reading.{listStore}
 use Rattle.build_required_rules.specs.Required.{Demands, runLack}
@@ -78,7 +78,7 @@ run-fewer r es (x ∷ rs) = by-tests (eqb (x .depth) (r .depth)) (eqb (x .tag) (
 module _ {L : Type 0} (rules : Rules L) (first : (level : L) (tag : ℕ) → opens rules level tag ≡ true → rules .position level tag ≡ At 0) where
   -- the count's field is read, then its run, and both go into the body
   reads-run : {message : List ℕ} {most bytes : ℕ} {f g : Field} {rest more : Fields} {room room₁ : ℕ} {rs : List Record} (inner : L) (run-records : List Record) → Reads message 2 most bytes (field f rest) (suc room) rs
-      → walk rules listStore room (run inner (f .tag) 1 0 ∷ []) [] rest ≡ ran g more room₁ run-records → Reads message 2 most bytes (field g more) (suc room₁) (storedRun (partRecord 2 f) run-records rs)
+      → walk rules listStore room (run (outermost (f .tag) inner) 0 ∷ []) [] rest ≡ ran g more room₁ run-records → Reads message 2 most bytes (field g more) (suc room₁) (storedRun (partRecord 2 f) run-records rs)
   unfolding budget
   reads-run {message} {most} {bytes} {f} {g} {rest} {more} {room} {room₁} {rs} inner run-records r e =
       let c = r .counts in
@@ -87,7 +87,7 @@ module _ {L : Type 0} (rules : Rules L) (first : (level : L) (tag : ℕ) → ope
       let fine = first-fine (c .each) in
       let some : q .tag ≡ 0 → ⊥ = λ z. fine .some (sym (o .tagged) ∙ z) in
       let none : Counts message 2 room (budget rest) rest room [] = record { tagged = all-none; placed = all-none; few = omega arith; small = unfold total in omega arith; each = rest-fine (c .each) } in
-      let w = walk-counts rules room (run inner (f .tag) 1 0 ∷ []) [] rest none g more room₁ run-records e in
+      let w = walk-counts rules room (run (outermost (f .tag) inner) 0 ∷ []) [] rest none g more room₁ run-records e in
       let read = run-formed rules [] inner 1 room (f .tag) rest g more room₁ run-records e in
       let same : read .records ≡ run-records = sym (read .whole) in
       let b = built message rules first (read .formed) (rw (sym same) at (w .tagged)) 0 0 (q .tag) refl some in
@@ -139,7 +139,7 @@ module _ {L : Type 0} (rules : Rules L) (first : (level : L) (tag : ℕ) → ope
         after-lack h last room₂ es Complete r₂ q later = later (field h last) (suc room₂) (storedRun (partRecord 2 g) es rs) r₂ (unfold checked withRun andThen in q)
         after-lack h last room₂ es (Missing t u) r₂ q later = let z : _≡_ {A = ℕ} 0 1 = unfold checked withRun andThen in cc in absurd (omega arith)
 
-        after-run : (inner : L) (o : RunOutcome (List Record) (List Record)) → walk rules listStore room (run inner (g .tag) 1 0 ∷ []) [] more ≡ o
+        after-run : (inner : L) (o : RunOutcome (List Record) (List Record)) → walk rules listStore room (run (outermost (g .tag) inner) 0 ∷ []) [] more ≡ o
             → andThen (withRun (partRecord 2 g) rs (ranAs rules demands inner (g .tag) o)) (bodyWithin body turns) ≡ ended f rest room₁ rs₁
             → ((fields₃ : Fields) (room₃ : ℕ) (rs₃ : List Record) → Reads message 2 most bytes fields₃ room₃ rs₃ → bodyWithin body turns fields₃ room₃ rs₃ ≡ ended f rest room₁ rs₁ → Reads message 2 most bytes (field f rest) (suc room₁) rs₁)
             → Reads message 2 most bytes (field f rest) (suc room₁) rs₁
@@ -159,5 +159,5 @@ module _ {L : Type 0} (rules : Rules L) (first : (level : L) (tag : ℕ) → ope
             → ((fields₃ : Fields) (room₃ : ℕ) (rs₃ : List Record) → Reads message 2 most bytes fields₃ room₃ rs₃ → bodyWithin body turns fields₃ room₃ rs₃ ≡ ended f rest room₁ rs₁ → Reads message 2 most bytes (field f rest) (suc room₁) rs₁)
             → Reads message 2 most bytes (field f rest) (suc room₁) rs₁
         by-kind plain q later = after-next more room (stored (partRecord 2 g) rs) (reads-on r) (unfold takes in q) later
-        by-kind (counts inner) q later = after-run inner (walk rules listStore room (run inner (g .tag) 1 0 ∷ []) [] more) refl (unfold takes bodyOf runFrom in q) later
+        by-kind (counts inner) q later = after-run inner (walk rules listStore room (run (outermost (g .tag) inner) 0 ∷ []) [] more) refl (unfold takes bodyOf runFrom in q) later
         by-kind other q later = by-tag (holdsTag (g .tag) (body .trailer)) (unfold takes in q)

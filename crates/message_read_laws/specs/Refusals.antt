@@ -10,7 +10,7 @@ use Rattle.field_rules.specs.declared.Field.{Field}
 use Rattle.dictionary_layout_rules.specs.Tree.{holdsTag}
 use Rattle.build_records.specs.Records.{stored}
 use Rattle.build_records.specs.declared.Record.{Record}
-use Rattle.build_group_rules.specs.Groups.{Rules, run, RunOutcome, walk}
+use Rattle.build_group_rules.specs.Groups.{Rules, run, outermost, RunOutcome, walk}
 use Rattle.build_group_rules.specs.Groups.{ended as ran, refused as stops}
 use Rattle.build_group_rules.specs.Reading.{listStore, answerOf}
 use Rattle.build_group_rules.specs.declared.Refusal.{Refusal}
@@ -74,6 +74,6 @@ module _ {L : Type 0} (rules : Rules L) (demands : Demands L) (tags : List ℕ) 
       by-kind : (k : Kind L) → takes body (bodyWithin body turns) f rest room rs k ≡ refused Valid → ((fields₂ : Fields) (room₂ : ℕ) (rs₂ : List Record) → bodyWithin body turns fields₂ room₂ rs₂ ≡ refused Valid → ⊥) → ⊥
       by-kind plain q later = by-reading (nextFrom rest room (stored (partRecord 2 f) rs)) (next-never rest room (stored (partRecord 2 f) rs)) (unfold takes in q) later
       by-kind (counts inner) q later =
-          by-reading (withRun (partRecord 2 f) rs (ranAs rules demands inner (f .tag) (walk rules listStore room (run inner (f .tag) 1 0 ∷ []) [] rest)))
-          (run-never inner (walk rules listStore room (run inner (f .tag) 1 0 ∷ []) [] rest)) (unfold takes bodyOf runFrom in q) later
+          by-reading (withRun (partRecord 2 f) rs (ranAs rules demands inner (f .tag) (walk rules listStore room (run (outermost (f .tag) inner) 0 ∷ []) [] rest)))
+          (run-never inner (walk rules listStore room (run (outermost (f .tag) inner) 0 ∷ []) [] rest)) (unfold takes bodyOf runFrom in q) later
       by-kind other q later = tag-never (holdsTag (f .tag) (body .trailer)) (unfold takes in q)

@@ -24,7 +24,7 @@ use Rattle.dictionary_meaning_rules.specs.Meaning.{dictionaryOf}
 use Rattle.dictionary_layout_rules.specs.Tree.{Dictionary, knows, headerTags, trailerTags, holdsTag, Choice, noMessage, laidOut, layoutOf}
 use Rattle.build_records.specs.Records.{stored, valueAt, recordWords}
 use Rattle.build_records.specs.declared.Record.{Record}
-use Rattle.build_group_rules.specs.Groups.{Rules, run, RunOutcome, walk}
+use Rattle.build_group_rules.specs.Groups.{Rules, run, outermost, RunOutcome, walk}
 use Rattle.build_group_rules.specs.Groups.{ended as ran, refused as stops}
 use Rattle.build_group_rules.specs.Reading.{accepted, layoutRules, listStore, answerOf}
 use Rattle.build_group_rules.specs.declared.Refusal.{Refusal}
@@ -108,8 +108,8 @@ module _ {L : Type 0} (rules : Rules L) (demands : Demands L) (tags : List ℕ) 
   unfolding takes
   kind-reads on later f rest room rs plain = then-reads (nextFrom rest room (stored (partRecord 2 f) rs)) on (next-reads rest room (stored (partRecord 2 f) rs)) later
   kind-reads on later f rest room rs (counts inner) =
-      unfold bodyOf runFrom in then-reads (withRun (partRecord 2 f) rs (ranAs rules demands inner (f .tag) (walk rules listStore room (run inner (f .tag) 1 0 ∷ []) [] rest))) on
-      (run-reads (partRecord 2 f) rs inner (f .tag) (walk rules listStore room (run inner (f .tag) 1 0 ∷ []) [] rest)) later
+      unfold bodyOf runFrom in then-reads (withRun (partRecord 2 f) rs (ranAs rules demands inner (f .tag) (walk rules listStore room (run (outermost (f .tag) inner) 0 ∷ []) [] rest))) on
+      (run-reads (partRecord 2 f) rs inner (f .tag) (walk rules listStore room (run (outermost (f .tag) inner) 0 ∷ []) [] rest)) later
   kind-reads on later f rest room rs other = other-reads (holdsTag (f .tag) (body .trailer)) f rest room rs
 
   within-reads : (turns : ℕ) (fields : Fields) (room : ℕ) (rs : List Record) → Reads (bodyWithin body turns fields room rs)

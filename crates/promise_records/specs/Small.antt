@@ -16,7 +16,7 @@ use Rattle.dictionary_layout_rules.specs.declared.Position.{Position}
 use Rattle.dictionary_layout_rules.specs.declared.Position.the-variants.{At, Nowhere}
 use Rattle.build_records.specs.Records.{stored}
 use Rattle.build_records.specs.declared.Record.{Record}
-use Rattle.build_group_rules.specs.Groups.{Rules, Opened, none, opened, Frame, run, entry, Kind, plain, count, joins, wrong, ends, counting, declared, entryKind, opens, Move, adds, joinsAt, disorders, leaves, inEntry, decide, RunOutcome, moved, walk}
+use Rattle.build_group_rules.specs.Groups.{Rules, Opened, none, opened, Frame, run, outermost, entry, Kind, plain, count, joins, wrong, ends, counting, declared, entryKind, opens, Move, adds, joinsAt, disorders, leaves, inEntry, decide, RunOutcome, moved, walk}
 use Rattle.build_group_rules.specs.Groups.{entryRecord, ended as ran, refused as stops}
 use Rattle.build_group_rules.specs.Reading.{joinedList, listStore}
 use Rattle.build_required_rules.specs.Required.{Demands, runLack}
@@ -226,11 +226,11 @@ module _ {L : Type 0} (rules : Rules L) (demands : Demands L) (tags : List ℕ) 
       with-run : (h : Field) (last : Fields) (room₂ : ℕ) (es : List Record) → Kept message (field h last) (suc room₂) es → Kept message (field h last) (suc room₂) (storedRun (partRecord 2 g) es rs)
       with-run h last room₂ es k = record { small = all-run (partRecord 2 g) es rs (part-small 2 g (omega arith) (first-fine (r .each))) (k .small) (r .small); each = k .each; left = k .left }
 
-      after-run : (inner : L) (o : RunOutcome (List Record) (List Record)) → walk rules listStore room (run inner (g .tag) 1 0 ∷ []) [] more ≡ o
+      after-run : (inner : L) (o : RunOutcome (List Record) (List Record)) → walk rules listStore room (run (outermost (g .tag) inner) 0 ∷ []) [] more ≡ o
           → andThen (withRun (partRecord 2 g) rs (ranAs rules demands inner (g .tag) o)) (bodyWithin body turns) ≡ ended f rest room₁ rs₁ → Later → Kept message (field f rest) (suc room₁) rs₁
       after-run inner (ran h last room₂ es) w q later =
           after-lack h last room₂ es (runLack demands 4 inner (g .tag) 1 es)
-          (with-run h last room₂ es (walk-kept rules room (run inner (g .tag) 1 0 ∷ []) [] more (run-open {depth = 1} {entries = 0} (omega arith) (omega (arith, r .left)) nothing-open) (kept-on r all-none) h last room₂ es w)) (unfold ranAs in q) later
+          (with-run h last room₂ es (walk-kept rules room (run (outermost (g .tag) inner) 0 ∷ []) [] more (run-open {depth = 1} {entries = 0} (omega arith) (omega (arith, r .left)) nothing-open) (kept-on r all-none) h last room₂ es w)) (unfold ranAs in q) later
       after-run inner (stops refusal es) w q later = let z : _≡_ {A = ℕ} 0 1 = unfold ranAs withRun andThen in cc in absurd (omega arith)
 
       by-tag : (b : Bool) → pick b (ended g more room rs) (refused (InvalidField (g .tag))) ≡ ended f rest room₁ rs₁ → Kept message (field f rest) (suc room₁) rs₁
@@ -244,5 +244,5 @@ module _ {L : Type 0} (rules : Rules L) (demands : Demands L) (tags : List ℕ) 
 
       by-kind : (k : Taken L) → takes body (bodyWithin body turns) g more room rs k ≡ ended f rest room₁ rs₁ → Later → Kept message (field f rest) (suc room₁) rs₁
       by-kind takes-plain q later = after-next more room (stored (partRecord 2 g) rs) (part-kept 2 (omega arith) r) (unfold takes in q) later
-      by-kind (counts inner) q later = after-run inner (walk rules listStore room (run inner (g .tag) 1 0 ∷ []) [] more) refl (unfold takes bodyOf runFrom in q) later
+      by-kind (counts inner) q later = after-run inner (walk rules listStore room (run (outermost (g .tag) inner) 0 ∷ []) [] more) refl (unfold takes bodyOf runFrom in q) later
       by-kind other q later = by-tag (holdsTag (g .tag) (body .trailer)) (unfold takes in q)

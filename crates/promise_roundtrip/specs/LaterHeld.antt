@@ -19,7 +19,7 @@ use Rattle.field_rules.specs.declared.Field.{Field}
 use Rattle.build_integrity_rules.specs.VerifiedLaws.{verified-read}
 use Rattle.dictionary_layout_rules.specs.Tree.{Dictionary, knows, headerTags, trailerTags, holdsTag}
 use Rattle.build_records.specs.declared.Record.{Record}
-use Rattle.build_group_rules.specs.Groups.{Rules, run, RunOutcome, walk}
+use Rattle.build_group_rules.specs.Groups.{Rules, run, outermost, RunOutcome, walk}
 use Rattle.build_group_rules.specs.Groups.{ended as ran, refused as stops}
 use Rattle.build_group_rules.specs.Reading.{accepted, layoutRules, listStore}
 use Rattle.build_required_rules.specs.Required.{Demands, runLack}
@@ -101,9 +101,9 @@ module _ {L : Type 0} (rules : Rules L) (demands : Demands L) (tags : List ℕ) 
     lack-ascends g more left es Complete q = later (field g more) (suc left) q
     lack-ascends g more left es (Missing t u) q = ascends-none
 
-    run-ascends : (o : RunOutcome (List Record) (List Record)) → walk rules listStore room (run inner tag 1 0 ∷ []) [] rest ≡ o → Ascending at (takenBehind (ranAs rules demands inner tag o) on)
+    run-ascends : (o : RunOutcome (List Record) (List Record)) → walk rules listStore room (run (outermost tag inner) 0 ∷ []) [] rest ≡ o → Ascending at (takenBehind (ranAs rules demands inner tag o) on)
     unfolding ranAs
-    run-ascends (ran g more left es) w = lack-ascends g more left es (runLack demands 4 inner tag 1 es) (rising-reaches (walk-stores rules room (run inner tag 1 0 ∷ []) [] rest g more left es w .reaches) r)
+    run-ascends (ran g more left es) w = lack-ascends g more left es (runLack demands 4 inner tag 1 es) (rising-reaches (walk-stores rules room (run (outermost tag inner) 0 ∷ []) [] rest g more left es w .reaches) r)
     run-ascends (stops refusal es) w = unfold takenBehind in ascends-none
 
   kind-ascends : (on : Fields → ℕ → List Field) → ((at : ℕ) (fields : Fields) (left : ℕ) → Rising at fields → Ascending at (on fields left)) → (f : Field) (rest : Fields) (room at : ℕ) → at ≤ f .place → Rising (suc (f .place)) rest → (k : Kind L)
@@ -111,7 +111,7 @@ module _ {L : Type 0} (rules : Rules L) (demands : Demands L) (tags : List ℕ) 
   unfolding bodyTaking
   kind-ascends on later f rest room at p r plain = ascends-more p (later (suc (f .place)) rest room r)
   kind-ascends on later f rest room at p r (counts inner) =
-      let q : Ascending (suc (f .place)) (takenBehind (body .run inner (f .tag) rest room) on) = unfold bodyOf runFrom in run-ascends inner (f .tag) rest room (suc (f .place)) r on (later (suc (f .place))) (walk rules listStore room (run inner (f .tag) 1 0 ∷ []) [] rest) refl in
+      let q : Ascending (suc (f .place)) (takenBehind (body .run inner (f .tag) rest room) on) = unfold bodyOf runFrom in run-ascends inner (f .tag) rest room (suc (f .place)) r on (later (suc (f .place))) (walk rules listStore room (run (outermost (f .tag) inner) 0 ∷ []) [] rest) refl in
       ascends-more p q
   kind-ascends on later f rest room at p r other = ascends-none
 

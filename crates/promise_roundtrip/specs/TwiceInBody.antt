@@ -10,7 +10,7 @@ use Rattle.field_rules.specs.Fields.{Fields, unreadable, field}
 use Rattle.field_rules.specs.declared.Field.{Field}
 use Rattle.build_records.specs.Records.{stored}
 use Rattle.build_records.specs.declared.Record.{Record}
-use Rattle.build_group_rules.specs.Groups.{Rules, Frame, run, RunOutcome, walk}
+use Rattle.build_group_rules.specs.Groups.{Rules, Frame, run, outermost, RunOutcome, walk}
 use Rattle.build_group_rules.specs.Groups.{ended as ran, refused as stops, entryRecord}
 use Rattle.build_group_rules.specs.Reading.{listStore}
 use Rattle.build_required_rules.specs.Required.{Demands, has, runLack}
@@ -99,13 +99,13 @@ module _ {L : Type 0} (rules : Rules L) (demands : Demands L) (tags : List ℕ) 
   lack-read h g last more room left rs es (Missing t u) e = let z : _≡_ {A = ℕ} 0 1 = cc in absurd (omega arith)
 
   module _ (inner : L) (f : Field) (rest : Fields) (room : ℕ) (g : Field) (more : Fields) (left : ℕ) (es : List Record) where
-    outcome-read : (o : RunOutcome (List Record) (List Record)) → walk rules listStore room (run inner (f .tag) 1 0 ∷ []) [] rest ≡ o → ranAs rules demands inner (f .tag) o ≡ ended g more left es → walk rules listStore room (run inner (f .tag) 1 0 ∷ []) [] rest ≡ ran g more left es
+    outcome-read : (o : RunOutcome (List Record) (List Record)) → walk rules listStore room (run (outermost (f .tag) inner) 0 ∷ []) [] rest ≡ o → ranAs rules demands inner (f .tag) o ≡ ended g more left es → walk rules listStore room (run (outermost (f .tag) inner) 0 ∷ []) [] rest ≡ ran g more left es
     unfolding ranAs
     outcome-read (ran h last room₁ rs) w e = w ∙ lack-read h g last more room₁ left rs es (runLack demands 4 inner (f .tag) 1 rs) e
     outcome-read (stops refusal rs) w e = let z : _≡_ {A = ℕ} 0 1 = cc in absurd (omega arith)
 
     run-read : body .run inner (f .tag) rest room ≡ ended g more left es → RunRead rules demands tags level inner f rest room g more left es
-    run-read e = record { walked = outcome-read (walk rules listStore room (run inner (f .tag) 1 0 ∷ []) [] rest) refl (unfold bodyOf runFrom in e); comes-to = e }
+    run-read e = record { walked = outcome-read (walk rules listStore room (run (outermost (f .tag) inner) 0 ∷ []) [] rest) refl (unfold bodyOf runFrom in e); comes-to = e }
 
   -- ===== nothing at a place stays so =====
 
@@ -125,11 +125,11 @@ module _ {L : Type 0} (rules : Rules L) (demands : Demands L) (tags : List ℕ) 
       let r = rising-first (s .rises) in
       record {
         at = suc (g .place);
-        rises = rising-reaches (walk-stores rules room₂ (run inner (g .tag) 1 0 ∷ []) [] more h last left es (w .walked) .reaches) (r .1);
+        rises = rising-reaches (walk-stores rules room₂ (run (outermost (g .tag) inner) 0 ∷ []) [] more h last left es (w .walked) .reaches) (r .1);
         past = omega (arith, s .past, r .0);
         gone =
             all-run (partRecord 2 g) es ss (record { apart = λ x. omega (arith, s .past, r .0, part-place g, x) })
-            (walk-gone rules room₂ (run inner (g .tag) 1 0 ∷ []) [] more h last left es (suc (g .place)) q (w .walked) (r .1) (omega (arith, s .past, r .0)) all-none) (s .gone);
+            (walk-gone rules room₂ (run (outermost (g .tag) inner) 0 ∷ []) [] more h last left es (suc (g .place)) q (w .walked) (r .1) (omega (arith, s .past, r .0)) all-none) (s .gone);
       })
       f rest room₁ rs₁ turns fields room rs e p .holds .gone
 
@@ -184,18 +184,18 @@ module _ {L : Type 0} (rules : Rules L) (demands : Demands L) (tags : List ℕ) 
         unfolding withRun andThen twiceBehind takenBehind
         behind-repeats inner (ended k last left es) o e t =
             let w = run-read inner g more room k last left es o in
-            let s = walk-stands rules room (run inner (g .tag) 1 0 ∷ []) [] more k last left es (suc (g .place)) r all-none (w .walked) in
+            let s = walk-stands rules room (run (outermost (g .tag) inner) 0 ∷ []) [] more k last left es (suc (g .place)) r all-none (w .walked) in
             later-twice fs g (bodyTakes body turns (field k last) (suc left))
             (later (fs ++ (g ∷ [])) (field k last) (suc left) (storedRun (partRecord 2 g) es rs) (s .at) _ (run-holds Any 2 fs g [] rs h es (run-deeper rules demands tags level inner g more room k last left es w)) (s .rises)
-            (all-run (partRecord 2 g) es rs (new (s .at) (s .no-less)) (s .before) (before-all (s .at) (s .no-less))) (reaches-then (reaches-then stands (further here)) (walk-stores rules room (run inner (g .tag) 1 0 ∷ []) [] more k last left es (w .walked) .reaches)) e t)
+            (all-run (partRecord 2 g) es rs (new (s .at) (s .no-less)) (s .before) (before-all (s .at) (s .no-less))) (reaches-then (reaches-then stands (further here)) (walk-stores rules room (run (outermost (g .tag) inner) 0 ∷ []) [] more k last left es (w .walked) .reaches)) e t)
         behind-repeats inner (refused answer) o e t = let z : _≡_ {A = ℕ} 0 1 = cc in absurd (omega arith)
 
         -- in a run
-        entry-repeats : (inner : L) → body .kind (g .tag) ≡ counts inner → (o : Reading) → body .run inner (g .tag) more room ≡ o → andThen (withRun (partRecord 2 g) rs o) (bodyWithin body turns) ≡ ended f rest room₁ rs₁ → twiceInRun rules (run inner (g .tag) 1 0 ∷ []) [] more ≡ true → EntryLoses start rs₁
+        entry-repeats : (inner : L) → body .kind (g .tag) ≡ counts inner → (o : Reading) → body .run inner (g .tag) more room ≡ o → andThen (withRun (partRecord 2 g) rs o) (bodyWithin body turns) ≡ ended f rest room₁ rs₁ → twiceInRun rules (run (outermost (g .tag) inner) 0 ∷ []) [] more ≡ true → EntryLoses start rs₁
         unfolding withRun andThen
         entry-repeats inner c (ended k last left es) o e t =
             let w = run-read inner g more room k last left es o in
-            let l = walk-loses rules room (run inner (g .tag) 1 0 ∷ []) [] more k last left es (suc (g .place)) [] (w .walked) r (kept-none (suc (g .place))) t in
+            let l = walk-loses rules room (run (outermost (g .tag) inner) 0 ∷ []) [] more k last left es (suc (g .place)) [] (w .walked) r (kept-none (suc (g .place))) t in
             let q = l .earlier .place in
             let s = sequence-behind (l .repeats .before) (l .earlier) _ (l .sequence) r (l .repeats .is) in
             let gone = all-run (partRecord 2 g) es rs (record { apart = λ x. omega (arith, part-place g, x, s .0) }) (l .gone) (all-map (λ x y. record { apart = λ z. omega (arith, y .starts, p, z, s .0) }) b) in
@@ -227,9 +227,9 @@ module _ {L : Type 0} (rules : Rules L) (demands : Demands L) (tags : List ℕ) 
             by-test false d t =
                 later-twice fs g (bodyTakes body turns more room)
                 (later (fs ++ (g ∷ [])) more room (stored (partRecord 2 g) rs) (suc (g .place)) _ (stored-holds Any 2 fs g [] rs h) r (all-stored _ (partRecord 2 g) (new (suc (g .place)) (omega arith)) (before-all (suc (g .place)) (omega arith))) (reaches-then stands (further here)) (next-same more room (stored (partRecord 2 g) rs) e) t)
-        kind-repeats (counts inner) k e t = by-tests (has 0 (g .tag) rs) (twiceInRun rules (run inner (g .tag) 1 0 ∷ []) [] more) refl refl t
+        kind-repeats (counts inner) k e t = by-tests (has 0 (g .tag) rs) (twiceInRun rules (run (outermost (g .tag) inner) 0 ∷ []) [] more) refl refl t
           where
-            by-tests : (d u : Bool) → has 0 (g .tag) rs ≡ d → twiceInRun rules (run inner (g .tag) 1 0 ∷ []) [] more ≡ u
+            by-tests : (d u : Bool) → has 0 (g .tag) rs ≡ d → twiceInRun rules (run (outermost (g .tag) inner) 0 ∷ []) [] more ≡ u
                 → pick d true (pick u true (twiceBehind (withRun (partRecord 2 g) rs (body .run inner (g .tag) more room)) (twiceWithin rules body turns))) ≡ true → BodyTwice start (fs ++ (g ∷ takenBehind (body .run inner (g .tag) more room) (bodyTakes body turns))) rs₁
             by-tests true u d v t = of-body (repeated-now Any 2 fs g _ rs h tt d)
             by-tests false true d v t = of-entry (entry-repeats inner k (body .run inner (g .tag) more room) refl e v)

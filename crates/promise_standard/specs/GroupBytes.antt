@@ -18,7 +18,7 @@ use Rattle.build_config.specs.declared.Config.{Config}
 use Rattle.dictionary_layout_rules.specs.Layout.{Layout}
 use Rattle.dictionary_tables_rules.specs.Tabled.{Tabled}
 use Rattle.build_records.specs.declared.Record.{Record}
-use Rattle.build_group_rules.specs.Groups.{run, ended, walk}
+use Rattle.build_group_rules.specs.Groups.{run, outermost, ended, walk}
 use Rattle.build_group_rules.specs.Alike.{OutcomeAlike}
 use Rattle.build_group_rules.specs.Meaning.{Holds, Lays, run-means}
 use Rattle.build_group_rules.specs.Reading.{accepted, layoutRules, listStore, memory, runOf}
@@ -32,7 +32,7 @@ module _ {T : Tables} {Here : ℕ → Type 0} {c d n : ℕ} {gs : List Told} (s 
   -- the bytes of a group's entries, wherever they stand in a message
   pub group-bytes-read : (accepts : ℕ → Bool) (tag : ℕ) (before bytes after : List ℕ) → message ≡ before ++ (bytes ++ after) → standard.Fields T gs bytes → Readable gs → fieldAt standardMode message (startAt (length before + length bytes)) ≡ Read x
       → Fits (layoutRules accepts) (entriesOf layout 1) (x .tag) (entries c d (suc n)) gs s → Leaves (layoutRules accepts) layout (x .tag)
-      → walk (layoutRules accepts) listStore (length gs + suc left) (run layout tag 1 0 ∷ []) [] (fieldsFrom standardMode message (startAt (length before)))
+      → walk (layoutRules accepts) listStore (length gs + suc left) (run (outermost tag layout) 0 ∷ []) [] (fieldsFrom standardMode message (startAt (length before)))
       ≡ ended x (fieldsFrom standardMode message (x .next)) left (recordsAs (numbered 1 0 s) (fieldsFrom standardMode message (startAt (length before))))
   group-bytes-read accepts tag before bytes after whole fields readable next fits leaves =
       let reads : ReadsAs message (fieldsFrom standardMode message (startAt (length before))) gs (fieldsFrom standardMode message (startAt (length before + length bytes))) = fields-read message gs bytes before after (length before) (length before + length bytes) whole refl refl fields readable in

@@ -14,7 +14,7 @@ use Rattle.field_rules.specs.declared.Field.{Field}
 use Rattle.dictionary_layout_rules.specs.Layout.{Layout}
 use Rattle.dictionary_layout_rules.specs.declared.Position.the-variants.{Nowhere}
 use Rattle.build_records.specs.declared.Record.{Record}
-use Rattle.build_group_rules.specs.Groups.{Rules, opens, Kind, plain, count, ends, entryKind, Frame, run, entry, leaves, decide, ended, walk}
+use Rattle.build_group_rules.specs.Groups.{Rules, opens, Kind, plain, count, ends, entryKind, Frame, run, outermost, entry, leaves, decide, ended, walk}
 use Rattle.build_group_rules.specs.Reading.{layoutRules, listStore}
 use Rattle.promise_standard.specs.Reading.{ReadsAs, no-field, one-field}
 use Rattle.promise_standard.specs.Groups.{numbered, recordsAs, tagBehind, entriesOf, membersOf, Leaves, Fits}
@@ -181,6 +181,6 @@ module _ {L : Type 0} (rules : Rules L) (message : List ℕ) (x : Field) (rest :
 -- THE STANDARD, repeating groups: a group of the standard is read as exactly its entries, up to the field behind them, where it fits its layout
 -- and that field is none that it takes; and only there.
 pub group-exact : {T : Tables} {Here : ℕ → Type 0} {c d n : ℕ} {gs : List Told} (s : Stands T Here (entries c d (suc n)) gs) (message : List ℕ) (accepts : ℕ → Bool) (layout : Layout) (tag left : ℕ) (fields : Fields) (x : Field) (rest : Fields) → ReadsAs message fields gs (field x rest)
-    → (walk (layoutRules accepts) listStore (length gs + suc left) (run layout tag 1 0 ∷ []) [] fields ≡ ended x rest left (recordsAs (numbered 1 0 s) fields)) ↔ ((Fits (layoutRules accepts) (entriesOf layout 1) (x .tag) (entries c d (suc n)) gs s) × (Leaves (layoutRules accepts) layout (x .tag)))
+    → (walk (layoutRules accepts) listStore (length gs + suc left) (run (outermost tag layout) 0 ∷ []) [] fields ≡ ended x rest left (recordsAs (numbered 1 0 s) fields)) ↔ ((Fits (layoutRules accepts) (entriesOf layout 1) (x .tag) (entries c d (suc n)) gs s) × (Leaves (layoutRules accepts) layout (x .tag)))
 group-exact s message accepts layout tag left fields x rest reads =
     (λ e. group-fits (layoutRules accepts) message x rest _ _ s layout tag 1 left [] fields reads e, λ f. layout-group-read message accepts s layout tag left fields x rest (f .0) (f .1) reads)

@@ -20,7 +20,7 @@ use Rattle.dictionary_layout_rules.specs.Layout.{Layout, end, field, group, fir
 use Rattle.build_records.specs.Records.{stored}
 use Rattle.build_records.specs.declared.Record.{Record}
 use Rattle.build_answers.specs.Answer.{numberOf}
-use Rattle.build_group_rules.specs.Groups.{isDelimiter, opens, counting, declared, entryKind, run, inEntry, decide, entryRecord, RunOutcome, ended, refused, moved, walk}
+use Rattle.build_group_rules.specs.Groups.{isDelimiter, opens, counting, declared, entryKind, run, outermost, inEntry, decide, entryRecord, RunOutcome, ended, refused, moved, walk}
 use Rattle.build_group_rules.specs.Reading.{answerOf, openedAs, layoutRules, joinedList, listStore}
 use Rattle.promise_standard.specs.Groups.{numbered, tagBehind, entriesOf, Leaves, Rises, Fits}
 
@@ -95,7 +95,7 @@ shown (ended f rest room rs) = (0, f .tag, map (λ (r : Record). (r .depth, r .n
 shown (refused refusal rs) = (numberOf (answerOf refusal), 0, [])
 
 unfoldable reading : (ℕ → Bool) → Layout → String → Reading
-reading accepts layout text = shown (walk (layoutRules accepts) listStore 100 (run layout 78 1 0 ∷ []) [] (fieldsFrom standardMode (bytes text) (startAt 0)))
+reading accepts layout text = shown (walk (layoutRules accepts) listStore 100 (run (outermost 78 layout) 0 ∷ []) [] (fieldsFrom standardMode (bytes text) (startAt 0)))
 
 abbrev one : Layout
 one = field 79 false end

@@ -12,7 +12,7 @@ use Rattle.standard_rules.specs.Standard.{Tables, NoCount, All, placed, Told, t
 use Rattle.field_rules.specs.declared.Field.{Field}
 use Rattle.build_records.specs.declared.Record.{Record}
 use Rattle.dictionary_layout_rules.specs.Layout.{Layout}
-use Rattle.build_group_rules.specs.Groups.{none, opened, Rules, opens, plain, count, ends, entryKind, Frame, run, entry, entryRecord, ended, walk, taking}
+use Rattle.build_group_rules.specs.Groups.{none, opened, Rules, opens, plain, count, ends, entryKind, OpenGroup, Frame, run, outermost, entry, entryRecord, ended, walk, taking}
 use Rattle.build_group_rules.specs.Reading.{listStore, layoutRules}
 use Rattle.promise_standard.specs.Reading.{ReadsAs, no-field, one-field}
 use Rattle.standard_rules.specs.StandardLaws.{distinct-behind}
@@ -58,21 +58,22 @@ module _ {L : Type 0} (rules : Rules L) (message : List ℕ) where
 
   module _ (T : Tables) (Here : ℕ → Type 0) where
     abbrev pub Reads : Part L → ℕ → (stretch : Stretch) → (fs : List Told) → Stands T Here stretch fs → Type 0
-    Reads (membersOf level depth last) next stretch fs s = (group number start : ℕ) (done : List Record) → Over level depth next → Fresh start depth (tagsOf stretch) done → Walks (entry level group depth number last start) (numbered depth number s) fs next done
-    Reads (entriesOf level depth) next stretch fs s = (group number : ℕ) (done : List Record) → Leaves rules level next → 1 ≤ number + length fs → Walks (run level group depth number) (numbered depth number s) fs next done
+    Reads (membersOf level depth last) next stretch fs s = (group number start : ℕ) (done : List Record) → Over level depth next → Fresh start depth (tagsOf stretch) done
+        → Walks (entry (record { level = level; tag = group; depth = depth }) (record { number = number; last = last; start = start })) (numbered depth number s) fs next done
+    Reads (entriesOf level depth) next stretch fs s = (group number : ℕ) (done : List Record) → Leaves rules level next → 1 ≤ number + length fs → Walks (run (record { level = level; tag = group; depth = depth }) number) (numbered depth number s) fs next done
 
     reads-no-member : (level : L) (depth last next : ℕ) → Reads (membersOf level depth last) next _ [] Stands.no-member
     unfolding numbered recordsAs
     reads-no-member level depth last next group number start done over fresh left below _ x rest tag no-field =
         walk-next rules done x rest _ _ left (omega arith)
-        ∙ entry-passes rules done x rest below left level group depth number last start (rw tag (over last))
+        ∙ entry-passes rules done x rest below left _ _ (rw tag (over last))
         ∙ ap (λ (l : List Record). taking rules listStore left below l x rest) (sym (append-nil done))
 
     reads-no-entry : (level : L) (depth next c d : ℕ) → Reads (entriesOf level depth) next _ [] (Stands.no-entry {c = c} {d = d})
     unfolding numbered recordsAs
     reads-no-entry level depth next c d group number done leaves some left below _ x rest tag no-field =
         walk-next rules done x rest _ _ left (omega arith)
-        ∙ run-passes rules done x rest below left level group depth number (rw tag (leaves .no-delimiter)) (omega arith)
+        ∙ run-passes rules done x rest below left _ number (rw tag (leaves .no-delimiter)) (omega arith)
         ∙ ap (λ (l : List Record). taking rules listStore left below l x rest) (sym (append-nil done))
 
     reads-plain : (level : L) (depth last next position t : ℕ) (v : List ℕ) {ts : List ℕ} {fs : List Told} (may : Here t) (single : NoCount T t) (s : Stands T Here (members ts) fs) → Rises rules level last position t → (rules .group level t ≡ none) ⊎ (4 ≤ depth)
@@ -81,7 +82,7 @@ module _ {L : Type 0} (rules : Rules L) (message : List ℕ) where
     reads-plain level depth last next position t v {ts = ts} {fs = fs} may single s rises g more group number start done over fresh left below _ x rest tag (one-field {f = f} {rest = later} same value reads) =
         let r : Record = entryRecord depth number f in
         walk-next rules done f later _ _ (length fs + suc left) (omega arith)
-        ∙ entry-takes rules done f later below _ level group depth number last start position (rw same (kind-plain rules level depth last position t rises g))
+        ∙ entry-takes rules done f later below _ _ _ position (rw same (kind-plain rules level depth last position t rises g))
         ∙ more group number start (done ++ (r ∷ [])) over (fresh-field start depth number t ts done f same fresh) left below later x rest tag reads
         ∙ ap (λ (l : List Record). taking rules listStore left below l x rest) (append-assoc done (r ∷ []) (recordsAs (numbered depth number s) later))
 
@@ -90,8 +91,8 @@ module _ {L : Type 0} (rules : Rules L) (message : List ℕ) where
     reads-user level depth last next t v {ts = ts} {fs = fs} may single s joins more group number start done over fresh left below _ x rest tag (one-field {f = f} {rest = later} same value reads) =
         let r : Record = entryRecord depth number f in
         walk-next rules done f later _ _ (length fs + suc left) (omega arith)
-        ∙ entry-joined rules done f later below _ level group depth number last start (rw same (kind-joins rules level depth last t joins))
-        ∙ ap (λ (l : List Record). walk rules listStore (length fs + suc left) (entry level group depth number last start ∷ below) l later) (fresh-joined start depth number t ts done f same fresh)
+        ∙ entry-joined rules done f later below _ _ _ (rw same (kind-joins rules level depth last t joins))
+        ∙ ap (λ (l : List Record). walk rules listStore (length fs + suc left) (entry (record { level = level; tag = group; depth = depth }) (record { number = number; last = last; start = start }) ∷ below) l later) (fresh-joined start depth number t ts done f same fresh)
         ∙ more group number start (done ++ (r ∷ [])) over (fresh-field start depth number t ts done f same fresh) left below later x rest tag reads
         ∙ ap (λ (l : List Record). taking rules listStore left below l x rest) (append-assoc done (r ∷ []) (recordsAs (numbered depth number s) later))
 
@@ -104,9 +105,9 @@ module _ {L : Type 0} (rules : Rules L) (message : List ℕ) where
         let inner-records : List Record = recordsAs (numbered (depth + 1) 0 g) later in
         let size = length-append gs fs in
         walk-next rules done f later _ _ (length gs + suc (length fs + left)) (omega arith)
-        ∙ entry-counts rules done f later below _ level group depth number last start inner position (rw same (kind-count rules level inner depth last position t rises opens-inner deep))
-        ∙ inside (f .tag) 0 (done ++ (r ∷ [])) leaves (omega arith) (length fs + left) (entry level group depth number position start ∷ below) later (cut .next) (cut .rest) (cut .tag-is ∙ ap (λ (n : ℕ). tagBehind n fs) tag) (cut .reads-first)
-        ∙ sym (walk-next rules ((done ++ (r ∷ [])) ++ inner-records) (cut .next) (cut .rest) (entry level group depth number position start ∷ below) (length fs + suc left) (length fs + left) (omega arith))
+        ∙ entry-counts rules done f later below _ _ _ inner position (rw same (kind-count rules level inner depth last position t rises opens-inner deep))
+        ∙ inside (f .tag) 0 (done ++ (r ∷ [])) leaves (omega arith) (length fs + left) (entry (record { level = level; tag = group; depth = depth }) (record { number = number; last = position; start = start }) ∷ below) later (cut .next) (cut .rest) (cut .tag-is ∙ ap (λ (n : ℕ). tagBehind n fs) tag) (cut .reads-first)
+        ∙ sym (walk-next rules ((done ++ (r ∷ [])) ++ inner-records) (cut .next) (cut .rest) (entry (record { level = level; tag = group; depth = depth }) (record { number = number; last = position; start = start }) ∷ below) (length fs + suc left) (length fs + left) (omega arith))
         ∙ more group number start ((done ++ (r ∷ [])) ++ inner-records) over (fresh-nested start depth ts (done ++ (r ∷ [])) g later (fresh-field start depth number t ts done f same fresh)) left below (field (cut .next) (cut .rest)) x rest tag (cut .reads-second)
         ∙ ap (λ (l : List Record). taking rules listStore left below l x rest)
         (records-behind message done r later (field (cut .next) (cut .rest)) gs (numbered (depth + 1) 0 g) (numbered depth number s) (cut .reads-first) (numbered-each (depth + 1) 0 g))
@@ -127,9 +128,9 @@ module _ {L : Type 0} (rules : Rules L) (message : List ℕ) where
         let records : List Record = recordsAs (numbered depth (number + 1) m) later in
         let size = length-append fs gs in
         walk-next rules done f later _ _ (length fs + suc (length gs + left)) (omega arith)
-        ∙ run-opens rules done f later below _ level group depth number (rw same o)
-        ∙ first group (number + 1) (length done) (done ++ (r ∷ [])) (over-entry level depth c d n next o leaves g) (fresh-field (length done) depth (number + 1) d ts done f same (fresh-entry depth (d ∷ ts) done (distinct-behind placed (d ∷ ts) (once .distinct)))) (length gs + left) (run level group depth (number + 1) ∷ below) later (cut .next) (cut .rest) (cut .tag-is ∙ ap (λ (n : ℕ). tagBehind n gs) tag) (cut .reads-first)
-        ∙ sym (walk-next rules ((done ++ (r ∷ [])) ++ records) (cut .next) (cut .rest) (run level group depth (number + 1) ∷ below) (length gs + suc left) (length gs + left) (omega arith))
+        ∙ run-opens rules done f later below _ _ number (rw same o)
+        ∙ first group (number + 1) (length done) (done ++ (r ∷ [])) (over-entry level depth c d n next o leaves g) (fresh-field (length done) depth (number + 1) d ts done f same (fresh-entry depth (d ∷ ts) done (distinct-behind placed (d ∷ ts) (once .distinct)))) (length gs + left) (run (record { level = level; tag = group; depth = depth }) (number + 1) ∷ below) later (cut .next) (cut .rest) (cut .tag-is ∙ ap (λ (n : ℕ). tagBehind n gs) tag) (cut .reads-first)
+        ∙ sym (walk-next rules ((done ++ (r ∷ [])) ++ records) (cut .next) (cut .rest) (run (record { level = level; tag = group; depth = depth }) (number + 1) ∷ below) (length gs + suc left) (length gs + left) (omega arith))
         ∙ more group (number + 1) ((done ++ (r ∷ [])) ++ records) leaves (omega arith) left below (field (cut .next) (cut .rest)) x rest tag (cut .reads-second)
         ∙ ap (λ (l : List Record). taking rules listStore left below l x rest)
         (records-behind message done r later (field (cut .next) (cut .rest)) fs (numbered depth (number + 1) m) (numbered depth (number + 1) g) (cut .reads-first) (numbered-each depth (number + 1) m))
@@ -146,13 +147,14 @@ module _ {L : Type 0} (rules : Rules L) (message : List ℕ) where
 
     -- THE STANDARD, repeating groups: the entries of a group that fits its layout are read as exactly its entries, each field with the depth
     -- and the entry number that the standard's structure gives it, and reading ends at the field behind them.
-    pub group-read : {c d n : ℕ} {gs : List Told} (s : Stands T Here (entries c d (suc n)) gs) (level : L) (tag depth left : ℕ) (done : List Record) (fields : Fields) (x : Field) (rest : Fields) → Fits rules (entriesOf level depth) (x .tag) (entries c d (suc n)) gs s → Leaves rules level (x .tag)
-        → ReadsAs message fields gs (field x rest) → walk rules listStore (length gs + suc left) (run level tag depth 0 ∷ []) done fields ≡ ended x rest left (done ++ recordsAs (numbered depth 0 s) fields)
-    group-read {c} {d} {n} {gs} s level tag depth left done fields x rest fits leaves reads =
-        fits-read fits tag 0 done leaves (omega (arith, some-fields c d n s refl)) left [] fields x rest refl reads
-        ∙ none-takes rules (done ++ recordsAs (numbered depth 0 s) fields) x rest left
+    pub group-read : {c d n : ℕ} {gs : List Told} (s : Stands T Here (entries c d (suc n)) gs) (group : OpenGroup L) (left : ℕ) (done : List Record) (fields : Fields) (x : Field) (rest : Fields)
+        → Fits rules (entriesOf (group .level) (group .depth)) (x .tag) (entries c d (suc n)) gs s → Leaves rules (group .level) (x .tag)
+        → ReadsAs message fields gs (field x rest) → walk rules listStore (length gs + suc left) (run group 0 ∷ []) done fields ≡ ended x rest left (done ++ recordsAs (numbered (group .depth) 0 s) fields)
+    group-read {c} {d} {n} {gs} s group left done fields x rest fits leaves reads =
+        fits-read fits (group .tag) 0 done leaves (omega (arith, some-fields c d n s refl)) left [] fields x rest refl reads
+        ∙ none-takes rules (done ++ recordsAs (numbered (group .depth) 0 s) fields) x rest left
 
 -- the same for layouts, from the first level on
 pub layout-group-read : {T : Tables} {Here : ℕ → Type 0} {c d n : ℕ} {gs : List Told} (message : List ℕ) (accepts : ℕ → Bool) (s : Stands T Here (entries c d (suc n)) gs) (layout : Layout) (tag left : ℕ) (fields : Fields) (x : Field) (rest : Fields) → Fits (layoutRules accepts) (entriesOf layout 1) (x .tag) (entries c d (suc n)) gs s → Leaves (layoutRules accepts) layout (x .tag)
-    → ReadsAs message fields gs (field x rest) → walk (layoutRules accepts) listStore (length gs + suc left) (run layout tag 1 0 ∷ []) [] fields ≡ ended x rest left (recordsAs (numbered 1 0 s) fields)
-layout-group-read message accepts s layout tag left fields x rest fits leaves reads = group-read (layoutRules accepts) message _ _ s layout tag 1 left [] fields x rest fits leaves reads
+    → ReadsAs message fields gs (field x rest) → walk (layoutRules accepts) listStore (length gs + suc left) (run (outermost tag layout) 0 ∷ []) [] fields ≡ ended x rest left (recordsAs (numbered 1 0 s) fields)
+layout-group-read message accepts s layout tag left fields x rest fits leaves reads = group-read (layoutRules accepts) message _ _ s (outermost tag layout) left [] fields x rest fits leaves reads

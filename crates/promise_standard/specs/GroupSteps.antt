@@ -13,7 +13,7 @@ use Rattle.field_rules.specs.Fields.{Fields, field}
 use Rattle.standard_rules.specs.Standard.{Tables, Told, Stretch, Stands}
 use Rattle.field_rules.specs.declared.Field.{Field}
 use Rattle.build_records.specs.declared.Record.{Record}
-use Rattle.build_group_rules.specs.Groups.{Opened, none, opened, Rules, opens, plain, count, joins, ends, counting, declared, entryKind, Frame, run, entry, inEntry, decide, entryRecord, ended, moved, walk, taking}
+use Rattle.build_group_rules.specs.Groups.{Opened, none, opened, Rules, opens, plain, count, joins, ends, counting, declared, entryKind, OpenGroup, OpenEntry, Frame, run, entry, reaching, nested, inEntry, decide, entryRecord, ended, moved, walk, taking}
 use Rattle.build_group_rules.specs.Reading.{joinedList, listStore}
 use Rattle.promise_standard.specs.Reading.{ReadsAs, no-field, one-field}
 use Rattle.promise_standard.specs.Groups.{numbered, recordsAs, Tell, no-record, one-record, tagBehind, Leaves, Rises, Joins}
@@ -60,38 +60,39 @@ module _ {L : Type 0} (rules : Rules L) (done : List Record) (f : Field) (rest :
   unfolding taking decide moved
   none-takes room = refl
 
-  module _ (below : List (Frame L)) (room : ℕ) (level : L) (group depth number : ℕ) where
-    pub run-opens : opens rules level (f .tag) ≡ true →
-        taking rules listStore room (run level group depth number ∷ below) done f rest
-        ≡ walk rules listStore room (entry level group depth (number + 1) 0 (length done) ∷ run level group depth (number + 1) ∷ below) (done ++ (entryRecord depth (number + 1) f ∷ [])) rest
+  module _ (below : List (Frame L)) (room : ℕ) (group : OpenGroup L) where
+    pub run-opens : (number : ℕ) → opens rules (group .level) (f .tag) ≡ true →
+        taking rules listStore room (run group number ∷ below) done f rest
+        ≡ walk rules listStore room (entry group (record { number = number + 1; last = 0; start = length done }) ∷ run group (number + 1) ∷ below) (done ++ (entryRecord (group .depth) (number + 1) f ∷ [])) rest
     unfolding taking decide moved listStore
-    run-opens o = rw o
+    run-opens number o = rw o
 
     -- a run with an entry is over at a tag that is not its delimiter
-    pub run-passes : opens rules level (f .tag) ≡ false → 1 ≤ number → taking rules listStore room (run level group depth number ∷ below) done f rest ≡ taking rules listStore room below done f rest
+    pub run-passes : (number : ℕ) → opens rules (group .level) (f .tag) ≡ false → 1 ≤ number →
+        taking rules listStore room (run group number ∷ below) done f rest ≡ taking rules listStore room below done f rest
     unfolding taking decide
-    run-passes o some = rw (o, ne-eqb number 0 (λ e. omega arith))
+    run-passes number o some = rw (o, ne-eqb number 0 (λ e. omega arith))
 
-    module _ (last start : ℕ) where
-      pub entry-takes : (position : ℕ) → entryKind rules level depth last (f .tag) ≡ plain position →
-          taking rules listStore room (entry level group depth number last start ∷ below) done f rest
-          ≡ walk rules listStore room (entry level group depth number position start ∷ below) (done ++ (entryRecord depth number f ∷ [])) rest
+    module _ (own : OpenEntry) where
+      pub entry-takes : (position : ℕ) → entryKind rules (group .level) (group .depth) (own .last) (f .tag) ≡ plain position →
+          taking rules listStore room (entry group own ∷ below) done f rest
+          ≡ walk rules listStore room (entry group (reaching own position) ∷ below) (done ++ (entryRecord (group .depth) (own .number) f ∷ [])) rest
       unfolding taking decide inEntry moved listStore
       entry-takes position k = rw k
 
-      pub entry-joined : entryKind rules level depth last (f .tag) ≡ joins →
-          taking rules listStore room (entry level group depth number last start ∷ below) done f rest
-          ≡ walk rules listStore room (entry level group depth number last start ∷ below) (joinedList start (entryRecord depth number f) done) rest
+      pub entry-joined : entryKind rules (group .level) (group .depth) (own .last) (f .tag) ≡ joins →
+          taking rules listStore room (entry group own ∷ below) done f rest
+          ≡ walk rules listStore room (entry group own ∷ below) (joinedList (own .start) (entryRecord (group .depth) (own .number) f) done) rest
       unfolding taking decide inEntry moved listStore
       entry-joined k = rw k
 
-      pub entry-counts : (inner : L) (position : ℕ) → entryKind rules level depth last (f .tag) ≡ count inner position →
-          taking rules listStore room (entry level group depth number last start ∷ below) done f rest
-          ≡ walk rules listStore room (run inner (f .tag) (depth + 1) 0 ∷ entry level group depth number position start ∷ below) (done ++ (entryRecord depth number f ∷ [])) rest
+      pub entry-counts : (inner : L) (position : ℕ) → entryKind rules (group .level) (group .depth) (own .last) (f .tag) ≡ count inner position →
+          taking rules listStore room (entry group own ∷ below) done f rest
+          ≡ walk rules listStore room (run (nested group (f .tag) inner) 0 ∷ entry group (reaching own position) ∷ below) (done ++ (entryRecord (group .depth) (own .number) f ∷ [])) rest
       unfolding taking decide inEntry moved listStore
       entry-counts inner position k = rw k
 
-      pub entry-passes : entryKind rules level depth last (f .tag) ≡ ends → taking rules listStore room (entry level group depth number last start ∷ below) done f rest ≡ taking rules listStore room below done f rest
+      pub entry-passes : entryKind rules (group .level) (group .depth) (own .last) (f .tag) ≡ ends → taking rules listStore room (entry group own ∷ below) done f rest ≡ taking rules listStore room below done f rest
       unfolding taking decide inEntry
       entry-passes k = rw k
 

@@ -12,7 +12,7 @@ use Rattle.field_rules.specs.declared.Field.{Field}
 use Rattle.build_records.specs.declared.Record.{Record}
 use Rattle.dictionary_layout_rules.specs.Layout.{Layout}
 use Rattle.dictionary_layout_rules.specs.Tree.{holdsTag}
-use Rattle.build_group_rules.specs.Groups.{run, entryRecord, walk}
+use Rattle.build_group_rules.specs.Groups.{run, outermost, entryRecord, walk}
 use Rattle.build_group_rules.specs.Groups.{ended as ran}
 use Rattle.build_group_rules.specs.Reading.{layoutRules, listStore}
 use Rattle.build_nesting_laws.specs.Entries.{formed-deep, all-map}
@@ -89,7 +89,7 @@ module _ (accepts : ℕ → Bool) (layout : Layout) (trailer : List ℕ) where
 
     -- the records of a run stand in it
     run-deep : (inner : Layout) (tag : ℕ) (fields : Fields) (room : ℕ) (y : Field) (after : Fields) (here : ℕ) (es : List Record)
-        → walk (layoutRules accepts) listStore room (run inner tag 1 0 ∷ []) [] fields ≡ ran y after here es
+        → walk (layoutRules accepts) listStore room (run (outermost tag inner) 0 ∷ []) [] fields ≡ ran y after here es
         → AllRecords (λ r. shallow 0 r ≡ false) es
     run-deep inner tag fields room y after here es w =
         let r = run-formed (layoutRules accepts) [] inner 1 room tag fields y after here es w in
@@ -141,7 +141,7 @@ module _ (accepts : ℕ → Bool) (layout : Layout) (trailer : List ℕ) where
             let r = more (done ++ (partRecord 2 f ∷ [])) later reads (rw is at b) in
             record { fits = BodyFits.field (ap (bodyKind (layoutRules accepts) layout) (sym same) ∙ k) (r .fits); taken-not = r .taken-not; ends = r .ends }
         by-step (counted inner y after room es behind k w c l n b m) =
-            let w₂ = walk-takes (layoutRules accepts) (length fs + suc left) (run inner (f .tag) 1 0 ∷ []) [] later y after room es (omega (arith, l)) w in
+            let w₂ = walk-takes (layoutRules accepts) (length fs + suc left) (run (outermost (f .tag) inner) 0 ∷ []) [] later y after room es (omega (arith, l)) w in
             let first : N ≡ es ++ behind = cc in
             absurd (count-open (layoutRules accepts) y after inner (f .tag) 1 0 [] refl
             (run-head s later (w₂ .numbers) behind reads (first ∙ ap (λ (q : List Record). q ++ behind) (w₂ .records))) (w₂ .taken))
@@ -195,8 +195,8 @@ module _ (accepts : ℕ → Bool) (layout : Layout) (trailer : List ℕ) where
         -- the run took the group's entries, up to the field behind them
         walked : (inner : Layout) (room : ℕ) (y : Field) (after : Fields) (es : List Record) → field (cut .next) (cut .rest) ≡ field y after → A ≡ es
             → length gs + suc room ≡ length (gs ++ fs) + suc left
-            → walk (layoutRules accepts) listStore (length (gs ++ fs) + suc left) (run inner (f .tag) 1 0 ∷ []) [] later ≡ ran y after room es
-            → walk (layoutRules accepts) listStore (length gs + suc room) (run inner (f .tag) 1 0 ∷ []) [] later ≡ ran (cut .next) (cut .rest) room A
+            → walk (layoutRules accepts) listStore (length (gs ++ fs) + suc left) (run (outermost (f .tag) inner) 0 ∷ []) [] later ≡ ran y after room es
+            → walk (layoutRules accepts) listStore (length gs + suc room) (run (outermost (f .tag) inner) 0 ∷ []) [] later ≡ ran (cut .next) (cut .rest) room A
         walked inner room y after es place same-entries size w =
             let p : y ≡ cut .next = cc in
             let q : after ≡ cut .rest = cc in
@@ -214,7 +214,7 @@ module _ (accepts : ℕ → Bool) (layout : Layout) (trailer : List ℕ) where
             ∙ b ∙ ap (λ (l : List Record). ended x rest left ((done ++ (partRecord 2 f ∷ es)) ++ l)) (sym same-others)
 
         group-ends : (inner : Layout) {room : ℕ} → bodyKind (layoutRules accepts) layout (f .tag) ≡ counts inner
-            → walk (layoutRules accepts) listStore (length gs + suc room) (run inner (f .tag) 1 0 ∷ []) [] later ≡ ran (cut .next) (cut .rest) room A
+            → walk (layoutRules accepts) listStore (length gs + suc room) (run (outermost (f .tag) inner) 0 ∷ []) [] later ≡ ran (cut .next) (cut .rest) room A
             → runLack layoutDemands 4 inner (f .tag) 1 A ≡ Complete → BodyEnds s → BodyEnds (Stands.group {t = t} {count = count} may opening i g s)
         group-ends inner {room} k w c r =
             let p = group-fits (layoutRules accepts) message (cut .next) (cut .rest) T Here g inner (f .tag) 1 room [] later (cut .reads-first) w in
@@ -246,7 +246,7 @@ module _ (accepts : ℕ → Bool) (layout : Layout) (trailer : List ℕ) where
             (run-deep inner (f .tag) later (length (gs ++ fs) + suc left) y after room es w) ∙ ap (λ (l : List Record). es ++ l) tail ∙ append-nil es in
             let same-entries : A ≡ es = sym entries-first ∙ ap (before (shallow 0)) (sym parts ∙ first) ∙ es-first in
             let same-others : B ≡ behind = same-behind es B behind (ap (λ (l : List Record). l ++ B) (sym same-entries) ∙ sym parts ∙ first) in
-            let stores = walk-stores (layoutRules accepts) (length (gs ++ fs) + suc left) (run inner (f .tag) 1 0 ∷ []) [] later y after room es w in
+            let stores = walk-stores (layoutRules accepts) (length (gs ++ fs) + suc left) (run (outermost (f .tag) inner) 0 ∷ []) [] later y after room es w in
             let place : field (cut .next) (cut .rest) ≡ field y after = same-place (cut .reads-first) (stores .reaches)
             (omega (arith, stores .room-is, l, ap length same-entries, each-entry)) in
             group-ends inner k (walked inner room y after es place same-entries (omega (arith, l, ap length same-entries, each-entry)) w)

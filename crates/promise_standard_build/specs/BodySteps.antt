@@ -16,7 +16,7 @@ use Rattle.build_records.specs.Records.{stored}
 use Rattle.build_records.specs.declared.Record.{Record}
 use Rattle.dictionary_layout_rules.specs.Layout.{Layout}
 use Rattle.dictionary_layout_rules.specs.Tree.{holdsTag}
-use Rattle.build_group_rules.specs.Groups.{run, RunOutcome, walk}
+use Rattle.build_group_rules.specs.Groups.{run, outermost, RunOutcome, walk}
 use Rattle.build_group_rules.specs.Groups.{ended as ran, refused as stops}
 use Rattle.build_group_rules.specs.Reading.{layoutRules, listStore}
 use Rattle.build_required_rules.specs.Required.{runLack}
@@ -72,7 +72,7 @@ module _ (accepts : ℕ → Bool) (layout : Layout) (trailer : List ℕ) where
     behind : Fields
     room-left : ℕ
     entries : List Record
-    walked : walk (layoutRules accepts) listStore room (run inner tag 1 0 ∷ []) [] fields ≡ ran next behind room-left entries
+    walked : walk (layoutRules accepts) listStore room (run (outermost tag inner) 0 ∷ []) [] fields ≡ ran next behind room-left entries
     complete : runLack layoutDemands 4 inner tag 1 entries ≡ Complete
     goes-on : bodyFrom theBody (field next behind) (suc room-left) (storedRun count entries rs) ≡ ended x rest left ss
 
@@ -80,10 +80,10 @@ module _ (accepts : ℕ → Bool) (layout : Layout) (trailer : List ℕ) where
       → andThen (withRun count rs (runFrom (layoutRules accepts) layoutDemands inner tag fields room)) (bodyFrom theBody) ≡ ended x rest left ss
       → Ran inner tag room count fields rs ss x rest left
   unfolding runFrom
-  ran-reads inner tag room count fields rs ss x rest left e = by-outcome (walk (layoutRules accepts) listStore room (run inner tag 1 0 ∷ []) [] fields) refl e
+  ran-reads inner tag room count fields rs ss x rest left e = by-outcome (walk (layoutRules accepts) listStore room (run (outermost tag inner) 0 ∷ []) [] fields) refl e
     where
       by-lack : (y : Field) (later : Fields) (here : ℕ) (es : List Record)
-          → walk (layoutRules accepts) listStore room (run inner tag 1 0 ∷ []) [] fields ≡ ran y later here es
+          → walk (layoutRules accepts) listStore room (run (outermost tag inner) 0 ∷ []) [] fields ≡ ran y later here es
           → (lack : Lack) → runLack layoutDemands 4 inner tag 1 es ≡ lack
           → andThen (withRun count rs (checked y later here es lack)) (bodyFrom theBody) ≡ ended x rest left ss
           → Ran inner tag room count fields rs ss x rest left
@@ -91,7 +91,7 @@ module _ (accepts : ℕ → Bool) (layout : Layout) (trailer : List ℕ) where
           record { next = y; behind = later; room-left = here; entries = es; walked = w; complete = c; goes-on = (unfold checked withRun andThen in e) }
       by-lack y later here es w (Missing t u) c e = let z : _≡_ {A = ℕ} 0 1 = unfold checked withRun andThen in cc in absurd (omega arith)
 
-      by-outcome : (o : RunOutcome (List Record) (List Record)) → walk (layoutRules accepts) listStore room (run inner tag 1 0 ∷ []) [] fields ≡ o
+      by-outcome : (o : RunOutcome (List Record) (List Record)) → walk (layoutRules accepts) listStore room (run (outermost tag inner) 0 ∷ []) [] fields ≡ o
           → andThen (withRun count rs (ranAs (layoutRules accepts) layoutDemands inner tag o)) (bodyFrom theBody) ≡ ended x rest left ss
           → Ran inner tag room count fields rs ss x rest left
       by-outcome (ran y later here es) w e = by-lack y later here es w (runLack layoutDemands 4 inner tag 1 es) refl (unfold ranAs in e)
@@ -104,7 +104,7 @@ module _ (accepts : ℕ → Bool) (layout : Layout) (trailer : List ℕ) where
         → bodyFrom theBody more room (rs ++ (partRecord 2 g ∷ [])) ≡ ended x rest left ((rs ++ (partRecord 2 g ∷ [])) ++ behind)
         → length behind + suc left ≡ room → Step g more room rs new x rest left
     counted : (inner : Layout) (y : Field) (later : Fields) (here : ℕ) (es behind : List Record) → bodyKind (layoutRules accepts) layout (g .tag) ≡ counts inner
-        → walk (layoutRules accepts) listStore room (run inner (g .tag) 1 0 ∷ []) [] more ≡ ran y later here es
+        → walk (layoutRules accepts) listStore room (run (outermost (g .tag) inner) 0 ∷ []) [] more ≡ ran y later here es
         → runLack layoutDemands 4 inner (g .tag) 1 es ≡ Complete → length es + suc here ≡ room
         → new ≡ partRecord 2 g ∷ (es ++ behind) → bodyFrom theBody (field y later) (suc here)
         (rs ++ (partRecord 2 g ∷ es)) ≡ ended x rest left ((rs ++ (partRecord 2 g ∷ es)) ++ behind) → length behind + suc left ≡ suc here
@@ -136,7 +136,7 @@ module _ (accepts : ℕ → Bool) (layout : Layout) (trailer : List ℕ) where
     run-step inner k r = by-either (run-either (partRecord 2 g) (r .entries) rs)
       where
         s : Stores 2 more room [] (field (r .next) (r .behind)) (suc (r .room-left)) (r .entries)
-        s = walk-stores (layoutRules accepts) room (run inner (g .tag) 1 0 ∷ []) [] more (r .next) (r .behind) (r .room-left) (r .entries) (r .walked)
+        s = walk-stores (layoutRules accepts) room (run (outermost (g .tag) inner) 0 ∷ []) [] more (r .next) (r .behind) (r .room-left) (r .entries) (r .walked)
 
         t : Stores 2 (field (r .next) (r .behind)) (suc (r .room-left)) (storedRun (partRecord 2 g) (r .entries) rs) (field x rest) (suc left) (rs ++ new)
         t =

@@ -27,7 +27,7 @@ use Rattle.dictionary_meaning_rules.specs.Meaning.{dictionaryOf}
 use Rattle.dictionary_meaning_rules.specs.MsgTypeText.{Bytes}
 use Rattle.build_records.specs.Records.{stored, valueAt}
 use Rattle.build_records.specs.declared.Record.{Record}
-use Rattle.build_group_rules.specs.Groups.{Rules, Opened, none, opened, run, RunOutcome, walk}
+use Rattle.build_group_rules.specs.Groups.{Rules, Opened, none, opened, run, outermost, RunOutcome, walk}
 use Rattle.build_group_rules.specs.Groups.{ended as ran, refused as stops}
 use Rattle.build_group_rules.specs.Reading.{listStore, answerOf, openedAs, accepted, layoutRules}
 use Rattle.build_group_rules.specs.declared.Refusal.{Refusal}
@@ -130,8 +130,8 @@ module _ (rules : Rules Layout) where
       → ReadingSmall (runFrom rules layoutDemands inner tag fields room)
   unfolding runFrom
   from-small inner tag fields room l t e =
-      ran-small inner tag (walk rules listStore room (run inner tag 1 0 ∷ []) [] fields) l t
-      (walk-small rules room (run inner tag 1 0 ∷ []) [] fields (run-open t nothing-open) all-none e)
+      ran-small inner tag (walk rules listStore room (run (outermost tag inner) 0 ∷ []) [] fields) l t
+      (walk-small rules room (run (outermost tag inner) 0 ∷ []) [] fields (run-open t nothing-open) all-none e)
 
 -- a count opens a layout of the dictionary
 abbrev KindSmall : Kind Layout → Type 0
