@@ -19,9 +19,9 @@ use Rattle.dictionary_layout_rules.specs.Layout.{Layout}
 use Rattle.dictionary_tables_rules.specs.Tabled.{Tabled}
 use Rattle.build_records.specs.declared.Record.{Record}
 use Rattle.build_group_rules.specs.Groups.{run, outermost, ended, walk}
-use Rattle.build_group_rules.specs.Alike.{OutcomeAlike}
+use Rattle.build_group_rules.specs.Alike.{onLevel, OutcomeAlike}
 use Rattle.build_group_rules.specs.Meaning.{Holds, Lays, run-means}
-use Rattle.build_group_rules.specs.Reading.{accepted, layoutRules, listStore, memory, runOf}
+use Rattle.build_group_rules.specs.Reading.{accepted, layoutRules, listStore, memory, openGroup, runOf}
 use Rattle.build_group_rules.specs.declared.Group.{Group}
 use Rattle.build_group_rules.specs.declared.Progress.{Progress}
 use Rattle.promise_standard.specs.Reading.{ReadsAs, Readable, fields-read}
@@ -45,5 +45,5 @@ module _ {T : Tables} {Here : ℕ → Type 0} {c d n : ℕ} {gs : List Told} (s 
       → OutcomeAlike (Holds after tail) (Lays after tail) (runOf message config table known group cursor progress words) (ended x rest left (done ++ recordsAs (numbered (group .depth) 0 s) (fieldsFrom (config .mode) message cursor)))
   run-read config table known has same group tabled cursor progress words done after tail holds rest room reads fits leaves =
       let means = run-means message config table known has same group layout tabled cursor progress words done after tail holds in
-      let read = group-read (layoutRules (accepted config has)) message _ _ s layout (group .tag) (group .depth) left done (fieldsFrom (config .mode) message cursor) x rest fits leaves reads in
-      rw (ap (λ (k : ℕ). walk (layoutRules (accepted config has)) listStore k (run layout (group .tag) (group .depth) 0 ∷ []) done (fieldsFrom (config .mode) message cursor)) room ∙ read) at means
+      let read = group-read (layoutRules (accepted config has)) message _ _ s (onLevel layout (openGroup group)) left done (fieldsFrom (config .mode) message cursor) x rest fits leaves reads in
+      rw (ap (λ (k : ℕ). walk (layoutRules (accepted config has)) listStore k (run (onLevel layout (openGroup group)) 0 ∷ []) done (fieldsFrom (config .mode) message cursor)) room ∙ read) at means

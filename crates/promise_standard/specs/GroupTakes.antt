@@ -16,7 +16,7 @@ use Rattle.field_rules.specs.declared.Field.{Field}
 use Rattle.dictionary_layout_rules.specs.declared.Position.{Position}
 use Rattle.dictionary_layout_rules.specs.declared.Position.the-variants.{At, Nowhere}
 use Rattle.build_records.specs.declared.Record.{Record}
-use Rattle.build_group_rules.specs.Groups.{Opened, none, opened, Rules, opens, Kind, plain, count, joins, wrong, ends, counting, declared, entryKind, Frame, Move, adds, joinsAt, disorders, leaves, decide, entryRecord, ended, moved, walk}
+use Rattle.build_group_rules.specs.Groups.{Opened, none, opened, Rules, opens, Kind, plain, count, joins, wrong, ends, counting, declared, entryKind, Frame, Numbers, Move, adds, joinsAt, disorders, leaves, decide, entryRecord, ended, moved, walk}
 use Rattle.build_group_rules.specs.Reading.{joinedList, listStore}
 use Rattle.promise_standard.specs.Reading.{ReadsAs, no-field, one-field}
 use Rattle.promise_standard.specs.Groups.{recordsAs, Rises, Joins}
@@ -24,15 +24,16 @@ use Rattle.promise_standard.specs.GroupOwn.{joined-either}
 
 -- what a tag makes: a user tag that joins an entry makes a record like any other
 unfoldable pub given : {L : Type 0} → Move L → Move L
-given (adds stack depth number) = adds stack depth number
-given (joinsAt stack start depth number) = adds stack depth number
+given (adds stack numbers) = adds stack numbers
+given (joinsAt stack start numbers) = adds stack numbers
 given (disorders group) = disorders group
 given leaves = leaves
 
 -- fields are taken one by one, each with a depth and an entry number, up to one that nothing takes
 pub data Takes {L : Type 0} (rules : Rules L) (x : Field) (rest : Fields) : List (Frame L) → List (ℕ × ℕ) → Fields → Type 0 where
   over : (here : ℕ) {stack : List (Frame L)} → given (decide rules here stack (x .tag)) ≡ leaves → Takes rules x rest stack [] (field x rest)
-  takes : (here : ℕ) {stack more : List (Frame L)} {n : ℕ × ℕ} {ns : List (ℕ × ℕ)} {f : Field} {later : Fields} → given (decide rules here stack (f .tag)) ≡ adds more (n .0) (n .1) → Takes rules x rest more ns later → Takes rules x rest stack (n ∷ ns) (field f later)
+  takes : (here : ℕ) {stack more : List (Frame L)} {n : ℕ × ℕ} {ns : List (ℕ × ℕ)} {f : Field} {later : Fields} → given (decide rules here stack (f .tag)) ≡ adds more (record { depth = n .0; number = n .1 })
+      → Takes rules x rest more ns later → Takes rules x rest stack (n ∷ ns) (field f later)
 
 module _ {L : Type 0} (rules : Rules L) where
   -- what a kind says of its tag
@@ -83,11 +84,11 @@ module _ {L : Type 0} (rules : Rules L) where
   grows-move : (room : ℕ) (done : List Record) (f : Field) (later : Fields) (x : Field) (rest : Fields) (left : ℕ) (rs : List Record) → ((stack : List (Frame L)) (done₁ : List Record) → walk rules listStore room stack done₁ later ≡ ended x rest left rs → length rs + suc left ≤ length done₁ + room) →
       (m : Move L) → moved listStore room done f later (λ stack s. walk rules listStore room stack s later) m ≡ ended x rest left rs → length rs + suc left ≤ length done + suc room
   unfolding moved listStore
-  grows-move room done f later x rest left rs on (adds stack depth number) e = omega (arith, on stack _ e, length-append done (entryRecord depth number f ∷ []))
-  grows-move room done f later x rest left rs on (joinsAt stack at depth number) e = by-join (joined-either at (entryRecord depth number f) done) (on stack _ e)
+  grows-move room done f later x rest left rs on (adds stack numbers) e = omega (arith, on stack _ e, length-append done (entryRecord (numbers .depth) (numbers .number) f ∷ []))
+  grows-move room done f later x rest left rs on (joinsAt stack at numbers) e = by-join (joined-either at (entryRecord (numbers .depth) (numbers .number) f) done) (on stack _ e)
     where
-      by-join : (joinedList at (entryRecord depth number f) done ≡ done ++ (entryRecord depth number f ∷ [])) ⊎ (length (joinedList at (entryRecord depth number f) done) ≡ length done) → length rs + suc left ≤ length (joinedList at (entryRecord depth number f) done) + room → length rs + suc left ≤ length done + suc room
-      by-join (inl q) h = omega (arith, ap length q, length-append done (entryRecord depth number f ∷ []))
+      by-join : (joinedList at (entryRecord (numbers .depth) (numbers .number) f) done ≡ done ++ (entryRecord (numbers .depth) (numbers .number) f ∷ [])) ⊎ (length (joinedList at (entryRecord (numbers .depth) (numbers .number) f) done) ≡ length done) → length rs + suc left ≤ length (joinedList at (entryRecord (numbers .depth) (numbers .number) f) done) + room → length rs + suc left ≤ length done + suc room
+      by-join (inl q) h = omega (arith, ap length q, length-append done (entryRecord (numbers .depth) (numbers .number) f ∷ []))
       by-join (inr q) h = omega arith
   grows-move room done f later x rest left rs on (disorders group) e = let z : _≡_ {A = ℕ} 0 1 = cc in absurd (omega arith)
   grows-move room done f later x rest left rs on leaves e =
@@ -103,20 +104,21 @@ module _ {L : Type 0} (rules : Rules L) where
   walk-grows (suc room) frames done (field f later) x rest left rs e =
       grows-move room done f later x rest left rs (λ stack done₁ e₁. walk-grows room stack done₁ later x rest left rs e₁) (decide rules (length done) frames (f .tag)) e
 
-  takes-one : (frames stack : List (Frame L)) (done rs : List Record) (f : Field) (later : Fields) (x : Field) (rest : Fields) (depth number : ℕ) → given (decide rules (length done) frames (f .tag)) ≡ adds stack depth number → Taken stack (done ++ (entryRecord depth number f ∷ [])) rs later x rest → Taken frames done rs (field f later) x rest
+  takes-one : (frames stack : List (Frame L)) (done rs : List Record) (f : Field) (later : Fields) (x : Field) (rest : Fields) (numbers : Numbers) → given (decide rules (length done) frames (f .tag)) ≡ adds stack numbers
+      → Taken stack (done ++ (entryRecord (numbers .depth) (numbers .number) f ∷ [])) rs later x rest → Taken frames done rs (field f later) x rest
   unfolding recordsAs
-  takes-one frames stack done rs f later x rest depth number d t =
-      record { numbers = (depth, number) ∷ t .numbers; taken = takes (length done) d (t .taken); records = t .records ∙ append-assoc done (entryRecord depth number f ∷ []) (recordsAs (t .numbers) later) }
+  takes-one frames stack done rs f later x rest numbers d t =
+      record { numbers = (numbers .depth, numbers .number) ∷ t .numbers; taken = takes (length done) d (t .taken); records = t .records ∙ append-assoc done (entryRecord (numbers .depth) (numbers .number) f ∷ []) (recordsAs (t .numbers) later) }
 
   takes-move : (room : ℕ) (frames : List (Frame L)) (done : List Record) (f : Field) (later : Fields) (x : Field) (rest : Fields) (left : ℕ) (rs : List Record) → length rs + suc left ≡ length done + suc room → ((stack : List (Frame L)) (done₁ : List Record) → length rs + suc left ≡ length done₁ + room → walk rules listStore room stack done₁ later ≡ ended x rest left rs → Taken stack done₁ rs later x rest) →
       (m : Move L) → decide rules (length done) frames (f .tag) ≡ m → moved listStore room done f later (λ stack s. walk rules listStore room stack s later) m ≡ ended x rest left rs → Taken frames done rs (field f later) x rest
   unfolding moved listStore recordsAs given
-  takes-move room frames done f later x rest left rs whole on (adds stack depth number) d e =
-      takes-one frames stack done rs f later x rest depth number (ap given d) (on stack _ (omega (arith, length-append done (entryRecord depth number f ∷ []))) e)
-  takes-move room frames done f later x rest left rs whole on (joinsAt stack at depth number) d e = by-join (joined-either at (entryRecord depth number f) done)
+  takes-move room frames done f later x rest left rs whole on (adds stack numbers) d e =
+      takes-one frames stack done rs f later x rest numbers (ap given d) (on stack _ (omega (arith, length-append done (entryRecord (numbers .depth) (numbers .number) f ∷ []))) e)
+  takes-move room frames done f later x rest left rs whole on (joinsAt stack at numbers) d e = by-join (joined-either at (entryRecord (numbers .depth) (numbers .number) f) done)
     where
-      by-join : (joinedList at (entryRecord depth number f) done ≡ done ++ (entryRecord depth number f ∷ [])) ⊎ (length (joinedList at (entryRecord depth number f) done) ≡ length done) → Taken frames done rs (field f later) x rest
-      by-join (inl q) = takes-one frames stack done rs f later x rest depth number (ap given d) (on stack _ (omega (arith, length-append done (entryRecord depth number f ∷ []))) (rw q at e))
+      by-join : (joinedList at (entryRecord (numbers .depth) (numbers .number) f) done ≡ done ++ (entryRecord (numbers .depth) (numbers .number) f ∷ [])) ⊎ (length (joinedList at (entryRecord (numbers .depth) (numbers .number) f) done) ≡ length done) → Taken frames done rs (field f later) x rest
+      by-join (inl q) = takes-one frames stack done rs f later x rest numbers (ap given d) (on stack _ (omega (arith, length-append done (entryRecord (numbers .depth) (numbers .number) f ∷ []))) (rw q at e))
       by-join (inr q) = absurd (omega (arith, walk-grows room stack _ later x rest left rs e))
   takes-move room frames done f later x rest left rs whole on (disorders group) d e = let z : _≡_ {A = ℕ} 0 1 = cc in absurd (omega arith)
   takes-move room frames done f later x rest left rs whole on leaves d e =
