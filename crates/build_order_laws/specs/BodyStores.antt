@@ -44,12 +44,12 @@ walk-stores {L} rules (suc room) stack rs (field g more) f rest room₁ rs₁ e 
     by-move : (m : Move L) → moved listStore room rs g more (λ stack₂ rs₂. walk rules listStore room stack₂ rs₂ more) m ≡ ran f rest room₁ rs₁
         → ((stack₂ : List (Frame L)) (rs₂ : List Record) → walk rules listStore room stack₂ rs₂ more ≡ ran f rest room₁ rs₁ → Stores 2 more room rs₂ (field f rest) (suc room₁) rs₁)
         → Stores 2 (field g more) (suc room) rs (field f rest) (suc room₁) rs₁
-    by-move (adds stack₂ depth number) e later =
-        let r = entryRecord depth number g in
-        stores-then (stores-kept r (of-entry depth number g) (keeps-last r rs)) (later stack₂ (rs ++ (r ∷ [])) (unfold moved listStore in e))
-    by-move (joinsAt stack₂ start depth number) e later =
-        let r = entryRecord depth number g in
-        stores-then (stores-kept r (of-entry depth number g) (keeps-joined start r rs)) (later stack₂ (joinedList start r rs) (unfold moved listStore in e))
+    by-move (adds stack₂ numbers) e later =
+        let r = entryRecord (numbers .depth) (numbers .number) g in
+        stores-then (stores-kept r (of-entry (numbers .depth) (numbers .number) g) (keeps-last r rs)) (later stack₂ (rs ++ (r ∷ [])) (unfold moved listStore in e))
+    by-move (joinsAt stack₂ start numbers) e later =
+        let r = entryRecord (numbers .depth) (numbers .number) g in
+        stores-then (stores-kept r (of-entry (numbers .depth) (numbers .number) g) (keeps-joined start r rs)) (later stack₂ (joinedList start r rs) (unfold moved listStore in e))
     by-move (disorders group) e later = let z : _≡_ {A = ℕ} 0 1 = unfold moved in cc in absurd (omega arith)
     by-move leaves e later =
         let q : _≡_ {A = RunOutcome (List Record) (List Record)} (ran g more room rs) (ran f rest room₁ rs₁) = unfold moved in e in

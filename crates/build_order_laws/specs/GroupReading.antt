@@ -33,10 +33,10 @@ module _ {L : Type 0} (rules : Rules L) where
         → ((stack₂ : List (Frame L)) (rs₂ qs₂ : List Record) → Similar rs₂ qs₂ → walk rules listStore room stack₂ rs₂ last ≡ ran f rest room₁ rs₁ → Alongside ran (walk rules listStore room stack₂ qs₂ others) n room f rest room₁ rs₁)
         → Alongside ran (moved listStore room qs h others (λ stack₂ qs₂. walk rules listStore room stack₂ qs₂ others) m) (suc n) (suc room) f rest room₁ rs₁
     unfolding moved listStore
-    by-move (adds stack₂ depth number) e later =
-        one-more ran (later stack₂ (rs ++ (entryRecord depth number g ∷ [])) (qs ++ (entryRecord depth number h ∷ [])) (similar-append s (more (alike-entry depth number g h t) none)) e)
-    by-move (joinsAt stack₂ start depth number) e later =
-        one-more ran (later stack₂ (joinedList start (entryRecord depth number g) rs) (joinedList start (entryRecord depth number h) qs) (similar-joined start (alike-entry depth number g h t) s) e)
+    by-move (adds stack₂ numbers) e later =
+        one-more ran (later stack₂ (rs ++ (entryRecord (numbers .depth) (numbers .number) g ∷ [])) (qs ++ (entryRecord (numbers .depth) (numbers .number) h ∷ [])) (similar-append s (more (alike-entry (numbers .depth) (numbers .number) g h t) none)) e)
+    by-move (joinsAt stack₂ start numbers) e later =
+        one-more ran (later stack₂ (joinedList start (entryRecord (numbers .depth) (numbers .number) g) rs) (joinedList start (entryRecord (numbers .depth) (numbers .number) h) qs) (similar-joined start (alike-entry (numbers .depth) (numbers .number) g h t) s) e)
     by-move (disorders group) e later = let z : _≡_ {A = ℕ} 0 1 = cc in absurd (omega arith)
     by-move leaves e later =
         let b : g ≡ f = cc in

@@ -40,9 +40,9 @@ twiceInTrailer (field f rest) records =
 -- "Each delimiter opens an entry. Declared tags must rise in position", so no entry stores one twice (`entry-other` of nesting); "unknown
 -- user tags join the open entry", whose map may hold them already
 unfoldable pub twiceMoved : {L : Type 0} → Field → List Record → (List (Frame L) → List Record → Bool) → Move L → Bool
-twiceMoved f records on (adds stack depth number) = on stack (records ++ (entryRecord depth number f ∷ []))
-twiceMoved f records on (joinsAt stack start depth number) =
-    pick (has depth (f .tag) (drop start records)) true (on stack (joinedList start (entryRecord depth number f) records))
+twiceMoved f records on (adds stack numbers) = on stack (records ++ (entryRecord (numbers .depth) (numbers .number) f ∷ []))
+twiceMoved f records on (joinsAt stack start numbers) =
+    pick (has (numbers .depth) (f .tag) (drop start records)) true (on stack (joinedList start (entryRecord (numbers .depth) (numbers .number) f) records))
 twiceMoved f records on (disorders group) = false
 twiceMoved f records on leaves = false
 

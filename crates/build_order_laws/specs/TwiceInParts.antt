@@ -75,14 +75,14 @@ walk-tells {L} rules (suc room) stack rs (field g more) f rest room₁ rs₁ e =
     by-move : (m : Move L) → moved listStore room rs g more (λ stack₂ rs₂. walk rules listStore room stack₂ rs₂ more) m ≡ ran f rest room₁ rs₁
         → ((stack₂ : List (Frame L)) (rs₂ : List Record) → walk rules listStore room stack₂ rs₂ more ≡ ran f rest room₁ rs₁ → Tells (twiceInRun rules stack₂ rs₂ more) (length rs₂ + room) (length rs₁ + suc room₁))
         → Tells (twiceMoved g rs (λ stack₂ rs₂. twiceInRun rules stack₂ rs₂ more) m) (length rs + suc room) (length rs₁ + suc room₁)
-    by-move (adds stack₂ depth number) e later =
-        let r = entryRecord depth number g in
+    by-move (adds stack₂ numbers) e later =
+        let r = entryRecord (numbers .depth) (numbers .number) g in
         let t : Tells (twiceInRun rules stack₂ (rs ++ (r ∷ [])) more) (length (rs ++ (r ∷ [])) + room) (length rs₁ + suc room₁) = later stack₂ (rs ++ (r ∷ [])) (unfold moved listStore in e) in
         tells-then false (twiceInRun rules stack₂ (rs ++ (r ∷ [])) more) (tells-last r rs room) t
-    by-move (joinsAt stack₂ start depth number) e later =
-        let ss = joinedList start (entryRecord depth number g) rs in
+    by-move (joinsAt stack₂ start numbers) e later =
+        let ss = joinedList start (entryRecord (numbers .depth) (numbers .number) g) rs in
         let t : Tells (twiceInRun rules stack₂ ss more) (length ss + room) (length rs₁ + suc room₁) = later stack₂ ss (unfold moved listStore in e) in
-        tells-then (has depth (g .tag) (drop start rs)) (twiceInRun rules stack₂ ss more) (tells-joined start depth number g rs room) t
+        tells-then (has (numbers .depth) (g .tag) (drop start rs)) (twiceInRun rules stack₂ ss more) (tells-joined start (numbers .depth) (numbers .number) g rs room) t
     by-move (disorders group) e later = let z : _≡_ {A = ℕ} 0 1 = unfold moved in cc in absurd (omega arith)
     by-move leaves e later =
         let q : _≡_ {A = RunOutcome (List Record) (List Record)} (ran g more room rs) (ran f rest room₁ rs₁) = unfold moved in e in

@@ -12,7 +12,7 @@ use Rattle.dictionary_rules.specs.Check.{checkOf}
 use Rattle.dictionary_rules.specs.declared.Checked.the-variants.{Passes}
 use Rattle.dictionary_meaning_rules.specs.Meaning.{dictionaryOf}
 use Rattle.dictionary_meaning_rules.specs.TreeBounds.{message-bounded}
-use Rattle.build_group_rules.specs.Groups.{count, counting, Frame, run, outermost, entry, Store}
+use Rattle.build_group_rules.specs.Groups.{count, counting, OpenGroup, OpenEntry, Frame, run, outermost, entry, Store}
 use Rattle.build_group_rules.specs.Reading.{openedAs, layoutRules}
 use Rattle.build_group_rules.specs.FourLevels.{ComesTo, WithinFour, run-within, nested-runs}
 
@@ -21,6 +21,8 @@ module _ (bytes : List ℕ) (passes : checkOf bytes ≡ Passes) (msgType : List 
   message-within later comes = run-within accepts store layout (message-bounded bytes passes msgType layout laid .shallow) tag inner counts later comes
 
   -- so a nested count always starts a nested run
-  pub message-runs : (above below : List (Frame Layout)) (level : Layout) (group depth number last start : ℕ) → ComesTo (layoutRules accepts) store room (run (outermost tag inner) 0 ∷ []) s fields (above ++ (entry level group depth number last start ∷ below)) → (wanted : ℕ) (nested : Layout) → groupOf wanted level ≡ entries-of nested → (position : ℕ) → counting depth position (openedAs (groupOf wanted level)) ≡ count nested position
-  message-runs above below level group depth number last start comes wanted nested e position =
-      nested-runs accepts store layout (message-bounded bytes passes msgType layout laid .shallow) tag inner counts above below level group depth number last start comes wanted nested e position
+  pub message-runs : (above below : List (Frame Layout)) (group : OpenGroup Layout) (own : OpenEntry)
+      → ComesTo (layoutRules accepts) store room (run (outermost tag inner) 0 ∷ []) s fields (above ++ (entry group own ∷ below))
+      → (wanted : ℕ) (nested : Layout) → groupOf wanted (group .level) ≡ entries-of nested → (position : ℕ) → counting (group .depth) position (openedAs (groupOf wanted (group .level))) ≡ count nested position
+  message-runs above below group own comes wanted nested e position =
+      nested-runs accepts store layout (message-bounded bytes passes msgType layout laid .shallow) tag inner counts above below group own comes wanted nested e position

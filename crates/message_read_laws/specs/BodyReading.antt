@@ -88,7 +88,7 @@ module _ {L : Type 0} (rules : Rules L) (first : (level : L) (tag : ℕ) → ope
       let some : q .tag ≡ 0 → ⊥ = λ z. fine .some (sym (o .tagged) ∙ z) in
       let none : Counts message 2 room (budget rest) rest room [] = record { tagged = all-none; placed = all-none; few = omega arith; small = unfold total in omega arith; each = rest-fine (c .each) } in
       let w = walk-counts rules room (run (outermost (f .tag) inner) 0 ∷ []) [] rest none g more room₁ run-records e in
-      let read = run-formed rules [] inner 1 room (f .tag) rest g more room₁ run-records e in
+      let read = run-formed rules [] (outermost (f .tag) inner) room rest g more room₁ run-records e in
       let same : read .records ≡ run-records = sym (read .whole) in
       let b = built message rules first (read .formed) (rw (sym same) at (w .tagged)) 0 0 (q .tag) refl some in
       let m = r .built in

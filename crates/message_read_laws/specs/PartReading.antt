@@ -121,8 +121,12 @@ walk-counts {L} rules {message} {most} {bytes} (suc room) stack rs (field g more
     by-move : (m : Move L) → moved listStore room rs g more (λ stack₂ rs₂. walk rules listStore room stack₂ rs₂ more) m ≡ ran f rest room₁ rs₁
         → ((stack₂ : List (Frame L)) (rs₂ : List Record) → Counts message 2 most bytes more room rs₂ → walk rules listStore room stack₂ rs₂ more ≡ ran f rest room₁ rs₁ → Counts message 2 most bytes (field f rest) (suc room₁) rs₁)
         → Counts message 2 most bytes (field f rest) (suc room₁) rs₁
-    by-move (adds stack₂ depth number) e later = later stack₂ (rs ++ (entryRecord depth number g ∷ [])) (counts-on (entryRecord depth number g) c (of-entry depth number g) (grows-last (entryRecord depth number g) rs)) (unfold moved listStore in e)
-    by-move (joinsAt stack₂ start depth number) e later = later stack₂ (joinedList start (entryRecord depth number g) rs) (counts-on (entryRecord depth number g) c (of-entry depth number g) (grows-joined start (entryRecord depth number g) rs)) (unfold moved listStore in e)
+    by-move (adds stack₂ numbers) e later =
+        let r = entryRecord (numbers .depth) (numbers .number) g in
+        later stack₂ (rs ++ (r ∷ [])) (counts-on r c (of-entry (numbers .depth) (numbers .number) g) (grows-last r rs)) (unfold moved listStore in e)
+    by-move (joinsAt stack₂ start numbers) e later =
+        let r = entryRecord (numbers .depth) (numbers .number) g in
+        later stack₂ (joinedList start r rs) (counts-on r c (of-entry (numbers .depth) (numbers .number) g) (grows-joined start r rs)) (unfold moved listStore in e)
     by-move (disorders group) e later = let z : _≡_ {A = ℕ} 0 1 = unfold moved in cc in absurd (omega arith)
     by-move leaves e later =
         let q : _≡_ {A = RunOutcome (List Record) (List Record)} (ran g more room rs) (ran f rest room₁ rs₁) = unfold moved in e in

@@ -16,7 +16,7 @@ use Rattle.dictionary_layout_rules.specs.declared.Position.{Position}
 use Rattle.dictionary_layout_rules.specs.declared.Position.the-variants.{At, Nowhere}
 use Rattle.build_records.specs.Records.{stored}
 use Rattle.build_records.specs.declared.Record.{Record}
-use Rattle.build_group_rules.specs.Groups.{Rules, Opened, none, opened, Frame, run, outermost, entry, Kind, plain, count, joins, wrong, ends, counting, declared, entryKind, opens, Move, adds, joinsAt, disorders, leaves, inEntry, decide, RunOutcome, moved, walk}
+use Rattle.build_group_rules.specs.Groups.{Rules, Opened, none, opened, OpenGroup, OpenEntry, Frame, run, outermost, entry, Kind, plain, count, joins, wrong, ends, counting, declared, entryKind, opens, Move, adds, joinsAt, disorders, leaves, inEntry, decide, RunOutcome, moved, walk}
 use Rattle.build_group_rules.specs.Groups.{entryRecord, ended as ran, refused as stops}
 use Rattle.build_group_rules.specs.Reading.{joinedList, listStore}
 use Rattle.build_required_rules.specs.Required.{Demands, runLack}
@@ -58,17 +58,17 @@ entry-small depth number f d n fine = record { of-three = omega arith; shallow =
 
 data StackFits {L : Type 0} (room : ℕ) : List (Frame L) → Type 0 where
   nothing-open : StackFits room []
-  run-open : {level : L} {group depth entries : ℕ} {below : List (Frame L)} → depth ≤ 4 → entries + room ≤ 1024 → StackFits room below → StackFits room (run level group depth entries ∷ below)
-  entry-open : {level : L} {group depth number last start : ℕ} {below : List (Frame L)} → depth ≤ 4 → number + room ≤ 1024 → StackFits room below → StackFits room (entry level group depth number last start ∷ below)
+  run-open : {group : OpenGroup L} {entries : ℕ} {below : List (Frame L)} → group .depth ≤ 4 → entries + room ≤ 1024 → StackFits room below → StackFits room (run group entries ∷ below)
+  entry-open : {group : OpenGroup L} {own : OpenEntry} {below : List (Frame L)} → group .depth ≤ 4 → own .number + room ≤ 1024 → StackFits room below → StackFits room (entry group own ∷ below)
 
 one-less : {L : Type 0} {room : ℕ} {stack : List (Frame L)} → StackFits (suc room) stack → StackFits room stack
 one-less nothing-open = nothing-open
 one-less (run-open {entries = entries} d n s) = run-open {entries = entries} d (omega (arith, n)) (one-less s)
-one-less (entry-open {number = number} d n s) = entry-open {number = number} d (omega (arith, n)) (one-less s)
+one-less (entry-open {own = own} d n s) = entry-open {own = own} d (omega (arith, n)) (one-less s)
 
 abbrev MoveFits : {L : Type 0} → ℕ → Move L → Type 0
-MoveFits room (adds stack depth number) = StackFits room stack × (depth ≤ 4) × (number ≤ 1024)
-MoveFits room (joinsAt stack start depth number) = StackFits room stack × (depth ≤ 4) × (number ≤ 1024)
+MoveFits room (adds stack numbers) = StackFits room stack × (numbers .depth ≤ 4) × (numbers .number ≤ 1024)
+MoveFits room (joinsAt stack start numbers) = StackFits room stack × (numbers .depth ≤ 4) × (numbers .number ≤ 1024)
 MoveFits room (disorders group) = Unit {0}
 MoveFits room leaves = Unit {0}
 
@@ -107,23 +107,24 @@ module _ {L : Type 0} (rules : Rules L) where
   unfolding entryKind
   kind-fits level depth last tag = kind-pick depth (opens rules level tag) ends (declared rules level depth last tag (rules .position level tag)) tt (declared-fits level depth last tag (rules .position level tag))
 
-  in-entry-fits : (room : ℕ) (level : L) (group depth number last start : ℕ) (below : List (Frame L)) (tag : ℕ) (otherwise : Move L) (k : Kind L) → KindFits depth k → depth ≤ 4 → number + room ≤ 1024 → room ≤ 1024 → StackFits room below → MoveFits room otherwise
-      → MoveFits room (inEntry level group depth number last start below tag otherwise k)
+  in-entry-fits : (room : ℕ) (group : OpenGroup L) (own : OpenEntry) (below : List (Frame L)) (tag : ℕ) (otherwise : Move L) (k : Kind L) → KindFits (group .depth) k → group .depth ≤ 4
+      → own .number + room ≤ 1024 → room ≤ 1024 → StackFits room below → MoveFits room otherwise
+      → MoveFits room (inEntry group own below tag otherwise k)
   unfolding inEntry
-  in-entry-fits room level group depth number last start below tag otherwise (plain position) k d n r s o = (entry-open d n s, d, omega (arith, n))
-  in-entry-fits room level group depth number last start below tag otherwise (count inner position) k d n r s o = (run-open {depth = depth + 1} {entries = 0} (omega (arith, k)) (omega (arith, r)) (entry-open d n s), d, omega (arith, n))
-  in-entry-fits room level group depth number last start below tag otherwise joins k d n r s o = (entry-open d n s, d, omega (arith, n))
-  in-entry-fits room level group depth number last start below tag otherwise wrong k d n r s o = tt
-  in-entry-fits room level group depth number last start below tag otherwise ends k d n r s o = o
+  in-entry-fits room group own below tag otherwise (plain position) k d n r s o = (entry-open d n s, d, omega (arith, n))
+  in-entry-fits room group own below tag otherwise (count inner position) k d n r s o = (run-open {entries = 0} (omega (arith, k)) (omega (arith, r)) (entry-open d n s), d, omega (arith, n))
+  in-entry-fits room group own below tag otherwise joins k d n r s o = (entry-open d n s, d, omega (arith, n))
+  in-entry-fits room group own below tag otherwise wrong k d n r s o = tt
+  in-entry-fits room group own below tag otherwise ends k d n r s o = o
 
   decide-fits : (room here : ℕ) (stack : List (Frame L)) (tag : ℕ) → suc room ≤ 1024 → StackFits (suc room) stack → MoveFits room (decide rules here stack tag)
   unfolding decide
   decide-fits room here [] tag r s = tt
-  decide-fits room here (run level group depth entries ∷ below) tag r (run-open d n s) =
-      move-pick room (opens rules level tag) _ _ (entry-open {number = entries + 1} d (omega (arith, n)) (run-open {entries = entries + 1} d (omega (arith, n)) (one-less s)), d, omega (arith, n))
+  decide-fits room here (run group entries ∷ below) tag r (run-open d n s) =
+      move-pick room (opens rules (group .level) tag) _ _ (entry-open d (omega (arith, n)) (run-open {entries = entries + 1} d (omega (arith, n)) (one-less s)), d, omega (arith, n))
       (move-pick room (eqb entries 0) _ _ tt (decide-fits room here below tag r s))
-  decide-fits room here (entry level group depth number last start ∷ below) tag r (entry-open d n s) =
-      in-entry-fits room level group depth number last start below tag (decide rules here below tag) (entryKind rules level depth last tag) (kind-fits level depth last tag) d (omega (arith, n)) (omega (arith, r)) (one-less s) (decide-fits room here below tag r s)
+  decide-fits room here (entry group own ∷ below) tag r (entry-open d n s) =
+      in-entry-fits room group own below tag (decide rules here below tag) (entryKind rules (group .level) (group .depth) (own .last) tag) (kind-fits (group .level) (group .depth) (own .last) tag) d (omega (arith, n)) (omega (arith, r)) (one-less s) (decide-fits room here below tag r s)
 
 -- ===== a run, the body, the header, the trailer =====
 
@@ -148,10 +149,10 @@ walk-kept {L} rules {message} (suc room) stack rs (field g more) s c f rest room
     by-move : (m : Move L) → MoveFits room m → moved listStore room rs g more (λ stack₂ rs₂. walk rules listStore room stack₂ rs₂ more) m ≡ ran f rest room₁ rs₁
         → ((stack₂ : List (Frame L)) (rs₂ : List Record) → StackFits room stack₂ → Kept message more room rs₂ → walk rules listStore room stack₂ rs₂ more ≡ ran f rest room₁ rs₁ → Kept message (field f rest) (suc room₁) rs₁)
         → Kept message (field f rest) (suc room₁) rs₁
-    by-move (adds stack₂ depth number) m e later =
-        later stack₂ (rs ++ (entryRecord depth number g ∷ [])) (m .0) (kept-on c (all-append _ (c .small) (all-more (entry-small depth number g (m .1) (m .2) (first-fine (c .each))) all-none))) (unfold moved listStore in e)
-    by-move (joinsAt stack₂ start depth number) m e later =
-        later stack₂ (joinedList start (entryRecord depth number g) rs) (m .0) (kept-on c (all-joins start (entryRecord depth number g) rs (entry-small depth number g (m .1) (m .2) (first-fine (c .each))) (c .small))) (unfold moved listStore in e)
+    by-move (adds stack₂ numbers) m e later =
+        later stack₂ (rs ++ (entryRecord (numbers .depth) (numbers .number) g ∷ [])) (m .0) (kept-on c (all-append _ (c .small) (all-more (entry-small (numbers .depth) (numbers .number) g (m .1) (m .2) (first-fine (c .each))) all-none))) (unfold moved listStore in e)
+    by-move (joinsAt stack₂ start numbers) m e later =
+        later stack₂ (joinedList start (entryRecord (numbers .depth) (numbers .number) g) rs) (m .0) (kept-on c (all-joins start (entryRecord (numbers .depth) (numbers .number) g) rs (entry-small (numbers .depth) (numbers .number) g (m .1) (m .2) (first-fine (c .each))) (c .small))) (unfold moved listStore in e)
     by-move (disorders group) m e later = let z : _≡_ {A = ℕ} 0 1 = unfold moved in cc in absurd (omega arith)
     by-move leaves m e later =
         let q : _≡_ {A = RunOutcome (List Record) (List Record)} (ran g more room rs) (ran f rest room₁ rs₁) = unfold moved in e in
@@ -230,7 +231,7 @@ module _ {L : Type 0} (rules : Rules L) (demands : Demands L) (tags : List ℕ) 
           → andThen (withRun (partRecord 2 g) rs (ranAs rules demands inner (g .tag) o)) (bodyWithin body turns) ≡ ended f rest room₁ rs₁ → Later → Kept message (field f rest) (suc room₁) rs₁
       after-run inner (ran h last room₂ es) w q later =
           after-lack h last room₂ es (runLack demands 4 inner (g .tag) 1 es)
-          (with-run h last room₂ es (walk-kept rules room (run (outermost (g .tag) inner) 0 ∷ []) [] more (run-open {depth = 1} {entries = 0} (omega arith) (omega (arith, r .left)) nothing-open) (kept-on r all-none) h last room₂ es w)) (unfold ranAs in q) later
+          (with-run h last room₂ es (walk-kept rules room (run (outermost (g .tag) inner) 0 ∷ []) [] more (run-open {entries = 0} (omega arith) (omega (arith, r .left)) nothing-open) (kept-on r all-none) h last room₂ es w)) (unfold ranAs in q) later
       after-run inner (stops refusal es) w q later = let z : _≡_ {A = ℕ} 0 1 = unfold ranAs withRun andThen in cc in absurd (omega arith)
 
       by-tag : (b : Bool) → pick b (ended g more room rs) (refused (InvalidField (g .tag))) ≡ ended f rest room₁ rs₁ → Kept message (field f rest) (suc room₁) rs₁

@@ -14,7 +14,7 @@ use Rattle.build_integrity_rules.specs.declared.Verified.{Verified}
 use Rattle.dictionary_layout_rules.specs.Tree.{Dictionary, knows, headerTags, trailerTags, holdsTag}
 use Rattle.build_records.specs.Records.{stored}
 use Rattle.build_records.specs.declared.Record.{Record}
-use Rattle.build_group_rules.specs.Groups.{Rules}
+use Rattle.build_group_rules.specs.Groups.{Rules, outermost}
 use Rattle.build_group_rules.specs.Reading.{accepted, layoutRules}
 use Rattle.build_required_rules.specs.Required.{Demands}
 use Rattle.build_required_rules.specs.Checking.{layoutDemands}
@@ -148,7 +148,7 @@ module _ {L : Type 0} (rules : Rules L) (demands : Demands L) (tags : List ℕ) 
   -- the entries of a run stand deeper than the body
   pub run-deeper : (inner : L) (f : Field) (rest : Fields) (room : ℕ) (g : Field) (more : Fields) (left : ℕ) (es : List Record) → RunRead rules demands tags level inner f rest room g more left es → All (Deep 1) es
   run-deeper inner f rest room g more left es w =
-      let read = run-formed rules [] inner 1 room (f .tag) rest g more left es (w .walked) in
+      let read = run-formed rules [] (outermost (f .tag) inner) room rest g more left es (w .walked) in
       let same : es ≡ read .records = read .whole in
       rw same (formed-deep rules (read .formed))
 

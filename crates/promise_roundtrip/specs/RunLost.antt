@@ -153,21 +153,21 @@ walk-loses {L} rules (suc room) stack rs (field g more) f rest room₁ rs₁ at 
         → ((stack₂ : List (Frame L)) (rs₂ : List Record) → walk rules listStore room stack₂ rs₂ more ≡ ran f rest room₁ rs₁ → Kept (suc (g .place)) (seen ++ (g ∷ [])) rs₂ → twiceInRun rules stack₂ rs₂ more ≡ true → RunLoses (seen ++ (g ∷ [])) more (field f rest) rs₁)
         → ((stack₂ : List (Frame L)) (rs₂ : List Record) (q : ℕ) → walk rules listStore room stack₂ rs₂ more ≡ ran f rest room₁ rs₁ → q < suc (g .place) → All (Elsewhere q) rs₂ → Goes more (field f rest) q rs₁)
         → RunLoses seen (field g more) (field f rest) rs₁
-    by-move (adds stack₂ depth number) e t later goes = loses-later seen g more (field f rest) rs₁ (later stack₂ (rs ++ (entryRecord depth number g ∷ [])) (unfold moved listStore in e) (kept-added g p depth number k) t)
-    by-move (joinsAt stack₂ start depth number) e t later goes = by-test (has depth (g .tag) (drop start rs)) refl t
+    by-move (adds stack₂ numbers) e t later goes = loses-later seen g more (field f rest) rs₁ (later stack₂ (rs ++ (entryRecord (numbers .depth) (numbers .number) g ∷ [])) (unfold moved listStore in e) (kept-added g p (numbers .depth) (numbers .number) k) t)
+    by-move (joinsAt stack₂ start numbers) e t later goes = by-test (has (numbers .depth) (g .tag) (drop start rs)) refl t
       where
         r₂ : Record
-        r₂ = entryRecord depth number g
+        r₂ = entryRecord (numbers .depth) (numbers .number) g
 
-        over : has depth (g .tag) (drop start rs) ≡ true → RunLoses seen (field g more) (field f rest) rs₁
+        over : has (numbers .depth) (g .tag) (drop start rs) ≡ true → RunLoses seen (field g more) (field f rest) rs₁
         over h =
-            let o = entry-over at start depth number g rs (new-place g p depth number k) (k .before) (k .distinct) h in
+            let o = entry-over at start (numbers .depth) (numbers .number) g rs (new-place g p (numbers .depth) (numbers .number) k) (k .before) (k .distinct) h in
             let old = o .old in
             let b = all-member (k .before) (o .member) in
-            loses-now seen g more (field f rest) rs₁ old (o .tagged ∙ entry-tag depth number g) (all-member (k .seen) (o .member)) (goes stack₂ (joinedList start r₂ rs) (old .place) (unfold moved listStore in e) (omega (arith, b .starts, p)) (o .gone))
+            loses-now seen g more (field f rest) rs₁ old (o .tagged ∙ entry-tag (numbers .depth) (numbers .number) g) (all-member (k .seen) (o .member)) (goes stack₂ (joinedList start r₂ rs) (old .place) (unfold moved listStore in e) (omega (arith, b .starts, p)) (o .gone))
 
-        by-test : (d : Bool) → has depth (g .tag) (drop start rs) ≡ d → pick d true (twiceInRun rules stack₂ (joinedList start r₂ rs) more) ≡ true → RunLoses seen (field g more) (field f rest) rs₁
+        by-test : (d : Bool) → has (numbers .depth) (g .tag) (drop start rs) ≡ d → pick d true (twiceInRun rules stack₂ (joinedList start r₂ rs) more) ≡ true → RunLoses seen (field g more) (field f rest) rs₁
         by-test true d t = over d
-        by-test false d t = loses-later seen g more (field f rest) rs₁ (later stack₂ (joinedList start r₂ rs) (unfold moved listStore in e) (kept-joined g p depth number k start) t)
+        by-test false d t = loses-later seen g more (field f rest) rs₁ (later stack₂ (joinedList start r₂ rs) (unfold moved listStore in e) (kept-joined g p (numbers .depth) (numbers .number) k start) t)
     by-move (disorders group) e t later goes = let z : _≡_ {A = ℕ} 0 1 = cc in absurd (omega arith)
     by-move leaves e t later goes = let z : _≡_ {A = ℕ} 0 1 = cc in absurd (omega arith)

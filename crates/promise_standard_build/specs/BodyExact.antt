@@ -92,7 +92,7 @@ module _ (accepts : ℕ → Bool) (layout : Layout) (trailer : List ℕ) where
         → walk (layoutRules accepts) listStore room (run (outermost tag inner) 0 ∷ []) [] fields ≡ ran y after here es
         → AllRecords (λ r. shallow 0 r ≡ false) es
     run-deep inner tag fields room y after here es w =
-        let r = run-formed (layoutRules accepts) [] inner 1 room tag fields y after here es w in
+        let r = run-formed (layoutRules accepts) [] (outermost tag inner) room fields y after here es w in
         rw (r .whole) (all-map (λ q d. shallow-not 0 q (omega (arith, d .deep))) (formed-deep (layoutRules accepts) (r .formed)))
 
     -- what is read as its fields: it fits, and ends at a trailer tag

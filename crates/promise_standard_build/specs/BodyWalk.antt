@@ -127,7 +127,7 @@ module _ (accepts : ℕ → Bool) (layout : Layout) (trailer : List ℕ) where
         let behind : Fields = field (cut .next) (cut .rest) in
         let es : List Record = recordsAs (numbered 1 0 g) later in
         let size = length-append gs fs in
-        let read = group-read (layoutRules accepts) message T Here g inner (f .tag) 1 (length fs + left) [] later (cut .next) (cut .rest)
+        let read = group-read (layoutRules accepts) message T Here g (outermost (f .tag) inner) (length fs + left) [] later (cut .next) (cut .rest)
         (rw (cut .tag-is) fits) (rw (cut .tag-is) leaves) (cut .reads-first) in
         let complete = required-exact message accepts T Here g inner (tagBehind (x .tag) fs) (f .tag) later (cut .next) (cut .rest) fits
         (cut .reads-first) .1 required in

@@ -16,7 +16,7 @@ use Rattle.field_rules.specs.declared.Cursor.{Cursor}
 use Rattle.field_rules.specs.declared.Field.{Field}
 use Rattle.dictionary_layout_rules.specs.Layout.{Layout, Group, none as no-group, entries, groupOf}
 use Rattle.build_records.specs.declared.Record.{Record}
-use Rattle.build_group_rules.specs.Groups.{Rules, Opened, none, opened, Frame, run, entry, Kind, plain, count, joins, wrong, ends, entryKind, opens, Move, adds, joinsAt, disorders, leaves, inEntry, decide, entryRecord, RunOutcome, moved, walk}
+use Rattle.build_group_rules.specs.Groups.{Rules, Opened, none, opened, OpenGroup, OpenEntry, Frame, run, entry, Kind, plain, count, joins, wrong, ends, entryKind, opens, Move, adds, joinsAt, disorders, leaves, inEntry, decide, entryRecord, RunOutcome, moved, walk}
 use Rattle.build_group_rules.specs.Groups.{ended as ran, refused as stops}
 use Rattle.build_group_rules.specs.Reading.{joinedList, listStore, openedAs}
 use Rattle.build_group_rules.specs.declared.Refusal.{Refusal}
@@ -54,14 +54,14 @@ RecordTagSmall r = r .tag < 2 ^ 32
 -- what is open, with the tags of the counts that opened it
 pub data StackSmall {L : Type 0} : List (Frame L) → Type 0 where
   nothing-open : StackSmall []
-  run-open : {level : L} {group depth number : ℕ} {below : List (Frame L)} → group < 2 ^ 32 → StackSmall below
-      → StackSmall (run level group depth number ∷ below)
-  entry-open : {level : L} {group depth number last start : ℕ} {below : List (Frame L)} → group < 2 ^ 32 → StackSmall below
-      → StackSmall (entry level group depth number last start ∷ below)
+  run-open : {group : OpenGroup L} {number : ℕ} {below : List (Frame L)} → group .tag < 2 ^ 32 → StackSmall below
+      → StackSmall (run group number ∷ below)
+  entry-open : {group : OpenGroup L} {own : OpenEntry} {below : List (Frame L)} → group .tag < 2 ^ 32 → StackSmall below
+      → StackSmall (entry group own ∷ below)
 
 abbrev MoveSmall : {L : Type 0} → Move L → Type 0
-MoveSmall (adds stack depth number) = StackSmall stack
-MoveSmall (joinsAt stack start depth number) = StackSmall stack
+MoveSmall (adds stack numbers) = StackSmall stack
+MoveSmall (joinsAt stack start numbers) = StackSmall stack
 MoveSmall (disorders group) = group < 2 ^ 32
 MoveSmall leaves = Unit {0}
 
@@ -69,24 +69,24 @@ move-pick : {L : Type 0} (b : Bool) (x y : Move L) → MoveSmall x → MoveSmall
 move-pick true x y p q = p
 move-pick false x y p q = q
 
-in-entry-small : {L : Type 0} (level : L) (group depth number last start : ℕ) (below : List (Frame L)) (tag : ℕ) (otherwise : Move L) (k : Kind L)
-    → group < 2 ^ 32 → tag < 2 ^ 32 → StackSmall below → MoveSmall otherwise
-    → MoveSmall (inEntry level group depth number last start below tag otherwise k)
+in-entry-small : {L : Type 0} (group : OpenGroup L) (own : OpenEntry) (below : List (Frame L)) (tag : ℕ) (otherwise : Move L) (k : Kind L)
+    → group .tag < 2 ^ 32 → tag < 2 ^ 32 → StackSmall below → MoveSmall otherwise
+    → MoveSmall (inEntry group own below tag otherwise k)
 unfolding inEntry
-in-entry-small level group depth number last start below tag otherwise (plain position) g t s o = entry-open g s
-in-entry-small level group depth number last start below tag otherwise (count inner position) g t s o = run-open t (entry-open g s)
-in-entry-small level group depth number last start below tag otherwise joins g t s o = entry-open g s
-in-entry-small level group depth number last start below tag otherwise wrong g t s o = g
-in-entry-small level group depth number last start below tag otherwise ends g t s o = o
+in-entry-small group own below tag otherwise (plain position) g t s o = entry-open g s
+in-entry-small group own below tag otherwise (count inner position) g t s o = run-open t (entry-open g s)
+in-entry-small group own below tag otherwise joins g t s o = entry-open g s
+in-entry-small group own below tag otherwise wrong g t s o = g
+in-entry-small group own below tag otherwise ends g t s o = o
 
 decide-small : {L : Type 0} (rules : Rules L) (here : ℕ) (stack : List (Frame L)) (tag : ℕ) → tag < 2 ^ 32 → StackSmall stack
     → MoveSmall (decide rules here stack tag)
 unfolding decide
 decide-small rules here [] tag t s = tt
-decide-small rules here (run level group depth number ∷ below) tag t (run-open g s) =
-    move-pick (opens rules level tag) _ _ (entry-open g (run-open g s)) (move-pick (eqb number 0) _ _ g (decide-small rules here below tag t s))
-decide-small rules here (entry level group depth number last start ∷ below) tag t (entry-open g s) =
-    in-entry-small level group depth number last start below tag (decide rules here below tag) (entryKind rules level depth last tag) g t s
+decide-small rules here (run group number ∷ below) tag t (run-open g s) =
+    move-pick (opens rules (group .level) tag) _ _ (entry-open g (run-open g s)) (move-pick (eqb number 0) _ _ g (decide-small rules here below tag t s))
+decide-small rules here (entry group own ∷ below) tag t (entry-open g s) =
+    in-entry-small group own below tag (decide rules here below tag) (entryKind rules (group .level) (group .depth) (own .last) tag) g t s
     (decide-small rules here below tag t s)
 
 abbrev pub RefusalSmall : Refusal → Type 0
@@ -122,9 +122,9 @@ walk-small {L} rules (suc room) stack rs (field f rest) s a e =
     by-move : (move : Move L) → MoveSmall move
         → ((stack₁ : List (Frame L)) (rs₁ : List Record) → StackSmall stack₁ → All RecordTagSmall rs₁ → RunSmall (walk rules listStore room stack₁ rs₁ rest))
         → RunSmall (moved listStore room rs f rest (λ stack₁ rs₁. walk rules listStore room stack₁ rs₁ rest) move)
-    by-move (adds stack₁ depth number) m on = unfold moved in on stack₁ _ m (all-append _ a (all-more (added depth number) all-none))
-    by-move (joinsAt stack₁ start depth number) m on =
-        unfold moved in on stack₁ _ m (joined-small start (entryRecord depth number f) rs (added depth number) a)
+    by-move (adds stack₁ numbers) m on = unfold moved in on stack₁ _ m (all-append _ a (all-more (added (numbers .depth) (numbers .number)) all-none))
+    by-move (joinsAt stack₁ start numbers) m on =
+        unfold moved in on stack₁ _ m (joined-small start (entryRecord (numbers .depth) (numbers .number) f) rs (added (numbers .depth) (numbers .number)) a)
     by-move (disorders group) m on = unfold moved in (first-small e, m)
     by-move leaves m on = unfold moved in (e, a)
 
