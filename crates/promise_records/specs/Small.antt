@@ -16,7 +16,7 @@ use Rattle.dictionary_layout_rules.specs.declared.Position.{Position}
 use Rattle.dictionary_layout_rules.specs.declared.Position.the-variants.{At, Nowhere}
 use Rattle.build_records.specs.Records.{stored}
 use Rattle.build_records.specs.declared.Record.{Record}
-use Rattle.build_group_rules.specs.Groups.{Rules, Opened, none, opened, OpenGroup, OpenEntry, Frame, run, outermost, entry, Kind, plain, count, joins, wrong, ends, counting, declared, entryKind, opens, Move, adds, joinsAt, disorders, leaves, inEntry, decide, RunOutcome, moved, walk}
+use Rattle.build_group_rules.specs.Groups.{Rules, Opened, none, opened, OpenGroup, OpenEntry, Frame, run, outermost, entry, Kind, plain, count, joins, wrong, ends, counting, declared, entryKind, opens, Move, adds, joinsAt, disorders, leaves, nested, inEntry, decide, RunOutcome, moved, walk}
 use Rattle.build_group_rules.specs.Groups.{entryRecord, ended as ran, refused as stops}
 use Rattle.build_group_rules.specs.Reading.{joinedList, listStore}
 use Rattle.build_required_rules.specs.Required.{Demands, runLack}
@@ -112,7 +112,7 @@ module _ {L : Type 0} (rules : Rules L) where
       → MoveFits room (inEntry group own below tag otherwise k)
   unfolding inEntry
   in-entry-fits room group own below tag otherwise (plain position) k d n r s o = (entry-open d n s, d, omega (arith, n))
-  in-entry-fits room group own below tag otherwise (count inner position) k d n r s o = (run-open {entries = 0} (omega (arith, k)) (omega (arith, r)) (entry-open d n s), d, omega (arith, n))
+  in-entry-fits room group own below tag otherwise (count inner position) k d n r s o = (run-open {group = nested group tag inner} {entries = 0} (omega (arith, k)) (omega (arith, r)) (entry-open d n s), d, omega (arith, n))
   in-entry-fits room group own below tag otherwise joins k d n r s o = (entry-open d n s, d, omega (arith, n))
   in-entry-fits room group own below tag otherwise wrong k d n r s o = tt
   in-entry-fits room group own below tag otherwise ends k d n r s o = o
@@ -231,7 +231,7 @@ module _ {L : Type 0} (rules : Rules L) (demands : Demands L) (tags : List ℕ) 
           → andThen (withRun (partRecord 2 g) rs (ranAs rules demands inner (g .tag) o)) (bodyWithin body turns) ≡ ended f rest room₁ rs₁ → Later → Kept message (field f rest) (suc room₁) rs₁
       after-run inner (ran h last room₂ es) w q later =
           after-lack h last room₂ es (runLack demands 4 inner (g .tag) 1 es)
-          (with-run h last room₂ es (walk-kept rules room (run (outermost (g .tag) inner) 0 ∷ []) [] more (run-open {entries = 0} (omega arith) (omega (arith, r .left)) nothing-open) (kept-on r all-none) h last room₂ es w)) (unfold ranAs in q) later
+          (with-run h last room₂ es (walk-kept rules room (run (outermost (g .tag) inner) 0 ∷ []) [] more (run-open {group = outermost (g .tag) inner} {entries = 0} (omega arith) (omega (arith, r .left)) nothing-open) (kept-on r all-none) h last room₂ es w)) (unfold ranAs in q) later
       after-run inner (stops refusal es) w q later = let z : _≡_ {A = ℕ} 0 1 = unfold ranAs withRun andThen in cc in absurd (omega arith)
 
       by-tag : (b : Bool) → pick b (ended g more room rs) (refused (InvalidField (g .tag))) ≡ ended f rest room₁ rs₁ → Kept message (field f rest) (suc room₁) rs₁
