@@ -143,7 +143,7 @@ module _ (accepts : ℕ → Bool) (layout : Layout) (trailer : List ℕ) where
         by-step (counted inner y after room es behind k w c l n b m) =
             let w₂ = walk-takes (layoutRules accepts) (length fs + suc left) (run (outermost (f .tag) inner) 0 ∷ []) [] later y after room es (omega (arith, l)) w in
             let first : N ≡ es ++ behind = cc in
-            absurd (count-open (layoutRules accepts) y after inner (f .tag) 1 0 [] refl
+            absurd (count-open (layoutRules accepts) y after (outermost (f .tag) inner) 0 [] refl
             (run-head s later (w₂ .numbers) behind reads (first ∙ ap (λ (q : List Record). q ++ behind) (w₂ .records))) (w₂ .taken))
 
     exactly-group : (t : ℕ) {d n : ℕ} {count : List ℕ} {ts : List ℕ} {gs fs : List Told} (may : Here t) (opening : T .Group t d) (i : Int count (suc n))
@@ -217,7 +217,7 @@ module _ (accepts : ℕ → Bool) (layout : Layout) (trailer : List ℕ) where
             → walk (layoutRules accepts) listStore (length gs + suc room) (run (outermost (f .tag) inner) 0 ∷ []) [] later ≡ ran (cut .next) (cut .rest) room A
             → runLack layoutDemands 4 inner (f .tag) 1 A ≡ Complete → BodyEnds s → BodyEnds (Stands.group {t = t} {count = count} may opening i g s)
         group-ends inner {room} k w c r =
-            let p = group-fits (layoutRules accepts) message (cut .next) (cut .rest) T Here g inner (f .tag) 1 room [] later (cut .reads-first) w in
+            let p = group-fits (layoutRules accepts) message (cut .next) (cut .rest) T Here g (outermost (f .tag) inner) room [] later (cut .reads-first) w in
             let required = required-exact message accepts T Here g inner (cut .next .tag) (f .tag) later (cut .next) (cut .rest) (p .0)
             (cut .reads-first) .0 c in
             record {
