@@ -97,7 +97,7 @@ module _ {L : Type 0} (rules : Rules L) where
 
     -- a nested run is over, and belongs to its entry
     close-run : {group : OpenGroup L} {inner : L} {number last position entries : ℕ} {stack : List (Frame L)} (c : Record) (before own more : List Record) → Open (run group number ∷ stack) before → Counted group (number + 1) last position own c
-          → rules .group (group .level) (c .tag) ≡ opened inner → Formed rules (entriesOf inner (group .depth + 1) entries) more →
+        → rules .group (group .level) (c .tag) ≡ opened inner → Formed rules (entriesOf inner (group .depth + 1) entries) more →
         Open (entry group (record { number = number + 1; last = position; start = length before }) ∷ run group (number + 1) ∷ stack) ((before ++ (own ++ (c ∷ []))) ++ more)
     close-run c before own more o f g m = rw (append-assoc before (own ++ (c ∷ [])) more) (in-entry before ((own ++ (c ∷ [])) ++ more) o (hangs _ c (f .entry-formed) (f .placed) (f .rises-to) (f .count-own) g m))
 
