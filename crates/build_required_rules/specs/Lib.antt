@@ -1,5 +1,7 @@
 pub mod Required
+pub mod Tree
 pub mod Checking
 pub mod RequiredLaws
+pub mod TreeLaws
 pub mod Meaning
 pub mod Examples

@@ -1,0 +1,96 @@
+-- The required check of RULES.md, Groups, over a run as the tree that it is: "After a body group ends: for each entry its required fields in
+-- layout order, then its nested runs; the first lack gives 4." No depth is compared here; `Required` says the same over a run's flat records,
+-- and `TreeLaws` that the two agree.
+use Prim.Native.Nat.{ℕ, suc, _+_}
+use mathlib.Core.Path.{_≡_}
+use mathlib.Core.List.{List, [], _∷_, _++_}
+use mathlib.Core.Bool.{Bool, true, false}
+use lib.Dec.{eqb}
+use Rattle.field_rules.specs.Choice.{pick}
+use Rattle.build_records.specs.declared.Record.{Record}
+use Rattle.build_group_rules.specs.Groups.{Opened, none, opened}
+use Rattle.build_required_rules.specs.Required.{Demands}
+use Rattle.build_required_rules.specs.declared.Lack.{Lack}
+use Rattle.build_required_rules.specs.declared.Lack.the-variants.{Missing, Complete}
+
+mutual
+  -- a run: its entries, one after the other
+  pub data Run : Type 0 where
+    no-entry : Run
+    entry : Entry → Run → Run
+
+  -- an entry: its own fields, one after the other, each with the run that hangs on it; where none does, that has no entry
+  pub data Entry : Type 0 where
+    no-field : Entry
+    field : Record → Run → Entry → Entry
+
+-- a required field that an entry lacks: its tag and its group's
+abbrev Lacked : Type 0
+Lacked = ℕ × ℕ
+
+-- one of the entry's own fields has the tag
+unfoldable pub holds : ℕ → Entry → Bool
+holds tag no-field = false
+holds tag (field r hanging later) = pick (eqb (r .tag) tag) true (holds tag later)
+
+-- "its required fields in layout order": those that it lacks
+unfoldable pub ownLacks : List ℕ → ℕ → Entry → List Lacked
+ownLacks [] group fields = []
+ownLacks (tag ∷ tags) group fields = pick (holds tag fields) (ownLacks tags group fields) ((tag, group) ∷ ownLacks tags group fields)
+
+-- a run is judged by the level that its tag has; a tag without one has no run
+unfoldable pub byLevel : {L : Type 0} → Opened L → (L → List Lacked) → List Lacked
+byLevel none judged = []
+byLevel (opened level) judged = judged level
+
+module _ {L : Type 0} (demands : Demands L) where
+  unfoldable mutual
+    -- "for each entry its required fields in layout order, then its nested runs"
+    pub runLacks : Run → L → ℕ → List Lacked
+    runLacks no-entry level group = []
+    runLacks (entry fields later) level group = (ownLacks (demands .required level) group fields ++ nestedLacks fields level) ++ runLacks later level group
+
+    -- "its nested runs", in the order of the fields on which they hang
+    pub nestedLacks : Entry → L → List Lacked
+    nestedLacks no-field level = []
+    nestedLacks (field r hanging later) level = byLevel (demands .group level (r .tag)) (λ inner. runLacks hanging inner (r .tag)) ++ nestedLacks later level
+
+-- "the first lack"
+unfoldable pub firstLack : List Lacked → Lack
+firstLack [] = Complete
+firstLack ((tag, group) ∷ later) = Missing tag group
+
+-- what the run of a count's tag comes to at a level
+unfoldable pub treeLack : {L : Type 0} → Demands L → L → ℕ → Run → Lack
+treeLack demands level group tree = firstLack (runLacks demands tree level group)
+
+unfoldable mutual
+  -- the records of a run as they stand in a message: entry by entry
+  pub laid : Run → List Record
+  laid no-entry = []
+  laid (entry fields later) = laidFields fields ++ laid later
+
+  -- each own field, and behind it the run that hangs on it
+  pub laidFields : Entry → List Record
+  laidFields no-field = []
+  laidFields (field r hanging later) = r ∷ (laid hanging ++ laidFields later)
+
+-- a tree keeps to a level
+module _ {L : Type 0} (demands : Demands L) where
+  mutual
+    -- the entries of a run at a depth: each starts with the delimiter, and none of its later fields is one. So many levels may be open.
+    pub data RunKeeps : ℕ → L → ℕ → Run → Type 0 where
+      keeps-none : {levels depth : ℕ} {level : L} → RunKeeps levels level depth no-entry
+      keeps-entry : {levels depth : ℕ} {level : L} {r : Record} {hanging later : Run} {fields : Entry} → r .depth ≡ depth → demands .opens level (r .tag) ≡ true → Hangs levels level depth (r .tag) hanging →
+          FieldsKeep levels level depth fields → RunKeeps (suc levels) level depth later → RunKeeps (suc levels) level depth (entry (field r hanging fields) later)
+
+    -- later fields of an entry: they have the depth of the run, and none is the delimiter
+    pub data FieldsKeep : ℕ → L → ℕ → Entry → Type 0 where
+      keep-none : {levels depth : ℕ} {level : L} → FieldsKeep levels level depth no-field
+      keep-field : {levels depth : ℕ} {level : L} {r : Record} {hanging : Run} {later : Entry} → r .depth ≡ depth → demands .opens level (r .tag) ≡ false → Hangs levels level depth (r .tag) hanging →
+          FieldsKeep levels level depth later → FieldsKeep levels level depth (field r hanging later)
+
+    -- a run hangs only on a tag that the level has as a group, one depth deeper
+    pub data Hangs : ℕ → L → ℕ → ℕ → Run → Type 0 where
+      hangs-none : {levels depth tag : ℕ} {level : L} → Hangs levels level depth tag no-entry
+      hangs-run : {levels depth tag : ℕ} {level inner : L} {run : Run} → demands .group level tag ≡ opened inner → RunKeeps levels inner (depth + 1) run → Hangs levels level depth tag run
