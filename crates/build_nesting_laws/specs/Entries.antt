@@ -61,7 +61,7 @@ module _ {L : Type 0} (rules : Rules L) where
   formed-deep (next-entry f g) = all-append _ (formed-deep f) (formed-deep g)
   formed-deep (starts o own) = all-more (own-deep own) all-none
   formed-deep (rises position f p l own) = all-append _ (formed-deep f) (all-more (own-deep own) all-none)
-  formed-deep (hangs position c f p l own g m) = all-append _ (all-append _ (formed-deep f) (all-more (own-deep own) all-none)) (all-map (deeper _) (formed-deep m))
+  formed-deep (hangs position c f p l own w g m) = all-append _ (all-append _ (formed-deep f) (all-more (own-deep own) all-none)) (all-map (deeper _) (formed-deep m))
   formed-deep (user f p a own) = all-stored _ _ (own-deep own) (formed-deep f)
 
   -- the first record of an entry
@@ -90,7 +90,7 @@ module _ {L : Type 0} (rules : Rules L) where
   pub entry-starts : {level : L} {depth number last : ℕ} {entry : List Record} → Formed rules (fieldsOf level depth number last) entry → Starts level depth number entry
   entry-starts (starts {r = r} o own) = record { first = r; rest = []; is = refl; delimits = o; own = own }
   entry-starts (rises position f p l own) = starts-append _ (entry-starts f)
-  entry-starts (hangs position c f p l own g m) = starts-append _ (starts-append _ (entry-starts f))
+  entry-starts (hangs position c f p l own w g m) = starts-append _ (starts-append _ (entry-starts f))
   entry-starts (user {r = r} f p a own) = starts-stored r own (entry-starts f)
 
 -- a record is none of an entry's own with a tag
@@ -168,7 +168,7 @@ module _ {L : Type 0} (rules : Rules L) (first : (level : L) (tag : ℕ) → ope
   entry-below {level} {depth} (starts {r = r} o own) = all-more (below-at level depth r 0 (first level (r .tag) o)) all-none
   entry-below {level} {depth} (rises {last = last} position {r = r} f p l own) =
       all-append _ (all-map (λ x b. below-later level depth x last position l b) (entry-below f)) (all-more (below-at level depth r position p) all-none)
-  entry-below {level} {depth} (hangs {last = last} position c f p l own g m) =
+  entry-below {level} {depth} (hangs {last = last} position c f p l own w g m) =
       all-append _
       (all-append _ (all-map (λ x b. below-later level depth x last position l b) (entry-below f)) (all-more (below-at level depth c position p) all-none))
       (all-map (λ x d. below-deep level depth x position d) (formed-deep rules m))
@@ -183,7 +183,7 @@ module _ {L : Type 0} (rules : Rules L) (first : (level : L) (tag : ℕ) → ope
   entry-once (starts o own) = once-more (λ d. all-none) once-none
   entry-once {level} {depth} (rises {last = last} position {r = r} f p l own) =
       once-last depth r (all-map (λ x b. other-later level depth x last position (r .tag) p l b) (entry-below f)) (entry-once f)
-  entry-once {level} {depth} (hangs {last = last} position c f p l own g m) =
+  entry-once {level} {depth} (hangs {last = last} position c f p l own w g m) =
       once-deep depth (once-last depth c (all-map (λ x b. other-later level depth x last position (c .tag) p l b) (entry-below f)) (entry-once f)) (formed-deep rules m)
   entry-once {level} {depth} (user {r = r} f p a own) = once-stored depth r (own .deep) (entry-once f)
 

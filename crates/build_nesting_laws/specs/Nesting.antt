@@ -8,7 +8,7 @@ use native.Mathlib.Omega.{arith}
 use lib.ListN.{length}
 use lib.Seq.{take-append-seam, drop-append-seam}
 use lib.Dec.{eqb, leb, ltb}
-use borrow.Author.Tests.{leb-false}
+use borrow.Author.Tests.{leb-false, ltb-true}
 use Rattle.field_rules.specs.Choice.{pick}
 use Rattle.field_rules.specs.Fields.{Fields, unreadable, field}
 use Rattle.field_rules.specs.declared.Field.{Field}
@@ -35,50 +35,51 @@ join-own before own r = rw (take-append-seam before own, drop-append-seam before
 
 module _ {L : Type 0} (rules : Rules L) where
   -- what a kind says of its tag
-  data Says (level : L) (last tag : ℕ) : Kind L → Type 0 where
-    says-plain : {position : ℕ} → rules .position level tag ≡ At position → last < position → Says level last tag (plain position)
-    says-count : {inner : L} {position : ℕ} → rules .position level tag ≡ At position → last < position → rules .group level tag ≡ opened inner → Says level last tag (count inner position)
-    says-joins : rules .position level tag ≡ Nowhere → rules .accepts tag ≡ true → Says level last tag joins
-    says-wrong : Says level last tag wrong
-    says-ends : Says level last tag ends
+  data Says (level : L) (depth last tag : ℕ) : Kind L → Type 0 where
+    says-plain : {position : ℕ} → rules .position level tag ≡ At position → last < position → Says level depth last tag (plain position)
+    says-count : {inner : L} {position : ℕ} → rules .position level tag ≡ At position → last < position → depth < 4 → rules .group level tag ≡ opened inner → Says level depth last tag (count inner position)
+    says-joins : rules .position level tag ≡ Nowhere → rules .accepts tag ≡ true → Says level depth last tag joins
+    says-wrong : Says level depth last tag wrong
+    says-ends : Says level depth last tag ends
 
-  counting-says : (level : L) (depth last tag position : ℕ) → rules .position level tag ≡ At position → last < position → (o : Opened L) → rules .group level tag ≡ o → Says level last tag (counting depth position o)
+  counting-says : (level : L) (depth last tag position : ℕ) → rules .position level tag ≡ At position → last < position → (o : Opened L) → rules .group level tag ≡ o → Says level depth last tag (counting depth position o)
   unfolding counting
   counting-says level depth last tag position p l none g = says-plain p l
-  counting-says level depth last tag position p l (opened inner) g = go (ltb depth 4)
+  counting-says level depth last tag position p l (opened inner) g = go (ltb depth 4) refl
     where
-      go : (b : Bool) → Says level last tag (pick b (count inner position) (plain position))
-      go true = says-count p l g
-      go false = says-plain p l
+      go : (b : Bool) → ltb depth 4 ≡ b → Says level depth last tag (pick b (count inner position) (plain position))
+      go true q = says-count p l (ltb-true _ _ q) g
+      go false q = says-plain p l
 
-  declared-says : (level : L) (depth last tag : ℕ) (p : Position) → rules .position level tag ≡ p → Says level last tag (declared rules level depth last tag p)
+  declared-says : (level : L) (depth last tag : ℕ) (p : Position) → rules .position level tag ≡ p → Says level depth last tag (declared rules level depth last tag p)
   unfolding declared
   declared-says level depth last tag Nowhere e = go (rules .accepts tag) refl
     where
-      go : (b : Bool) → rules .accepts tag ≡ b → Says level last tag (pick b joins ends)
+      go : (b : Bool) → rules .accepts tag ≡ b → Says level depth last tag (pick b joins ends)
       go true a = says-joins e a
       go false a = says-ends
   declared-says level depth last tag (At position) e = go (leb position last) refl
     where
-      go : (b : Bool) → leb position last ≡ b → Says level last tag (pick b wrong (counting depth position (rules .group level tag)))
+      go : (b : Bool) → leb position last ≡ b → Says level depth last tag (pick b wrong (counting depth position (rules .group level tag)))
       go true q = says-wrong
       go false q = counting-says level depth last tag position e (leb-false _ _ q) (rules .group level tag) refl
 
-  kind-says : (level : L) (depth last tag : ℕ) → Says level last tag (entryKind rules level depth last tag)
+  kind-says : (level : L) (depth last tag : ℕ) → Says level depth last tag (entryKind rules level depth last tag)
   unfolding entryKind
   kind-says level depth last tag = go (opens rules level tag)
     where
-      go : (b : Bool) → Says level last tag (pick b ends (declared rules level depth last tag (rules .position level tag)))
+      go : (b : Bool) → Says level depth last tag (pick b ends (declared rules level depth last tag (rules .position level tag)))
       go true = says-ends
       go false = declared-says level depth last tag (rules .position level tag) refl
 
   module _ (base : List Record) (bottom : OpenGroup L) where
-    -- an entry, and a count that rises behind it
+    -- an entry, and a count that rises behind it where a run may hang
     pub record Counted (group : OpenGroup L) (number last position : ℕ) (own : List Record) (c : Record) : Type 0 where
       pub entry-formed : Formed rules (fieldsOf (group .level) (group .depth) number last) own
       pub placed : rules .position (group .level) (c .tag) ≡ At position
       pub rises-to : last < position
       pub count-own : Own (group .depth) number c
+      pub within : group .depth < 4
 
     -- what is open, and the records so far
     pub data Open : List (Frame L) → List Record → Type 0 where
@@ -99,7 +100,7 @@ module _ {L : Type 0} (rules : Rules L) where
     close-run : {group : OpenGroup L} {inner : L} {number last position entries : ℕ} {stack : List (Frame L)} (c : Record) (before own more : List Record) → Open (run group number ∷ stack) before → Counted group (number + 1) last position own c
         → rules .group (group .level) (c .tag) ≡ opened inner → Formed rules (entriesOf inner (group .depth + 1) entries) more →
         Open (entry group (record { number = number + 1; last = position; start = length before }) ∷ run group (number + 1) ∷ stack) ((before ++ (own ++ (c ∷ []))) ++ more)
-    close-run c before own more o f g m = rw (append-assoc before (own ++ (c ∷ [])) more) (in-entry before ((own ++ (c ∷ [])) ++ more) o (hangs _ c (f .entry-formed) (f .placed) (f .rises-to) (f .count-own) g m))
+    close-run c before own more o f g m = rw (append-assoc before (own ++ (c ∷ [])) more) (in-entry before ((own ++ (c ∷ [])) ++ more) o (hangs _ c (f .entry-formed) (f .placed) (f .rises-to) (f .count-own) (f .within) g m))
 
     -- what a move leaves open
     data Goes (rs : List Record) (f : Field) : Move L → Type 0 where
@@ -125,12 +126,12 @@ module _ {L : Type 0} (rules : Rules L) where
         unfolding entryRecord
         open-plain position p l = rw (append-assoc before own (entryRecord (group .depth) (number + 1) f ∷ [])) (in-entry before (own ++ (entryRecord (group .depth) (number + 1) f ∷ [])) o (rises position fm p l (own-record (group .depth) (number + 1) f)))
 
-        open-count : (inner : L) (position : ℕ) → rules .position (group .level) (f .tag) ≡ At position → last < position → rules .group (group .level) (f .tag) ≡ opened inner →
+        open-count : (inner : L) (position : ℕ) → rules .position (group .level) (f .tag) ≡ At position → last < position → group .depth < 4 → rules .group (group .level) (f .tag) ≡ opened inner →
             Open (run (nested group (f .tag) inner) 0 ∷ entry group (record { number = number + 1; last = position; start = length before }) ∷ run group (number + 1) ∷ stack)
             ((before ++ own) ++ (entryRecord (group .depth) (number + 1) f ∷ []))
         unfolding entryRecord
-        open-count inner position p l g =
-            let counted = nested-run (entryRecord (group .depth) (number + 1) f) before own [] o (record { entry-formed = fm; placed = p; rises-to = l; count-own = own-record (group .depth) (number + 1) f }) g no-entry in
+        open-count inner position p l w g =
+            let counted = nested-run (entryRecord (group .depth) (number + 1) f) before own [] o (record { entry-formed = fm; placed = p; rises-to = l; count-own = own-record (group .depth) (number + 1) f; within = w }) g no-entry in
             rw (append-assoc before own (entryRecord (group .depth) (number + 1) f ∷ [])) (rw (append-nil (before ++ (own ++ (entryRecord (group .depth) (number + 1) f ∷ [])))) at counted)
 
         open-user : rules .position (group .level) (f .tag) ≡ Nowhere → rules .accepts (f .tag) ≡ true →
@@ -138,11 +139,11 @@ module _ {L : Type 0} (rules : Rules L) where
         unfolding entryRecord
         open-user p a = rw (join-own before own (entryRecord (group .depth) (number + 1) f)) (in-entry before (stored (entryRecord (group .depth) (number + 1) f) own) o (user fm p a (own-record (group .depth) (number + 1) f)))
 
-        takes-field : (otherwise : Move L) → Goes (before ++ own) f otherwise → {k : Kind L} → Says (group .level) last (f .tag) k →
+        takes-field : (otherwise : Move L) → Goes (before ++ own) f otherwise → {k : Kind L} → Says (group .level) (group .depth) last (f .tag) k →
             Goes (before ++ own) f (inEntry group (record { number = number + 1; last = last; start = length before }) (run group (number + 1) ∷ stack) (f .tag) otherwise k)
         unfolding inEntry
         takes-field otherwise d (says-plain {position} p l) = goes-adds (open-plain position p l)
-        takes-field otherwise d (says-count {inner} {position} p l g) = goes-adds (open-count inner position p l g)
+        takes-field otherwise d (says-count {inner} {position} p l w g) = goes-adds (open-count inner position p l w g)
         takes-field otherwise d (says-joins p a) = goes-joins (open-user p a)
         takes-field otherwise d says-wrong = goes-disorders
         takes-field otherwise d says-ends = d

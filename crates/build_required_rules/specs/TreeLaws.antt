@@ -17,7 +17,7 @@ use Rattle.build_required_rules.specs.declared.Lack.{Lack}
 use Rattle.build_required_rules.specs.declared.Lack.the-variants.{Missing, Complete}
 
 -- each record of a list has a property
-data Each (P : Record → Type 0) : List Record → Type 0 where
+pub data Each (P : Record → Type 0) : List Record → Type 0 where
   each-none : Each P []
   each-more : {r : Record} {rs : List Record} → P r → Each P rs → Each P (r ∷ rs)
 
@@ -30,8 +30,8 @@ each-map f each-none = each-none
 each-map f (each-more {r} p a) = each-more (f r p) (each-map f a)
 
 -- a record stands deeper
-record Below (depth : ℕ) (r : Record) : Type 0 where
-  below : depth < r .depth
+pub record Below (depth : ℕ) (r : Record) : Type 0 where
+  pub below : depth < r .depth
 
 -- a record is not of a kind
 record Not (test : Record → Bool) (r : Record) : Type 0 where
@@ -102,7 +102,7 @@ module _ {L : Type 0} (demands : Demands L) where
     hanging-below hangs-none above h = each-none
     hanging-below (hangs-run g keeps) above h = run-below keeps above (omega arith)
 
-  hangs-deeper : {levels depth tag : ℕ} {level : L} {run : Run} → Hangs demands levels level depth tag run → Each (Below depth) (laid run)
+  pub hangs-deeper : {levels depth tag : ℕ} {level : L} {run : Run} → Hangs demands levels level depth tag run → Each (Below depth) (laid run)
   hangs-deeper {depth = depth} hang = hanging-below hang depth (omega arith)
 
   module _ {levels depth : ℕ} {level : L} (r : Record) {hanging : Run} (d : r .depth ≡ depth) (hang : Hangs demands levels level depth (r .tag) hanging) (rest : List Record) where

@@ -168,7 +168,7 @@ module _ (bytes : List ℕ) where
     built (next-entry {run = run} {entry = es} f g) a = build-next a (built f (all-left run es a)) g (built g (all-right run es a))
     built (starts {r = r} o own) a = build-start r own (all-first a .some)
     built (rises {entry = es} position {r = r} f p l own) a = build-rise r (built f (all-left es (r ∷ []) a)) own (all-first (all-right es (r ∷ []) a) .some) (entry-other rules first position (r .tag) f p l)
-    built (hangs {depth = depth} {number = number} {entry = es} position c {run = run} f p l own g m) a =
+    built (hangs {depth = depth} {number = number} {entry = es} position c {run = run} f p l own w g m) a =
         let front = all-left (es ++ (c ∷ [])) run a in
         let some = all-first (all-right es (c ∷ []) front) .some in
         build-hang c (built f (all-left es (c ∷ []) front)) own some (entry-other rules first position (c .tag) f p l) (built m (all-right (es ++ (c ∷ [])) run a) depth number (c .tag) refl some)
