@@ -9,3 +9,4 @@ pub mod BodyReading
 pub mod Meaning
 pub mod Seen
 pub mod SeenLaws
+pub mod RunTree

@@ -223,3 +223,8 @@ module _ {L : Type 0} (demands : Demands L) where
     hanging-lack : {levels depth tag : ℕ} {level : L} {run : Run} → Hangs demands levels level depth tag run → lacksByRecords (deeperLack levels depth) (demands .group level tag) tag (laid run) ≡ firstLack (byLevel (demands .group level tag) (λ inner. runLacks demands run inner tag))
     hanging-lack {levels} {depth} {tag} {level} hangs-none = no-run levels depth tag (demands .group level tag)
     hanging-lack {tag = tag} (hangs-run g keeps) = rw g (tree-lack keeps tag)
+
+  -- trees that are laid out alike lack the same
+  pub laid-alike : {levels depth : ℕ} {level : L} {tree other : Run} → RunKeeps demands levels level depth tree → RunKeeps demands levels level depth other → laid tree ≡ laid other →
+      (group : ℕ) → treeLack demands level group tree ≡ treeLack demands level group other
+  laid-alike {levels} {depth} {level} keeps others same group = sym (tree-lack keeps group) ∙ ap (runLack demands levels level group depth) same ∙ tree-lack others group
