@@ -21,9 +21,11 @@ use Rattle.build_nesting_laws.specs.Nesting.{run-formed}
 use Rattle.build_nesting_laws.specs.Entries.{layout-first}
 use Rattle.build_required_rules.specs.Required.{Demands, runLack}
 use Rattle.build_required_rules.specs.Checking.{layoutDemands}
-use Rattle.build_required_rules.specs.Tree.{Run, no-entry, Entry, no-field, field, treeLack, laid, laidFields, RunKeeps, keeps-none, keep-none, hangs-none, hangs-run}
+use Rattle.build_required_rules.specs.Tree.{Run, no-entry, Entry, no-field, field, treeLack, laid, laidFields, RunKeeps, keeps-none, keep-none, hangs-none}
+use Rattle.build_required_rules.specs.Tree.{hangs-run}
 use Rattle.build_required_rules.specs.TreeLaws.{tree-lack}
-use Rattle.build_required_rules.specs.Growing.{withEntry, withField, withStored, laid-entry, laid-field, EntryKeeps, keeps-fields, run-grows, entry-grows, entry-stores, entry-laid}
+use Rattle.build_required_rules.specs.Growing.{withEntry, withField, withStored, laid-entry, laid-field, EntryKeeps, keeps-fields, run-grows, entry-grows}
+use Rattle.build_required_rules.specs.Growing.{entry-stores, entry-laid}
 use Rattle.build_parts.specs.Parts.{Reading, refused}
 use Rattle.build_body_rules.specs.Kinds.{checked, ranAs, runFrom}
 
@@ -53,8 +55,10 @@ module _ {L : Type 0} (demands : Demands L) where
 module _ {L : Type 0} (rules : Rules L) (demands : Demands L) (inner : L) (tag : ℕ) (fields : Fields) (room : ℕ) where
   -- "After a body group ends": a refusal stands; the records of a run that was read are those of a tree, and the answer is by what that lacks
   pub data ByTree : Reading → Type 0 where
-    run-refused : {refusal : Refusal} {rs : List Record} → walk rules listStore room (run inner tag 1 0 ∷ []) [] fields ≡ stops refusal rs → ByTree (refused (answerOf refusal))
-    run-read : {f : Field} {rest : Fields} {left : ℕ} (tree : Run) → walk rules listStore room (run inner tag 1 0 ∷ []) [] fields ≡ ran f rest left (laid tree) → RunKeeps demands 4 inner 1 tree →
+    run-refused : {refusal : Refusal} {rs : List Record} → walk rules listStore room (run inner tag 1 0 ∷ []) [] fields ≡ stops refusal rs →
+        ByTree (refused (answerOf refusal))
+    run-read : {f : Field} {rest : Fields} {left : ℕ} (tree : Run) →
+        walk rules listStore room (run inner tag 1 0 ∷ []) [] fields ≡ ran f rest left (laid tree) → RunKeeps demands 4 inner 1 tree →
         ByTree (checked f rest left (laid tree) (treeLack demands inner tag tree))
 
 module _ {L : Type 0} (rules : Rules L) (demands : Demands L) (one : OneLayout rules demands) where
@@ -74,8 +78,11 @@ module _ {L : Type 0} (rules : Rules L) (demands : Demands L) (one : OneLayout r
       by-test false e = refl
 
   -- a count comes last in its entry, with its run; less than four levels are open, so one is left for the run
-  hang-tree : (level : L) (depth : ℕ) (c : Record) → c .depth ≡ depth → demands .opens level (c .tag) ≡ false → depth < 4 → {inner : L} → demands .group level (c .tag) ≡ opened inner → (levels : ℕ) → levels + depth ≡ 4 →
-      {rs nested : List Record} → EntryTree demands levels level depth rs → ((left : ℕ) → left + (depth + 1) ≡ 4 → RunTree demands (suc left) inner (depth + 1) nested) → EntryTree demands levels level depth ((rs ++ (c ∷ [])) ++ nested)
+  hang-tree : (level : L) (depth : ℕ) (c : Record) → c .depth ≡ depth → demands .opens level (c .tag) ≡ false → depth < 4 → {inner : L} →
+      demands .group level (c .tag) ≡ opened inner → (levels : ℕ) → levels + depth ≡ 4 →
+      {rs nested : List Record} → EntryTree demands levels level depth rs →
+      ((left : ℕ) → left + (depth + 1) ≡ 4 → RunTree demands (suc left) inner (depth + 1) nested) →
+      EntryTree demands levels level depth ((rs ++ (c ∷ [])) ++ nested)
   hang-tree level depth c d o w g zero e before hanging = absurd (omega arith)
   hang-tree level depth c d o w g (suc left) e before hanging =
       let below = hanging left (omega arith) in
@@ -98,7 +105,11 @@ module _ {L : Type 0} (rules : Rules L) (demands : Demands L) (one : OneLayout r
         laid-out = laid-entry (first .tree) (last .fields) ∙ rw (first .laid-out, last .laid-fields);
       }
   formed-tree (starts {level = level} {r = r} o own) = λ levels e.
-      record { fields = field r no-entry no-field; keeps-entry = keeps-fields (own .deep) (one .same-delimiter level (r .tag) ∙ o) hangs-none keep-none; laid-fields = refl }
+      record {
+        fields = field r no-entry no-field;
+        keeps-entry = keeps-fields (own .deep) (one .same-delimiter level (r .tag) ∙ o) hangs-none keep-none;
+        laid-fields = refl;
+      }
   formed-tree (rises {level = level} position {r = r} f p l own) = λ levels e.
       let before = formed-tree f levels e in
       record {
@@ -107,7 +118,8 @@ module _ {L : Type 0} (rules : Rules L) (demands : Demands L) (one : OneLayout r
         laid-fields = laid-field (before .fields) r no-entry ∙ append-nil _ ∙ ap (λ (rs : List Record). rs ++ (r ∷ [])) (before .laid-fields);
       }
   formed-tree (hangs {level = level} {depth = depth} position c f p l own w g m) = λ levels e.
-      hang-tree level depth c (own .deep) (later-tag level (c .tag) position p (omega arith)) w (one .same-group level (c .tag) ∙ g) levels e (formed-tree f levels e) (formed-tree m)
+      hang-tree level depth c (own .deep) (later-tag level (c .tag) position p (omega arith)) w (one .same-group level (c .tag) ∙ g) levels e
+      (formed-tree f levels e) (formed-tree m)
   formed-tree (user {level = level} {r = r} f p a own) = λ levels e.
       let before = formed-tree f levels e in
       record {
@@ -117,7 +129,8 @@ module _ {L : Type 0} (rules : Rules L) (demands : Demands L) (one : OneLayout r
       }
 
   -- a run of the body that was read to its end
-  pub read-tree : (inner : L) (tag room : ℕ) (fields : Fields) (f : Field) (rest : Fields) (left : ℕ) (rs : List Record) → walk rules listStore room (run inner tag 1 0 ∷ []) [] fields ≡ ran f rest left rs → RunTree demands 4 inner 1 rs
+  pub read-tree : (inner : L) (tag room : ℕ) (fields : Fields) (f : Field) (rest : Fields) (left : ℕ) (rs : List Record) →
+      walk rules listStore room (run inner tag 1 0 ∷ []) [] fields ≡ ran f rest left rs → RunTree demands 4 inner 1 rs
   read-tree inner tag room fields f rest left rs w =
       let read = run-formed rules [] inner 1 room tag fields f rest left rs w in
       rw (read .whole) (formed-tree (read .formed) 3 refl)
@@ -128,11 +141,13 @@ module _ {L : Type 0} (rules : Rules L) (demands : Demands L) (one : OneLayout r
     unfolding runFrom
     run-by-tree = by-outcome (walk rules listStore room (run inner tag 1 0 ∷ []) [] fields) refl
       where
-        by-laid : (f : Field) (rest : Fields) (left : ℕ) (rs : List Record) (tree : Run) → RunKeeps demands 4 inner 1 tree → laid tree ≡ rs → walk rules listStore room (run inner tag 1 0 ∷ []) [] fields ≡ ran f rest left rs →
+        by-laid : (f : Field) (rest : Fields) (left : ℕ) (rs : List Record) (tree : Run) → RunKeeps demands 4 inner 1 tree → laid tree ≡ rs →
+            walk rules listStore room (run inner tag 1 0 ∷ []) [] fields ≡ ran f rest left rs →
             ByTree rules demands inner tag fields room (checked f rest left rs (runLack demands 4 inner tag 1 rs))
         by-laid f rest left rs tree keeps l w = rw (← l, tree-lack demands keeps tag) (run-read {f = f} {rest = rest} {left = left} tree (rw l w) keeps)
 
-        by-outcome : (o : RunOutcome (List Record) (List Record)) → walk rules listStore room (run inner tag 1 0 ∷ []) [] fields ≡ o → ByTree rules demands inner tag fields room (ranAs rules demands inner tag o)
+        by-outcome : (o : RunOutcome (List Record) (List Record)) → walk rules listStore room (run inner tag 1 0 ∷ []) [] fields ≡ o →
+            ByTree rules demands inner tag fields room (ranAs rules demands inner tag o)
         by-outcome (stops refusal rs) w = unfold ranAs in run-refused w
         by-outcome (ran f rest left rs) w =
             let read = read-tree inner tag room fields f rest left rs w in

@@ -15,10 +15,13 @@ use Rattle.dictionary_layout_rules.specs.Tree.{holdsTag}
 use Rattle.build_records.specs.Records.{stored}
 use Rattle.build_records.specs.declared.Record.{Record}
 use Rattle.build_answers.specs.Answer.{numberOf, valuesOf, listed}
-use Rattle.build_group_rules.specs.Groups.{isDelimiter, opens, counting, declared, entryKind, run, outermost, inEntry, decide, entryRecord, RunOutcome, ended, refused, moved, walk}
+use Rattle.build_group_rules.specs.Groups.{isDelimiter, opens, counting, declared, entryKind, run, outermost, inEntry, decide, entryRecord, RunOutcome, ended, refused}
+use Rattle.build_group_rules.specs.Groups.{moved, walk}
 use Rattle.build_group_rules.specs.Reading.{answerOf, accepted, openedAs, layoutRules, joinedList, listStore}
-use Rattle.build_required_rules.specs.Required.{orElse, has, fieldsLack, before, shallow, runLacks, nestedLack, entriesLack, opensEntry, entryLack, runLack}
-use Rattle.build_required_rules.specs.Tree.{Run, no-entry, entry, Entry, no-field, field as own, holds, ownLacks, byLevel, runLacks as lacksOf, firstLack, treeLack, laid}
+use Rattle.build_required_rules.specs.Required.{orElse, has, fieldsLack, before, shallow, runLacks, nestedLack, entriesLack, opensEntry, entryLack}
+use Rattle.build_required_rules.specs.Required.{runLack}
+use Rattle.build_required_rules.specs.Tree.{Run, no-entry, entry, Entry, no-field, field as own, holds, ownLacks, byLevel, runLacks as lacksOf, firstLack}
+use Rattle.build_required_rules.specs.Tree.{treeLack, laid}
 use Rattle.build_required_rules.specs.Checking.{answerOfLack, layoutDemands}
 use Rattle.build_required_rules.specs.declared.Lack.{Lack}
 
@@ -33,9 +36,14 @@ unfoldable checked : Layout → RunOutcome (List Record) (List Record) → Told
 checked layout (ended f rest room rs) = answer (runLack layoutDemands 4 layout 78 1 rs)
 checked layout (refused refusal rs) = (numberOf (answerOf refusal), listed (answerOf refusal))
 
+-- the run of 78, from the field behind its count on
+unfoldable runIn : Layout → String → RunOutcome (List Record) (List Record)
+runIn layout text =
+    let rules = layoutRules (accepted (validating false) (λ (tag : ℕ). false)) in
+    walk rules listStore 100 (run (outermost 78 layout) 0 ∷ []) [] (fieldsFrom (separatedBy 1) (bytes text) (startAt 0))
+
 unfoldable verdict : Layout → String → Told
-verdict layout text =
-    checked layout (walk (layoutRules (accepted (validating false) (λ (tag : ℕ). false))) listStore 100 (run (outermost 78 layout) 0 ∷ []) [] (fieldsFrom (separatedBy 1) (bytes text) (startAt 0)))
+verdict layout text = checked layout (runIn layout text)
 
 -- "group 78 (79 and 80 required; group 539 with 524 required, 525)"
 abbrev allocations : Layout
@@ -43,7 +51,9 @@ allocations = field 79 true (field 80 true (group 539 false (field 524 true (fie
 
 -- a group with two groups in it, each of which asks for a field; 85 is required behind them, and 79 at its second place only
 abbrev two : Layout
-two = field 79 false (group 81 false (field 82 false (field 83 true end)) (group 91 false (field 92 false (field 93 true end)) (field 79 true (field 85 true end))))
+two =
+    field 79 false
+    (group 81 false (field 82 false (field 83 true end)) (group 91 false (field 92 false (field 93 true end)) (field 79 true (field 85 true end))))
 
 abbrev table : List ((Layout × String) × Told)
 table =
@@ -64,28 +74,27 @@ table =
     ∷ []
 
 all-hold : map (λ row. verdict (row .0 .0) (row .0 .1)) table ≡ map (λ row. row .1) table
-unfolding verdict checked answer answerOfLack numberOf valuesOf listed answerOf layoutDemands runLack entryLack opensEntry entriesLack nestedLack runLacks shallow before fieldsLack has orElse requiredTags layoutRules openedAs accepted joinedList listStore walk moved decide inEntry entryKind declared counting opens isDelimiter entryRecord positionIn positionFrom firstOf groupOf groupSince delimiterOf holdsTag stored reading-fields
+unfolding verdict runIn checked answer answerOfLack numberOf valuesOf listed answerOf layoutDemands runLack entryLack opensEntry entriesLack nestedLack runLacks shallow before fieldsLack has orElse requiredTags layoutRules openedAs accepted joinedList listStore walk moved decide inEntry entryKind declared counting opens isDelimiter entryRecord positionIn positionFrom firstOf groupOf groupSince delimiterOf holdsTag stored reading-fields
 all-hold = refl
 
--- a field of a depth and an entry, wherever its value stands
+-- a field of a depth, an entry and a tag, wherever its value stands
 unfoldable placed : ℕ → ℕ → ℕ → Record
 placed depth number tag = record { part = 2; depth = depth; number = number; tag = tag; place = 0; length = 0 }
 
--- a field of an entry on which no run hangs
-unfoldable alone : Record → Entry → Entry
-alone r later = own r no-entry later
+-- in an entry: a field on which no run hangs, and a count with its run
+unfoldable plain : ℕ → ℕ → ℕ → Entry → Entry
+plain depth number tag later = own (placed depth number tag) no-entry later
+
+unfoldable count : ℕ → ℕ → ℕ → Run → Entry → Entry
+count depth number tag hanging later = own (placed depth number tag) hanging later
 
 -- where a record stands, and its tag
 unfoldable standing : Record → ℕ × ℕ × ℕ
 standing r = (r .depth, r .number, r .tag)
 
--- the records of the run of 78 that is read in a text
-unfoldable keptBy : RunOutcome (List Record) (List Record) → List Record
-keptBy (ended f rest room rs) = rs
-keptBy (refused refusal rs) = []
-
-unfoldable readRun : Layout → String → List Record
-readRun layout text = keptBy (walk (layoutRules (accepted (validating false) (λ (tag : ℕ). false))) listStore 100 (run layout 78 1 0 ∷ []) [] (fieldsFrom (separatedBy 1) (bytes text) (startAt 0)))
+unfoldable kept : RunOutcome (List Record) (List Record) → List Record
+kept (ended f rest room rs) = rs
+kept (refused refusal rs) = []
 
 -- a text, its run of 78 as a tree, all that the run lacks in the order of the rule, and the answer
 record Written : Type 0 where
@@ -95,14 +104,6 @@ record Written : Type 0 where
   lacks : List (ℕ × ℕ)
   answers : Told
 
--- a run of one entry
-unfoldable oneEntry : Entry → Run
-oneEntry fields = entry fields no-entry
-
--- 86 comes before 85 in the layout
-abbrev ordered : Layout
-ordered = field 79 true (field 86 true (field 85 true end))
-
 -- the nested run of the first entry lacks 83, the second entry itself lacks 85: the first entry is judged first, with its runs
 abbrev nestedOfFirst : Written
 nestedOfFirst =
@@ -110,8 +111,8 @@ nestedOfFirst =
       layout = two;
       text = "79=A|81=1|82=x|85=z|79=B|10=000|";
       tree =
-        entry (alone (placed 1 1 79) (own (placed 1 1 81) (oneEntry (alone (placed 2 1 82) no-field)) (alone (placed 1 1 85) no-field)))
-        (entry (alone (placed 1 2 79) no-field) no-entry);
+          entry (plain 1 1 79 (count 1 1 81 (entry (plain 2 1 82 no-field) no-entry) (plain 1 1 85 no-field)))
+          (entry (plain 1 2 79 no-field) no-entry);
       lacks = (83, 81) ∷ (85, 78) ∷ [];
       answers = (4, 83 ∷ 81 ∷ []);
     }
@@ -123,9 +124,11 @@ ownBeforeNested =
       layout = two;
       text = "79=A|81=1|82=x|91=1|92=y|10=000|";
       tree =
-        entry
-        (alone (placed 1 1 79) (own (placed 1 1 81) (oneEntry (alone (placed 2 1 82) no-field)) (own (placed 1 1 91) (oneEntry (alone (placed 2 1 92) no-field)) no-field)))
-        no-entry;
+          entry
+          (plain 1 1 79
+          (count 1 1 81 (entry (plain 2 1 82 no-field) no-entry)
+          (count 1 1 91 (entry (plain 2 1 92 no-field) no-entry) no-field)))
+          no-entry;
       lacks = (85, 78) ∷ (83, 81) ∷ (93, 91) ∷ [];
       answers = (4, 85 ∷ 78 ∷ []);
     }
@@ -137,12 +140,18 @@ secondNested =
       layout = two;
       text = "79=A|81=2|82=x|83=x|82=y|85=z|10=000|";
       tree =
-        entry
-        (alone (placed 1 1 79) (own (placed 1 1 81) (entry (alone (placed 2 1 82) (alone (placed 2 1 83) no-field)) (oneEntry (alone (placed 2 2 82) no-field))) (alone (placed 1 1 85) no-field)))
-        no-entry;
+          entry
+          (plain 1 1 79
+          (count 1 1 81 (entry (plain 2 1 82 (plain 2 1 83 no-field)) (entry (plain 2 2 82 no-field) no-entry))
+          (plain 1 1 85 no-field)))
+          no-entry;
       lacks = (83, 81) ∷ [];
       answers = (4, 83 ∷ 81 ∷ []);
     }
+
+-- 86 comes before 85 in the layout
+abbrev ordered : Layout
+ordered = field 79 true (field 86 true (field 85 true end))
 
 -- "in layout order": both are lacked, and 86 comes first; a user tag changes nothing
 abbrev layoutOrder : Written
@@ -150,31 +159,38 @@ layoutOrder =
     record {
       layout = ordered;
       text = "79=A|5001=x|10=000|";
-      tree = oneEntry (alone (placed 1 1 79) (alone (placed 1 1 5001) no-field));
+      tree = entry (plain 1 1 79 (plain 1 1 5001 no-field)) no-entry;
       lacks = (86, 78) ∷ (85, 78) ∷ [];
       answers = (4, 86 ∷ 78 ∷ []);
     }
 
 abbrev whole : Written
-whole = record { layout = ordered; text = "79=A|86=x|85=y|10=000|"; tree = oneEntry (alone (placed 1 1 79) (alone (placed 1 1 86) (alone (placed 1 1 85) no-field))); lacks = []; answers = (0, []) }
+whole =
+    record {
+      layout = ordered;
+      text = "79=A|86=x|85=y|10=000|";
+      tree = entry (plain 1 1 79 (plain 1 1 86 (plain 1 1 85 no-field))) no-entry;
+      lacks = [];
+      answers = (0, []);
+    }
 
 abbrev trees : List Written
 trees = nestedOfFirst ∷ ownBeforeNested ∷ secondNested ∷ layoutOrder ∷ whole ∷ []
 
 -- what is read in the text is the tree laid out
-trees-laid : map (λ row. map standing (readRun (row .layout) (row .text))) trees ≡ map (λ row. map standing (laid (row .tree))) trees
-unfolding readRun keptBy standing placed alone oneEntry laid layoutRules openedAs accepted joinedList listStore walk moved decide inEntry entryKind declared counting opens isDelimiter entryRecord positionIn positionFrom firstOf groupOf groupSince delimiterOf holdsTag stored reading-fields
+trees-laid : map (λ row. map standing (kept (runIn (row .layout) (row .text)))) trees ≡ map (λ row. map standing (laid (row .tree))) trees
+unfolding runIn kept standing placed plain count laid layoutRules openedAs accepted joinedList listStore walk moved decide inEntry entryKind declared counting opens isDelimiter entryRecord positionIn positionFrom firstOf groupOf groupSince delimiterOf holdsTag stored reading-fields
 trees-laid = refl
 
 trees-lack : map (λ row. lacksOf layoutDemands (row .tree) (row .layout) 78) trees ≡ map (λ row. row .lacks) trees
-unfolding lacksOf byLevel ownLacks holds placed alone oneEntry layoutDemands openedAs groupOf groupSince requiredTags holdsTag
+unfolding lacksOf byLevel ownLacks holds placed plain count layoutDemands openedAs groupOf groupSince requiredTags holdsTag
 trees-lack = refl
 
 -- the tree's answer, and that of the records laid
 trees-answered : map (λ row. answer (treeLack layoutDemands (row .layout) 78 (row .tree))) trees ≡ map (λ row. row .answers) trees
-unfolding treeLack firstLack lacksOf byLevel ownLacks holds placed alone oneEntry answer answerOfLack numberOf valuesOf listed layoutDemands openedAs groupOf groupSince requiredTags holdsTag
+unfolding treeLack firstLack lacksOf byLevel ownLacks holds placed plain count answer answerOfLack numberOf valuesOf listed layoutDemands openedAs groupOf groupSince requiredTags holdsTag
 trees-answered = refl
 
 laid-answered : map (λ row. answer (runLack layoutDemands 4 (row .layout) 78 1 (laid (row .tree)))) trees ≡ map (λ row. row .answers) trees
-unfolding laid placed alone oneEntry answer answerOfLack numberOf valuesOf listed layoutDemands runLack entryLack opensEntry entriesLack nestedLack runLacks shallow before fieldsLack has orElse openedAs isDelimiter firstOf groupOf groupSince delimiterOf requiredTags holdsTag
+unfolding laid placed plain count answer answerOfLack numberOf valuesOf listed layoutDemands runLack entryLack opensEntry entriesLack nestedLack runLacks shallow before fieldsLack has orElse openedAs isDelimiter firstOf groupOf groupSince delimiterOf requiredTags holdsTag
 laid-answered = refl

@@ -11,7 +11,8 @@ use Rattle.field_rules.specs.Choice.{pick}
 use Rattle.build_records.specs.Records.{stored}
 use Rattle.build_records.specs.declared.Record.{Record}
 use Rattle.build_required_rules.specs.Required.{Demands}
-use Rattle.build_required_rules.specs.Tree.{Run, no-entry, entry, Entry, no-field, field, laid, laidFields, RunKeeps, keeps-none, keeps-entry, FieldsKeep, keep-none, keep-field, Hangs, hangs-none}
+use Rattle.build_required_rules.specs.Tree.{Run, no-entry, entry, Entry, no-field, field, laid, laidFields, RunKeeps, keeps-none, keeps-entry, FieldsKeep}
+use Rattle.build_required_rules.specs.Tree.{keep-none, keep-field, Hangs, hangs-none}
 use Rattle.build_required_rules.specs.TreeLaws.{Each, each-none, each-more, Below, hangs-deeper}
 
 unfoldable pub withEntry : Run → Entry → Run
@@ -38,29 +39,35 @@ laid-field no-field r hanging = ap (λ (l : List Record). r ∷ l) (append-nil (
 laid-field (field x run later) r hanging = rw (laid-field later r hanging) (simp append-assoc)
 
 -- what is stored among fields of a depth passes over deeper records
-stored-below : (r : Record) (depth : ℕ) → r .depth ≡ depth → {rs : List Record} (more : List Record) → Each (Below depth) rs → stored r (rs ++ more) ≡ rs ++ stored r more
+stored-below : (r : Record) (depth : ℕ) → r .depth ≡ depth → {rs : List Record} (more : List Record) → Each (Below depth) rs →
+    stored r (rs ++ more) ≡ rs ++ stored r more
 unfolding stored
 stored-below r depth d more each-none = refl
-stored-below r depth d more (each-more {r = x} b a) = rw (ne-eqb (x .depth) (r .depth) (λ same. omega (arith, b .below))) (ap (λ (l : List Record). x ∷ l) (stored-below r depth d more a))
+stored-below r depth d more (each-more {r = x} b a) =
+    rw (ne-eqb (x .depth) (r .depth) (λ same. omega (arith, b .below))) (ap (λ (l : List Record). x ∷ l) (stored-below r depth d more a))
 
 module _ {L : Type 0} (demands : Demands L) where
   -- an entry: it starts with the delimiter, and none of its later fields is one
   pub data EntryKeeps : ℕ → L → ℕ → Entry → Type 0 where
-    keeps-fields : {levels depth : ℕ} {level : L} {r : Record} {hanging : Run} {fields : Entry} → r .depth ≡ depth → demands .opens level (r .tag) ≡ true → Hangs demands levels level depth (r .tag) hanging →
+    keeps-fields : {levels depth : ℕ} {level : L} {r : Record} {hanging : Run} {fields : Entry} → r .depth ≡ depth → demands .opens level (r .tag) ≡ true →
+        Hangs demands levels level depth (r .tag) hanging →
         FieldsKeep demands levels level depth fields → EntryKeeps levels level depth (field r hanging fields)
 
-  pub run-grows : {levels depth : ℕ} {level : L} {run : Run} {fields : Entry} → RunKeeps demands (suc levels) level depth run → EntryKeeps levels level depth fields → RunKeeps demands (suc levels) level depth (withEntry run fields)
+  pub run-grows : {levels depth : ℕ} {level : L} {run : Run} {fields : Entry} → RunKeeps demands (suc levels) level depth run →
+      EntryKeeps levels level depth fields → RunKeeps demands (suc levels) level depth (withEntry run fields)
   unfolding withEntry
   run-grows keeps-none (keeps-fields d o hang fs) = keeps-entry d o hang fs keeps-none
   run-grows (keeps-entry d o hang fs later) e = keeps-entry d o hang fs (run-grows later e)
 
   module _ {levels depth : ℕ} {level : L} (r : Record) (d : r .depth ≡ depth) (o : demands .opens level (r .tag) ≡ false) where
-    fields-grow : {hanging : Run} {fields : Entry} → Hangs demands levels level depth (r .tag) hanging → FieldsKeep demands levels level depth fields → FieldsKeep demands levels level depth (withField fields r hanging)
+    fields-grow : {hanging : Run} {fields : Entry} → Hangs demands levels level depth (r .tag) hanging → FieldsKeep demands levels level depth fields →
+        FieldsKeep demands levels level depth (withField fields r hanging)
     unfolding withField
     fields-grow hang keep-none = keep-field d o hang keep-none
     fields-grow hang (keep-field e p run later) = keep-field e p run (fields-grow hang later)
 
-    pub entry-grows : {hanging : Run} {fields : Entry} → Hangs demands levels level depth (r .tag) hanging → EntryKeeps levels level depth fields → EntryKeeps levels level depth (withField fields r hanging)
+    pub entry-grows : {hanging : Run} {fields : Entry} → Hangs demands levels level depth (r .tag) hanging → EntryKeeps levels level depth fields →
+        EntryKeeps levels level depth (withField fields r hanging)
     unfolding withField
     entry-grows hang (keeps-fields e p run later) = keeps-fields e p run (fields-grow hang later)
 
@@ -81,16 +88,22 @@ module _ {L : Type 0} (demands : Demands L) where
       where
         by-test : (b : Bool) → eqb (x .tag) (r .tag) ≡ b → EntryKeeps levels level depth (pick b (field r run fields) (field x run (withStored r fields)))
         by-test true same =
-            keeps-fields d (subst (λ (tag : ℕ). demands .opens level tag ≡ true) (eqb-true _ _ same) p) (subst (λ (tag : ℕ). Hangs demands levels level depth tag run) (eqb-true _ _ same) hang) fs
+            keeps-fields d (subst (λ (tag : ℕ). demands .opens level tag ≡ true) (eqb-true _ _ same) p)
+            (subst (λ (tag : ℕ). Hangs demands levels level depth tag run) (eqb-true _ _ same) hang) fs
         by-test false other = keeps-fields e p hang (fields-store fs)
 
   module _ {levels depth : ℕ} {level : L} (r : Record) (d : r .depth ≡ depth) where
-    stored-step : (x : Record) {run : Run} (later : Entry) → x .depth ≡ depth → Hangs demands levels level depth (x .tag) run → laidFields (withStored r later) ≡ stored r (laidFields later) →
+    stored-step : (x : Record) {run : Run} (later : Entry) → x .depth ≡ depth → Hangs demands levels level depth (x .tag) run →
+        laidFields (withStored r later) ≡ stored r (laidFields later) →
         laidFields (withStored r (field x run later)) ≡ stored r (laidFields (field x run later))
     unfolding withStored laid stored
-    stored-step x {run} later e hang same = rw (eq-eqb (x .depth) (r .depth) (e ∙ sym d), stored-below r depth d (laidFields later) (hangs-deeper demands hang), ← same) (by-test (eqb (x .tag) (r .tag)))
+    stored-step x {run} later e hang same =
+        rw (eq-eqb (x .depth) (r .depth) (e ∙ sym d), stored-below r depth d (laidFields later) (hangs-deeper demands hang), ← same)
+        (by-test (eqb (x .tag) (r .tag)))
       where
-        by-test : (b : Bool) → laidFields (pick b (field r run later) (field x run (withStored r later))) ≡ pick b (r ∷ (laid run ++ laidFields later)) (x ∷ (laid run ++ laidFields (withStored r later)))
+        by-test : (b : Bool) →
+            laidFields (pick b (field r run later) (field x run (withStored r later)))
+            ≡ pick b (r ∷ (laid run ++ laidFields later)) (x ∷ (laid run ++ laidFields (withStored r later)))
         by-test true = refl
         by-test false = refl
 

@@ -75,22 +75,25 @@ unfoldable mutual
   laidFields no-field = []
   laidFields (field r hanging later) = r ∷ (laid hanging ++ laidFields later)
 
--- a tree keeps to a level
+-- a tree keeps to a level: so many levels may be open, the level, and the depth of the records
 module _ {L : Type 0} (demands : Demands L) where
   mutual
-    -- the entries of a run at a depth: each starts with the delimiter, and none of its later fields is one. So many levels may be open.
+    -- a run: each entry starts with a field whose tag is the delimiter, and no later field of its own has that tag
     pub data RunKeeps : ℕ → L → ℕ → Run → Type 0 where
       keeps-none : {levels depth : ℕ} {level : L} → RunKeeps levels level depth no-entry
-      keeps-entry : {levels depth : ℕ} {level : L} {r : Record} {hanging later : Run} {fields : Entry} → r .depth ≡ depth → demands .opens level (r .tag) ≡ true → Hangs levels level depth (r .tag) hanging →
-          FieldsKeep levels level depth fields → RunKeeps (suc levels) level depth later → RunKeeps (suc levels) level depth (entry (field r hanging fields) later)
+      keeps-entry : {levels depth : ℕ} {level : L} {r : Record} {hanging later : Run} {fields : Entry} →
+          r .depth ≡ depth → demands .opens level (r .tag) ≡ true → Hangs levels level depth (r .tag) hanging → FieldsKeep levels level depth fields →
+          RunKeeps (suc levels) level depth later → RunKeeps (suc levels) level depth (entry (field r hanging fields) later)
 
-    -- later fields of an entry: they have the depth of the run, and none is the delimiter
+    -- the fields behind the delimiter: they have the depth of the run
     pub data FieldsKeep : ℕ → L → ℕ → Entry → Type 0 where
       keep-none : {levels depth : ℕ} {level : L} → FieldsKeep levels level depth no-field
-      keep-field : {levels depth : ℕ} {level : L} {r : Record} {hanging : Run} {later : Entry} → r .depth ≡ depth → demands .opens level (r .tag) ≡ false → Hangs levels level depth (r .tag) hanging →
-          FieldsKeep levels level depth later → FieldsKeep levels level depth (field r hanging later)
+      keep-field : {levels depth : ℕ} {level : L} {r : Record} {hanging : Run} {later : Entry} →
+          r .depth ≡ depth → demands .opens level (r .tag) ≡ false → Hangs levels level depth (r .tag) hanging → FieldsKeep levels level depth later →
+          FieldsKeep levels level depth (field r hanging later)
 
-    -- a run hangs only on a tag that the level has as a group, one depth deeper
+    -- a run hangs only on a tag that the level has as a group, and its records stand one depth deeper
     pub data Hangs : ℕ → L → ℕ → ℕ → Run → Type 0 where
       hangs-none : {levels depth tag : ℕ} {level : L} → Hangs levels level depth tag no-entry
-      hangs-run : {levels depth tag : ℕ} {level inner : L} {run : Run} → demands .group level tag ≡ opened inner → RunKeeps levels inner (depth + 1) run → Hangs levels level depth tag run
+      hangs-run : {levels depth tag : ℕ} {level inner : L} {run : Run} →
+          demands .group level tag ≡ opened inner → RunKeeps levels inner (depth + 1) run → Hangs levels level depth tag run

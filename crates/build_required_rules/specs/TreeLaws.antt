@@ -10,9 +10,12 @@ use borrow.Author.Tests.{eq-eqb, ne-eqb}
 use Rattle.field_rules.specs.Choice.{pick, pick-same}
 use Rattle.build_records.specs.declared.Record.{Record}
 use Rattle.build_group_rules.specs.Groups.{Opened, none, opened}
-use Rattle.build_required_rules.specs.Required.{Demands, orElse, has, fieldsLack, before, shallow, runLacks as lacksByRecords, nestedLack, entriesLack, opensEntry, entryLack, runLack}
+use Rattle.build_required_rules.specs.Required.{Demands, orElse, has, fieldsLack, before, shallow, runLacks as lacksByRecords, nestedLack, entriesLack}
+use Rattle.build_required_rules.specs.Required.{opensEntry, entryLack, runLack}
 use Rattle.build_required_rules.specs.RequiredLaws.{run-empty, shallow-here, shallow-not}
-use Rattle.build_required_rules.specs.Tree.{Run, no-entry, entry, Entry, no-field, field, holds, ownLacks, byLevel, runLacks, nestedLacks, firstLack, treeLack, laid, laidFields, RunKeeps, keeps-none, keeps-entry, FieldsKeep, keep-none, keep-field, Hangs, hangs-none, hangs-run}
+use Rattle.build_required_rules.specs.Tree.{Run, no-entry, entry, Entry, no-field, field, holds, ownLacks, byLevel, runLacks, nestedLacks, firstLack}
+use Rattle.build_required_rules.specs.Tree.{treeLack, laid, laidFields, RunKeeps, keeps-none, keeps-entry, FieldsKeep, keep-none, keep-field, Hangs}
+use Rattle.build_required_rules.specs.Tree.{hangs-none, hangs-run}
 use Rattle.build_required_rules.specs.declared.Lack.{Lack}
 use Rattle.build_required_rules.specs.declared.Lack.the-variants.{Missing, Complete}
 
@@ -54,7 +57,8 @@ module _ (test : Record → Bool) where
   before-others each-none b = before-begins b
   before-others (each-more {r} p a) b = rw (p .is-not) (ap (λ (l : List Record). r ∷ l) (before-others a b))
 
-  entries-others : (check : List Record → Lack) {rs : List Record} (more : List Record) → Each (Not test) rs → entriesLack check test (rs ++ more) ≡ entriesLack check test more
+  entries-others : (check : List Record → Lack) {rs : List Record} (more : List Record) → Each (Not test) rs →
+      entriesLack check test (rs ++ more) ≡ entriesLack check test more
   unfolding entriesLack
   entries-others check more each-none = refl
   entries-others check more (each-more p a) = rw (p .is-not) (entries-others check more a)
@@ -66,7 +70,8 @@ module _ (depth : ℕ) where
   has-below tag more each-none = refl
   has-below tag more (each-more {r} p a) = rw (ne-eqb (r .depth) depth (λ same. omega (arith, p .below))) (has-below tag more a)
 
-  nested-below : {L : Type 0} (nested : L → ℕ → List Record → Lack) (groups : ℕ → Opened L) {rs : List Record} (more : List Record) → Each (Below depth) rs → nestedLack nested groups depth (rs ++ more) ≡ nestedLack nested groups depth more
+  nested-below : {L : Type 0} (nested : L → ℕ → List Record → Lack) (groups : ℕ → Opened L) {rs : List Record} (more : List Record) → Each (Below depth) rs →
+      nestedLack nested groups depth (rs ++ more) ≡ nestedLack nested groups depth more
   unfolding nestedLack
   nested-below nested groups more each-none = refl
   nested-below nested groups more (each-more {r} p a) = rw (ne-eqb (r .depth) depth (λ same. omega (arith, p .below))) (nested-below nested groups more a)
@@ -88,24 +93,30 @@ module _ {L : Type 0} (demands : Demands L) where
     unfolding laid
 
     -- nothing of a run stands above its depth
-    run-below : {levels depth : ℕ} {level : L} {run : Run} → RunKeeps demands levels level depth run → (above : ℕ) → above < depth → Each (Below above) (laid run)
+    run-below : {levels depth : ℕ} {level : L} {run : Run} → RunKeeps demands levels level depth run → (above : ℕ) → above < depth →
+        Each (Below above) (laid run)
     run-below keeps-none above h = each-none
     run-below (keeps-entry {depth = depth} {r = r} d o hang fields later) above h =
-        each-more (own-below above depth r d h) (each-append (each-append (hanging-below hang above (omega arith)) (fields-below fields above h)) (run-below later above h))
+        each-more (own-below above depth r d h)
+        (each-append (each-append (hanging-below hang above (omega arith)) (fields-below fields above h)) (run-below later above h))
 
-    fields-below : {levels depth : ℕ} {level : L} {fields : Entry} → FieldsKeep demands levels level depth fields → (above : ℕ) → above < depth → Each (Below above) (laidFields fields)
+    fields-below : {levels depth : ℕ} {level : L} {fields : Entry} → FieldsKeep demands levels level depth fields → (above : ℕ) → above < depth →
+        Each (Below above) (laidFields fields)
     fields-below keep-none above h = each-none
-    fields-below (keep-field {depth = depth} {r = r} d o hang later) above h = each-more (own-below above depth r d h) (each-append (hanging-below hang above (omega arith)) (fields-below later above h))
+    fields-below (keep-field {depth = depth} {r = r} d o hang later) above h =
+        each-more (own-below above depth r d h) (each-append (hanging-below hang above (omega arith)) (fields-below later above h))
 
     -- what hangs on a field stands deeper
-    hanging-below : {levels depth tag : ℕ} {level : L} {run : Run} → Hangs demands levels level depth tag run → (above : ℕ) → above ≤ depth → Each (Below above) (laid run)
+    hanging-below : {levels depth tag : ℕ} {level : L} {run : Run} → Hangs demands levels level depth tag run → (above : ℕ) → above ≤ depth →
+        Each (Below above) (laid run)
     hanging-below hangs-none above h = each-none
     hanging-below (hangs-run g keeps) above h = run-below keeps above (omega arith)
 
   pub hangs-deeper : {levels depth tag : ℕ} {level : L} {run : Run} → Hangs demands levels level depth tag run → Each (Below depth) (laid run)
   hangs-deeper {depth = depth} hang = hanging-below hang depth (omega arith)
 
-  module _ {levels depth : ℕ} {level : L} (r : Record) {hanging : Run} (d : r .depth ≡ depth) (hang : Hangs demands levels level depth (r .tag) hanging) (rest : List Record) where
+  module _ {levels depth : ℕ} {level : L} (r : Record) {hanging : Run} (d : r .depth ≡ depth) (hang : Hangs demands levels level depth (r .tag) hanging)
+      (rest : List Record) where
     -- a field of its own, and what hangs on it: its tag is there, and what hangs there adds none
     has-field : (tag : ℕ) → has depth tag (r ∷ (laid hanging ++ rest)) ≡ pick (eqb (r .tag) tag) true (has depth tag rest)
     unfolding has
@@ -113,13 +124,16 @@ module _ {L : Type 0} (demands : Demands L) where
 
     -- the run of a field is judged, and then those behind it
     nested-field : (nested : L → ℕ → List Record → Lack) (groups : ℕ → Opened L) → Begins (shallow depth) rest →
-        nestedLack nested groups depth (r ∷ (laid hanging ++ rest)) ≡ orElse (lacksByRecords nested (groups (r .tag)) (r .tag) (laid hanging)) (nestedLack nested groups depth rest)
+        nestedLack nested groups depth (r ∷ (laid hanging ++ rest))
+        ≡ orElse (lacksByRecords nested (groups (r .tag)) (r .tag) (laid hanging)) (nestedLack nested groups depth rest)
     unfolding nestedLack
     nested-field nested groups b =
-        rw (eq-eqb _ _ d, before-others (shallow depth) (each-map (below-deep depth) (hangs-deeper hang)) b, nested-below depth nested groups rest (hangs-deeper hang))
+        let deeper = hangs-deeper hang in
+        rw (eq-eqb _ _ d, before-others (shallow depth) (each-map (below-deep depth) deeper) b, nested-below depth nested groups rest deeper)
 
   -- the own fields of an entry by their depth
-  fields-held : {levels depth : ℕ} {level : L} {fields : Entry} → FieldsKeep demands levels level depth fields → (tag : ℕ) → has depth tag (laidFields fields) ≡ holds tag fields
+  fields-held : {levels depth : ℕ} {level : L} {fields : Entry} → FieldsKeep demands levels level depth fields → (tag : ℕ) →
+      has depth tag (laidFields fields) ≡ holds tag fields
   unfolding laid has holds
   fields-held keep-none tag = refl
   fields-held (keep-field {r = r} {later = later} d o hang fields) tag =
@@ -139,11 +153,13 @@ module _ {L : Type 0} (demands : Demands L) where
   below-opens : (level : L) (depth : ℕ) (r : Record) → Below depth r → Not (opensEntry demands level depth) r
   below-opens level depth r b = record { is-not = unfold opensEntry in rw (ne-eqb (r .depth) depth (λ same. omega (arith, b .below))) }
 
-  fields-open : {levels depth : ℕ} {level : L} {fields : Entry} → FieldsKeep demands levels level depth fields → Each (Not (opensEntry demands level depth)) (laidFields fields)
+  fields-open : {levels depth : ℕ} {level : L} {fields : Entry} → FieldsKeep demands levels level depth fields →
+      Each (Not (opensEntry demands level depth)) (laidFields fields)
   unfolding laid
   fields-open keep-none = each-none
   fields-open (keep-field {depth = depth} {level = level} {r = r} d o hang fields) =
-      each-more (record { is-not = opens-own level depth r false d o }) (each-append (each-map (below-opens level depth) (hangs-deeper hang)) (fields-open fields))
+      each-more (record { is-not = opens-own level depth r false d o })
+      (each-append (each-map (below-opens level depth) (hangs-deeper hang)) (fields-open fields))
 
   run-begins : {levels depth : ℕ} {level : L} {run : Run} → RunKeeps demands levels level depth run → Begins (opensEntry demands level depth) (laid run)
   unfolding laid
@@ -151,12 +167,15 @@ module _ {L : Type 0} (demands : Demands L) where
   run-begins (keeps-entry {depth = depth} {level = level} {r = r} d o hang fields later) = begins-more (opens-own level depth r true d o)
 
 -- an entry whose tags are those of a tree's lacks what that lacks
-own-lack : (group depth : ℕ) (rs : List Record) (fields : Entry) → ((tag : ℕ) → has depth tag rs ≡ holds tag fields) → (tags : List ℕ) → fieldsLack tags group depth rs ≡ firstLack (ownLacks tags group fields)
+own-lack : (group depth : ℕ) (rs : List Record) (fields : Entry) → ((tag : ℕ) → has depth tag rs ≡ holds tag fields) → (tags : List ℕ) →
+    fieldsLack tags group depth rs ≡ firstLack (ownLacks tags group fields)
 unfolding fieldsLack ownLacks firstLack
 own-lack group depth rs fields same [] = refl
 own-lack group depth rs fields same (tag ∷ tags) = rw (same tag) (by-test (holds tag fields) (own-lack group depth rs fields same tags))
   where
-    by-test : (b : Bool) → fieldsLack tags group depth rs ≡ firstLack (ownLacks tags group fields) → pick b (fieldsLack tags group depth rs) (Missing tag group) ≡ firstLack (pick b (ownLacks tags group fields) ((tag, group) ∷ ownLacks tags group fields))
+    by-test : (b : Bool) → fieldsLack tags group depth rs ≡ firstLack (ownLacks tags group fields) →
+        pick b (fieldsLack tags group depth rs) (Missing tag group)
+        ≡ firstLack (pick b (ownLacks tags group fields) ((tag, group) ∷ ownLacks tags group fields))
     by-test true later = later
     by-test false later = refl
 
@@ -166,8 +185,10 @@ module _ {L : Type 0} (demands : Demands L) where
   deeperLack levels depth inner tag rs = runLack demands levels inner tag (depth + 1) rs
 
   -- what each of two parts lacks is what they lack together
-  module _ {levels depth : ℕ} {level : L} (r : Record) {hanging : Run} {fields : Entry} (d : r .depth ≡ depth) (hang : Hangs demands levels level depth (r .tag) hanging) (fs : FieldsKeep demands levels level depth fields)
-      (h : lacksByRecords (deeperLack levels depth) (demands .group level (r .tag)) (r .tag) (laid hanging) ≡ firstLack (byLevel (demands .group level (r .tag)) (λ inner. runLacks demands hanging inner (r .tag))))
+  module _ {levels depth : ℕ} {level : L} (r : Record) {hanging : Run} {fields : Entry} (d : r .depth ≡ depth)
+      (hang : Hangs demands levels level depth (r .tag) hanging) (fs : FieldsKeep demands levels level depth fields)
+      (h : lacksByRecords (deeperLack levels depth) (demands .group level (r .tag)) (r .tag) (laid hanging)
+      ≡ firstLack (byLevel (demands .group level (r .tag)) (λ inner. runLacks demands hanging inner (r .tag))))
       (n : nestedLack (deeperLack levels depth) (demands .group level) depth (laidFields fields) ≡ firstLack (nestedLacks demands fields level)) where
     abbrev own : Entry
     own = field r hanging fields
@@ -176,34 +197,46 @@ module _ {L : Type 0} (demands : Demands L) where
     nested-judged : nestedLack (deeperLack levels depth) (demands .group level) depth (laidFields own) ≡ firstLack (nestedLacks demands own level)
     unfolding laid runLacks
     nested-judged =
-        nested-field demands r d hang (laidFields fields) (deeperLack levels depth) (demands .group level) (fields-begin demands fs) ∙ rw (h, n) (sym (first-else _ (nestedLacks demands fields level)))
+        nested-field demands r d hang (laidFields fields) (deeperLack levels depth) (demands .group level) (fields-begin demands fs)
+        ∙ rw (h, n) (sym (first-else _ (nestedLacks demands fields level)))
 
     own-held : (tag : ℕ) → has depth tag (laidFields own) ≡ holds tag own
     unfolding laid holds
     own-held tag = has-field demands r d hang (laidFields fields) tag ∙ ap (pick (eqb (r .tag) tag) true) (fields-held demands fs tag)
 
     -- an entry's own fields, and then its nested runs
-    entry-judged : (group : ℕ) → entryLack demands (deeperLack levels depth) level group depth (laidFields own) ≡ firstLack (ownLacks (demands .required level) group own ++ nestedLacks demands own level)
+    entry-judged : (group : ℕ) →
+        entryLack demands (deeperLack levels depth) level group depth (laidFields own)
+        ≡ firstLack (ownLacks (demands .required level) group own ++ nestedLacks demands own level)
     unfolding entryLack
-    entry-judged group = rw (own-lack group depth (laidFields own) own own-held (demands .required level), nested-judged) (sym (first-else (ownLacks (demands .required level) group own) (nestedLacks demands own level)))
+    entry-judged group =
+        rw (own-lack group depth (laidFields own) own own-held (demands .required level), nested-judged)
+        (sym (first-else (ownLacks (demands .required level) group own) (nestedLacks demands own level)))
 
     module _ {later : Run} (o : demands .opens level (r .tag) ≡ true) (ls : RunKeeps demands (suc levels) level depth later) (group : ℕ) where
       -- the delimiter cuts out its entry, and the entries behind it are left
       entry-cut : runLack demands (suc levels) level group depth (laid (entry own later))
-          ≡ orElse (entryLack demands (deeperLack levels depth) level group depth (laidFields own)) (runLack demands (suc levels) level group depth (laid later))
+          ≡ orElse (entryLack demands (deeperLack levels depth) level group depth (laidFields own))
+          (runLack demands (suc levels) level group depth (laid later))
       unfolding laid runLack entriesLack
       entry-cut =
           let test = opensEntry demands level depth in
           let others = each-append (each-map (below-opens demands level depth) (hangs-deeper demands hang)) (fields-open demands fs) in
-          rw (opens-own demands level depth r true d o, before-others test others (run-begins demands ls), entries-others test (entryLack demands (deeperLack levels depth) level group depth) (laid later) others)
+          let check = entryLack demands (deeperLack levels depth) level group depth in
+          rw (opens-own demands level depth r true d o, before-others test others (run-begins demands ls), entries-others test check (laid later) others)
 
       -- an entry, and then those behind it
-      run-judged : runLack demands (suc levels) level group depth (laid later) ≡ treeLack demands level group later → runLack demands (suc levels) level group depth (laid (entry own later)) ≡ treeLack demands level group (entry own later)
+      run-judged : runLack demands (suc levels) level group depth (laid later) ≡ treeLack demands level group later →
+          runLack demands (suc levels) level group depth (laid (entry own later)) ≡ treeLack demands level group (entry own later)
       unfolding treeLack runLacks
-      run-judged l = entry-cut ∙ rw (entry-judged group, l) (sym (first-else (ownLacks (demands .required level) group own ++ nestedLacks demands own level) (runLacks demands later level group)))
+      run-judged l =
+          entry-cut
+          ∙ rw (entry-judged group, l)
+          (sym (first-else (ownLacks (demands .required level) group own ++ nestedLacks demands own level) (runLacks demands later level group)))
 
   -- no run hangs there, whatever level the tag has
-  no-run : (levels depth tag : ℕ) (o : Opened L) → lacksByRecords (deeperLack levels depth) o tag [] ≡ firstLack (byLevel o (λ inner. runLacks demands no-entry inner tag))
+  no-run : (levels depth tag : ℕ) (o : Opened L) →
+      lacksByRecords (deeperLack levels depth) o tag [] ≡ firstLack (byLevel o (λ inner. runLacks demands no-entry inner tag))
   unfolding lacksByRecords byLevel runLacks firstLack
   no-run levels depth tag none = refl
   no-run levels depth tag (opened inner) = run-empty demands levels inner tag (depth + 1)
@@ -212,19 +245,25 @@ module _ {L : Type 0} (demands : Demands L) where
     unfolding runLacks laid treeLack firstLack nestedLack lacksByRecords byLevel
 
     -- the law: of every tree that keeps to its level the check of its records is the check of the tree
-    pub tree-lack : {levels depth : ℕ} {level : L} {tree : Run} → RunKeeps demands levels level depth tree → (group : ℕ) → runLack demands levels level group depth (laid tree) ≡ treeLack demands level group tree
+    pub tree-lack : {levels depth : ℕ} {level : L} {tree : Run} → RunKeeps demands levels level depth tree → (group : ℕ) →
+        runLack demands levels level group depth (laid tree) ≡ treeLack demands level group tree
     tree-lack {levels} {depth} {level} keeps-none group = run-empty demands levels level group depth
     tree-lack (keeps-entry {r = r} d o hang fs ls) group = run-judged r d hang fs (hanging-lack hang) (nested-lack fs) o ls group (tree-lack ls group)
 
-    nested-lack : {levels depth : ℕ} {level : L} {fields : Entry} → FieldsKeep demands levels level depth fields → nestedLack (deeperLack levels depth) (demands .group level) depth (laidFields fields) ≡ firstLack (nestedLacks demands fields level)
+    nested-lack : {levels depth : ℕ} {level : L} {fields : Entry} → FieldsKeep demands levels level depth fields →
+        nestedLack (deeperLack levels depth) (demands .group level) depth (laidFields fields) ≡ firstLack (nestedLacks demands fields level)
     nested-lack keep-none = refl
     nested-lack (keep-field {r = r} d o hang fs) = nested-judged r d hang fs (hanging-lack hang) (nested-lack fs)
 
-    hanging-lack : {levels depth tag : ℕ} {level : L} {run : Run} → Hangs demands levels level depth tag run → lacksByRecords (deeperLack levels depth) (demands .group level tag) tag (laid run) ≡ firstLack (byLevel (demands .group level tag) (λ inner. runLacks demands run inner tag))
+    hanging-lack : {levels depth tag : ℕ} {level : L} {run : Run} → Hangs demands levels level depth tag run →
+        lacksByRecords (deeperLack levels depth) (demands .group level tag) tag (laid run)
+        ≡ firstLack (byLevel (demands .group level tag) (λ inner. runLacks demands run inner tag))
     hanging-lack {levels} {depth} {tag} {level} hangs-none = no-run levels depth tag (demands .group level tag)
     hanging-lack {tag = tag} (hangs-run g keeps) = rw g (tree-lack keeps tag)
 
   -- trees that are laid out alike lack the same
-  pub laid-alike : {levels depth : ℕ} {level : L} {tree other : Run} → RunKeeps demands levels level depth tree → RunKeeps demands levels level depth other → laid tree ≡ laid other →
+  pub laid-alike : {levels depth : ℕ} {level : L} {tree other : Run} → RunKeeps demands levels level depth tree → RunKeeps demands levels level depth other →
+      laid tree ≡ laid other →
       (group : ℕ) → treeLack demands level group tree ≡ treeLack demands level group other
-  laid-alike {levels} {depth} {level} keeps others same group = sym (tree-lack keeps group) ∙ ap (runLack demands levels level group depth) same ∙ tree-lack others group
+  laid-alike {levels} {depth} {level} keeps others same group =
+      sym (tree-lack keeps group) ∙ ap (runLack demands levels level group depth) same ∙ tree-lack others group
