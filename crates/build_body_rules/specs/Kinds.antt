@@ -46,6 +46,7 @@ checked f rest room entries (Missing tag group) = refused (RequiredFieldMissing 
 
 module _ {L : Type 0} (rules : Rules L) (demands : Demands L) where
   -- "After a body group ends: for each entry its required fields in layout order, then its nested runs." Four levels may be open.
+  -- `RunTree` says the same over the run's tree.
   unfoldable pub ranAs : L → ℕ → RunOutcome (List Record) (List Record) → Reading
   ranAs inner tag (ran f rest room entries) = checked f rest room entries (runLack demands 4 inner tag 1 entries)
   ranAs inner tag (stops refusal entries) = refused (answerOf refusal)

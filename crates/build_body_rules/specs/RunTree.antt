@@ -53,7 +53,7 @@ module _ {L : Type 0} (demands : Demands L) where
   TreeOf (fieldsOf level depth number last) rs = (levels : ℕ) → levels + depth ≡ 4 → EntryTree levels level depth rs
 
 module _ {L : Type 0} (rules : Rules L) (demands : Demands L) (inner : L) (tag : ℕ) (fields : Fields) (room : ℕ) where
-  -- "After a body group ends": a refusal stands; the records of a run that was read are those of a tree, and the answer is by what that lacks
+  -- "When the whole run of a body's count has ended": a refusal stands; else its records are those of a tree, and the answer is what that lacks
   pub data ByTree : Reading → Type 0 where
     run-refused : {refusal : Refusal} {rs : List Record} → walk rules listStore room (run inner tag 1 0 ∷ []) [] fields ≡ stops refusal rs →
         ByTree (refused (answerOf refusal))

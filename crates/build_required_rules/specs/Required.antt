@@ -1,5 +1,6 @@
 -- The required check of RULES.md, Groups: "After a body group ends: for each entry its required fields in layout order, then its nested runs; the
--- first lack gives 4." A run is its records, in the order in which they stand in the message. What a level is, is a parameter.
+-- first lack gives 4." A run is its records, in the order in which they stand in the message, and their depths tell what is nested in what, as
+-- the code goes. `Tree` says the same over a run as a tree, and `TreeLaws` that the two agree. What a level is, is a parameter.
 use Prim.Native.Nat.{ℕ, zero, suc, _+_}
 use mathlib.Core.List.{List, [], _∷_}
 use mathlib.Core.Bool.{Bool, true, false}

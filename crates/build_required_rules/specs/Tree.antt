@@ -1,6 +1,6 @@
--- The required check of RULES.md, Groups, over a run as the tree that it is: "After a body group ends: for each entry its required fields in
--- layout order, then its nested runs; the first lack gives 4." No depth is compared here; `Required` says the same over a run's flat records,
--- and `TreeLaws` that the two agree.
+-- RULES.md, Groups, "Required fields (4)", over a run as the tree that it is: "for each entry first its required tags in layout order, counts of
+-- nested groups among them, then its nested runs in the order in which they stand. The first lack is the answer, with the missing tag and the
+-- tag of the group that requires it." No depth is compared here; `Required` says it over a run's flat records, and `TreeLaws` that the two agree.
 use Prim.Native.Nat.{ℕ, suc, _+_}
 use mathlib.Core.Path.{_≡_}
 use mathlib.Core.List.{List, [], _∷_, _++_}
@@ -24,7 +24,7 @@ mutual
     no-field : Entry
     field : Record → Run → Entry → Entry
 
--- a required field that an entry lacks: its tag and its group's
+-- a lack: "the missing tag and the tag of the group that requires it"
 abbrev Lacked : Type 0
 Lacked = ℕ × ℕ
 
@@ -33,7 +33,7 @@ unfoldable pub holds : ℕ → Entry → Bool
 holds tag no-field = false
 holds tag (field r hanging later) = pick (eqb (r .tag) tag) true (holds tag later)
 
--- "its required fields in layout order": those that it lacks
+-- "its required tags in layout order, counts of nested groups among them": those that none of its own fields has
 unfoldable pub ownLacks : List ℕ → ℕ → Entry → List Lacked
 ownLacks [] group fields = []
 ownLacks (tag ∷ tags) group fields = pick (holds tag fields) (ownLacks tags group fields) ((tag, group) ∷ ownLacks tags group fields)
@@ -45,17 +45,17 @@ byLevel (opened level) judged = judged level
 
 module _ {L : Type 0} (demands : Demands L) where
   unfoldable mutual
-    -- "for each entry its required fields in layout order, then its nested runs"
+    -- "for each entry first its required tags .., then its nested runs"
     pub runLacks : Run → L → ℕ → List Lacked
     runLacks no-entry level group = []
     runLacks (entry fields later) level group = (ownLacks (demands .required level) group fields ++ nestedLacks fields level) ++ runLacks later level group
 
-    -- "its nested runs", in the order of the fields on which they hang
+    -- "its nested runs in the order in which they stand"
     pub nestedLacks : Entry → L → List Lacked
     nestedLacks no-field level = []
     nestedLacks (field r hanging later) level = byLevel (demands .group level (r .tag)) (λ inner. runLacks hanging inner (r .tag)) ++ nestedLacks later level
 
--- "the first lack"
+-- "The first lack is the answer"
 unfoldable pub firstLack : List Lacked → Lack
 firstLack [] = Complete
 firstLack ((tag, group) ∷ later) = Missing tag group
