@@ -3,7 +3,7 @@
 use mathlib.Core.Path.{_≡_, refl}
 use mathlib.Core.List.{List, [], _∷_, map}
 use mathlib.Core.Bool.{true, false}
-use Prim.Native.Nat.{ℕ, _-_}
+use Prim.Native.Nat.{ℕ}
 use Prim.Native.String.{String}
 use Rattle.build_config.specs.Settings.{validating}
 use Rattle.field_rules.specs.Computing.{reading-fields}

@@ -1,23 +1,24 @@
--- The check over flat records is the check over the tree of which they are the records. What hangs on a field stands deeper than the field, so a
--- look for fields of a depth passes over it; and what is cut out behind a field, or behind a delimiter, is what hangs there, or its entry.
+-- The check over flat records is the check over the tree of which they are the records, and they are those of one tree alone. What hangs on a
+-- field stands deeper than the field, so a look for fields of a depth passes over it; and what is cut out behind a field, or behind a
+-- delimiter, is what hangs there, or its entry.
 use mathlib.Core.Path.{_≡_, refl, sym, ap, _∙_}
 use mathlib.Core.Bool.{Bool, true, false}
-use mathlib.Core.List.{List, [], _∷_, _++_, append-assoc, append-nil}
-use Prim.Native.Nat.{ℕ, zero, suc, _+_, _≤_, _<_}
+use mathlib.Core.List.{List, [], _∷_, _++_}
+use Prim.Native.Nat.{ℕ, suc, _+_, _≤_, _<_}
 use native.Mathlib.Omega.{arith}
 use lib.Dec.{eqb}
 use borrow.Author.Tests.{eq-eqb, ne-eqb}
-use Rattle.field_rules.specs.Choice.{pick, pick-same}
+use Rattle.field_rules.specs.Choice.{pick}
 use Rattle.build_records.specs.declared.Record.{Record}
 use Rattle.build_group_rules.specs.Groups.{Opened, none, opened}
 use Rattle.build_required_rules.specs.Required.{Demands, orElse, has, fieldsLack, before, shallow, runLacks as lacksByRecords, nestedLack, entriesLack}
 use Rattle.build_required_rules.specs.Required.{opensEntry, entryLack, runLack}
 use Rattle.build_required_rules.specs.RequiredLaws.{run-empty, shallow-here, shallow-not}
-use Rattle.build_required_rules.specs.Tree.{Run, no-entry, entry, Entry, no-field, field, holds, ownLacks, byLevel, runLacks, nestedLacks, firstLack}
+use Rattle.build_required_rules.specs.Tree.{Run, no-entry, entry, Entry, field, holds, ownLacks, byLevel, runLacks, nestedLacks, firstLack}
 use Rattle.build_required_rules.specs.Tree.{treeLack, laid, laidFields, RunKeeps, keeps-none, keeps-entry, FieldsKeep, keep-none, keep-field, Hangs}
 use Rattle.build_required_rules.specs.Tree.{hangs-none, hangs-run}
 use Rattle.build_required_rules.specs.declared.Lack.{Lack}
-use Rattle.build_required_rules.specs.declared.Lack.the-variants.{Missing, Complete}
+use Rattle.build_required_rules.specs.declared.Lack.the-variants.{Missing}
 
 -- each record of a list has a property
 pub data Each (P : Record → Type 0) : List Record → Type 0 where
@@ -261,9 +262,79 @@ module _ {L : Type 0} (demands : Demands L) where
     hanging-lack {levels} {depth} {tag} {level} hangs-none = no-run levels depth tag (demands .group level tag)
     hanging-lack {tag = tag} (hangs-run g keeps) = rw g (tree-lack keeps tag)
 
-  -- trees that are laid out alike lack the same
-  pub laid-alike : {levels depth : ℕ} {level : L} {tree other : Run} → RunKeeps demands levels level depth tree → RunKeeps demands levels level depth other →
-      laid tree ≡ laid other →
-      (group : ℕ) → treeLack demands level group tree ≡ treeLack demands level group other
-  laid-alike {levels} {depth} {level} keeps others same group =
-      sym (tree-lack keeps group) ∙ ap (runLack demands levels level group depth) same ∙ tree-lack others group
+-- where two lists are cut before the first of a kind, and are the same, their pieces are the same
+behind-same : (rs : List Record) {more others : List Record} → rs ++ more ≡ rs ++ others → more ≡ others
+behind-same [] e = e
+behind-same (r ∷ rs) e = behind-same rs cc
+
+cut-same : (test : Record → Bool) {rs ss more others : List Record} → Each (Not test) rs → Begins test more → Each (Not test) ss → Begins test others →
+    rs ++ more ≡ ss ++ others → (rs ≡ ss) × (more ≡ others)
+cut-same test {rs} {ss} {more} {others} a b c d e =
+    let front : rs ≡ ss = sym (before-others test a b) ∙ ap (before test) e ∙ before-others test c d in
+    (front, behind-same rs (e ∙ ap (λ (l : List Record). l ++ others) (sym front)))
+
+module _ {L : Type 0} (demands : Demands L) where
+  -- a field with what hangs on it, and the fields behind it
+  field-same : {levels depth : ℕ} {level : L} {tag other-tag : ℕ} {run other : Run} {fields others : Entry} → Hangs demands levels level depth tag run →
+      FieldsKeep demands levels level depth fields → Hangs demands levels level depth other-tag other → FieldsKeep demands levels level depth others →
+      laid run ++ laidFields fields ≡ laid other ++ laidFields others → (laid run ≡ laid other) × (laidFields fields ≡ laidFields others)
+  field-same {depth = depth} hang fs hang₁ fs₁ e =
+      let deep = below-deep depth in
+      cut-same (shallow depth) (each-map deep (hangs-deeper demands hang)) (fields-begin demands fs)
+      (each-map deep (hangs-deeper demands hang₁)) (fields-begin demands fs₁) e
+
+  -- an entry behind its delimiter, and the entries behind it
+  entry-same : {levels depth : ℕ} {level : L} {tag other-tag : ℕ} {run other later later₁ : Run} {fields others : Entry} →
+      Hangs demands levels level depth tag run → FieldsKeep demands levels level depth fields → RunKeeps demands (suc levels) level depth later →
+      Hangs demands levels level depth other-tag other → FieldsKeep demands levels level depth others → RunKeeps demands (suc levels) level depth later₁ →
+      (laid run ++ laidFields fields) ++ laid later ≡ (laid other ++ laidFields others) ++ laid later₁ →
+      (laid run ++ laidFields fields ≡ laid other ++ laidFields others) × (laid later ≡ laid later₁)
+  entry-same {depth = depth} {level = level} hang fs ls hang₁ fs₁ ls₁ e =
+      let not = below-opens demands level depth in
+      cut-same (opensEntry demands level depth) (each-append (each-map not (hangs-deeper demands hang)) (fields-open demands fs)) (run-begins demands ls)
+      (each-append (each-map not (hangs-deeper demands hang₁)) (fields-open demands fs₁)) (run-begins demands ls₁) e
+
+  -- a run without records has no entry
+  none-laid : {levels depth : ℕ} {level : L} {run : Run} → RunKeeps demands levels level depth run → [] ≡ laid run → no-entry ≡ run
+  unfolding laid
+  none-laid keeps-none e = refl
+  none-laid (keeps-entry d o hang fs ls) e = let z : _≡_ {A = ℕ} 0 1 = cc in absurd (omega arith)
+
+  mutual
+    unfolding laid
+
+    -- records are those of one tree alone
+    pub one-tree : {levels depth : ℕ} {level : L} {tree other : Run} → RunKeeps demands levels level depth tree → RunKeeps demands levels level depth other →
+        laid tree ≡ laid other → tree ≡ other
+    one-tree keeps-none others e = none-laid others e
+    one-tree (keeps-entry {r = r} d o hang fs ls) keeps-none e = let z : _≡_ {A = ℕ} 0 1 = cc in absurd (omega arith)
+    one-tree (keeps-entry {r = r} d o hang fs ls) (keeps-entry {r = q} d₁ o₁ hang₁ fs₁ ls₁) e =
+        let first : r ≡ q = cc in
+        let apart = entry-same hang fs ls hang₁ fs₁ ls₁ cc in
+        let inside = field-same hang fs hang₁ fs₁ (apart .0) in
+        let hung = one-hanging hang (ap (λ (x : Record). x .tag) first) hang₁ (inside .0) in
+        let behind = one-entry fs fs₁ (inside .1) in
+        let later = one-tree ls ls₁ (apart .1) in
+        cc
+
+    one-entry : {levels depth : ℕ} {level : L} {fields others : Entry} → FieldsKeep demands levels level depth fields →
+        FieldsKeep demands levels level depth others → laidFields fields ≡ laidFields others → fields ≡ others
+    one-entry keep-none keep-none e = refl
+    one-entry keep-none (keep-field d o hang fs) e = let z : _≡_ {A = ℕ} 0 1 = cc in absurd (omega arith)
+    one-entry (keep-field d o hang fs) keep-none e = let z : _≡_ {A = ℕ} 0 1 = cc in absurd (omega arith)
+    one-entry (keep-field {r = r} d o hang fs) (keep-field {r = q} d₁ o₁ hang₁ fs₁) e =
+        let first : r ≡ q = cc in
+        let inside = field-same hang fs hang₁ fs₁ cc in
+        let hung = one-hanging hang (ap (λ (x : Record). x .tag) first) hang₁ (inside .0) in
+        let behind = one-entry fs fs₁ (inside .1) in
+        cc
+
+    one-hanging : {levels depth tag other-tag : ℕ} {level : L} {run other : Run} → Hangs demands levels level depth tag run → tag ≡ other-tag →
+        Hangs demands levels level depth other-tag other → laid run ≡ laid other → run ≡ other
+    one-hanging hangs-none t hangs-none e = refl
+    one-hanging hangs-none t (hangs-run g keeps) e = none-laid keeps e
+    one-hanging (hangs-run g keeps) t hangs-none e = sym (none-laid keeps (sym e))
+    one-hanging {level = level} (hangs-run {inner = inner} g keeps) t (hangs-run {inner = inner₁} g₁ keeps₁) e =
+        let same : opened inner ≡ opened inner₁ = sym g ∙ ap (demands .group level) t ∙ g₁ in
+        let level-same : inner ≡ inner₁ = cc in
+        one-tree keeps (rw level-same keeps₁) e
