@@ -11,7 +11,7 @@ use Rattle.dictionary_layout_rules.specs.Layout.{Layout}
 use Rattle.dictionary_layout_rules.specs.declared.Position.the-variants.{At, Nowhere}
 use Rattle.build_records.specs.Records.{stored}
 use Rattle.build_records.specs.declared.Record.{Record}
-use Rattle.build_group_rules.specs.Groups.{opened, Rules, opens, run, RunOutcome, walk}
+use Rattle.build_group_rules.specs.Groups.{opened, Rules, opens, run, outermost, RunOutcome, walk}
 use Rattle.build_group_rules.specs.Groups.{ended as ran, refused as stops}
 use Rattle.build_group_rules.specs.Reading.{layoutRules, listStore, answerOf}
 use Rattle.build_group_rules.specs.declared.Refusal.{Refusal}
@@ -54,10 +54,10 @@ module _ {L : Type 0} (demands : Demands L) where
 module _ {L : Type 0} (rules : Rules L) (demands : Demands L) (inner : L) (tag : ℕ) (fields : Fields) (room : ℕ) where
   -- "When the whole run of a body's count has ended": a refusal stands; else its records are those of a tree, and the answer is what that lacks
   pub data ByTree : Reading → Type 0 where
-    run-refused : {refusal : Refusal} {rs : List Record} → walk rules listStore room (run inner tag 1 0 ∷ []) [] fields ≡ stops refusal rs →
+    run-refused : {refusal : Refusal} {rs : List Record} → walk rules listStore room (run (outermost tag inner) 0 ∷ []) [] fields ≡ stops refusal rs →
         ByTree (refused (answerOf refusal))
     run-read : {f : Field} {rest : Fields} {left : ℕ} (tree : Run) →
-        walk rules listStore room (run inner tag 1 0 ∷ []) [] fields ≡ ran f rest left (laid tree) → RunKeeps demands 4 inner 1 tree →
+        walk rules listStore room (run (outermost tag inner) 0 ∷ []) [] fields ≡ ran f rest left (laid tree) → RunKeeps demands 4 inner 1 tree →
         ByTree (checked f rest left (laid tree) (treeLack demands inner tag tree))
 
 module _ {L : Type 0} (rules : Rules L) (demands : Demands L) (one : OneLayout rules demands) where
@@ -129,7 +129,7 @@ module _ {L : Type 0} (rules : Rules L) (demands : Demands L) (one : OneLayout r
 
   -- a run of the body that was read to its end
   pub read-tree : (inner : L) (tag room : ℕ) (fields : Fields) (f : Field) (rest : Fields) (left : ℕ) (rs : List Record) →
-      walk rules listStore room (run inner tag 1 0 ∷ []) [] fields ≡ ran f rest left rs → RunTree demands 4 inner 1 rs
+      walk rules listStore room (run (outermost tag inner) 0 ∷ []) [] fields ≡ ran f rest left rs → RunTree demands 4 inner 1 rs
   read-tree inner tag room fields f rest left rs w =
       let read = run-formed rules [] inner 1 room tag fields f rest left rs w in
       rw (read .whole) (formed-tree (read .formed) 3 refl)
@@ -138,14 +138,14 @@ module _ {L : Type 0} (rules : Rules L) (demands : Demands L) (one : OneLayout r
     -- whatever the fields are, the run of a count comes to what its tree says
     pub run-by-tree : ByTree rules demands inner tag fields room (runFrom rules demands inner tag fields room)
     unfolding runFrom
-    run-by-tree = by-outcome (walk rules listStore room (run inner tag 1 0 ∷ []) [] fields) refl
+    run-by-tree = by-outcome (walk rules listStore room (run (outermost tag inner) 0 ∷ []) [] fields) refl
       where
         by-laid : (f : Field) (rest : Fields) (left : ℕ) (rs : List Record) (tree : Run) → RunKeeps demands 4 inner 1 tree → laid tree ≡ rs →
-            walk rules listStore room (run inner tag 1 0 ∷ []) [] fields ≡ ran f rest left rs →
+            walk rules listStore room (run (outermost tag inner) 0 ∷ []) [] fields ≡ ran f rest left rs →
             ByTree rules demands inner tag fields room (checked f rest left rs (runLack demands 4 inner tag 1 rs))
         by-laid f rest left rs tree keeps l w = rw (← l, tree-lack demands keeps tag) (run-read {f = f} {rest = rest} {left = left} tree (rw l w) keeps)
 
-        by-outcome : (o : RunOutcome (List Record) (List Record)) → walk rules listStore room (run inner tag 1 0 ∷ []) [] fields ≡ o →
+        by-outcome : (o : RunOutcome (List Record) (List Record)) → walk rules listStore room (run (outermost tag inner) 0 ∷ []) [] fields ≡ o →
             ByTree rules demands inner tag fields room (ranAs rules demands inner tag o)
         by-outcome (stops refusal rs) w = unfold ranAs in run-refused w
         by-outcome (ran f rest left rs) w =
