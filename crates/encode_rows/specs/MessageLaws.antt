@@ -25,7 +25,7 @@ use Rattle.message_rules.specs.StoreLaws.{In, lent-in, rows-all, own-rows, coun
 use Rattle.message_rules.specs.declared.Part.{Part}
 use Rattle.message_rules.specs.declared.Part.the-variants.{Header, Body, Trailer}
 use Rattle.encode_rules.specs.Encoding.{text, textUnder, isFirst, isRest, headerText, messageText, bytesOf, sumDigits, summed}
-use Rattle.encode_rows.specs.Writing.{chosen, rowsText, bytesIn, rowBytes, itemsAt, textAt, Spans, tailOf}
+use Rattle.encode_rows.specs.Writing.{chosen, rowsText, bytesIn, rowBytes, itemsAt, headerAt, textAt, Stands, Spans, tailOf}
 use Rattle.encode_rows.specs.WritingLaws.{text-laid, bytes-append, bytes-laid, text-length, written-twice}
 
 -- all of a map
@@ -115,8 +115,10 @@ module _ (words values : List ℕ) (part : Part) (m : Message) (i : In words val
       let e = count-is words values part m i in
       omega (arith, place-grows words (spanOf part m .to) (spanOf part m .count) (span-grows words values part m i .1), ap (λ (n : ℕ). sizes (rowsFrom (n - 0) 0 words)) e, i .sized .within, i .sized .store)
 
-  pub span-fine : (spanOf part m .from ≤ spanOf part m .to) × (spanOf part m .to ≤ messageRows) × (placeOf words (spanOf part m .to) ≤ length values)
-  span-fine = let g = span-grows words values part m i in (g .0, omega (arith, g .1, g .2), place-within)
+  pub span-stands : Stands words values (spanOf part m)
+  span-stands =
+      let g = span-grows words values part m i in
+      record { whole = i .sized .whole; grows = g .0; within = omega (arith, g .1, g .2); place = place-within }
 
 total-bytes : (m : Message) → bytesIn (row 2 0 1 0 ∷ (laid 1 (m .header) ++ (row 2 0 2 0 ∷ (laid 1 (m .body) ++ (row 2 0 3 0 ∷ (laid 1 (m .trailer) ++ [])))))) ≡ bytesOf (m .header) + (bytesOf (m .body) + bytesOf (m .trailer))
 unfolding bytesIn rowBytes
@@ -125,7 +127,7 @@ total-bytes m =
 
 module _ (words values : List ℕ) (h : isMessage words values ≡ true) where
   pub text-at-is : (separator : ℕ) → textAt words values (spanOf Header (messageIn words values)) (spanOf Body (messageIn words values)) (spanOf Trailer (messageIn words values)) separator ≡ messageText separator (messageIn words values)
-  unfolding textAt messageText headerText chosen partOf
+  unfolding textAt headerAt messageText headerText chosen partOf
   text-at-is separator =
       let m = messageIn words values in
       let head = lent-in words values Header h in
@@ -147,10 +149,9 @@ module _ (words values : List ℕ) (h : isMessage words values ≡ true) where
   spans-of separator output room =
       let m = messageIn words values in
       record {
-        whole = lent-in words values Header h .sized .whole;
-        header = span-fine words values Header m (lent-in words values Header h);
-        body = span-fine words values Body m (lent-in words values Body h);
-        trailer = span-fine words values Trailer m (lent-in words values Trailer h);
+        header = span-stands words values Header m (lent-in words values Header h);
+        body = span-stands words values Body m (lent-in words values Body h);
+        trailer = span-stands words values Trailer m (lent-in words values Trailer h);
         room = omega (arith, ap length (text-at-is separator));
       }
 

@@ -43,18 +43,28 @@ unfoldable pub itemsAt : List ℕ → List ℕ → Span → ℕ → ℕ → List
 itemsAt words values span which separator =
     rowsText which separator false (rowsFrom (span .to - span .from) (span .from) words) (drop (placeOf words (span .from)) values)
 
+-- the header: 8, 9 and 35, then the rest of it
+unfoldable pub headerAt : List ℕ → List ℕ → Span → ℕ → List ℕ
+headerAt words values head separator =
+    itemsAt words values head 8 separator
+    ++ (itemsAt words values head 9 separator ++ (itemsAt words values head 35 separator ++ itemsAt words values head 1 separator))
+
+-- header, body and trailer
 unfoldable pub textAt : List ℕ → List ℕ → Span → Span → Span → ℕ → List ℕ
 textAt words values head middle tail separator =
-    itemsAt words values head 8 separator
-    ++ (itemsAt words values head 9 separator
-    ++ (itemsAt words values head 35 separator
-    ++ (itemsAt words values head 1 separator ++ (itemsAt words values middle 0 separator ++ itemsAt words values tail 0 separator))))
+    headerAt words values head separator ++ (itemsAt words values middle 0 separator ++ itemsAt words values tail 0 separator)
+
+-- a span whose rows stand in a store, and their values
+pub record Stands (words values : List ℕ) (span : Span) : Type 0 where
+  pub whole : length words ≡ messageWords
+  pub grows : span .from ≤ span .to
+  pub within : span .to ≤ messageRows
+  pub place : placeOf words (span .to) ≤ length values
 
 pub record Spans (words values output : List ℕ) (head middle tail : Span) (separator : ℕ) : Type 0 where
-  pub whole : length words ≡ messageWords
-  pub header : (head .from ≤ head .to) × (head .to ≤ messageRows) × (placeOf words (head .to) ≤ length values)
-  pub body : (middle .from ≤ middle .to) × (middle .to ≤ messageRows) × (placeOf words (middle .to) ≤ length values)
-  pub trailer : (tail .from ≤ tail .to) × (tail .to ≤ messageRows) × (placeOf words (tail .to) ≤ length values)
+  pub header : Stands words values head
+  pub body : Stands words values middle
+  pub trailer : Stands words values tail
   pub room : length (textAt words values head middle tail separator) ≤ length output
 
 -- "the prefix `10=`, three digits and the separator"

@@ -16,7 +16,7 @@ ghost use Rattle.message_lent_rules.specs.Lent.{isMessage};
 ghost use Rattle.message_lent_rules.specs.Meaning.{messageIn};
 ghost use Rattle.message_rules.specs.Changes.{placeOf};
 ghost use Rattle.encode_rules.specs.Encoding.{messageText, summed};
-ghost use Rattle.encode_rows.specs.Writing.{chosen, rowOn, rowText, rowsText, rowBytes, bytesIn, textAt, Spans, tailOf};
+ghost use Rattle.encode_rows.specs.Writing.{chosen, rowOn, rowText, rowsText, rowBytes, bytesIn, headerAt, textAt, Stands, Spans, tailOf};
 
 fn write_bytes(output: &mut [u8], at: usize, text: &[u8]) -> usize
     requires { ⌜ at + length (now text) ≤ length (now output) ⌝ }
@@ -157,7 +157,22 @@ fn write_items(
     next
 }
 
-// The header's 8, 9 and 35, the rest of the header, body and trailer.
+// The header's 8, 9 and 35, then the rest of it.
+fn write_header(words: &[u32], values: &[u8], output: &mut [u8], head: Span, separator: u8) -> usize
+    requires { ⌜ Stands (now words) (now values) head ⌝ }
+    requires { ⌜ length (headerAt (now words) (now values) head separator) ≤ length (now output) ⌝ }
+    ensures { λ r. ⌜ r ≡ length (headerAt (now (words .entry)) (now (values .entry)) head separator) ⌝ }
+    ensures { λ _. ⌜ now (output .exit) ≡ writtenAt 0 (headerAt (now (words .entry)) (now (values .entry)) head separator) (now (output .entry)) ⌝ }
+{
+    let from = head.from;
+    let to = head.to;
+    let first = write_items(words, values, output, 0, from, to, 8, separator);
+    let second = write_items(words, values, output, first, from, to, 9, separator);
+    let third = write_items(words, values, output, second, from, to, 35, separator);
+    write_items(words, values, output, third, from, to, 1, separator)
+}
+
+// The header, the body and the trailer.
 fn write_text(
     words: &[u32],
     values: &[u8],
@@ -171,22 +186,17 @@ fn write_text(
     ensures { λ r. ⌜ r ≡ length (textAt (now (words .entry)) (now (values .entry)) head middle tail separator) ⌝ }
     ensures { λ _. ⌜ now (output .exit) ≡ writtenAt 0 (textAt (now (words .entry)) (now (values .entry)) head middle tail separator) (now (output .entry)) ⌝ }
 {
-    let from = head.from;
-    let to = head.to;
     let body = middle.from;
     let body_end = middle.to;
     let trailer = tail.from;
     let trailer_end = tail.to;
-    let first = write_items(words, values, output, 0, from, to, 8, separator);
-    let second = write_items(words, values, output, first, from, to, 9, separator);
-    let third = write_items(words, values, output, second, from, to, 35, separator);
-    let fourth = write_items(words, values, output, third, from, to, 1, separator);
-    let fifth = write_items(words, values, output, fourth, body, body_end, 0, separator);
+    let first = write_header(words, values, output, head, separator);
+    let second = write_items(words, values, output, first, body, body_end, 0, separator);
     write_items(
         words,
         values,
         output,
-        fifth,
+        second,
         trailer,
         trailer_end,
         0,

@@ -1,81 +1,89 @@
--- `write_text` meets its contract: after each piece, what is left on what is written is the whole.
-use mathlib.Core.Path.{_≡_, refl, sym, ap, _∙_}
-use mathlib.Core.Logic.{⊎-elim}
-use mathlib.Core.Bool.{Bool, true, false}
-use mathlib.Core.List.{List, [], _∷_, _++_, append-assoc, append-nil}
-use Prim.Native.Nat.{ℕ, zero, suc, _+_, _-_, _*_, _^_, _≤_, _<_}
+-- `write_text` meets its contract: after each part, what is left on what is written is the whole. `start-1` is the beginning of the code as seen
+-- from its first call.
+use mathlib.Core.Path.{_≡_, _∙_}
+use mathlib.Core.List.{List, _++_}
+use Prim.Native.Nat.{ℕ, _+_, _≤_}
 use native.Mathlib.Omega.{arith}
-use borrow.Author.Needs.{needs}
-use lib.ListN.{length, getD, take, drop, set, length-set}
-use Rattle.message_maps.specs.Rows.{rowsFrom}
 use native.Mathlib.Nat.{zero-add}
-use Rattle.message_rules.specs.Changes.{placeOf}
-use Rattle.field_rules.specs.Decimal.{writtenAt}
-use Rattle.encode_rows.specs.Writing.{rowsText, itemsAt, textAt, Spans}
+use borrow.Author.Needs.{needs}
+use lib.ListN.{length}
+use Rattle.message_rules.specs.declared.Span.{Span}
+use Rattle.encode_rows.specs.Writing.{itemsAt, headerAt, textAt}
 use Rattle.encode_rows.specs.WritingLaws.{Rest, rest-start, rest-step, rest-room, rest-last, rest-done}
 use Rattle.encode_rows.proofs.write_text.Statement.{statement}
 use Rattle.encode_rows.proofs.write_text.Tie as tie
 
-write-items-requires : tie.Need-write-items-requires
-unfolding textAt itemsAt
-write-items-requires c κs = let p = c .before .before .before .before .pre in let s = c .before .before .before .before .args in (p .header .0, p .header .1, p .whole, p .header .2, rest-room 0 (textAt (s .words .now) (s .values .now) (s .head) (s .middle) (s .tail) (s .separator)) (s .output .now) (s .output .now) 0 (omega (arith, p .room)) (itemsAt (s .words .now) (s .values .now) (s .head) 8 (s .separator)) (itemsAt (s .words .now) (s .values .now) (s .head) 9 (s .separator) ++ (itemsAt (s .words .now) (s .values .now) (s .head) 35 (s .separator) ++ (itemsAt (s .words .now) (s .values .now) (s .head) 1 (s .separator) ++ (itemsAt (s .words .now) (s .values .now) (s .middle) 0 (s .separator) ++ (itemsAt (s .words .now) (s .values .now) (s .tail) 0 (s .separator)))))) (rest-start 0 (textAt (s .words .now) (s .values .now) (s .head) (s .middle) (s .tail) (s .separator)) (s .output .now)))
+abbrev start-1 : tie.After-write-header → tie.Start
+start-1 c = c .before .before .before .before .before
 
-rest-1 : (c : tie.After-write-items) → let s = c .before .before .before .before .before .args in Rest 0 (textAt (s .words .now) (s .values .now) (s .head) (s .middle) (s .tail) (s .separator)) (s .output .now) (c .write-items .last .1 .1 .0) (c .write-items .result) (itemsAt (s .words .now) (s .values .now) (s .head) 9 (s .separator) ++ (itemsAt (s .words .now) (s .values .now) (s .head) 35 (s .separator) ++ (itemsAt (s .words .now) (s .values .now) (s .head) 1 (s .separator) ++ (itemsAt (s .words .now) (s .values .now) (s .middle) 0 (s .separator) ++ (itemsAt (s .words .now) (s .values .now) (s .tail) 0 (s .separator))))))
-unfolding textAt itemsAt
-rest-1 c =
-    let s = c .before .before .before .before .before .args in
-    rest-step 0 (textAt (s .words .now) (s .values .now) (s .head) (s .middle) (s .tail) (s .separator)) (s .output .now) (s .output .now) 0 (omega (arith, c .before .before .before .before .before .pre .room)) (itemsAt (s .words .now) (s .values .now) (s .head) 8 (s .separator)) (itemsAt (s .words .now) (s .values .now) (s .head) 9 (s .separator) ++ (itemsAt (s .words .now) (s .values .now) (s .head) 35 (s .separator) ++ (itemsAt (s .words .now) (s .values .now) (s .head) 1 (s .separator) ++ (itemsAt (s .words .now) (s .values .now) (s .middle) 0 (s .separator) ++ (itemsAt (s .words .now) (s .values .now) (s .tail) 0 (s .separator)))))) (rest-start 0 (textAt (s .words .now) (s .values .now) (s .head) (s .middle) (s .tail) (s .separator)) (s .output .now)) _ _ (c .write-items .ensures .0) (c .write-items .ensures .1)
+abbrev start-2 : tie.After-write-items → tie.Start
+start-2 c = start-1 (c .before .before .before .before)
+
+abbrev header : tie.Start → List ℕ
+header s = headerAt (s .args .words .now) (s .args .values .now) (s .args .head) (s .args .separator)
+
+abbrev items : tie.Start → Span → List ℕ
+items s span = itemsAt (s .args .words .now) (s .args .values .now) span 0 (s .args .separator)
+
+abbrev all : tie.Start → List ℕ
+all s = textAt (s .args .words .now) (s .args .values .now) (s .args .head) (s .args .middle) (s .args .tail) (s .args .separator)
+
+abbrev Left : tie.Start → List ℕ → ℕ → List ℕ → Type 0
+Left s output next left = Rest 0 (all s) (s .args .output .now) output next left
+
+room : (s : tie.Start) → 0 + length (all s) ≤ length (s .args .output .now)
+room s = omega (arith, s .pre .room)
+
+none-written : (s : tie.Start) → Left s (s .args .output .now) 0 (header s ++ (items s (s .args .middle) ++ items s (s .args .tail)))
+unfolding textAt
+none-written s = rest-start 0 (all s) (s .args .output .now)
+
+left-1 : (c : tie.After-write-header)
+    → let s = start-1 c in Left s (c .write-header .last .1 .1 .0) (c .write-header .result) (items s (s .args .middle) ++ items s (s .args .tail))
+left-1 c =
+    let s = start-1 c in
+    rest-step 0 _ _ _ 0 (room s) (header s) _ (none-written s) _ _ (omega (arith, c .write-header .ensures .0)) (c .write-header .ensures .1)
+
+left-2 : (c : tie.After-write-items)
+    → let s = start-2 c in Left s (c .write-items .last .1 .1 .0) (c .write-items .result) (items s (s .args .tail))
+unfolding itemsAt
+left-2 c =
+    let k = c .before .before .before .before in
+    let s = start-1 k in
+    rest-step 0 _ _ _ _ (room s) (items s (s .args .middle)) _ (left-1 k) _ _ (c .write-items .ensures .0) (c .write-items .ensures .1)
+
+write-header-requires : tie.Need-write-header-requires
+write-header-requires c κs =
+    let s = c .before .before .before .before in
+    (s .pre .header, omega (arith, rest-room 0 _ _ _ 0 (room s) (header s) _ (none-written s)))
+
+write-items-requires : tie.Need-write-items-requires
+unfolding itemsAt
+write-items-requires c κs =
+    let k = c .before .before .before in
+    let s = start-1 k in
+    let p = s .pre .body in
+    (p .grows, p .within, p .whole, p .place, rest-room 0 _ _ _ _ (room s) (items s (s .args .middle)) _ (left-1 k))
 
 write-items-requires-2 : tie.Need-write-items-requires-2
-unfolding textAt itemsAt
-write-items-requires-2 c κs = let p = c .before .before .before .before .before .before .before .before .pre in let s = c .before .before .before .before .before .before .before .before .args in (p .header .0, p .header .1, p .whole, p .header .2, rest-room 0 (textAt (s .words .now) (s .values .now) (s .head) (s .middle) (s .tail) (s .separator)) (s .output .now) (c .before .before .before .write-items .last .1 .1 .0) (c .before .before .before .write-items .result) (omega (arith, p .room)) (itemsAt (s .words .now) (s .values .now) (s .head) 9 (s .separator)) (itemsAt (s .words .now) (s .values .now) (s .head) 35 (s .separator) ++ (itemsAt (s .words .now) (s .values .now) (s .head) 1 (s .separator) ++ (itemsAt (s .words .now) (s .values .now) (s .middle) 0 (s .separator) ++ (itemsAt (s .words .now) (s .values .now) (s .tail) 0 (s .separator))))) (rest-1 (c .before .before .before)))
-
-rest-2 : (c : tie.After-write-items2) → let s = c .before .before .before .before .before .before .before .before .before .args in Rest 0 (textAt (s .words .now) (s .values .now) (s .head) (s .middle) (s .tail) (s .separator)) (s .output .now) (c .write-items2 .last .1 .1 .0) (c .write-items2 .result) (itemsAt (s .words .now) (s .values .now) (s .head) 35 (s .separator) ++ (itemsAt (s .words .now) (s .values .now) (s .head) 1 (s .separator) ++ (itemsAt (s .words .now) (s .values .now) (s .middle) 0 (s .separator) ++ (itemsAt (s .words .now) (s .values .now) (s .tail) 0 (s .separator)))))
-unfolding textAt itemsAt
-rest-2 c =
-    let s = c .before .before .before .before .before .before .before .before .before .args in
-    rest-step 0 (textAt (s .words .now) (s .values .now) (s .head) (s .middle) (s .tail) (s .separator)) (s .output .now) (c .before .before .before .before .write-items .last .1 .1 .0) (c .before .before .before .before .write-items .result) (omega (arith, c .before .before .before .before .before .before .before .before .before .pre .room)) (itemsAt (s .words .now) (s .values .now) (s .head) 9 (s .separator)) (itemsAt (s .words .now) (s .values .now) (s .head) 35 (s .separator) ++ (itemsAt (s .words .now) (s .values .now) (s .head) 1 (s .separator) ++ (itemsAt (s .words .now) (s .values .now) (s .middle) 0 (s .separator) ++ (itemsAt (s .words .now) (s .values .now) (s .tail) 0 (s .separator))))) (rest-1 (c .before .before .before .before)) _ _ (c .write-items2 .ensures .0) (c .write-items2 .ensures .1)
-
-write-items-requires-3 : tie.Need-write-items-requires-3
-unfolding textAt itemsAt
-write-items-requires-3 c κs = let p = c .before .before .before .before .before .before .before .before .before .before .before .before .pre in let s = c .before .before .before .before .before .before .before .before .before .before .before .before .args in (p .header .0, p .header .1, p .whole, p .header .2, rest-room 0 (textAt (s .words .now) (s .values .now) (s .head) (s .middle) (s .tail) (s .separator)) (s .output .now) (c .before .before .before .write-items2 .last .1 .1 .0) (c .before .before .before .write-items2 .result) (omega (arith, p .room)) (itemsAt (s .words .now) (s .values .now) (s .head) 35 (s .separator)) (itemsAt (s .words .now) (s .values .now) (s .head) 1 (s .separator) ++ (itemsAt (s .words .now) (s .values .now) (s .middle) 0 (s .separator) ++ (itemsAt (s .words .now) (s .values .now) (s .tail) 0 (s .separator)))) (rest-2 (c .before .before .before)))
-
-rest-3 : (c : tie.After-write-items3) → let s = c .before .before .before .before .before .before .before .before .before .before .before .before .before .args in Rest 0 (textAt (s .words .now) (s .values .now) (s .head) (s .middle) (s .tail) (s .separator)) (s .output .now) (c .write-items3 .last .1 .1 .0) (c .write-items3 .result) (itemsAt (s .words .now) (s .values .now) (s .head) 1 (s .separator) ++ (itemsAt (s .words .now) (s .values .now) (s .middle) 0 (s .separator) ++ (itemsAt (s .words .now) (s .values .now) (s .tail) 0 (s .separator))))
-unfolding textAt itemsAt
-rest-3 c =
-    let s = c .before .before .before .before .before .before .before .before .before .before .before .before .before .args in
-    rest-step 0 (textAt (s .words .now) (s .values .now) (s .head) (s .middle) (s .tail) (s .separator)) (s .output .now) (c .before .before .before .before .write-items2 .last .1 .1 .0) (c .before .before .before .before .write-items2 .result) (omega (arith, c .before .before .before .before .before .before .before .before .before .before .before .before .before .pre .room)) (itemsAt (s .words .now) (s .values .now) (s .head) 35 (s .separator)) (itemsAt (s .words .now) (s .values .now) (s .head) 1 (s .separator) ++ (itemsAt (s .words .now) (s .values .now) (s .middle) 0 (s .separator) ++ (itemsAt (s .words .now) (s .values .now) (s .tail) 0 (s .separator)))) (rest-2 (c .before .before .before .before)) _ _ (c .write-items3 .ensures .0) (c .write-items3 .ensures .1)
-
-write-items-requires-4 : tie.Need-write-items-requires-4
-unfolding textAt itemsAt
-write-items-requires-4 c κs = let p = c .before .before .before .before .before .before .before .before .before .before .before .before .before .before .before .before .pre in let s = c .before .before .before .before .before .before .before .before .before .before .before .before .before .before .before .before .args in (p .header .0, p .header .1, p .whole, p .header .2, rest-room 0 (textAt (s .words .now) (s .values .now) (s .head) (s .middle) (s .tail) (s .separator)) (s .output .now) (c .before .before .before .write-items3 .last .1 .1 .0) (c .before .before .before .write-items3 .result) (omega (arith, p .room)) (itemsAt (s .words .now) (s .values .now) (s .head) 1 (s .separator)) (itemsAt (s .words .now) (s .values .now) (s .middle) 0 (s .separator) ++ (itemsAt (s .words .now) (s .values .now) (s .tail) 0 (s .separator))) (rest-3 (c .before .before .before)))
-
-rest-4 : (c : tie.After-write-items4) → let s = c .before .before .before .before .before .before .before .before .before .before .before .before .before .before .before .before .before .args in Rest 0 (textAt (s .words .now) (s .values .now) (s .head) (s .middle) (s .tail) (s .separator)) (s .output .now) (c .write-items4 .last .1 .1 .0) (c .write-items4 .result) (itemsAt (s .words .now) (s .values .now) (s .middle) 0 (s .separator) ++ (itemsAt (s .words .now) (s .values .now) (s .tail) 0 (s .separator)))
-unfolding textAt itemsAt
-rest-4 c =
-    let s = c .before .before .before .before .before .before .before .before .before .before .before .before .before .before .before .before .before .args in
-    rest-step 0 (textAt (s .words .now) (s .values .now) (s .head) (s .middle) (s .tail) (s .separator)) (s .output .now) (c .before .before .before .before .write-items3 .last .1 .1 .0) (c .before .before .before .before .write-items3 .result) (omega (arith, c .before .before .before .before .before .before .before .before .before .before .before .before .before .before .before .before .before .pre .room)) (itemsAt (s .words .now) (s .values .now) (s .head) 1 (s .separator)) (itemsAt (s .words .now) (s .values .now) (s .middle) 0 (s .separator) ++ (itemsAt (s .words .now) (s .values .now) (s .tail) 0 (s .separator))) (rest-3 (c .before .before .before .before)) _ _ (c .write-items4 .ensures .0) (c .write-items4 .ensures .1)
-
-write-items-requires-5 : tie.Need-write-items-requires-5
-unfolding textAt itemsAt
-write-items-requires-5 c κs = let p = c .before .before .before .before .before .before .before .before .before .before .before .before .before .before .before .before .before .before .before .before .pre in let s = c .before .before .before .before .before .before .before .before .before .before .before .before .before .before .before .before .before .before .before .before .args in (p .body .0, p .body .1, p .whole, p .body .2, rest-room 0 (textAt (s .words .now) (s .values .now) (s .head) (s .middle) (s .tail) (s .separator)) (s .output .now) (c .before .before .before .write-items4 .last .1 .1 .0) (c .before .before .before .write-items4 .result) (omega (arith, p .room)) (itemsAt (s .words .now) (s .values .now) (s .middle) 0 (s .separator)) (itemsAt (s .words .now) (s .values .now) (s .tail) 0 (s .separator)) (rest-4 (c .before .before .before)))
-
-rest-5 : (c : tie.After-write-items5) → let s = c .before .before .before .before .before .before .before .before .before .before .before .before .before .before .before .before .before .before .before .before .before .args in Rest 0 (textAt (s .words .now) (s .values .now) (s .head) (s .middle) (s .tail) (s .separator)) (s .output .now) (c .write-items5 .last .1 .1 .0) (c .write-items5 .result) (itemsAt (s .words .now) (s .values .now) (s .tail) 0 (s .separator))
-unfolding textAt itemsAt
-rest-5 c =
-    let s = c .before .before .before .before .before .before .before .before .before .before .before .before .before .before .before .before .before .before .before .before .before .args in
-    rest-step 0 (textAt (s .words .now) (s .values .now) (s .head) (s .middle) (s .tail) (s .separator)) (s .output .now) (c .before .before .before .before .write-items4 .last .1 .1 .0) (c .before .before .before .before .write-items4 .result) (omega (arith, c .before .before .before .before .before .before .before .before .before .before .before .before .before .before .before .before .before .before .before .before .before .pre .room)) (itemsAt (s .words .now) (s .values .now) (s .middle) 0 (s .separator)) (itemsAt (s .words .now) (s .values .now) (s .tail) 0 (s .separator)) (rest-4 (c .before .before .before .before)) _ _ (c .write-items5 .ensures .0) (c .write-items5 .ensures .1)
-
-write-items-requires-6 : tie.Need-write-items-requires-6
-unfolding textAt itemsAt
-write-items-requires-6 c κs = let p = c .before .before .before .before .before .before .before .before .before .before .before .before .before .before .before .before .before .before .before .before .before .before .before .before .pre in let s = c .before .before .before .before .before .before .before .before .before .before .before .before .before .before .before .before .before .before .before .before .before .before .before .before .args in (p .trailer .0, p .trailer .1, p .whole, p .trailer .2, rest-last 0 (textAt (s .words .now) (s .values .now) (s .head) (s .middle) (s .tail) (s .separator)) (s .output .now) (c .before .before .before .write-items5 .last .1 .1 .0) (c .before .before .before .write-items5 .result) (omega (arith, p .room)) (itemsAt (s .words .now) (s .values .now) (s .tail) 0 (s .separator)) (rest-5 (c .before .before .before)))
+unfolding itemsAt
+write-items-requires-2 c κs =
+    let k = c .before .before .before in
+    let s = start-2 k in
+    let p = s .pre .trailer in
+    (p .grows, p .within, p .whole, p .place, rest-last 0 _ _ _ _ (room s) (items s (s .args .tail)) (left-2 k))
 
 returns : tie.Need-returns
-unfolding textAt itemsAt
-returns c = let s = c .before .before .before .before .before .before .before .before .before .before .before .before .before .before .before .before .before .before .before .before .before .before .before .before .before .before .before .args in let d = rest-done 0 (textAt (s .words .now) (s .values .now) (s .head) (s .middle) (s .tail) (s .separator)) (s .output .now) (c .before .before .before .before .before .before .write-items5 .last .1 .1 .0) (c .before .before .before .before .before .before .write-items5 .result) (omega (arith, c .before .before .before .before .before .before .before .before .before .before .before .before .before .before .before .before .before .before .before .before .before .before .before .before .before .before .before .pre .room)) (itemsAt (s .words .now) (s .values .now) (s .tail) 0 (s .separator)) (rest-5 (c .before .before .before .before .before .before)) _ _ (c .before .before .write-items6 .ensures .0) (c .before .before .write-items6 .ensures .1) in (d .0 ∙ zero-add _, d .1)
+unfolding itemsAt
+returns c =
+    let last = c .before .before in
+    let k = last .before .before .before .before in
+    let s = start-2 k in
+    let tail = items s (s .args .tail) in
+    let done = rest-done 0 _ _ _ _ (room s) tail (left-2 k) _ _ (last .write-items2 .ensures .0) (last .write-items2 .ensures .1) in
+    (done .0 ∙ zero-add _, done .1)
 
 pub write-text-spec : {M : Type 1} → statement M
 write-text-spec =
     tie.close
-    (tie.spec write-items-requires write-items-requires-2 write-items-requires-3 write-items-requires-4
-    write-items-requires-5 write-items-requires-6 (λ c. search needs) returns)
+    (tie.spec write-header-requires write-items-requires write-items-requires-2 (λ c. search needs) returns)
