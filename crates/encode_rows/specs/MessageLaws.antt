@@ -36,12 +36,14 @@ text-all separator (field t v rest) = ap (λ (s : List ℕ). fieldBytes separato
 text-all separator (entry s d own rest) = ap (λ (t : List ℕ). text separator own ++ t) (text-all separator rest)
 
 -- a tag is 8, 9, 35 or another, and only one of these
-one-of : (t : ℕ) (x : List ℕ) → length (pick (eqb t 8) x []) + (length (pick (eqb t 9) x []) + (length (pick (eqb t 35) x []) + length (pick (isRest t) x []))) ≡ length x
+one-of : (t : ℕ) (x : List ℕ)
+    → length (pick (eqb t 8) x []) + (length (pick (eqb t 9) x []) + (length (pick (eqb t 35) x []) + length (pick (isRest t) x []))) ≡ length x
 unfolding isRest isFirst
 one-of t x = by-tests (eqb t 8) (eqb t 9) (eqb t 35) refl refl refl
   where
     by-tests : (a b c : Bool) → eqb t 8 ≡ a → eqb t 9 ≡ b → eqb t 35 ≡ c
-        → length (pick a x []) + (length (pick b x []) + (length (pick c x []) + length (pick (pick (pick a true (pick b true c)) false true) x []))) ≡ length x
+        → length (pick a x []) + (length (pick b x []) + (length (pick c x []) + length (pick (pick (pick a true (pick b true c)) false true) x [])))
+        ≡ length x
     by-tests true true c p q r = let e = eqb-true t 8 p in let f = eqb-true t 9 q in absurd (omega arith)
     by-tests true false true p q r = let e = eqb-true t 8 p in let f = eqb-true t 35 r in absurd (omega arith)
     by-tests true false false p q r = omega arith
@@ -86,14 +88,16 @@ header-lengths separator (entry s d own rest) =
 
 pub message-length : (separator : ℕ) (m : Message) → length (messageText separator m) ≡ bytesOf (m .header) + (bytesOf (m .body) + bytesOf (m .trailer))
 unfolding messageText headerText
-message-length separator m = simp length-append (omega (arith, header-lengths separator (m .header), text-length separator (m .body), text-length separator (m .trailer)))
+message-length separator m =
+    simp length-append (omega (arith, header-lengths separator (m .header), text-length separator (m .body), text-length separator (m .trailer)))
 
 -- the values of a part stand behind those of the parts before it
 module _ (words values : List ℕ) (part : Part) (m : Message) (i : In words values part m) where
   part-place : placeOf words (spanOf part m .from) ≡ length (i .split .values-before)
   unfolding placeOf
   part-place =
-      ap sizes (rows-part words (rowCount words) 0 (spanOf part m .from) [] (i .split .before) (laid 1 (partOf part m) ++ i .split .behind) (rows-all words values part m i) refl (omega (arith, i .split .from)))
+      ap sizes (rows-part words (rowCount words) 0 (spanOf part m .from) [] (i .split .before) (laid 1 (partOf part m) ++ i .split .behind)
+      (rows-all words values part m i) refl (omega (arith, i .split .from)))
       ∙ i .split .size-before
 
   pub items-own : (which separator : ℕ) → itemsAt words values (spanOf part m) which separator ≡ textUnder (chosen which) separator (partOf part m)
@@ -101,7 +105,8 @@ module _ (words values : List ℕ) (part : Part) (m : Message) (i : In words val
   items-own which separator =
       let n = sizes (rowsOf words) in
       let behind = i .split .values-behind ++ drop n values in
-      let v : values ≡ i .split .values-before ++ (valuesIn (partOf part m) ++ behind) = sym (take-append-drop n values) ∙ rw (i .texts) (simp append-assoc) in
+      let v : values ≡ i .split .values-before ++ (valuesIn (partOf part m) ++ behind) =
+      sym (take-append-drop n values) ∙ rw (i .texts) (simp append-assoc) in
       let d : drop (placeOf words (spanOf part m .from)) values ≡ valuesIn (partOf part m) ++ behind =
       rw part-place (ap (drop (length (i .split .values-before))) v ∙ drop-at (i .split .values-before) _ _ refl) in
       rw (own-rows words values part m i, d) (text-laid which separator false (partOf part m) behind)
@@ -113,28 +118,54 @@ module _ (words values : List ℕ) (part : Part) (m : Message) (i : In words val
   unfolding placeOf rowsOf
   place-within =
       let e = count-is words values part m i in
-      omega (arith, place-grows words (spanOf part m .to) (spanOf part m .count) (span-grows words values part m i .1), ap (λ (n : ℕ). sizes (rowsFrom (n - 0) 0 words)) e, i .sized .within, i .sized .store)
+      omega (
+        arith,
+        place-grows words (spanOf part m .to) (spanOf part m .count) (span-grows words values part m i .1),
+        ap (λ (n : ℕ). sizes (rowsFrom (n - 0) 0 words)) e,
+        i .sized .within,
+        i .sized .store,
+      )
 
   pub span-stands : Stands words values (spanOf part m)
   span-stands =
       let g = span-grows words values part m i in
       record { whole = i .sized .whole; grows = g .0; within = omega (arith, g .1, g .2); place = place-within }
 
-total-bytes : (m : Message) → bytesIn (row 2 0 1 0 ∷ (laid 1 (m .header) ++ (row 2 0 2 0 ∷ (laid 1 (m .body) ++ (row 2 0 3 0 ∷ (laid 1 (m .trailer) ++ [])))))) ≡ bytesOf (m .header) + (bytesOf (m .body) + bytesOf (m .trailer))
+total-bytes : (m : Message)
+    → bytesIn (row 2 0 1 0 ∷ (laid 1 (m .header) ++ (row 2 0 2 0 ∷ (laid 1 (m .body) ++ (row 2 0 3 0 ∷ (laid 1 (m .trailer) ++ []))))))
+    ≡ bytesOf (m .header) + (bytesOf (m .body) + bytesOf (m .trailer))
 unfolding bytesIn rowBytes
 total-bytes m =
-    omega (arith, bytes-append (laid 1 (m .header)) (row 2 0 2 0 ∷ (laid 1 (m .body) ++ (row 2 0 3 0 ∷ (laid 1 (m .trailer) ++ [])))), bytes-append (laid 1 (m .body)) (row 2 0 3 0 ∷ (laid 1 (m .trailer) ++ [])), bytes-append (laid 1 (m .trailer)) [], bytes-laid 1 (m .header), bytes-laid 1 (m .body), bytes-laid 1 (m .trailer))
+    omega (
+      arith,
+      bytes-append (laid 1 (m .header)) (row 2 0 2 0 ∷ (laid 1 (m .body) ++ (row 2 0 3 0 ∷ (laid 1 (m .trailer) ++ [])))),
+      bytes-append (laid 1 (m .body)) (row 2 0 3 0 ∷ (laid 1 (m .trailer) ++ [])),
+      bytes-append (laid 1 (m .trailer)) [],
+      bytes-laid 1 (m .header),
+      bytes-laid 1 (m .body),
+      bytes-laid 1 (m .trailer),
+    )
 
 module _ (words values : List ℕ) (h : isMessage words values ≡ true) where
-  pub text-at-is : (separator : ℕ) → textAt words values (spanOf Header (messageIn words values)) (spanOf Body (messageIn words values)) (spanOf Trailer (messageIn words values)) separator ≡ messageText separator (messageIn words values)
+  pub text-at-is : (separator : ℕ)
+      → textAt words values (spanOf Header (messageIn words values)) (spanOf Body (messageIn words values))
+      (spanOf Trailer (messageIn words values)) separator ≡ messageText separator (messageIn words values)
   unfolding textAt headerAt messageText headerText chosen partOf
   text-at-is separator =
       let m = messageIn words values in
       let head = lent-in words values Header h in
-      rw (items-own words values Header m head 8 separator, items-own words values Header m head 9 separator, items-own words values Header m head 35 separator, items-own words values Header m head 1 separator, items-all words values Body m (lent-in words values Body h) separator, items-all words values Trailer m (lent-in words values Trailer h) separator)
+      rw (
+        items-own words values Header m head 8 separator,
+        items-own words values Header m head 9 separator,
+        items-own words values Header m head 35 separator,
+        items-own words values Header m head 1 separator,
+        items-all words values Body m (lent-in words values Body h) separator,
+        items-all words values Trailer m (lent-in words values Trailer h) separator,
+      )
       (simp append-assoc)
 
-  pub size-is : (separator : ℕ) → bytesIn (rowsFrom (spanOf Header (messageIn words values) .count - 0) 0 words) ≡ length (messageText separator (messageIn words values))
+  pub size-is : (separator : ℕ)
+      → bytesIn (rowsFrom (spanOf Header (messageIn words values) .count - 0) 0 words) ≡ length (messageText separator (messageIn words values))
   unfolding rowsOf
   size-is separator =
       let m = messageIn words values in
@@ -145,7 +176,8 @@ module _ (words values : List ℕ) (h : isMessage words values ≡ true) where
       ∙ sym (message-length separator m)
 
   pub spans-of : (separator : ℕ) (output : List ℕ) → length (messageText separator (messageIn words values)) ≤ length output
-      → Spans words values output (spanOf Header (messageIn words values)) (spanOf Body (messageIn words values)) (spanOf Trailer (messageIn words values)) separator
+      → Spans words values output (spanOf Header (messageIn words values)) (spanOf Body (messageIn words values))
+      (spanOf Trailer (messageIn words values)) separator
   spans-of separator output room =
       let m = messageIn words values in
       record {
@@ -172,5 +204,6 @@ tail-written separator at what output one two room e o t =
     let before : take at one ≡ what = ap (take at) whole ∙ take-at what (drop (length what) output) at (sym e) in
     let together : length (what ++ tailOf separator what) ≡ length what + 7 = length-append what (tailOf separator what) ∙ rw (tail-length separator what) in
     let last : writtenAt 0 (what ++ tailOf separator what) output ≡ writtenAt 0 (summed separator what) output = unfold summed tailOf in refl in
-    t ∙ rw (before, o, e) (ap (λ (k : ℕ). writtenAt k (tailOf separator what) (writtenAt 0 what output)) (sym n) ∙ written-twice 0 what (tailOf separator what) output (omega arith))
+    t ∙ rw (before, o, e) (ap (λ (k : ℕ). writtenAt k (tailOf separator what) (writtenAt 0 what output)) (sym n)
+    ∙ written-twice 0 what (tailOf separator what) output (omega arith))
     ∙ last

@@ -25,7 +25,8 @@ use Rattle.encode_rows.specs.Writing.{chosen, rowOn, rowText, rowsText, 
 module _ (words : List ℕ) (i to : ℕ) (more : i < to) where
   pub text-on : (which separator : ℕ) (on : Bool) (values : List ℕ)
       → rowsText which separator on (rowsFrom (to - i) i words) values
-      ≡ rowText separator (rowOn which on (rowAt words i)) (rowAt words i) values ++ rowsText which separator (rowOn which on (rowAt words i)) (rowsFrom (to - (i + 1)) (i + 1) words) (drop (sizeOf (rowAt words i)) values)
+      ≡ rowText separator (rowOn which on (rowAt words i)) (rowAt words i) values
+      ++ rowsText which separator (rowOn which on (rowAt words i)) (rowsFrom (to - (i + 1)) (i + 1) words) (drop (sizeOf (rowAt words i)) values)
   unfolding rowsText
   text-on which separator on values = rw (rows-step words i to more)
 
@@ -43,7 +44,8 @@ module _ (words : List ℕ) (i to : ℕ) (past : to ≤ i) where
   bytes-end = rw (rows-none words i to past)
 
 -- what is written behind what was written
-pub written-twice : (at : ℕ) (a b output : List ℕ) → at + length (a ++ b) ≤ length output → writtenAt (at + length a) b (writtenAt at a output) ≡ writtenAt at (a ++ b) output
+pub written-twice : (at : ℕ) (a b output : List ℕ) → at + length (a ++ b) ≤ length output
+    → writtenAt (at + length a) b (writtenAt at a output) ≡ writtenAt at (a ++ b) output
 written-twice at a b output h =
     let n = at + length a in
     let d = drop n output in
@@ -72,7 +74,8 @@ pub never-full : (at : ℕ) (digits output : List ℕ) → at + length digits �
 never-full at digits output room h = let e = answer-fits at digits output room in let z : _≡_ {A = ℕ} 0 1 = cc in omega arith
 
 -- the four pieces of a field
-pub field-written : (at separator : ℕ) (tag value output one two three four : List ℕ) (digits place stop : ℕ) → at + (length tag + length value + 2) ≤ length output
+pub field-written : (at separator : ℕ) (tag value output one two three four : List ℕ) (digits place stop : ℕ)
+    → at + (length tag + length value + 2) ≤ length output
     → digits ≡ at + length tag → one ≡ writtenAt at tag output → place ≡ digits + 1 → two ≡ writtenAt digits (61 ∷ []) one
     → stop ≡ place + length value → three ≡ writtenAt place value two → four ≡ writtenAt stop (separator ∷ []) three
     → four ≡ writtenAt at (fieldBytes separator tag value) output
@@ -102,28 +105,56 @@ text-below : (which separator : ℕ) (on : Bool) (m : Map) (l : ℕ) (rest : Lis
 unfolding laid valuesIn text rowsText rowText rowOn sizeOf
 text-below which separator on end l rest values h = ap (λ (t : List ℕ). t ++ rowsText which separator on rest values) (sym (pick-same {A = List ℕ} on []))
 text-below which separator on (field t v more) l rest values h =
-    rw (ne-eqb l 1 (λ e. omega arith), append-assoc v (valuesIn more) values, take-at v (valuesIn more ++ values) (length v) refl, drop-at v (valuesIn more ++ values) (length v) refl, text-below which separator on more l rest values h)
+    rw (
+      ne-eqb l 1 (λ e. omega arith),
+      append-assoc v (valuesIn more) values,
+      take-at v (valuesIn more ++ values) (length v) refl,
+      drop-at v (valuesIn more ++ values) (length v) refl,
+      text-below which separator on more l rest values h,
+    )
     (by-on on)
   where
-    by-on : (b : Bool) → pick b (fieldBytes separator (decimal t) v) [] ++ (pick b (text separator more) [] ++ rowsText which separator on rest values) ≡ pick b (fieldBytes separator (decimal t) v ++ text separator more) [] ++ rowsText which separator on rest values
+    by-on : (b : Bool)
+        → pick b (fieldBytes separator (decimal t) v) [] ++ (pick b (text separator more) [] ++ rowsText which separator on rest values)
+        ≡ pick b (fieldBytes separator (decimal t) v ++ text separator more) [] ++ rowsText which separator on rest values
     by-on true = sym (append-assoc (fieldBytes separator (decimal t) v) (text separator more) (rowsText which separator on rest values))
     by-on false = refl
 text-below which separator on (entry s d own more) l rest values h =
-    rw (ne-eqb l 1 (λ e. omega arith), pick-same {A = List ℕ} on [], append-assoc (laid (l + 1) own) (laid l more) rest, append-assoc (valuesIn own) (valuesIn more) values, text-below which separator on own (l + 1) (laid l more ++ rest) (valuesIn more ++ values) (omega arith), text-below which separator on more l rest values h)
+    rw (
+      ne-eqb l 1 (λ e. omega arith),
+      pick-same {A = List ℕ} on [],
+      append-assoc (laid (l + 1) own) (laid l more) rest,
+      append-assoc (valuesIn own) (valuesIn more) values,
+      text-below which separator on own (l + 1) (laid l more ++ rest) (valuesIn more ++ values) (omega arith),
+      text-below which separator on more l rest values h,
+    )
     (by-on on)
   where
-    by-on : (b : Bool) → pick b (text separator own) [] ++ (pick b (text separator more) [] ++ rowsText which separator on rest values) ≡ pick b (text separator own ++ text separator more) [] ++ rowsText which separator on rest values
+    by-on : (b : Bool)
+        → pick b (text separator own) [] ++ (pick b (text separator more) [] ++ rowsText which separator on rest values)
+        ≡ pick b (text separator own ++ text separator more) [] ++ rowsText which separator on rest values
     by-on true = sym (append-assoc (text separator own) (text separator more) (rowsText which separator on rest values))
     by-on false = refl
 
 -- a map's rows, written, are what it has under the chosen tags
-pub text-laid : (which separator : ℕ) (on : Bool) (m : Map) (values : List ℕ) → rowsText which separator on (laid 1 m) (valuesIn m ++ values) ≡ textUnder (chosen which) separator m
+pub text-laid : (which separator : ℕ) (on : Bool) (m : Map) (values : List ℕ)
+    → rowsText which separator on (laid 1 m) (valuesIn m ++ values) ≡ textUnder (chosen which) separator m
 unfolding laid valuesIn textUnder rowsText rowText rowOn sizeOf
 text-laid which separator on end values = refl
 text-laid which separator on (field t v more) values =
-    rw (append-assoc v (valuesIn more) values, take-at v (valuesIn more ++ values) (length v) refl, drop-at v (valuesIn more ++ values) (length v) refl, text-laid which separator (chosen which t) more values)
+    rw (
+      append-assoc v (valuesIn more) values,
+      take-at v (valuesIn more ++ values) (length v) refl,
+      drop-at v (valuesIn more ++ values) (length v) refl,
+      text-laid which separator (chosen which t) more values,
+    )
 text-laid which separator on (entry s d own more) values =
-    rw (pick-same {A = List ℕ} (chosen which s) [], append-assoc (valuesIn own) (valuesIn more) values, text-below which separator (chosen which s) own 2 (laid 1 more) (valuesIn more ++ values) (omega arith), text-laid which separator (chosen which s) more values)
+    rw (
+      pick-same {A = List ℕ} (chosen which s) [],
+      append-assoc (valuesIn own) (valuesIn more) values,
+      text-below which separator (chosen which s) own 2 (laid 1 more) (valuesIn more ++ values) (omega arith),
+      text-laid which separator (chosen which s) more values,
+    )
 
 pub bytes-append : (a b : List Row) → bytesIn (a ++ b) ≡ bytesIn a + bytesIn b
 unfolding bytesIn
@@ -140,8 +171,15 @@ pub text-length : (separator : ℕ) (m : Map) → length (text separator m) ≡ 
 unfolding text bytesOf
 text-length separator end = refl
 text-length separator (field t v more) =
-    omega (arith, length-append (fieldBytes separator (decimal t) v) (text separator more), length-append (decimal t) (61 ∷ (v ++ (separator ∷ []))), length-append v (separator ∷ []), text-length separator more)
-text-length separator (entry s d own more) = omega (arith, length-append (text separator own) (text separator more), text-length separator own, text-length separator more)
+    omega (
+      arith,
+      length-append (fieldBytes separator (decimal t) v) (text separator more),
+      length-append (decimal t) (61 ∷ (v ++ (separator ∷ []))),
+      length-append v (separator ∷ []),
+      text-length separator more,
+    )
+text-length separator (entry s d own more) =
+    omega (arith, length-append (text separator own) (text separator more), text-length separator own, text-length separator more)
 
 -- the place of a value, one row further
 pub place-step : (words : List ℕ) (i : ℕ) → placeOf words (i + 1) ≡ placeOf words i + sizeOf (rowAt words i)
@@ -177,7 +215,8 @@ pub field-length : (separator : ℕ) (tag value : List ℕ) → length (fieldByt
 field-length separator tag value = length-append tag (61 ∷ (value ++ (separator ∷ []))) ∙ omega (arith, length-append value (separator ∷ []))
 
 -- what is left to write, on what is written so far, is the whole
-pub record Going (words values : List ℕ) (to which separator : ℕ) (all start : List ℕ) (first : ℕ) (output : List ℕ) (next place : ℕ) (on : Bool) (i : ℕ) : Type 0 where
+pub record Going (words values : List ℕ) (to which separator : ℕ) (all start : List ℕ) (first : ℕ) (output : List ℕ) (next place : ℕ) (on : Bool)
+    (i : ℕ) : Type 0 where
   pub within : i ≤ to
   pub same-place : place ≡ placeOf words i
   pub same : writtenAt first all start ≡ writtenAt next (rowsText which separator on (rowsFrom (to - i) i words) (drop place values)) output
@@ -186,7 +225,8 @@ pub record Going (words values : List ℕ) (to which separator : ℕ) (all start
 
 pub going-on : (words values : List ℕ) (to which separator : ℕ) (all start : List ℕ) (first : ℕ) (output : List ℕ) (next place : ℕ) (on : Bool) (i : ℕ)
     → first + length all ≤ length start → i < to → Going words values to which separator all start first output next place on i
-    → (on′ : Bool) (output′ : List ℕ) (next′ place′ : ℕ) → on′ ≡ rowOn which on (rowAt words i) → next′ ≡ next + length (rowText separator on′ (rowAt words i) (drop place values))
+    → (on′ : Bool) (output′ : List ℕ) (next′ place′ : ℕ) → on′ ≡ rowOn which on (rowAt words i)
+    → next′ ≡ next + length (rowText separator on′ (rowAt words i) (drop place values))
     → output′ ≡ writtenAt next (rowText separator on′ (rowAt words i) (drop place values)) output → place′ ≡ place + sizeOf (rowAt words i)
     → Going words values to which separator all start first output′ next′ place′ on′ (i + 1)
 going-on words values to which separator all start first output next place on i room more g on′ output′ next′ place′ o n w p =
@@ -211,23 +251,27 @@ going-done words values to which separator all start first output next place on 
     let e : next + 0 ≡ first + length all = rw none at (g .ends) in
     (omega arith, sym (g .same ∙ rw none (written-none next output (omega (arith, g .size)))))
 
-pub nothing-written : (at : ℕ) (what output : List ℕ) → what ≡ [] → at + length what ≤ length output → (at ≡ at + length what) × (output ≡ writtenAt at what output)
+pub nothing-written : (at : ℕ) (what output : List ℕ) → what ≡ [] → at + length what ≤ length output
+    → (at ≡ at + length what) × (output ≡ writtenAt at what output)
 nothing-written at what output e h =
     (omega (arith, ap length e), ap (λ (w : List ℕ). w) (sym (ap (λ (w : List ℕ). writtenAt at w output) e ∙ written-none at output (omega arith))))
 
-pub field-done : (at separator next : ℕ) (what tag value output left : List ℕ) → what ≡ fieldBytes separator tag value → next ≡ at + (length tag + length value + 2)
+pub field-done : (at separator next : ℕ) (what tag value output left : List ℕ) → what ≡ fieldBytes separator tag value
+    → next ≡ at + (length tag + length value + 2)
     → left ≡ writtenAt at (fieldBytes separator tag value) output → (next ≡ at + length what) × (left ≡ writtenAt at what output)
 field-done at separator next what tag value output left e n w =
     (omega (arith, ap length e, field-length separator tag value), w ∙ sym (ap (λ (t : List ℕ). writtenAt at t output) e))
 
 pub going-start : (words values : List ℕ) (from to which separator : ℕ) (start : List ℕ) (first place : ℕ) → from ≤ to → place ≡ placeOf words from
-    → Going words values to which separator (rowsText which separator false (rowsFrom (to - from) from words) (drop (placeOf words from) values)) start first start first place false from
+    → Going words values to which separator (rowsText which separator false (rowsFrom (to - from) from words) (drop (placeOf words from) values)) start first
+    start first place false from
 going-start words values from to which separator start first place h e =
     record { within = h; same-place = e; same = rw e; ends = rw e; size = refl }
 
 module _ (words values : List ℕ) (to which separator : ℕ) (all start : List ℕ) (first : ℕ) (output : List ℕ) (next place : ℕ) (on : Bool) (i : ℕ)
     (room : first + length all ≤ length start) (more : i < to) (g : Going words values to which separator all start first output next place on i) where
-  pub going-room : (on′ : Bool) → on′ ≡ rowOn which on (rowAt words i) → next + length (rowText separator on′ (rowAt words i) (drop place values)) ≤ length output
+  pub going-room : (on′ : Bool) → on′ ≡ rowOn which on (rowAt words i)
+      → next + length (rowText separator on′ (rowAt words i) (drop place values)) ≤ length output
   going-room on′ o =
       let r = rowText separator on′ (rowAt words i) (drop place values) in
       let rest = rowsText which separator on′ (rowsFrom (to - (i + 1)) (i + 1) words) (drop (sizeOf (rowAt words i)) (drop place values)) in
@@ -252,7 +296,8 @@ module _ (first : ℕ) (all start output : List ℕ) (next : ℕ) (room : first 
   pub rest-room : (piece left : List ℕ) → Rest first all start output next (piece ++ left) → next + length piece ≤ length output
   rest-room piece left r = omega (arith, r .ends, r .size, length-append piece left)
 
-  pub rest-step : (piece left : List ℕ) → Rest first all start output next (piece ++ left) → (next′ : ℕ) (output′ : List ℕ) → next′ ≡ next + length piece → output′ ≡ writtenAt next piece output
+  pub rest-step : (piece left : List ℕ) → Rest first all start output next (piece ++ left) → (next′ : ℕ) (output′ : List ℕ) → next′ ≡ next + length piece
+      → output′ ≡ writtenAt next piece output
       → Rest first all start output′ next′ left
   rest-step piece left r next′ output′ n w =
       record {
@@ -264,6 +309,7 @@ module _ (first : ℕ) (all start output : List ℕ) (next : ℕ) (room : first 
   pub rest-last : (piece : List ℕ) → Rest first all start output next piece → next + length piece ≤ length output
   rest-last piece r = omega (arith, r .ends, r .size)
 
-  pub rest-done : (piece : List ℕ) → Rest first all start output next piece → (next′ : ℕ) (output′ : List ℕ) → next′ ≡ next + length piece → output′ ≡ writtenAt next piece output
+  pub rest-done : (piece : List ℕ) → Rest first all start output next piece → (next′ : ℕ) (output′ : List ℕ) → next′ ≡ next + length piece
+      → output′ ≡ writtenAt next piece output
       → (next′ ≡ first + length all) × (output′ ≡ writtenAt first all start)
   rest-done piece r next′ output′ n w = (omega (arith, r .ends), w ∙ sym (r .same))

@@ -14,7 +14,8 @@ use Rattle.encode_rows.proofs.bytes_between.Statement.{statement}
 use Rattle.encode_rows.proofs.bytes_between.Tie as tie
 
 abbrev Inv-loop : tie.InvT-loop
-Inv-loop words from to size₀ i₀ size i = (from ≤ i) × (i ≤ to) × (size + bytesIn (rowsFrom (to - i) i words) ≡ bytesIn (rowsFrom (to - from) from words)) × (size ≤ (i - from) * 8589934592)
+Inv-loop words from to size₀ i₀ size i =
+    (from ≤ i) × (i ≤ to) × (size + bytesIn (rowsFrom (to - i) i words) ≡ bytesIn (rowsFrom (to - from) from words)) × (size ≤ (i - from) * 8589934592)
 
 abbrev μ-loop : tie.MeasureT-loop
 μ-loop words from to size₀ i₀ size i = to - i
@@ -26,10 +27,27 @@ add-size : tie.Need-add-size Inv-loop μ-loop
 add-size c = omega (arith, c .row-bytes .ensures .1)
 
 loop-again : tie.Need-loop-again Inv-loop μ-loop
-loop-again c = let l = c .before .before in (omega arith, omega arith, omega (arith, l .loop .inv .2, c .row-bytes .ensures .0, bytes-on (l .before .before .args .words .now) (l .loop .i) (l .before .before .args .to) (c .before .loop-test .taken)), omega (arith, l .loop .inv .3, c .row-bytes .ensures .1))
+loop-again c =
+    let l = c .before .before in
+    let start = l .before .before in (
+      omega arith,
+      omega arith,
+      omega (
+        arith,
+        l .loop .inv .2,
+        c .row-bytes .ensures .0,
+        bytes-on (start .args .words .now) (l .loop .i) (start .args .to) (c .before .loop-test .taken),
+      ),
+      omega (arith, l .loop .inv .3, c .row-bytes .ensures .1),
+    )
 
 returns : tie.Need-returns Inv-loop μ-loop
-returns c = let l = c .before in (omega (arith, l .loop .inv .2, bytes-end (l .before .before .args .words .now) (l .loop .i) (l .before .before .args .to) (c .loop-test .left)), omega (arith, l .loop .inv .3, l .loop .inv .1, l .before .before .pre .1))
+returns c =
+    let l = c .before in
+    let start = l .before .before in (
+      omega (arith, l .loop .inv .2, bytes-end (start .args .words .now) (l .loop .i) (start .args .to) (c .loop-test .left)),
+      omega (arith, l .loop .inv .3, l .loop .inv .1, start .pre .1),
+    )
 
 pub bytes-between-spec : {M : Type 1} → statement M
 bytes-between-spec =

@@ -25,7 +25,13 @@ returns-2 c = rw (ne-eqb _ _ (c .before .before .if1 .left), eq-eqb _ _ (c .befo
 
 returns-3 : tie.Need-returns-3
 unfolding chosen isRest isFirst
-returns-3 c = rw (ne-eqb _ _ (c .before .before .before .if1 .left), eq-eqb _ _ (c .before .before .if2 .taken), ne-eqb _ _ (c .before .if3 .left), eq-eqb _ _ (c .if4 .taken))
+returns-3 c =
+    rw (
+      ne-eqb _ _ (c .before .before .before .if1 .left),
+      eq-eqb _ _ (c .before .before .if2 .taken),
+      ne-eqb _ _ (c .before .if3 .left),
+      eq-eqb _ _ (c .if4 .taken),
+    )
 
 other-than : (b : Bool) → not b ≡ pick b false true
 other-than true = refl
@@ -33,7 +39,14 @@ other-than false = refl
 
 returns-4 : tie.Need-returns-4
 unfolding chosen isRest isFirst
-returns-4 c = rw (ne-eqb _ _ (c .before .before .before .if1 .left), eq-eqb _ _ (c .before .before .if2 .taken), ne-eqb _ _ (c .before .if3 .left), ne-eqb _ _ (c .if4 .left)) (other-than (eqb (c .before .before .before .before .args .tag) 35))
+returns-4 c =
+    let start = c .before .before .before .before in
+    rw (
+      ne-eqb _ _ (c .before .before .before .if1 .left),
+      eq-eqb _ _ (c .before .before .if2 .taken),
+      ne-eqb _ _ (c .before .if3 .left),
+      ne-eqb _ _ (c .if4 .left),
+    ) (other-than (eqb (start .args .tag) 35))
 
 returns-5 : tie.Need-returns-5
 unfolding chosen isRest isFirst

@@ -26,7 +26,19 @@ add-result-2 c = let d = digits-at (c .before .before) in omega (arith, d)
 
 returns : tie.Need-returns
 unfolding rowAt rowBytes
-returns c = let d = digits-at (c .before .before) in (rw (eq-eqb _ 1 (sym (c .before .before .before .before .before .kind-of .ensures) ∙ c .before .before .before .before .if1 .taken), ← c .before .before .before .tag-of .ensures, ← c .before .before .digit-count .ensures, ← c .before .extra-of .ensures, c .wide .ensures), omega (arith, d, c .wide .ensures))
+returns c =
+    let if1 = c .before .before .before .before .if1 in
+    let kind-of = c .before .before .before .before .before .kind-of in
+    let d = digits-at (c .before .before) in (
+      rw (
+        eq-eqb _ 1 (sym (kind-of .ensures) ∙ if1 .taken),
+        ← c .before .before .before .tag-of .ensures,
+        ← c .before .before .digit-count .ensures,
+        ← c .before .extra-of .ensures,
+        c .wide .ensures,
+      ),
+      omega (arith, d, c .wide .ensures),
+    )
 
 returns-2 : tie.Need-returns-2
 unfolding rowAt rowBytes

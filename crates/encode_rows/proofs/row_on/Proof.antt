@@ -15,7 +15,9 @@ use Rattle.encode_rows.proofs.row_on.Tie as tie
 
 returns : tie.Need-returns
 unfolding rowOn rowAt levelOf
-returns c = rw (eq-eqb _ 1 (sym (c .before .before .before .level-of .ensures) ∙ c .before .before .if1 .taken)) (rw (c .before .tag-of .ensures) at (c .is-chosen .ensures))
+returns c =
+    rw (eq-eqb _ 1 (sym (c .before .before .before .level-of .ensures) ∙ c .before .before .if1 .taken))
+    (rw (c .before .tag-of .ensures) at (c .is-chosen .ensures))
 
 returns-2 : tie.Need-returns-2
 unfolding rowOn rowAt levelOf

@@ -12,7 +12,9 @@ use Rattle.encode_rows.proofs.write_bytes.Statement.{statement}
 use Rattle.encode_rows.proofs.write_bytes.Tie as tie
 
 returns : tie.Need-returns
-returns c = let s = c .before .before .before .before .before .before in (refl, bytes-written (s .args .at) (s .args .text .now) (s .args .output .now) _ (s .pre) (c .before .before .copy .ensures .1))
+returns c =
+    let s = c .before .before .before .before .before .before in
+    (refl, bytes-written (s .args .at) (s .args .text .now) (s .args .output .now) _ (s .pre) (c .before .before .copy .ensures .1))
 
 pub write-bytes-spec : {M : Type 1} → statement M
 write-bytes-spec =

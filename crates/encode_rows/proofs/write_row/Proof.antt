@@ -22,22 +22,51 @@ returns c = nothing-written _ _ _ (row-off _ _ _ _ _ _ _ (not-true _ (c .if1 .ta
 
 returns-2 : tie.Need-returns-2
 unfolding rowAt
-returns-2 c = nothing-written _ _ _ (row-head _ _ _ _ _ _ _ (λ e. c .if2 .taken (c .before .kind-of .ensures ∙ e))) (c .before .before .before .before .before .before .pre .3)
+returns-2 c =
+    let start = c .before .before .before .before .before .before in
+    nothing-written _ _ _ (row-head _ _ _ _ _ _ _ (λ e. c .if2 .taken (c .before .kind-of .ensures ∙ e))) (start .pre .3)
 
-text-at : (c : tie.After-tag-of) → let s = c .before .before .before .before .before .before .before .before .before .args in rowText (s .separator) (s .on) (rowAt (s .words .now) (s .row)) (drop (s .place) (s .values .now)) ≡ fieldBytes (s .separator) (decimal (c .tag-of .result)) (take (s .place + c .before .before .size-of .result - s .place) (drop (s .place) (s .values .now)))
+text-at : (c : tie.After-tag-of)
+    → let s = c .before .before .before .before .before .before .before .before .before .args in
+    rowText (s .separator) (s .on) (rowAt (s .words .now) (s .row)) (drop (s .place) (s .values .now))
+    ≡ fieldBytes (s .separator) (decimal (c .tag-of .result)) (take (s .place + c .before .before .size-of .result - s .place)
+    (drop (s .place) (s .values .now)))
 unfolding rowAt
 text-at c =
+    let kind-of = c .before .before .before .before .kind-of in
+    let if1 = c .before .before .before .before .before .if1 in
     let s = c .before .before .before .before .before .before .before .before .before .args in
-    let one = sym (c .before .before .before .before .kind-of .ensures) ∙ c .before .before .before .if2 .left in
-    let size : getD (s .words .now) (4 * s .row + 4) 0 ≡ s .place + c .before .before .size-of .result - s .place = omega (arith, c .before .before .size-of .ensures .0, row-size (getD (s .words .now) (4 * s .row + 1) 0) (getD (s .words .now) (4 * s .row + 2) 0) (getD (s .words .now) (4 * s .row + 3) 0) (getD (s .words .now) (4 * s .row + 4) 0) one) in
-    row-field _ _ _ _ _ _ _ (not-false _ (c .before .before .before .before .before .if1 .left)) one
+    let one = sym (kind-of .ensures) ∙ c .before .before .before .if2 .left in
+    let size : getD (s .words .now) (4 * s .row + 4) 0 ≡ s .place + c .before .before .size-of .result - s .place =
+    omega (
+      arith,
+      c .before .before .size-of .ensures .0,
+      row-size (getD (s .words .now) (4 * s .row + 1) 0) (getD (s .words .now) (4 * s .row + 2) 0) (getD (s .words .now) (4 * s .row + 3) 0)
+          (getD (s .words .now) (4 * s .row + 4) 0) one,
+    ) in
+    row-field _ _ _ _ _ _ _ (not-false _ (if1 .left)) one
     ∙ rw (← c .tag-of .ensures) (ap (λ (n : ℕ). fieldBytes (s .separator) (decimal (c .tag-of .result)) (take n (drop (s .place) (s .values .now)))) size)
 
 write-field-requires : tie.Need-write-field-requires
-write-field-requires c κs = let s = c .before .before .before .before .before .before .before .before .before .before in let t = text-at (c .before) in omega (arith, ap length t, field-length (s .args .separator) (decimal (c .before .tag-of .result)) (take (s .args .place + c .before .before .before .size-of .result - s .args .place) (drop (s .args .place) (s .args .values .now))), s .pre .3)
+write-field-requires c κs =
+    let s = c .before .before .before .before .before .before .before .before .before .before in
+    let t = text-at (c .before) in
+    omega (
+      arith,
+      ap length t,
+      field-length (s .args .separator) (decimal (c .before .tag-of .result))
+          (take (s .args .place + c .before .before .before .size-of .result - s .args .place) (drop (s .args .place) (s .args .values .now))),
+      s .pre .3,
+    )
 
 returns-3 : tie.Need-returns-3
-returns-3 c = let s = c .before .before .before .before .before .before .before .before .before .before .before .before .before .args in field-done (s .at) (s .separator) _ _ (decimal (c .before .before .before .before .tag-of .result)) (take (s .place + c .before .before .before .before .before .before .size-of .result - s .place) (drop (s .place) (s .values .now))) _ _ (text-at (c .before .before .before .before)) (c .before .before .write-field .ensures .0) (c .before .before .write-field .ensures .1)
+returns-3 c =
+    let after-tag-of = c .before .before .before .before in
+    let size-of = after-tag-of .before .before .size-of in
+    let s = after-tag-of .before .before .before .before .before .before .before .before .before .args in
+    field-done (s .at) (s .separator) _ _ (decimal (after-tag-of .tag-of .result))
+    (take (s .place + size-of .result - s .place) (drop (s .place) (s .values .now))) _ _ (text-at after-tag-of) (c .before .before .write-field .ensures .0)
+    (c .before .before .write-field .ensures .1)
 
 pub write-row-spec : {M : Type 1} → statement M
 write-row-spec =
