@@ -105,9 +105,10 @@ pub extern "C" fn gateway_build(
     records: &mut [FieldRecord],
     out: &mut [u32; 4],
 ) -> u32
-    ensures { λ r. ⌜ (r ≡ numberOf (builtFrom (now (message .entry)) separator settings (now (dictionary .entry)) (length (now (records .entry))) .answer))
-        × (now (records .exit) ≡ recordsLent (builtFrom (now (message .entry)) separator settings (now (dictionary .entry)) (length (now (records .entry)))) (now (records .entry)))
-        × (now (out .exit) ≡ told (builtFrom (now (message .entry)) separator settings (now (dictionary .entry)) (length (now (records .entry))) .records) (valuesOf (builtFrom (now (message .entry)) separator settings (now (dictionary .entry)) (length (now (records .entry))) .answer))) ⌝ }
+    ensures { λ r. ⌜ (let built = builtFrom (now (message .entry)) separator settings (now (dictionary .entry)) (length (now (records .entry))) in
+        (r ≡ numberOf (built .answer))
+        × (now (records .exit) ≡ recordsLent built (now (records .entry)))
+        × (now (out .exit) ≡ told (built .records) (valuesOf (built .answer)))) ⌝ }
 {
     let mut words = face_messages::blank_words();
     let built = face_messages::build(
@@ -134,9 +135,10 @@ pub extern "C" fn gateway_build_prepared(
     records: &mut [FieldRecord],
     out: &mut [u32; 4],
 ) -> u32
-    ensures { λ r. ⌜ (r ≡ numberOf (builtOver (now (message .entry)) separator settings (now (copy .entry)) (now (memory .entry)) (length (now (records .entry))) .answer))
-        × (now (records .exit) ≡ recordsLent (builtOver (now (message .entry)) separator settings (now (copy .entry)) (now (memory .entry)) (length (now (records .entry)))) (now (records .entry)))
-        × (now (out .exit) ≡ told (builtOver (now (message .entry)) separator settings (now (copy .entry)) (now (memory .entry)) (length (now (records .entry))) .records) (valuesOf (builtOver (now (message .entry)) separator settings (now (copy .entry)) (now (memory .entry)) (length (now (records .entry))) .answer))) ⌝ }
+    ensures { λ r. ⌜ (let over = builtOver (now (message .entry)) separator settings (now (copy .entry)) (now (memory .entry)) (length (now (records .entry))) in
+        (r ≡ numberOf (over .answer))
+        × (now (records .exit) ≡ recordsLent over (now (records .entry)))
+        × (now (out .exit) ≡ told (over .records) (valuesOf (over .answer)))) ⌝ }
 {
     let mut words = face_messages::blank_words();
     let built = face_messages::build_prepared(

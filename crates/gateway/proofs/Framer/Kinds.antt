@@ -10,7 +10,27 @@ use Rattle.face_framers.proofs.HunterReply as HR
 use Rattle.gateway.proofs.Framer.{Framer}
 
 abbrev pub ported : Framer
-ported = record { State = PS.the-type; laws = PL.the-laws; lowers = PL.lowers; symbol = PR.the-type .name; Reply = PortedReply; state = λ r. r .state; number = λ r. r .number; one = PR.the-type .to-one }
+ported =
+    record {
+      State = PS.the-type;
+      laws = PL.the-laws;
+      lowers = PL.lowers;
+      symbol = PR.the-type .name;
+      Reply = PortedReply;
+      state = λ r. r .state;
+      number = λ r. r .number;
+      one = PR.the-type .to-one;
+    }
 
 abbrev pub hunter : Framer
-hunter = record { State = HS.the-type; laws = HL.the-laws; lowers = HL.lowers; symbol = HR.the-type .name; Reply = HunterReply; state = λ r. r .state; number = λ r. r .number; one = HR.the-type .to-one }
+hunter =
+    record {
+      State = HS.the-type;
+      laws = HL.the-laws;
+      lowers = HL.lowers;
+      symbol = HR.the-type .name;
+      Reply = HunterReply;
+      state = λ r. r .state;
+      number = λ r. r .number;
+      one = HR.the-type .to-one;
+    }

@@ -12,4 +12,13 @@ module _ {M : Type 1} (𝓤 : URA M) (H : Heap 𝓤) (A : Atoms 𝓤) (mem : Mem
   Fill = tripleOf 𝓤 H A fill.signature (fill.spec 𝓤 H A mem run)
 
   abbrev pub to-fill : Lft → Share → RefT (List FieldRecord) → ℕ → ℕ → GName → List ℕ → Shown → Fill .Ghost
-  to-fill κ q x l ν δ zs r = (((κ, (ν ∷ [], tt)), (q, (fullShare, tt)), tt, (x, (at l δ zs, (r .records, (r .written, tt)))), (sliceVal (x .ptr) (length (now x)) ∷ [], (vptr l 0 ∷ [], (vint w64 (r .records) ∷ [], (vint w64 (r .written) ∷ [], tt))))), tt)
+  to-fill κ q x l ν δ zs r = (
+    (
+      (κ, (ν ∷ [], tt)),
+      (q, (fullShare, tt)),
+      tt,
+      (x, (at l δ zs, (r .records, (r .written, tt)))),
+      (sliceVal (x .ptr) (length (now x)) ∷ [], (vptr l 0 ∷ [], (vint w64 (r .records) ∷ [], (vint w64 (r .written) ∷ [], tt)))),
+    ),
+    tt,
+  )
