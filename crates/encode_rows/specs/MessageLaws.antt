@@ -18,7 +18,8 @@ use Rattle.message_maps.specs.Map.{Map, end, field, entry, valuesIn}
 use Rattle.message_maps.specs.Rows.{Row, row, laid, rowsFrom, sizes, messageRows}
 use Rattle.message_lent_rules.specs.Lent.{rowCount, rowsOf, isMessage}
 use Rattle.message_lent_rules.specs.Meaning.{Message, parts, messageIn}
-use Rattle.message_rules.specs.Changes.{placeOf, partOf, spanOf}
+use Rattle.message_rules.specs.Changes.{partOf}
+use Rattle.message_rules.specs.RowChanges.{placeOf, spanOf}
 use Rattle.message_rules.specs.LayoutLaws.{sizes-append, sizes-laid}
 use Rattle.message_rules.specs.PlaceLaws.{rows-part, part-rows, place-grows}
 use Rattle.message_rules.specs.StoreLaws.{In, lent-in, rows-all, own-rows, count-is, span-grows}

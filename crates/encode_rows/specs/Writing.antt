@@ -9,7 +9,7 @@ use Rattle.field_rules.specs.Choice.{pick}
 use Rattle.field_rules.specs.Decimal.{decimal}
 use Rattle.field_rules.specs.Field.{fieldBytes}
 use Rattle.message_maps.specs.Rows.{Row, row, rowsFrom, sizeOf, sizes, messageWords, messageRows}
-use Rattle.message_rules.specs.Changes.{placeOf}
+use Rattle.message_rules.specs.RowChanges.{placeOf}
 use Rattle.message_rules.specs.declared.Span.{Span}
 use Rattle.encode_rules.specs.Encoding.{isRest, sumDigits}
 

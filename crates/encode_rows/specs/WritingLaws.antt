@@ -16,7 +16,7 @@ use Rattle.field_rules.specs.Field.{fieldBytes}
 use Rattle.message_maps.specs.Map.{Map, end, field, entry, valuesIn}
 use Rattle.message_maps.specs.Rows.{Row, row, laid, rowAt, rowsFrom, rowsBefore, sizeOf, sizes, levelOf}
 use Rattle.message_maps.specs.RowsLaws.{rows-step, rows-none}
-use Rattle.message_rules.specs.Changes.{placeOf}
+use Rattle.message_rules.specs.RowChanges.{placeOf}
 use Rattle.message_rules.specs.LayoutLaws.{sizes-append}
 use Rattle.message_rules.specs.PlaceLaws.{rows-split, place-grows}
 use Rattle.encode_rules.specs.Encoding.{text, textUnder, bytesOf}

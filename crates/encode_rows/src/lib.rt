@@ -14,7 +14,7 @@ ghost use Rattle.field_rules.specs.Field.{fieldBytes};
 ghost use Rattle.message_maps.specs.Rows.{rowAt, rowsFrom, sizeOf, messageWords, messageRows};
 ghost use Rattle.message_lent_rules.specs.Lent.{isMessage};
 ghost use Rattle.message_lent_rules.specs.Meaning.{messageIn};
-ghost use Rattle.message_rules.specs.Changes.{placeOf};
+ghost use Rattle.message_rules.specs.RowChanges.{placeOf};
 ghost use Rattle.encode_rules.specs.Encoding.{messageText, summed};
 ghost use Rattle.encode_rows.specs.Writing.{chosen, rowOn, rowText, rowsText, rowBytes, bytesIn, headerAt, textAt, Stands, Spans, tailOf};
 

@@ -13,7 +13,8 @@ use Rattle.message_maps.specs.Map.{Map, end, field, entry, holds}
 use Rattle.message_maps.specs.Rows.{Row, row, laid, rowAt, rowsFrom, matches, findFrom}
 use Rattle.message_lent_rules.specs.Lent.{rowCount}
 use Rattle.message_lent_rules.specs.Meaning.{Message}
-use Rattle.message_rules.specs.Changes.{partOf, spanOf, fieldPlace, runPlace}
+use Rattle.message_rules.specs.Changes.{partOf}
+use Rattle.message_rules.specs.RowChanges.{spanOf, fieldPlace, runPlace}
 use Rattle.message_rules.specs.LayoutLaws.{laid-joined, find-below}
 use Rattle.message_rules.specs.PlaceLaws.{rows-part}
 use Rattle.message_rules.specs.SplitLaws.{field-split, field-absent}

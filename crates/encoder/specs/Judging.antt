@@ -8,7 +8,7 @@ use lib.Dec.{ltb}
 use Rattle.field_rules.specs.Choice.{pick}
 use Rattle.message_maps.specs.Rows.{rowAt, rowsFrom, messageWords, messageRows}
 use Rattle.message_lent_rules.specs.Lent.{fieldsIn}
-use Rattle.message_rules.specs.Changes.{fieldPlace, runPlace}
+use Rattle.message_rules.specs.RowChanges.{fieldPlace, runPlace}
 use Rattle.message_rules.specs.declared.Span.{Span}
 use Rattle.message_lent_rules.specs.Standing.{uncounted}
 use Rattle.encode_rows.specs.Writing.{rowBytes, bytesIn}

@@ -4,7 +4,7 @@ use mathlib.Core.List.{List}
 use Prim.Native.Nat.{ℕ, _-_, _≤_, _<_}
 use borrow.Author.Tests.{lt-ltb, le-ltb}
 use Rattle.message_maps.specs.Rows.{rowAt, rowsFrom, findFrom}
-use Rattle.message_rules.specs.Changes.{fieldPlace}
+use Rattle.message_rules.specs.RowChanges.{fieldPlace}
 use Rattle.message_rules.specs.declared.Span.{Span}
 use Rattle.encode_rows.specs.Writing.{rowBytes}
 use Rattle.encoder.specs.Judging.{heldAt, sizeAt}

@@ -13,7 +13,8 @@ use Rattle.field_rules.specs.DecimalLaws.{written-fits}
 use Rattle.message_maps.specs.Map.{stored, withoutField}
 use Rattle.message_lent_rules.specs.Meaning.{Message, wordsOf, valueBytesOf, messageIn}
 use Rattle.message_lent_rules.specs.FormedLaws.{Lends}
-use Rattle.message_rules.specs.Changes.{after, partOf, withPart, fieldTotal, valueTotal, judged, storing, removing, Blank}
+use Rattle.message_rules.specs.Changes.{after, partOf, withPart, fieldTotal, valueTotal, judged, storing, removing}
+use Rattle.message_rules.specs.RowChanges.{Blank}
 use Rattle.message_rules.specs.BlankLaws.{left-blank}
 use Rattle.message_rules.specs.ChangeLaws.{store-on}
 use Rattle.message_rules.specs.FormedLaws.{store-lends, remove-lends, remove-made}

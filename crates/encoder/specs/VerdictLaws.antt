@@ -14,7 +14,8 @@ use Rattle.message_maps.specs.Rows.{rowsFrom}
 use Rattle.message_lent_rules.specs.Lent.{rowsOf, isMessage}
 use Rattle.message_lent_rules.specs.Meaning.{messageIn}
 use Rattle.message_lent_rules.specs.FormedLaws.{lent-formed}
-use Rattle.message_rules.specs.Changes.{partOf, spanOf, fieldTotal}
+use Rattle.message_rules.specs.Changes.{partOf, fieldTotal}
+use Rattle.message_rules.specs.RowChanges.{spanOf}
 use Rattle.message_rules.specs.StoreLaws.{lent-in, heads-of, count-is, fields-now}
 use Rattle.message_rules.specs.declared.Part.the-variants.{Header, Trailer}
 use Rattle.message_rules.specs.declared.Span.{Span}

@@ -13,7 +13,8 @@ ghost use Rattle.message_maps.specs.Rows.{messageWords, messageRows};
 ghost use lib.Dec.{leb};
 ghost use Rattle.message_lent_rules.specs.Lent.{isMessage};
 ghost use Rattle.message_lent_rules.specs.Meaning.{messageIn};
-ghost use Rattle.message_rules.specs.Changes.{bodyHead, trailerHead, spanOf, locatedIn, heldRows, placeOf, Cuttable, BlankFrom, Blank, changedAt, Ready, putAt, after, countedFields, emptying, making, storing, removing};
+ghost use Rattle.message_rules.specs.Changes.{after, emptying, making, storing, removing};
+ghost use Rattle.message_rules.specs.RowChanges.{bodyHead, trailerHead, spanOf, locatedIn, heldRows, placeOf, Cuttable, BlankFrom, Blank, changedAt, Ready, putAt, countedFields};
 
 // The row of the body's head in a message that is lent: behind the rows of the header.
 fn body_head(words: &[u32], values: &[u8]) -> usize

@@ -8,7 +8,8 @@ use lib.Dec.{eqb, ltb, leb}
 use Rattle.field_rules.specs.Choice.{pick}
 use Rattle.message_maps.specs.Rows.{Row, row, flat, rowAt, rowsFrom, levelOf, sizes, runEndFrom, messageWords, messageRows}
 use Rattle.message_lent_rules.specs.Lent.{rowCount, rowsOf, fieldsIn}
-use Rattle.message_rules.specs.Changes.{After, after, Cuttable, changedAt, fieldPlace, runPlace}
+use Rattle.message_rules.specs.Changes.{After, after}
+use Rattle.message_rules.specs.RowChanges.{Cuttable, changedAt, fieldPlace, runPlace}
 use Rattle.message_rules.specs.declared.Change.the-variants.{NoRun}
 use Rattle.message_rules.specs.declared.Cut.{Cut}
 use Rattle.message_rules.specs.declared.Span.{Span}

@@ -17,7 +17,8 @@ use Rattle.message_maps.specs.RowsLaws.{part-length}
 use Rattle.message_lent_rules.specs.Lent.{rowCount, rowsOf}
 use Rattle.message_lent_rules.specs.LentLaws.{both}
 use Rattle.message_lent_rules.specs.MeaningLaws.{flat-length, rows-flat}
-use Rattle.message_rules.specs.Changes.{After, after, Cuttable, cutRows, cutSize, cutWords, cutValues, changedAt}
+use Rattle.message_rules.specs.Changes.{After, after}
+use Rattle.message_rules.specs.RowChanges.{Cuttable, cutRows, cutSize, cutWords, cutValues, changedAt}
 use Rattle.message_rules.specs.declared.Cut.{Cut}
 use Rattle.message_rules.specs.declared.Change.{Change}
 use Rattle.message_rules.specs.declared.Change.the-variants.{Made, NoMessage, NotStorable, NoRun, TooManyFields}

@@ -11,7 +11,8 @@ use Rattle.field_rules.specs.Choice.{pick}
 use Rattle.message_maps.specs.Rows.{Row, row, flat, rowAt, rowsFrom, levelOf, sizes}
 use Rattle.message_maps.specs.RowsLaws.{rows-step, rows-none}
 use Rattle.message_lent_rules.specs.Lent.{rowCount, rowsOf}
-use Rattle.message_rules.specs.Changes.{after, changedAt, fieldPlace, runPlace}
+use Rattle.message_rules.specs.Changes.{after}
+use Rattle.message_rules.specs.RowChanges.{changedAt, fieldPlace, runPlace}
 use Rattle.message_rules.specs.declared.Change.the-variants.{NoRun}
 use Rattle.message_rules.specs.declared.Span.{Span}
 use Rattle.message_hung_rows.specs.Hanging.{raisedFrom, isUntagged, untaggedIn, isOf, allOf, raised, hungPlace, hungCut, hungFields, startOf, delimiterOf, hangAt}

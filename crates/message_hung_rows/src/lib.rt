@@ -5,7 +5,8 @@ ghost use Prim.Native.Nat.{ℕ, _+_, _-_, _*_, _≤_, _<_};
 ghost use lib.ListN.{length, getD, take};
 ghost use Rattle.message_maps.specs.Rows.{flat, rowAt, rowsFrom, sizes, messageWords, messageRows};
 ghost use Rattle.message_lent_rules.specs.Lent.{rowCount, rowsOf};
-ghost use Rattle.message_rules.specs.Changes.{after, Cuttable, changedAt};
+ghost use Rattle.message_rules.specs.Changes.{after};
+ghost use Rattle.message_rules.specs.RowChanges.{Cuttable, changedAt};
 ghost use Rattle.message_hung_rows.specs.Hanging.{raised, raisedFrom, isUntagged, untaggedIn, isOf, allOf, hungPlace, Lent, Hangable, hangAt};
 
 fn is_untagged(words: &[u32], row: usize) -> bool

@@ -10,7 +10,7 @@ use Rattle.message_maps.specs.Map.{Map, Looked, none, some}
 use Rattle.message_maps.specs.Rows.{laid, rowsFrom, messageRows}
 use Rattle.message_lent_rules.specs.Lent.{isMessage}
 use Rattle.message_lent_rules.specs.Meaning.{Message, parts, messageIn}
-use Rattle.message_rules.specs.Changes.{placeOf, spanOf}
+use Rattle.message_rules.specs.RowChanges.{placeOf, spanOf}
 use Rattle.message_rules.specs.declared.Part.{Part}
 use Rattle.message_rules.specs.declared.Part.the-variants.{Header, Body, Trailer}
 use Rattle.message_rules.specs.LookUps.{rowsIn, standing, mapAt, valueIn, entryIn, partRow, valueOfMap, entryOf, partFound, fieldFound, entryFound}

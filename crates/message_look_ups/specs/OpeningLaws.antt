@@ -16,7 +16,7 @@ use Rattle.message_lent_rules.specs.Lent.{rowCount, rowsOf, isMessage}
 use Rattle.message_lent_rules.specs.LentLaws.{message-held}
 use Rattle.message_lent_rules.specs.Meaning.{Message, parts, messageIn}
 use Rattle.message_lent_rules.specs.MeaningLaws.{means}
-use Rattle.message_rules.specs.Changes.{placeOf}
+use Rattle.message_rules.specs.RowChanges.{placeOf}
 use Rattle.message_rules.specs.LayoutLaws.{sizes-append, end-below}
 use Rattle.message_lent_rules.specs.LaidLaws.{shallow}
 use Rattle.message_rules.specs.PlaceLaws.{rows-length, rows-part}

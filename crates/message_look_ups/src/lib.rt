@@ -7,7 +7,7 @@ ghost use mathlib.Core.Path.{_≡_};
 ghost use Prim.Native.Nat.{_+_, _-_, _≤_, _<_};
 ghost use lib.ListN.{length};
 ghost use Rattle.message_maps.specs.Rows.{rowsFrom, sizes, messageWords, messageRows};
-ghost use Rattle.message_rules.specs.Changes.{placeOf};
+ghost use Rattle.message_rules.specs.RowChanges.{placeOf};
 ghost use Rattle.message_rules.specs.LookUps.{partFound, fieldFound, entryFound};
 ghost use Rattle.message_look_ups.specs.Opening.{openedAt, valueFrom, entryFrom};
 

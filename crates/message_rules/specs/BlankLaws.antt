@@ -14,7 +14,7 @@ use Rattle.message_lent_rules.specs.LaidLaws.{sizes-laid}
 use Rattle.message_lent_rules.specs.LentLaws.{message-held}
 use Rattle.message_lent_rules.specs.Meaning.{Message, parts, wordsOf, valueBytesOf, messageIn}
 use Rattle.message_lent_rules.specs.MeaningLaws.{means, flat-length}
-use Rattle.message_rules.specs.Changes.{placeOf, spanOf, BlankFrom, Blank}
+use Rattle.message_rules.specs.RowChanges.{placeOf, spanOf, BlankFrom, Blank}
 use Rattle.message_rules.specs.PlaceLaws.{PartsAt, parts-at}
 use Rattle.message_rules.specs.declared.Part.{Part}
 use Rattle.message_rules.specs.declared.Part.the-variants.{Header, Body, Trailer}

@@ -12,7 +12,8 @@ use Rattle.message_maps.specs.Map.{Map, end, entry, valuesIn, withoutField, sto
 use Rattle.message_maps.specs.Rows.{laid, flat, part, padded, spliced, rowsFrom, findFrom, runEndFrom, messageWords}
 use Rattle.message_lent_rules.specs.Lent.{isMessage}
 use Rattle.message_lent_rules.specs.Meaning.{Message, parts, wordsOf, valueBytesOf, messageIn}
-use Rattle.message_rules.specs.Changes.{After, after, placeOf, Cuttable, cutSize, cutWords, cutValues, changedAt, ofMessage, partOf, withPart, judged, noFields, ofStore, emptying, storing, removing, spanOf, locatedIn, fieldRow, fieldPlace, runPlace, runStop, oneRow, runLast, putAt, Ready}
+use Rattle.message_rules.specs.Changes.{After, after, ofMessage, partOf, withPart, judged, noFields, ofStore, emptying, storing, removing}
+use Rattle.message_rules.specs.RowChanges.{placeOf, Cuttable, cutSize, cutWords, cutValues, changedAt, spanOf, locatedIn, fieldRow, fieldPlace, runPlace, runStop, oneRow, runLast, putAt, Ready}
 use Rattle.message_rules.specs.PlaceLaws.{place-grows}
 use Rattle.message_rules.specs.declared.Change.the-variants.{Made, NoMessage, NotStorable, NoRun, TooManyFields}
 use Rattle.message_rules.specs.declared.Cut.{Cut}

@@ -16,7 +16,8 @@ use Rattle.message_lent_rules.specs.Lent.{rowCount, rowsOf, isMessage}
 use Rattle.message_lent_rules.specs.LentLaws.{Laid, Held, message-held}
 use Rattle.message_lent_rules.specs.Meaning.{Message, parts, wordsOf, valueBytesOf, messageIn}
 use Rattle.message_lent_rules.specs.MeaningLaws.{Means, means, flat-length, flat-append, words-hold}
-use Rattle.message_rules.specs.Changes.{After, after, placeOf, Cuttable, cutRows, cutSize, cutWords, cutValues, changedAt, mapWords, mapValues, judgedMap}
+use Rattle.message_rules.specs.Changes.{After, after, mapWords, mapValues, judgedMap}
+use Rattle.message_rules.specs.RowChanges.{placeOf, Cuttable, cutRows, cutSize, cutWords, cutValues, changedAt}
 use Rattle.message_rules.specs.LayoutLaws.{sizes-append, sizes-laid}
 use Rattle.message_rules.specs.PlaceLaws.{rows-length, rows-part, part-rows, part-values, spliced-parts}
 use Rattle.message_rules.specs.declared.Part.{Part}

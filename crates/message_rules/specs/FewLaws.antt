@@ -14,7 +14,8 @@ use Rattle.message_lent_rules.specs.Lent.{fieldsIn}
 use Rattle.message_lent_rules.specs.LentLaws.{fields-few}
 use Rattle.message_lent_rules.specs.Meaning.{Message}
 use Rattle.message_lent_rules.specs.MeaningLaws.{rows-length}
-use Rattle.message_rules.specs.Changes.{After, Cuttable, changedAt, fieldPlace, partOf, withPart, fieldTotal, judged, spanOf, putAt, Ready, countedFields}
+use Rattle.message_rules.specs.Changes.{After, partOf, withPart, fieldTotal, judged}
+use Rattle.message_rules.specs.RowChanges.{Cuttable, changedAt, fieldPlace, spanOf, putAt, Ready, countedFields}
 use Rattle.message_rules.specs.StoreLaws.{In, fields-now, put-ready, put-judged}
 use Rattle.message_rules.specs.declared.Part.{Part}
 use Rattle.message_rules.specs.declared.Cut.{Cut}

@@ -13,7 +13,8 @@ use Rattle.field_rules.specs.Choice.{pick}
 use Rattle.message_maps.specs.Map.{Map, end, field, entry, joined, holds, holdsAny, replaced, withoutField, leading, pastLeading, runOn, withoutRun, stored, hungOnCount, hungAlone, hung, fieldCount, valuesIn}
 use Rattle.message_maps.specs.Rows.{Row, row, laid, flat, rowsFrom, sizes, sizeOf, matches, findFrom, runEndFrom, messageRows}
 use Rattle.message_lent_rules.specs.Lent.{rowCount, rowsOf}
-use Rattle.message_rules.specs.Changes.{After, after, Cuttable, changedAt, judgedMap, fieldRow, fieldPlace, runPlace, runStop, heldRows, oneRow, runLast, putAt, Ready}
+use Rattle.message_rules.specs.Changes.{After, after, judgedMap}
+use Rattle.message_rules.specs.RowChanges.{Cuttable, changedAt, fieldRow, fieldPlace, runPlace, runStop, heldRows, oneRow, runLast, putAt, Ready}
 use Rattle.message_rules.specs.LayoutLaws.{joined-assoc, laid-joined, values-joined, count-joined, sizes-append, sizes-laid}
 use Rattle.message_rules.specs.SplitLaws.{FieldSplit, field-split, field-absent, field-gone, RunSplit, run-split, leading-joined, leading-ends}
 use Rattle.message_rules.specs.PlaceLaws.{rows-length, rows-part}

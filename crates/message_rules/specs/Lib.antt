@@ -1,6 +1,7 @@
 pub mod LayoutLaws
 pub mod SplitLaws
 pub mod Changes
+pub mod RowChanges
 pub mod PlaceLaws
 pub mod CutLaws
 pub mod ChangeLaws

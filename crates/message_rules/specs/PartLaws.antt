@@ -9,7 +9,8 @@ use Rattle.message_maps.specs.Rows.{Row, row, laid, sizes, sizeOf}
 use Rattle.message_lent_rules.specs.Lent.{fieldsIn}
 use Rattle.message_lent_rules.specs.Meaning.{Message, parts}
 use Rattle.message_lent_rules.specs.LaidLaws.{fields-parts}
-use Rattle.message_rules.specs.Changes.{partOf, withPart, fieldTotal, spanOf}
+use Rattle.message_rules.specs.Changes.{partOf, withPart, fieldTotal}
+use Rattle.message_rules.specs.RowChanges.{spanOf}
 use Rattle.message_rules.specs.LayoutLaws.{sizes-append, sizes-laid}
 use Rattle.message_rules.specs.declared.Part.{Part}
 use Rattle.message_rules.specs.declared.Part.the-variants.{Header, Body, Trailer}

@@ -18,7 +18,8 @@ use Rattle.message_lent_rules.specs.LentLaws.{Laid, Held, message-held}
 use Rattle.message_lent_rules.specs.Meaning.{Message, parts, wordsOf, valueBytesOf, messageIn}
 use Rattle.message_lent_rules.specs.MeaningLaws.{Means, means, flat-length, flat-append, rows-flat}
 pub use Rattle.message_lent_rules.specs.MeaningLaws.{rows-length}
-use Rattle.message_rules.specs.Changes.{After, after, placeOf, Cuttable, cutRows, cutSize, cutWords, cutValues, changedAt, locatedIn, spanOf}
+use Rattle.message_rules.specs.Changes.{After, after}
+use Rattle.message_rules.specs.RowChanges.{placeOf, Cuttable, cutRows, cutSize, cutWords, cutValues, changedAt, locatedIn, spanOf}
 use Rattle.message_rules.specs.LayoutLaws.{sizes-append, sizes-laid, end-below}
 use Rattle.message_rules.specs.declared.Cut.{Cut}
 

@@ -16,7 +16,8 @@ use Rattle.message_lent_rules.specs.LaidLaws.{rows-parts}
 use Rattle.message_lent_rules.specs.LentLaws.{message-held}
 use Rattle.message_lent_rules.specs.Meaning.{Message, parts, wordsOf, valueBytesOf, messageIn}
 use Rattle.message_lent_rules.specs.MeaningLaws.{means}
-use Rattle.message_rules.specs.Changes.{after, Cuttable, changedAt, partOf, withPart, fieldTotal, valueTotal, mapWords, mapValues, judgedMap, judged, bodyHead, trailerHead, spanOf, heldRows, putAt, Ready}
+use Rattle.message_rules.specs.Changes.{after, partOf, withPart, fieldTotal, valueTotal, mapWords, mapValues, judgedMap, judged}
+use Rattle.message_rules.specs.RowChanges.{Cuttable, changedAt, bodyHead, trailerHead, spanOf, heldRows, putAt, Ready}
 use Rattle.message_rules.specs.LayoutLaws.{values-joined, count-joined}
 use Rattle.message_rules.specs.SplitLaws.{field-split, field-gone, run-split}
 use Rattle.message_rules.specs.CutLaws.{Sized, laid-sized}

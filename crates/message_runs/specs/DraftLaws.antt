@@ -15,7 +15,8 @@ use Rattle.message_lent_rules.specs.Lent.{rowCount, rowsOf, fieldsIn, isLaid}
 use Rattle.message_lent_rules.specs.LentLaws.{both, Laid, laid-out}
 use Rattle.message_lent_rules.specs.Meaning.{openIn, outermost}
 use Rattle.message_lent_rules.specs.MeaningLaws.{laid-means}
-use Rattle.message_rules.specs.Changes.{After, after, ofStore, Cuttable, changedAt, mapWords, mapValues, judgedMap, putAt, Ready}
+use Rattle.message_rules.specs.Changes.{After, after, ofStore, mapWords, mapValues, judgedMap}
+use Rattle.message_rules.specs.RowChanges.{Cuttable, changedAt, putAt, Ready}
 use Rattle.message_rules.specs.LayoutLaws.{laid-joined, values-joined, count-joined, sizes-append, sizes-laid}
 use Rattle.message_rules.specs.PlaceLaws.{rows-length, rows-part}
 use Rattle.message_rules.specs.CutLaws.{Sized, laid-sized}

@@ -10,7 +10,8 @@ use Rattle.field_rules.specs.Choice.{pick}
 use Rattle.message_maps.specs.Map.{Map, end, field, entry, joined, holdsAny, fieldCount, valuesIn}
 use Rattle.message_maps.specs.Rows.{Row, row, laid, flat, rowsFrom, sizes}
 use Rattle.message_lent_rules.specs.Lent.{rowCount, rowsOf, fieldsIn}
-use Rattle.message_rules.specs.Changes.{after, Cuttable, changedAt, judgedMap}
+use Rattle.message_rules.specs.Changes.{after, judgedMap}
+use Rattle.message_rules.specs.RowChanges.{Cuttable, changedAt}
 use Rattle.message_rules.specs.LayoutLaws.{laid-joined, values-joined, count-joined, sizes-laid}
 use Rattle.message_rules.specs.PlaceLaws.{rows-length}
 use Rattle.message_rules.specs.CutLaws.{Cutting, cut-judged, cut-able}

@@ -13,7 +13,8 @@ use Rattle.message_maps.specs.Map.{Map, end, field, entry, joined, holds, holds
 use Rattle.message_maps.specs.Rows.{Row, row, laid, flat, rowAt, rowsFrom, sizes, messageRows}
 use Rattle.message_lent_rules.specs.Lent.{rowCount, rowsOf, fieldsIn}
 use Rattle.message_lent_rules.specs.Formed.{isRun}
-use Rattle.message_rules.specs.Changes.{After, after, Cuttable, changedAt, judgedMap}
+use Rattle.message_rules.specs.Changes.{After, after, judgedMap}
+use Rattle.message_rules.specs.RowChanges.{Cuttable, changedAt}
 use Rattle.message_rules.specs.LayoutLaws.{joined-end, laid-joined, count-joined}
 use Rattle.message_rules.specs.FrameLaws.{Frame, Leaves}
 use Rattle.message_rules.specs.FrameLaws as frame

@@ -13,7 +13,7 @@ use Rattle.message_maps.specs.Map.{Map, end, field, entry, joined, holds, holds
 use Rattle.message_maps.specs.Rows.{Row, row, laid, flat, rowsFrom, findFrom, runEndFrom, sizes}
 use Rattle.message_lent_rules.specs.Lent.{rowCount, rowsOf, fieldsIn}
 use Rattle.message_lent_rules.specs.LaidLaws.{fields-laid, shallow}
-use Rattle.message_rules.specs.Changes.{fieldPlace, runPlace}
+use Rattle.message_rules.specs.RowChanges.{fieldPlace, runPlace}
 use Rattle.message_rules.specs.LayoutLaws.{joined-assoc, laid-joined, values-joined, count-joined, sizes-laid}
 use Rattle.message_rules.specs.SplitLaws.{field-split, run-split, leading-joined, leading-ends}
 use Rattle.message_rules.specs.PlaceLaws.{rows-part}

@@ -13,7 +13,8 @@ use Rattle.message_maps.specs.Map.{Map, end, field, entry, joined, holds, holds
 use Rattle.message_maps.specs.Rows.{Row, row, laid, rowsFrom}
 use Rattle.message_lent_rules.specs.Lent.{rowCount, rowsOf, fieldsIn}
 use Rattle.message_lent_rules.specs.LaidLaws.{fields-laid, shallow}
-use Rattle.message_rules.specs.Changes.{After, after, judgedMap, putAt, Ready}
+use Rattle.message_rules.specs.Changes.{After, after, judgedMap}
+use Rattle.message_rules.specs.RowChanges.{putAt, Ready}
 use Rattle.message_rules.specs.LayoutLaws.{laid-joined, values-joined, count-joined}
 use Rattle.message_rules.specs.SplitLaws.{field-split}
 use Rattle.message_rules.specs.PlaceLaws.{rows-length, rows-part}

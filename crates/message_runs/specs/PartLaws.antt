@@ -10,7 +10,8 @@ use Rattle.message_maps.specs.Map.{Map, end, field, entry, holdsAny, fieldCount
 use Rattle.message_maps.specs.Rows.{laid, rowsFrom, sizes}
 use Rattle.message_lent_rules.specs.Lent.{rowCount, rowsOf, isMessage}
 use Rattle.message_lent_rules.specs.Meaning.{Message, parts, messageIn}
-use Rattle.message_rules.specs.Changes.{after, partOf, withPart, fieldTotal, valueTotal, judged, spanOf}
+use Rattle.message_rules.specs.Changes.{after, partOf, withPart, fieldTotal, valueTotal, judged}
+use Rattle.message_rules.specs.RowChanges.{spanOf}
 use Rattle.message_rules.specs.ChangeLaws.{of-message}
 use Rattle.message_rules.specs.LayoutLaws.{sizes-laid}
 use Rattle.message_rules.specs.StoreLaws.{lent-in, part-frame, fields-of, few-fields, judged-parts}

@@ -9,7 +9,7 @@ use borrow.Author.Needs.{needs}
 use lib.ListN.{length, getD, take, drop, set, length-set}
 use Rattle.message_maps.specs.Rows.{rowAt, rowsFrom, sizeOf}
 use Rattle.field_rules.specs.Decimal.{writtenAt}
-use Rattle.message_rules.specs.Changes.{placeOf}
+use Rattle.message_rules.specs.RowChanges.{placeOf}
 use Rattle.encode_rows.specs.Writing.{rowOn, rowText, rowsText}
 use Rattle.encode_rows.specs.WritingLaws.{Going, going-start, going-on, going-done, going-room, going-place}
 use Rattle.encode_rows.proofs.write_items.Statement.{statement}

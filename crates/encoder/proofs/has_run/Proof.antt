@@ -3,7 +3,7 @@ use mathlib.Core.Path.{ap}
 use Prim.Native.Nat.{ℕ}
 use borrow.Author.Needs.{needs}
 use lib.Dec.{ltb}
-use Rattle.message_rules.specs.Changes.{runPlace}
+use Rattle.message_rules.specs.RowChanges.{runPlace}
 use Rattle.encoder.specs.Judging.{hungAt}
 use Rattle.encoder.proofs.has_run.Statement.{statement}
 use Rattle.encoder.proofs.has_run.Tie as tie

@@ -3,7 +3,7 @@ use mathlib.Core.Path.{ap}
 use Prim.Native.Nat.{ℕ}
 use borrow.Author.Needs.{needs}
 use lib.Dec.{ltb}
-use Rattle.message_rules.specs.Changes.{fieldPlace}
+use Rattle.message_rules.specs.RowChanges.{fieldPlace}
 use Rattle.encoder.specs.Judging.{heldAt}
 use Rattle.encoder.proofs.holds.Statement.{statement}
 use Rattle.encoder.proofs.holds.Tie as tie

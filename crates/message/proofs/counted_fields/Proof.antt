@@ -2,7 +2,7 @@
 use mathlib.Core.Path.{_≡_, _∙_}
 use borrow.Author.Needs.{needs}
 use borrow.Author.Tests.{lt-ltb, le-ltb}
-use Rattle.message_rules.specs.Changes.{countedFields}
+use Rattle.message_rules.specs.RowChanges.{countedFields}
 use Rattle.message.proofs.counted_fields.Statement.{statement}
 use Rattle.message.proofs.counted_fields.Tie as tie
 

@@ -7,7 +7,7 @@ use borrow.Author.Needs.{needs}
 use lib.ListN.{length}
 use lib.Dec.{leb}
 use borrow.Author.Tests.{not-true, not-false, leb-true}
-use Rattle.message_rules.specs.Changes.{placeOf, BlankFrom, cutRows, cutSize, cutWords, cutValues}
+use Rattle.message_rules.specs.RowChanges.{placeOf, BlankFrom, cutRows, cutSize, cutWords, cutValues}
 use Rattle.message_rules.specs.ChangeLaws.{change-large, change-run, change-many, change-made, Places, places-of}
 use Rattle.message.proofs.cut_rows.Statement.{statement}
 use Rattle.message.proofs.cut_rows.Tie as tie

@@ -1,6 +1,6 @@
 -- `held_rows` meets its contract: each answer is what its test says.
 use borrow.Author.Tests.{lt-ltb, le-ltb}
-use Rattle.message_rules.specs.Changes.{heldRows}
+use Rattle.message_rules.specs.RowChanges.{heldRows}
 use Rattle.message.proofs.held_rows.Statement.{statement}
 use Rattle.message.proofs.held_rows.Tie as tie
 

@@ -4,7 +4,7 @@ use mathlib.Core.Bool.{true}
 use borrow.Author.Needs.{needs}
 use borrow.Author.Tests.{not-true, not-false}
 use Rattle.message_lent_rules.specs.Lent.{isMessage}
-use Rattle.message_rules.specs.Changes.{locatedIn}
+use Rattle.message_rules.specs.RowChanges.{locatedIn}
 use Rattle.message.proofs.locate.Statement.{statement}
 use Rattle.message.proofs.locate.Tie as tie
 

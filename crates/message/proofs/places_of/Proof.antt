@@ -3,7 +3,7 @@ use mathlib.Core.Path.{_≡_}
 use Prim.Native.Nat.{_+_}
 use native.Mathlib.Omega.{arith}
 use borrow.Author.Needs.{needs}
-use Rattle.message_rules.specs.Changes.{placeOf}
+use Rattle.message_rules.specs.RowChanges.{placeOf}
 use Rattle.message_rules.specs.PlaceLaws.{place-on, place-grows}
 use Rattle.message.proofs.places_of.Statement.{statement}
 use Rattle.message.proofs.places_of.Tie as tie

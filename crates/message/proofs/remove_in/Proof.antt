@@ -7,7 +7,8 @@ use borrow.Author.Needs.{needs}
 use Rattle.message_maps.specs.Map.{withoutField}
 use Rattle.message_maps.specs.Rows.{rowsFrom, findFrom}
 use Rattle.message_lent_rules.specs.Meaning.{messageIn}
-use Rattle.message_rules.specs.Changes.{spanOf, heldRows, partOf, withPart, fieldTotal, removing}
+use Rattle.message_rules.specs.Changes.{partOf, withPart, fieldTotal, removing}
+use Rattle.message_rules.specs.RowChanges.{spanOf, heldRows}
 use Rattle.message_rules.specs.ChangeLaws.{remove-on}
 use Rattle.message_rules.specs.FrameLaws.{find-within}
 use Rattle.message_rules.specs.StoreLaws.{In, lent-in, few-fields, span-grows, remove-leaves, remove-fields}

@@ -2,7 +2,7 @@
 use mathlib.Core.Path.{_≡_, _∙_}
 use native.Mathlib.Omega.{arith}
 use borrow.Author.Needs.{needs}
-use Rattle.message_rules.specs.Changes.{bodyHead, trailerHead, spanOf}
+use Rattle.message_rules.specs.RowChanges.{bodyHead, trailerHead, spanOf}
 use Rattle.message_rules.specs.StoreLaws.{Heads, heads-of}
 use Rattle.message.proofs.span_of.Statement.{statement}
 use Rattle.message.proofs.span_of.Tie as tie

@@ -3,7 +3,7 @@ use mathlib.Core.Path.{_≡_, sym, _∙_}
 use mathlib.Core.Bool.{true}
 use borrow.Author.Needs.{needs}
 use Rattle.message_lent_rules.specs.Meaning.{messageIn}
-use Rattle.message_rules.specs.Changes.{spanOf, countedFields}
+use Rattle.message_rules.specs.RowChanges.{spanOf, countedFields}
 use Rattle.message_rules.specs.ChangeLaws.{store-zero, store-on}
 use Rattle.message_rules.specs.StoreLaws.{In, lent-in, span-grows, put-large, few-fields}
 use Rattle.message_rules.specs.FewLaws.{counted-ready, counted-judged}

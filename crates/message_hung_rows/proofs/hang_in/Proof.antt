@@ -9,7 +9,8 @@ use borrow.Author.Needs.{needs}
 use lib.ListN.{length, getD, take, drop, set, length-set}
 use Rattle.message_maps.specs.Rows.{flat, rowsFrom, runEndFrom, sizes}
 use Rattle.message_lent_rules.specs.Lent.{rowCount, rowsOf, fieldsIn}
-use Rattle.message_rules.specs.Changes.{after, Cuttable, changedAt}
+use Rattle.message_rules.specs.Changes.{after}
+use Rattle.message_rules.specs.RowChanges.{Cuttable, changedAt}
 use Rattle.message_hung_rows.specs.Hanging.{raised, allOf, hungPlace, hungStop, hungCut, replacedFields, hungFields, startOf, delimiterOf, Hangable, hangAt}
 use Rattle.message_hung_rows.specs.RowLaws.{hang-none, hang-some}
 use Rattle.message_hung_rows.proofs.hang_in.Statement.{statement}

@@ -7,7 +7,7 @@ use Prim.Native.Nat.{ℕ, zero, suc, _+_, _-_, _*_, _^_, _≤_, _<_}
 use native.Mathlib.Omega.{arith}
 use borrow.Author.Needs.{needs}
 use lib.ListN.{length, getD, take, drop, set, length-set}
-use Rattle.message_rules.specs.Changes.{fieldPlace, runPlace}
+use Rattle.message_rules.specs.RowChanges.{fieldPlace, runPlace}
 use Rattle.message_hung_rows.specs.Hanging.{hungPlace}
 use Rattle.message_hung_rows.specs.RowLaws.{place-count, place-run}
 use Rattle.message_hung_rows.proofs.hung_place.Statement.{statement}

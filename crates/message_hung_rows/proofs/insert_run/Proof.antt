@@ -11,7 +11,8 @@ use lib.Seq.{length-take-le}
 use Rattle.message_maps.specs.Rows.{flat, rowsFrom, sizes, messageRows}
 use Rattle.message_lent_rules.specs.Lent.{rowCount, rowsOf}
 use Rattle.message_lent_rules.specs.MeaningLaws.{flat-length}
-use Rattle.message_rules.specs.Changes.{after, Cuttable, cutWords, cutValues, changedAt}
+use Rattle.message_rules.specs.Changes.{after}
+use Rattle.message_rules.specs.RowChanges.{Cuttable, cutWords, cutValues, changedAt}
 use Rattle.message_rules.specs.PlaceLaws.{rows-length}
 use Rattle.message_rules.specs.declared.Change.the-variants.{Made, NoMessage, NotStorable, NoRun, TooManyFields}
 use Rattle.message_hung_rows.specs.Hanging.{raised, raisedFrom, Lent}

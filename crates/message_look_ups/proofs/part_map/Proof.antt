@@ -8,7 +8,7 @@ use native.Mathlib.Omega.{arith}
 use borrow.Author.Needs.{needs}
 use lib.ListN.{length, getD, take, drop, set, length-set}
 use Rattle.message_lent_rules.specs.Meaning.{messageIn}
-use Rattle.message_rules.specs.Changes.{spanOf}
+use Rattle.message_rules.specs.RowChanges.{spanOf}
 use Rattle.message_rules.specs.ChangeLaws.{located-no, located-at}
 use Rattle.message_rules.specs.LookUps.{partRow}
 use Rattle.message_look_ups.specs.LookUpLaws.{part-row, part-none, part-at}

@@ -8,7 +8,7 @@ use native.Mathlib.Omega.{arith}
 use borrow.Author.Needs.{needs}
 use lib.ListN.{length, getD, take, drop, set, length-set}
 use Rattle.message_maps.specs.Rows.{rowAt, rowsFrom, sizes, sizeOf, matches}
-use Rattle.message_rules.specs.Changes.{placeOf}
+use Rattle.message_rules.specs.RowChanges.{placeOf}
 use Rattle.message_look_ups.specs.Opening.{valueFrom}
 use Rattle.message_look_ups.specs.OpeningLaws.{value-here, value-on, value-end}
 use Rattle.message_look_ups.proofs.value_from.Statement.{statement}

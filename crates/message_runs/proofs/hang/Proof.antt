@@ -11,7 +11,8 @@ use borrow.Author.Tests.{not-true, not-false}
 use Rattle.message_maps.specs.Rows.{rowsFrom}
 use Rattle.message_lent_rules.specs.Lent.{isMessage, fieldsIn}
 use Rattle.message_lent_rules.specs.Meaning.{messageIn}
-use Rattle.message_rules.specs.Changes.{after, spanOf, fieldTotal}
+use Rattle.message_rules.specs.Changes.{after, fieldTotal}
+use Rattle.message_rules.specs.RowChanges.{spanOf}
 use Rattle.message_rules.specs.declared.Span.{Span}
 use Rattle.message_rules.specs.ChangeLaws.{located-no, located-at, no-message}
 use Rattle.message_rules.specs.StoreLaws.{In, lent-in, fields-now, span-grows}
