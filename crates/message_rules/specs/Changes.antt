@@ -5,7 +5,7 @@ use mathlib.Core.List.{List, _∷_}
 use lib.ListN.{length}
 use lib.Dec.{eqb, leb}
 use Rattle.field_rules.specs.Choice.{pick}
-use Rattle.message_maps.specs.Map.{Map, end, field, withoutField, stored, fieldCount, valuesIn}
+use Rattle.message_maps.specs.Map.{Map, end, withoutField, stored, fieldCount, valuesIn}
 use Rattle.message_maps.specs.Rows.{laid, flat, padded, messageWords}
 use Rattle.message_lent_rules.specs.Lent.{isMessage}
 use Rattle.message_lent_rules.specs.Meaning.{Message, parts, wordsOf, valueBytesOf, messageIn}
