@@ -67,7 +67,9 @@ pub data Stepped (state : State) (names : Names) (layouts : Records → List Lay
   refuses : {checked : Checked} → Breaks layouts (thingsOf state) place r checked → Stepped state names layouts place r (Refuses checked)
 
 -- what opens declares the one level that it holds
-opening-declares : {later behind : Records} {levels : List Items} (rs : Records) (declares : Items → Declaration) → ((items : Items) (after : Records) → Holds later items after → declarationsOf rs ≡ declares items ∷ declarationsOf after) → length levels ≡ 1 → HoldsAll later levels behind → declarationsOf rs ≡ declares (joined closed [] levels) ∷ declarationsOf behind
+opening-declares : {later behind : Records} {levels : List Items} (rs : Records) (declares : Items → Declaration) →
+    ((items : Items) (after : Records) → Holds later items after → declarationsOf rs ≡ declares items ∷ declarationsOf after) → length levels ≡ 1 →
+    HoldsAll later levels behind → declarationsOf rs ≡ declares (joined closed [] levels) ∷ declarationsOf behind
 unfolding joined continued innermost
 opening-declares rs declares declared n holds-none = absurd (omega arith)
 opening-declares rs declares declared n (holds-more h (holds-more g hs)) = absurd (omega arith)
@@ -104,7 +106,9 @@ module _ (names : Names) (layouts : Records → List Layout) (place : ℕ) where
             record {
               declares = component number;
               sort = declares-component number;
-              means = λ later behind levels n h. t .means (whole place (OpensComponent number) later) ∙ ap (layoutsAfter (t .defined) (t .read)) (opening-declares (whole place (OpensComponent number) later) (component number) (λ items after g. declared-component place later number g) n h);
+              means = λ later behind levels n h.
+                  t .means (whole place (OpensComponent number) later)
+                  ∙ ap (layoutsAfter (t .defined) (t .read)) (opening-declares (whole place (OpensComponent number) later) (component number) (λ items after g. declared-component place later number g) n h);
             }
 
         go : (l : Looked) → Stepped TopLevel names layouts place (OpensComponent number) (onceComponent l place (Goes (Inside (opens (OfComponent number) place)) Unchanged))
@@ -121,7 +125,9 @@ module _ (names : Names) (layouts : Records → List Layout) (place : ℕ) where
             record {
               declares = message (msgTypeBytes msgType);
               sort = declares-message (msgTypeBytes msgType);
-              means = λ later behind levels n h. t .means (whole place (OpensMessage msgType) later) ∙ ap (layoutsAfter (t .defined) (t .read)) (opening-declares (whole place (OpensMessage msgType) later) (message (msgTypeBytes msgType)) (λ items after g. declared-message place later msgType g) n h);
+              means = λ later behind levels n h.
+                  t .means (whole place (OpensMessage msgType) later)
+                  ∙ ap (layoutsAfter (t .defined) (t .read)) (opening-declares (whole place (OpensMessage msgType) later) (message (msgTypeBytes msgType)) (λ items after g. declared-message place later msgType g) n h);
             }
 
         go : (p : Placed) → Stepped TopLevel names layouts place (OpensMessage msgType) (onceMessage p place (Goes (Inside (opens OfMessage place)) (NamesMessage place msgType)))

@@ -52,7 +52,8 @@ holds-fewer (holds-field h) = omega (arith, holds-fewer h)
 holds-fewer (holds-component h) = omega (arith, holds-fewer h)
 holds-fewer (holds-group i h) = omega (arith, holds-fewer i, holds-fewer h)
 
-holds-body : (steps : ℕ) {rs after : Records} {items : Items} → Holds rs items after → sizeOf rs ≤ steps → bodyOf steps rs ≡ record { items = items; after = after }
+holds-body : (steps : ℕ) {rs after : Records} {items : Items} → Holds rs items after → sizeOf rs ≤ steps →
+    bodyOf steps rs ≡ record { items = items; after = after }
 unfolding bodyOf noItems itemBefore sizeOf
 holds-body zero h k = absurd (omega (arith, holds-fewer h))
 holds-body (suc steps) holds-close k = refl

@@ -70,12 +70,15 @@ unfolding dictionaryOf meaningOf tagsFrom tagIn messagesFrom messageIn msgTypeBy
 tree = refl
 
 -- groups in a group, one with items behind it and one that stands last, an item behind the whole, and a message behind that
+abbrev within : List (List ℕ)
+within = field 79 1 ∷ opening 539 0 ∷ joined (field 524 1 ∷ []) ∷ field 80 0 ∷ opening 804 1 ∷ joined (field 545 0 ∷ []) ∷ []
+
 abbrev nested : List ℕ
 nested =
     known (8 ∷ 10 ∷ 78 ∷ 79 ∷ 539 ∷ 524 ∷ 80 ∷ 804 ∷ 545 ∷ 58 ∷ [])
     ++ (joined ((2 ∷ 0 ∷ 0 ∷ []) ∷ field 8 1 ∷ [])
     ++ (joined ((2 ∷ 1 ∷ 0 ∷ []) ∷ field 10 1 ∷ [])
-    ++ (joined ((3 ∷ 65 ∷ 69 ∷ 0 ∷ 0 ∷ 0 ∷ 0 ∷ 0 ∷ 0 ∷ []) ∷ opening 78 1 ∷ joined (field 79 1 ∷ opening 539 0 ∷ joined (field 524 1 ∷ []) ∷ field 80 0 ∷ opening 804 1 ∷ joined (field 545 0 ∷ []) ∷ []) ∷ field 58 0 ∷ [])
+    ++ (joined ((3 ∷ 65 ∷ 69 ∷ 0 ∷ 0 ∷ 0 ∷ 0 ∷ 0 ∷ 0 ∷ []) ∷ opening 78 1 ∷ joined within ∷ field 58 0 ∷ [])
     ++ joined ((3 ∷ 68 ∷ 0 ∷ 0 ∷ 0 ∷ 0 ∷ 0 ∷ 0 ∷ 0 ∷ []) ∷ field 58 1 ∷ []))))
 
 nested-tree : dictionaryOf nested .messages ≡

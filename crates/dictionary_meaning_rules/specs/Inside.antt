@@ -105,7 +105,11 @@ module _ (bytes : List ℕ) (final names : Names) where
   unfolding grown countAll countOf heldAll heldFrom sizeOf
   field-before at place tag required rest o depth n h c = go (c .levels) (c .deep) (c .reads) (c .resolved) (c .count) (c .held)
     where
-      go : (levels : List Items) → length levels ≡ 1 + depthOf (grown o (o .items + 1) depth Several (o .groups) .groups) → ReadsAll bytes (n .next) levels (c .after) → AllResolved Look levels → c .last .items ≡ grown o (o .items + 1) depth Several (o .groups) .items + countAll Look levels → c .last .held ≡ heldAll Look (grown o (o .items + 1) depth Several (o .groups) .held) levels → Closing bytes final names at (whole place (FieldItem tag required) rest) o
+      go : (levels : List Items) → length levels ≡ 1 + depthOf (grown o (o .items + 1) depth Several (o .groups) .groups) →
+          ReadsAll bytes (n .next) levels (c .after) → AllResolved Look levels →
+          c .last .items ≡ grown o (o .items + 1) depth Several (o .groups) .items + countAll Look levels →
+          c .last .held ≡ heldAll Look (grown o (o .items + 1) depth Several (o .groups) .held) levels →
+          Closing bytes final names at (whole place (FieldItem tag required) rest) o
       go [] d r v k l = absurd (omega arith)
       go (level ∷ levels) d (one-level r rs) (one-resolved v vs) k l =
           record {
@@ -130,7 +134,9 @@ module _ (bytes : List ℕ) (final names : Names) where
   unfolding grown countAll countOf itemsIn heldAll heldFrom heldBy sizeOf
   component-before at place number required rest o depth component n looked h c = go (c .levels) (c .deep) (c .reads) (c .resolved) (c .count) (c .held)
     where
-      go : (levels : List Items) → length levels ≡ 1 + depthOf (o .groups) → ReadsAll bytes (n .next) levels (c .after) → AllResolved Look levels → c .last .items ≡ o .items + component .items + countAll Look levels → c .last .held ≡ heldAll Look (heldWith (o .held) component) levels → Closing bytes final names at (whole place (ComponentItem required number) rest) o
+      go : (levels : List Items) → length levels ≡ 1 + depthOf (o .groups) → ReadsAll bytes (n .next) levels (c .after) → AllResolved Look levels →
+          c .last .items ≡ o .items + component .items + countAll Look levels → c .last .held ≡ heldAll Look (heldWith (o .held) component) levels →
+          Closing bytes final names at (whole place (ComponentItem required number) rest) o
       go [] d r v k l = absurd (omega arith)
       go (level ∷ levels) d (one-level r rs) (one-resolved v vs) k l =
           record {
@@ -163,7 +169,9 @@ module _ (bytes : List ℕ) (final names : Names) where
   unfolding grown countAll countOf heldAll heldFrom sizeOf
   group-before at place tag required rest o depth group n g h c = go (c .levels) (c .deep ∙ ap (λ (k : ℕ). 1 + k) (opened-depth group (o .groups) g)) (c .reads) (c .resolved) (c .count) (c .held)
     where
-      go : (levels : List Items) → length levels ≡ 1 + (1 + depthOf (o .groups)) → ReadsAll bytes (n .next) levels (c .after) → AllResolved Look levels → c .last .items ≡ o .items + 1 + countAll Look levels → c .last .held ≡ heldAll Look Several levels → Closing bytes final names at (whole place (OpensGroup tag required) rest) o
+      go : (levels : List Items) → length levels ≡ 1 + (1 + depthOf (o .groups)) → ReadsAll bytes (n .next) levels (c .after) → AllResolved Look levels →
+          c .last .items ≡ o .items + 1 + countAll Look levels → c .last .held ≡ heldAll Look Several levels →
+          Closing bytes final names at (whole place (OpensGroup tag required) rest) o
       go [] d r v k l = absurd (omega arith)
       go (inner ∷ []) d r v k l = absurd (omega arith)
       go (inner ∷ (level ∷ levels)) d (one-level i (one-level r rs)) (one-resolved w (one-resolved v vs)) k l =

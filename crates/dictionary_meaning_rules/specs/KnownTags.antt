@@ -66,7 +66,8 @@ unfolding noteOf named
 note-tags names o (OfComponent number) = refl
 note-tags names o OfMessage = refl
 
-same-known : (names other : Names) (declarations : List Declaration) (tag : ℕ) → names .tags ≡ other .tags → knownWith names declarations tag ≡ knownWith other declarations tag
+same-known : (names other : Names) (declarations : List Declaration) (tag : ℕ) → names .tags ≡ other .tags →
+    knownWith names declarations tag ≡ knownWith other declarations tag
 same-known names other declarations tag t = ap (λ (tags : List ℕ). pick (isKnown tags tag) true (holdsTag tag (tagsFrom declarations))) t
 
 known-step : (bytes : List ℕ) (final : Names) (tag : ℕ) (rs : Records) (at : ℕ) (names : Names) → ((fewer : Records) (there : ℕ) (later : Names) → sizeOf fewer < sizeOf rs → recordsFrom bytes there ≡ fewer → Passing final fewer TopLevel later → isKnown (final .tags) tag ≡ knownWith later (declarationsOf fewer) tag) → recordsFrom bytes at ≡ rs → Passing final rs TopLevel names → isKnown (final .tags) tag ≡ knownWith names (declarationsOf rs) tag

@@ -79,11 +79,14 @@ pub record OneLevel (bytes : List ℕ) (names : Names) (at : ℕ) (rs : Records)
   pub held : last .held ≡ heldFrom (lookIn names) Empty level
   pub limit : last .items ≤ 1024
 
-pub one-level-of : (bytes : List ℕ) (final names : Names) (at : ℕ) (rs : Records) (owner : Owner) (place : ℕ) → recordsFrom bytes at ≡ rs → (c : Closing bytes final names at rs (opens owner place)) → OneLevel bytes names at rs (c .after) (c .rest) (c .last)
+pub one-level-of : (bytes : List ℕ) (final names : Names) (at : ℕ) (rs : Records) (owner : Owner) (place : ℕ) → recordsFrom bytes at ≡ rs →
+    (c : Closing bytes final names at rs (opens owner place)) → OneLevel bytes names at rs (c .after) (c .rest) (c .last)
 unfolding opens depthOf countAll heldAll
 one-level-of bytes final names at rs owner place e c = go (c .levels) (c .deep) (c .reads) (c .resolved) (c .count) (c .held) (c .limit (omega arith))
   where
-    go : (levels : List Items) → length levels ≡ 1 + 0 → ReadsAll bytes at levels (c .after) → AllResolved (lookIn names) levels → c .last .items ≡ 0 + countAll (lookIn names) levels → c .last .held ≡ heldAll (lookIn names) Empty levels → c .last .items ≤ 1024 → OneLevel bytes names at rs (c .after) (c .rest) (c .last)
+    go : (levels : List Items) → length levels ≡ 1 + 0 → ReadsAll bytes at levels (c .after) → AllResolved (lookIn names) levels →
+        c .last .items ≡ 0 + countAll (lookIn names) levels → c .last .held ≡ heldAll (lookIn names) Empty levels → c .last .items ≤ 1024 →
+        OneLevel bytes names at rs (c .after) (c .rest) (c .last)
     go [] d r v k l m = absurd (omega arith)
     go (level ∷ (more ∷ levels)) d r v k l m = absurd (omega arith)
     go (level ∷ []) d (one-level r no-level) (one-resolved v none-resolved) k l m =

@@ -75,7 +75,8 @@ joined-close level next g groups levels =
     ap (λ (x : Items). joined (g .before) groups (groupThen (g .tag) (g .required) x next ∷ levels)) (continued-closed level)
     ∙ sym (joined-more (g .before) (groupThen (g .tag) (g .required) level closed) next groups levels)
 
-joined-last : (level more : Items) (groups : List OpenGroup) → joined level groups (more ∷ replicate (length groups) closed) ≡ wrapped groups (continued level more)
+joined-last : (level more : Items) (groups : List OpenGroup) →
+    joined level groups (more ∷ replicate (length groups) closed) ≡ wrapped groups (continued level more)
 unfolding joined wrapped innermost below
 joined-last level more [] = refl
 joined-last level more (g ∷ groups) = joined-last (g .before) (groupThen (g .tag) (g .required) (continued level more) closed) groups

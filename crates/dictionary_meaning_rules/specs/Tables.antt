@@ -57,7 +57,8 @@ pub record MessageAs (bytes : List ℕ) (components : ℕ → Looked) (place : �
 pub record Meant (bytes : List ℕ) (components : ℕ → Looked) (final names : Names) (defined : List Defined) (declarations : List Declaration) : Type 0 where
   pub known : Known bytes components final (definedAfter defined declarations)
   pub messages : Bytes bytes → (value : List ℕ) → Bytes value → (msgType place : ℕ) → nameOf value ≡ Named msgType → placeIn final msgType ≡ At place →
-      placeIn names msgType ≡ Nowhere → (layout : Layout) × (messageOf value (messagesFrom defined declarations) ≡ laidOut layout) × MessageAs bytes components place layout
+      placeIn names msgType ≡ Nowhere →
+      (layout : Layout) × (messageOf value (messagesFrom defined declarations) ≡ laidOut layout) × MessageAs bytes components place layout
   pub others : Bytes bytes → (value : List ℕ) → ((msgType : ℕ) → nameOf value ≡ Named msgType → placeIn final msgType ≡ Nowhere) →
       messageOf value (messagesFrom defined declarations) ≡ noMessage
 
@@ -89,7 +90,8 @@ module _ (bytes : List ℕ) (components : ℕ → Looked) (final : Names) (sure 
   -- a component that opens at a place and closes
   component-known : (names : Names) (defined : List Defined) (number place at : ℕ) (rs : Records) → Known bytes components names defined →
       lookIn names number ≡ Missing → at ≡ place + 3 → (c : Closing bytes final names at rs (opens (OfComponent number) place)) →
-      (o : OneLevel bytes names at rs (c .after) (c .rest) (c .last)) → NoEmptyGroup (flat defined (o .level)) → Kept (named names (noteOf (c .last) (c .last .owner))) final →
+      (o : OneLevel bytes names at rs (c .after) (c .rest) (c .last)) → NoEmptyGroup (flat defined (o .level)) →
+      Kept (named names (noteOf (c .last) (c .last .owner))) final →
       Known bytes components (named names (noteOf (c .last) (c .last .owner))) (definedBy defined (component number (o .level)))
   unfolding opens noteOf
   component-known names defined number place at rs known missing next c o filled keeps =
@@ -140,7 +142,10 @@ module _ (bytes : List ℕ) (components : ℕ → Looked) (final : Names) (sure 
       record { known = m .known; messages = λ b v t k p w q n. m .messages b v t k p w q (rw e n); others = m .others }
 
   -- a value is looked up by its bytes in the tree and by its number in the names, and finds this message in both or in neither
-  message-meant : (names later : Names) (defined : List Defined) (place msgType : ℕ) (level : Items) (declarations : List Declaration) → (Bytes bytes → NameNumber msgType) → later .messages ≡ named names (NamesMessage place msgType) .messages → Kept later final → MessageAs bytes components place (flat defined level) → Meant bytes components final later defined declarations → Meant bytes components final names defined (message (msgTypeBytes msgType) level ∷ declarations)
+  message-meant : (names later : Names) (defined : List Defined) (place msgType : ℕ) (level : Items) (declarations : List Declaration) →
+      (Bytes bytes → NameNumber msgType) → later .messages ≡ named names (NamesMessage place msgType) .messages → Kept later final →
+      MessageAs bytes components place (flat defined level) → Meant bytes components final later defined declarations →
+      Meant bytes components final names defined (message (msgTypeBytes msgType) level ∷ declarations)
   unfolding definedAfter definedBy messagesFrom messageIn messageOf
   message-meant names later defined place msgType level declarations number e keeps laid m =
       record {
@@ -152,7 +157,10 @@ module _ (bytes : List ℕ) (components : ℕ → Looked) (final : Names) (sure 
       here : placeIn final msgType ≡ At place
       here = keeps .messages msgType place (rw e (message-new names place msgType))
 
-      found : (b : Bytes bytes) (value : List ℕ) → Bytes value → (wanted there : ℕ) → nameOf value ≡ Named wanted → placeIn final wanted ≡ At there → placeIn names wanted ≡ Nowhere → (t : Bool) → sameBytes (msgTypeBytes msgType) value ≡ t → (layout : Layout) × (pick t (laidOut (flat defined level)) (messageOf value (messagesFrom defined declarations)) ≡ laidOut layout) × MessageAs bytes components there layout
+      found : (b : Bytes bytes) (value : List ℕ) → Bytes value → (wanted there : ℕ) → nameOf value ≡ Named wanted → placeIn final wanted ≡ At there →
+          placeIn names wanted ≡ Nowhere → (t : Bool) → sameBytes (msgTypeBytes msgType) value ≡ t →
+          (layout : Layout) × (pick t (laidOut (flat defined level)) (messageOf value (messagesFrom defined declarations)) ≡ laidOut layout)
+          × MessageAs bytes components there layout
       found b value text wanted there w q n true t =
           let name = same-named msgType (number b) value t in
           let same : msgType ≡ wanted = cc in
@@ -165,7 +173,8 @@ module _ (bytes : List ℕ) (components : ℕ → Looked) (final : Names) (sure 
           other : wanted ≡ msgType → ⊥
           other z = let same = named-same msgType value text (w ∙ ap Named z) in let clash : _≡_ {A = ℕ} 0 1 = cc in omega arith
 
-      missing : (b : Bytes bytes) (value : List ℕ) → ((wanted : ℕ) → nameOf value ≡ Named wanted → placeIn final wanted ≡ Nowhere) → (t : Bool) → sameBytes (msgTypeBytes msgType) value ≡ t → pick t (laidOut (flat defined level)) (messageOf value (messagesFrom defined declarations)) ≡ noMessage
+      missing : (b : Bytes bytes) (value : List ℕ) → ((wanted : ℕ) → nameOf value ≡ Named wanted → placeIn final wanted ≡ Nowhere) → (t : Bool) →
+          sameBytes (msgTypeBytes msgType) value ≡ t → pick t (laidOut (flat defined level)) (messageOf value (messagesFrom defined declarations)) ≡ noMessage
       missing b value q true t =
           let nowhere = q msgType (same-named msgType (number b) value t) in
           let placed = here in
@@ -212,7 +221,9 @@ module _ (bytes : List ℕ) (components : ℕ → Looked) (final : Names) (sure 
       let n = next-of bytes at place (KnownTag tag) rest e in
       let g = tag-goes final place rest names tag p in
       let d = declared-tag place rest tag in
-      rw d (tag-meant names (g .later) defined tag (declarationsOf rest) (g .messages) (again rest (n .next) (g .later) defined (omega arith) (n .there) (g .passes) (known-as names (g .later) defined (g .components) known) (kept-tag defined (declarationsOf rest) tag (rw d at bounds))))
+      rw d (tag-meant names (g .later) defined tag (declarationsOf rest) (g .messages)
+      (again rest (n .next) (g .later) defined (omega arith) (n .there) (g .passes) (known-as names (g .later) defined (g .components) known)
+      (kept-tag defined (declarationsOf rest) tag (rw d at bounds))))
   meant-step (whole place (OpensComponent number) rest) at names defined again e p known bounds =
       let n = next-of bytes at place (OpensComponent number) rest e in
       let g = component-opens final place rest names number p in
@@ -225,7 +236,8 @@ module _ (bytes : List ℕ) (components : ℕ → Looked) (final : Names) (sure 
       let b = kept-component defined (declarationsOf (c .rest)) number level (rw d at bounds) in
       rw d (component-meant names later defined number level (declarationsOf (c .rest)) (note-messages names (c .last) (c .last .owner))
       (again (c .rest) (c .after) later (definedBy defined (component number level)) (omega (arith, c .fewer)) (c .there) (c .passes)
-      (component-known names defined number place (n .next) rest known (g .0) (omega (arith, lies .behind, n .here)) c o (b .0 .filled) (kept bytes final (c .rest) (c .after) later (c .there) (c .passes)))
+      (component-known names defined number place (n .next) rest known (g .0) (omega (arith, lies .behind, n .here)) c o (b .0 .filled)
+      (kept bytes final (c .rest) (c .after) later (c .there) (c .passes)))
       (b .1)))
   meant-step (whole place (OpensMessage msgType) rest) at names defined again e p known bounds =
       let n = next-of bytes at place (OpensMessage msgType) rest e in
@@ -239,9 +251,11 @@ module _ (bytes : List ℕ) (components : ℕ → Looked) (final : Names) (sure 
       let level : Items = o .level in
       let d = declared-message place rest msgType (o .holds) in
       let b = kept-message defined (declarationsOf (c .rest)) (msgTypeBytes msgType) level (rw d at bounds) in
-      rw d (message-meant names later defined place msgType level (declarationsOf (c .rest)) (λ text. message-number bytes at msgType (n .next) text (n .read)) (note-messages named-here (c .last) (c .last .owner)) (kept bytes final (c .rest) (c .after) later (c .there) (c .passes))
+      rw d (message-meant names later defined place msgType level (declarationsOf (c .rest)) (λ text. message-number bytes at msgType (n .next) text (n .read))
+      (note-messages named-here (c .last) (c .last .owner)) (kept bytes final (c .rest) (c .after) later (c .there) (c .passes))
       (message-known named-here defined place (n .next) rest known-here (omega (arith, lies .behind, n .here)) c o (b .0))
-      (again (c .rest) (c .after) later defined (omega (arith, c .fewer)) (c .there) (c .passes) (known-as named-here later defined (note-components named-here (c .last) (unfold opens in c .owner)) known-here) (b .1)))
+      (again (c .rest) (c .after) later defined (omega (arith, c .fewer)) (c .there) (c .passes)
+      (known-as named-here later defined (note-components named-here (c .last) (unfold opens in c .owner)) known-here) (b .1)))
 
   meant-within : (fuel : ℕ) (rs : Records) (at : ℕ) (names : Names) (defined : List Defined) → sizeOf rs < fuel → recordsFrom bytes at ≡ rs →
       Passing final rs TopLevel names → Known bytes components names defined → KeptFrom defined (declarationsOf rs) → Here names defined rs

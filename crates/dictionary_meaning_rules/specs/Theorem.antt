@@ -48,10 +48,12 @@ module _ (d : List ℕ) (bytes : Bytes d) (passes : checkOf d ≡ Passes) (index
   pub tables-mean-tree : (value table : List ℕ) → Bytes value → 4096 ≤ length table → TableOf table (layoutInTree (dictionaryOf d) value) (messageTable d made value table)
   tables-mean-tree value table text room = by-name (nameOf value) refl
     where
-      none : ((msgType : ℕ) → nameOf value ≡ Named msgType → messageAt made msgType ≡ Nowhere) → placeOf made value ≡ Nowhere → TableOf table (layoutInTree (dictionaryOf d) value) (messageTable d made value table)
+      none : ((msgType : ℕ) → nameOf value ≡ Named msgType → messageAt made msgType ≡ Nowhere) → placeOf made value ≡ Nowhere →
+          TableOf table (layoutInTree (dictionaryOf d) value) (messageTable d made value table)
       none nowhere e = rw (message-none d passes index size bytes value nowhere, table-nowhere d made value table e) no-table
 
-      by-place : (msgType : ℕ) (placed : Placed) → nameOf value ≡ Named msgType → messageAt made msgType ≡ placed → TableOf table (layoutInTree (dictionaryOf d) value) (messageTable d made value table)
+      by-place : (msgType : ℕ) (placed : Placed) → nameOf value ≡ Named msgType → messageAt made msgType ≡ placed →
+          TableOf table (layoutInTree (dictionaryOf d) value) (messageTable d made value table)
       by-place msgType Nowhere name e =
           none (λ wanted other. let same : wanted ≡ msgType = cc in rw same e) (place-named made value msgType name ∙ e)
       by-place msgType (At place) name e =

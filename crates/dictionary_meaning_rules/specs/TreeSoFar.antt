@@ -57,11 +57,18 @@ pub record Tree (names : Names) (layouts : Records → List Layout) : Type 0 whe
   pub bounded : Each Bounded read
   pub means : (later : Records) → layouts later ≡ layoutsAfter defined read (declarationsOf later)
 
--- what was read inside something open: the records that close it hold the rest of each level
+-- whatever comes and holds the rest of each level that is open: what is declared is the level so far with its rest, and then what stands
+-- behind the last close
+abbrev MeansSoFar : (Records → List Layout) → List Defined → List Layout → (Items → Declaration) → Items → List OpenGroup → Type 0
+MeansSoFar layouts defined read declares level groups =
+    (later behind : Records) (levels : List Items) → length levels ≡ suc (length groups) → HoldsAll later levels behind →
+    layouts later ≡ layoutsAfter defined read (declares (joined level groups levels) ∷ declarationsOf behind)
+
+-- what was read inside something open
 pub record OpenTree (owner : Owner) (layouts : Records → List Layout) (defined : List Defined) (read : List Layout) (level : Items) (groups : List OpenGroup) : Type 0 where
   pub declares : Items → Declaration
   pub sort : Declares owner declares
-  pub means : (later behind : Records) (levels : List Items) → length levels ≡ suc (length groups) → HoldsAll later levels behind → layouts later ≡ layoutsAfter defined read (declares (joined level groups levels) ∷ declarationsOf behind)
+  pub means : MeansSoFar layouts defined read declares level groups
 
 -- closes hold no more items
 closes-hold : (things size : ℕ) → HoldsAll (closes things (ends size)) (replicate things closed) (ends size)
@@ -77,43 +84,55 @@ declared-layout (declares-message msgType) defined read level more = refl
 
 module _ (owner : Owner) (layouts : Records → List Layout) (defined : List Defined) (read : List Layout) (level : Items) where
   -- an item that comes next
-  tree-item : (groups : List OpenGroup) (place : ℕ) (r : Record) (more : Items) → ((later behind : Records) (next : Items) → Holds later next behind → Holds (whole place r later) (continued more next) behind) → OpenTree owner layouts defined read level groups → OpenTree owner (λ (later : Records). layouts (whole place r later)) defined read (continued level more) groups
+  tree-item : (groups : List OpenGroup) (place : ℕ) (r : Record) (more : Items) →
+      ((later behind : Records) (next : Items) → Holds later next behind → Holds (whole place r later) (continued more next) behind) →
+      OpenTree owner layouts defined read level groups →
+      OpenTree owner (λ (later : Records). layouts (whole place r later)) defined read (continued level more) groups
   tree-item groups place r more onto t =
-      record { declares = t .declares; sort = t .sort; means = λ later behind levels n h. go n h }
+      record { declares = t .declares; sort = t .sort; means = go }
     where
-      go : {later behind : Records} {levels : List Items} → length levels ≡ suc (length groups) → HoldsAll later levels behind → layouts (whole place r later) ≡ layoutsAfter defined read (t .declares (joined (continued level more) groups levels) ∷ declarationsOf behind)
-      go n holds-none = absurd (omega arith)
-      go {behind = behind} n (holds-more {level = next} {levels = levels} h hs) =
-          t .means _ _ _ n (holds-more (onto _ _ _ h) hs)
+      go : MeansSoFar (λ (later : Records). layouts (whole place r later)) defined read (t .declares) (continued level more) groups
+      go later behind [] n holds-none = absurd (omega arith)
+      go later behind (next ∷ levels) n (holds-more h hs) =
+          t .means _ behind _ n (holds-more (onto _ _ next h) hs)
           ∙ ap (λ (x : Items). layoutsAfter defined read (t .declares x ∷ declarationsOf behind)) (sym (joined-more level more next groups levels))
 
   pub tree-field : (groups : List OpenGroup) (place tag : ℕ) (required : Bool) → OpenTree owner layouts defined read level groups → OpenTree owner (λ (later : Records). layouts (whole place (FieldItem tag required) later)) defined read (continued level (fieldThen tag required closed)) groups
   unfolding continued
-  tree-field groups place tag required t = tree-item groups place (FieldItem tag required) (fieldThen tag required closed) (λ later behind next h. holds-field h) t
+  tree-field groups place tag required t =
+      tree-item groups place (FieldItem tag required) (fieldThen tag required closed) (λ later behind next h. holds-field h) t
 
   pub tree-component : (groups : List OpenGroup) (place number : ℕ) (required : Bool) → OpenTree owner layouts defined read level groups → OpenTree owner (λ (later : Records). layouts (whole place (ComponentItem required number) later)) defined read (continued level (componentThen number required closed)) groups
   unfolding continued
-  tree-component groups place number required t = tree-item groups place (ComponentItem required number) (componentThen number required closed) (λ later behind next h. holds-component h) t
+  tree-component groups place number required t =
+      tree-item groups place (ComponentItem required number) (componentThen number required closed) (λ later behind next h. holds-component h) t
 
   -- a group that opens
   pub tree-group : (groups : List OpenGroup) (place tag : ℕ) (required : Bool) → OpenTree owner layouts defined read level groups → OpenTree owner (λ (later : Records). layouts (whole place (OpensGroup tag required) later)) defined read closed (record { before = level; tag = tag; required = required } ∷ groups)
   tree-group groups place tag required t =
-      record { declares = t .declares; sort = t .sort; means = λ later behind levels n h. go n h }
+      record { declares = t .declares; sort = t .sort; means = go }
     where
-      go : {later behind : Records} {levels : List Items} → length levels ≡ suc (suc (length groups)) → HoldsAll later levels behind → layouts (whole place (OpensGroup tag required) later) ≡ layoutsAfter defined read (t .declares (joined closed (record { before = level; tag = tag; required = required } ∷ groups) levels) ∷ declarationsOf behind)
-      go n holds-none = absurd (omega arith)
-      go n (holds-more h holds-none) = absurd (omega arith)
-      go n (holds-more i (holds-more h hs)) = unfold joined continued innermost below in t .means _ _ _ (omega arith) (holds-more (holds-group i h) hs)
+      opened : OpenGroup
+      opened = record { before = level; tag = tag; required = required }
+
+      go : MeansSoFar (λ (later : Records). layouts (whole place (OpensGroup tag required) later)) defined read (t .declares) closed (opened ∷ groups)
+      go later behind [] n holds-none = absurd (omega arith)
+      go later behind (inner ∷ []) n (holds-more h holds-none) = absurd (omega arith)
+      go later behind (inner ∷ (next ∷ levels)) n (holds-more i (holds-more h hs)) =
+          unfold joined continued innermost below in t .means _ behind _ (omega arith) (holds-more (holds-group i h) hs)
 
   -- and one that closes: it is an item of the level around it
   pub tree-close : (g : OpenGroup) (groups : List OpenGroup) (place : ℕ) → OpenTree owner layouts defined read level (g ∷ groups) → OpenTree owner (λ (later : Records). layouts (whole place Closes later)) defined read (continued (g .before) (groupThen (g .tag) (g .required) level closed)) groups
   tree-close g groups place t =
-      record { declares = t .declares; sort = t .sort; means = λ later behind levels n h. go n h }
+      record { declares = t .declares; sort = t .sort; means = go }
     where
-      go : {later behind : Records} {levels : List Items} → length levels ≡ suc (length groups) → HoldsAll later levels behind → layouts (whole place Closes later) ≡ layoutsAfter defined read (t .declares (joined (continued (g .before) (groupThen (g .tag) (g .required) level closed)) groups levels) ∷ declarationsOf behind)
-      go n holds-none = absurd (omega arith)
-      go {behind = behind} n (holds-more {level = next} {levels = levels} h hs) =
-          t .means _ _ _ (omega arith) (holds-more holds-close (holds-more h hs))
+      around : Items
+      around = continued (g .before) (groupThen (g .tag) (g .required) level closed)
+
+      go : MeansSoFar (λ (later : Records). layouts (whole place Closes later)) defined read (t .declares) around groups
+      go later behind [] n holds-none = absurd (omega arith)
+      go later behind (next ∷ levels) n (holds-more h hs) =
+          t .means _ behind _ (omega arith) (holds-more holds-close (holds-more h hs))
           ∙ ap (λ (x : Items). layoutsAfter defined read (t .declares x ∷ declarationsOf behind)) (joined-close level next g groups levels)
 
   -- the owner closes: its layout is the latest
