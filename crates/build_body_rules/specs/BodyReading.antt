@@ -44,7 +44,8 @@ module _ {L : Type 0} (rules : Rules L) (demands : Demands L) where
       by-lack g behind here entries Complete e = cc
       by-lack g behind here entries (Missing wanted group) e = let z : _≡_ {A = ℕ} 0 1 = cc in absurd (omega arith)
 
-      by-outcome : (o : RunOutcome (List Record) (List Record)) → walk rules listStore room (run (outermost tag inner) 0 ∷ []) [] rest ≡ o → ranAs rules demands inner tag o ≡ ended f after left records → left < room
+      by-outcome : (o : RunOutcome (List Record) (List Record)) → walk rules listStore room (run (outermost tag inner) 0 ∷ []) [] rest ≡ o
+          → ranAs rules demands inner tag o ≡ ended f after left records → left < room
       by-outcome (stops refusal entries) w e = let z : _≡_ {A = ℕ} 0 1 = cc in absurd (omega arith)
       by-outcome (ran g behind here entries) w e =
           let k = keeps rules listStore (λ n s. n ≤ room) (λ (f : Field). f .tag ≡ f .tag) (λ n r s h. omega arith) (λ n start r s h. omega arith) room (run (outermost tag inner) 0 ∷ []) [] rest (each-field-is rest) (omega arith) g behind here entries w in

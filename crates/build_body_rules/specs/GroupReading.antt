@@ -91,7 +91,8 @@ module _ (message : List ℕ) (config : Config) (table : List ℕ) (known : ℕ 
 
   agrees : (reading : Reading) → toldBy (config .mode) message reading exit ≡ runOf message config table known (record { level = inner; tag = tag; depth = 1 }) cursor start mid → Agrees before after (toldBy (config .mode) message reading exit) alone
   unfolding runOf shifted
-  agrees reading told = rw told (walk-agrees before after (tableRules config table known) room (run (outermost tag inner) 0 ∷ []) (memory start mid) [] (fieldsFrom (config .mode) message cursor) stands)
+  agrees reading told =
+      rw told (walk-agrees before after (tableRules config table known) room (run (outermost tag inner) 0 ∷ []) (memory start mid) [] (fieldsFrom (config .mode) message cursor) stands)
 
   front-kept : take (length before) (recordsOf exit) ≡ before → partOf 0 from exit ≡ partOf 0 from entry
   unfolding partOf

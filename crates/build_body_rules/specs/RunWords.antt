@@ -187,8 +187,10 @@ module _ (before after : List Record) where
         ((stack : List (Frame L)) (m₁ : Memory) (entries₁ : List Record) → WordsStand room m₁ entries₁ → Agrees (walk rules wordStore room (shifted (length before) stack) m₁ rest) (walk rules listStore room stack entries₁ rest)) →
         (move : Move L) → Agrees (moved wordStore room m f rest (λ stack m₁. walk rules wordStore room stack m₁ rest) (shiftedMove (length before) move)) (moved listStore room entries f rest (λ stack entries₁. walk rules listStore room stack entries₁ rest) move)
     unfolding moved shiftedMove wordStore listStore
-    move-agrees room m entries f rest s later (adds stack numbers) = later stack _ _ (stands-add room m entries (entryRecord (numbers .depth) (numbers .number) f) s)
-    move-agrees room m entries f rest s later (joinsAt stack start numbers) = later stack _ _ (stands-join room start m entries (entryRecord (numbers .depth) (numbers .number) f) s)
+    move-agrees room m entries f rest s later (adds stack numbers) =
+        later stack _ _ (stands-add room m entries (entryRecord (numbers .depth) (numbers .number) f) s)
+    move-agrees room m entries f rest s later (joinsAt stack start numbers) =
+        later stack _ _ (stands-join room start m entries (entryRecord (numbers .depth) (numbers .number) f) s)
     move-agrees room m entries f rest s later (disorders group) = both-refuse (front-stands (suc room) m entries s)
     move-agrees room m entries f rest s later leaves = both-end s
 

@@ -147,7 +147,8 @@ module _ {L : Type 0} (rules : Rules L) (demands : Demands L) (inner : L) (tag :
       by-lack g behind here entries Complete e = cc
       by-lack g behind here entries (Missing wanted group) e = let z : _≡_ {A = ℕ} 0 1 = cc in absurd (omega arith)
 
-      by-outcome : (o : RunOutcome (List Record) (List Record)) → walk rules listStore room (run (outermost tag inner) 0 ∷ []) [] rest ≡ o → ranAs rules demands inner tag o ≡ ended f after left records → All (Deep 1) records
+      by-outcome : (o : RunOutcome (List Record) (List Record)) → walk rules listStore room (run (outermost tag inner) 0 ∷ []) [] rest ≡ o
+          → ranAs rules demands inner tag o ≡ ended f after left records → All (Deep 1) records
       by-outcome (stops refusal entries) w e = let z : _≡_ {A = ℕ} 0 1 = cc in absurd (omega arith)
       by-outcome (ran g behind here entries) w e =
           let read = run-formed rules [] (outermost tag inner) room rest g behind here entries w in

@@ -34,7 +34,8 @@ module _ {L M : Type 0} (Same : L → M → Type 0) where
     empty-alike : StackAlike [] []
     run-alike : {group : OpenGroup L} {m : M} {entries : ℕ} {stack : List (Frame L)} {other : List (Frame M)} → Same (group .level) m → StackAlike stack other
         → StackAlike (run group entries ∷ stack) (run (onLevel m group) entries ∷ other)
-    entry-alike : {group : OpenGroup L} {m : M} {own : OpenEntry} {stack : List (Frame L)} {other : List (Frame M)} → Same (group .level) m → StackAlike stack other
+    entry-alike : {group : OpenGroup L} {m : M} {own : OpenEntry} {stack : List (Frame L)} {other : List (Frame M)} → Same (group .level) m
+        → StackAlike stack other
         → StackAlike (entry group own ∷ stack) (entry (onLevel m group) own ∷ other)
 
   data KindAlike : Kind L → Kind M → Type 0 where
@@ -45,7 +46,8 @@ module _ {L M : Type 0} (Same : L → M → Type 0) where
     ends-alike : KindAlike ends ends
 
   data MoveAlike : Move L → Move M → Type 0 where
-    adds-alike : {stack : List (Frame L)} {other : List (Frame M)} {numbers : Numbers} → StackAlike stack other → MoveAlike (adds stack numbers) (adds other numbers)
+    adds-alike : {stack : List (Frame L)} {other : List (Frame M)} {numbers : Numbers} → StackAlike stack other
+        → MoveAlike (adds stack numbers) (adds other numbers)
     joinsAt-alike : {stack : List (Frame L)} {other : List (Frame M)} {start : ℕ} {numbers : Numbers} → StackAlike stack other
         → MoveAlike (joinsAt stack start numbers) (joinsAt other start numbers)
     disorders-alike : {group : ℕ} → MoveAlike (disorders group) (disorders group)
@@ -86,7 +88,8 @@ module _ {L M : Type 0} (Same : L → M → Type 0) where
         go true k = ends-alike
         go false k = k
 
-    in-entry : (group : OpenGroup L) (m : M) → Same (group .level) m → (own : OpenEntry) (stack : List (Frame L)) (other : List (Frame M)) → StackAlike stack other → (tag : ℕ) (x : Move L) (y : Move M) → MoveAlike x y → {k : Kind L} {j : Kind M} → KindAlike k j →
+    in-entry : (group : OpenGroup L) (m : M) → Same (group .level) m → (own : OpenEntry) (stack : List (Frame L)) (other : List (Frame M))
+        → StackAlike stack other → (tag : ℕ) (x : Move L) (y : Move M) → MoveAlike x y → {k : Kind L} {j : Kind M} → KindAlike k j →
         MoveAlike (inEntry group own stack tag x k) (inEntry (onLevel m group) own other tag y j)
     unfolding inEntry
     in-entry group m s own stack other below tag x y xy plain-alike = adds-alike (entry-alike s below)
@@ -95,7 +98,8 @@ module _ {L M : Type 0} (Same : L → M → Type 0) where
     in-entry group m s own stack other below tag x y xy wrong-alike = disorders-alike
     in-entry group m s own stack other below tag x y xy ends-alike = xy
 
-    run-decides : (here : ℕ) (group : OpenGroup L) (m : M) → Same (group .level) m → (entries : ℕ) (stack : List (Frame L)) (other : List (Frame M)) → StackAlike stack other → (b c : Bool) (x : Move L) (y : Move M) → MoveAlike x y →
+    run-decides : (here : ℕ) (group : OpenGroup L) (m : M) → Same (group .level) m → (entries : ℕ) (stack : List (Frame L)) (other : List (Frame M))
+        → StackAlike stack other → (b c : Bool) (x : Move L) (y : Move M) → MoveAlike x y →
         MoveAlike (pick b (adds (entry group (record { number = entries + 1; last = 0; start = here }) ∷ run group (entries + 1) ∷ stack) (numbersIn group (entries + 1))) (pick c (disorders (group .tag)) x))
         (pick b (adds (entry (onLevel m group) (record { number = entries + 1; last = 0; start = here }) ∷ run (onLevel m group) (entries + 1) ∷ other) (numbersIn (onLevel m group) (entries + 1))) (pick c (disorders (group .tag)) y))
     run-decides here group m s entries stack other below true c x y d = adds-alike (entry-alike s (run-alike s below))

@@ -22,10 +22,14 @@ use Rattle.build_group_rules.specs.Reading.{openedAs, layoutRules}
 -- the stacks that reading comes to, field by field
 pub data ComesTo {L S W : Type 0} (rules : Rules L) (store : Store S W) : ℕ → List (Frame L) → S → Fields → List (Frame L) → Type 0 where
   comes-here : {room : ℕ} {stack : List (Frame L)} {s : S} {fields : Fields} → ComesTo rules store room stack s fields stack
-  comes-adding : {room : ℕ} {stack later : List (Frame L)} {s : S} {f : Field} {rest : Fields} (next : List (Frame L)) (numbers : Numbers) → decide rules (store .place s) stack (f .tag) ≡ adds next numbers
-      → ComesTo rules store room next (store .add (entryRecord (numbers .depth) (numbers .number) f) s) rest later → ComesTo rules store (suc room) stack s (field f rest) later
-  comes-joining : {room : ℕ} {stack later : List (Frame L)} {s : S} {f : Field} {rest : Fields} (next : List (Frame L)) (start : ℕ) (numbers : Numbers) → decide rules (store .place s) stack (f .tag) ≡ joinsAt next start numbers
-      → ComesTo rules store room next (store .join start (entryRecord (numbers .depth) (numbers .number) f) s) rest later → ComesTo rules store (suc room) stack s (field f rest) later
+  comes-adding : {room : ℕ} {stack later : List (Frame L)} {s : S} {f : Field} {rest : Fields} (next : List (Frame L)) (numbers : Numbers)
+      → decide rules (store .place s) stack (f .tag) ≡ adds next numbers
+      → ComesTo rules store room next (store .add (entryRecord (numbers .depth) (numbers .number) f) s) rest later
+      → ComesTo rules store (suc room) stack s (field f rest) later
+  comes-joining : {room : ℕ} {stack later : List (Frame L)} {s : S} {f : Field} {rest : Fields} (next : List (Frame L)) (start : ℕ) (numbers : Numbers)
+      → decide rules (store .place s) stack (f .tag) ≡ joinsAt next start numbers
+      → ComesTo rules store room next (store .join start (entryRecord (numbers .depth) (numbers .number) f) s) rest later
+      → ComesTo rules store (suc room) stack s (field f rest) later
 
 -- reading goes on from there
 pub comes-reading : {L S W : Type 0} (rules : Rules L) (store : Store S W) {room : ℕ} {stack later : List (Frame L)} {s : S} {fields : Fields} → ComesTo rules store room stack s fields later → (room₁ : ℕ) × (s₁ : S) × (rest : Fields) × (walk rules store room stack s fields ≡ walk rules store room₁ later s₁ rest)
@@ -39,7 +43,8 @@ pub data WithinFour : List (Frame Layout) → Type 0 where
   within-none : WithinFour []
   within-run : {group : OpenGroup Layout} {number : ℕ} {below : List (Frame Layout)} → group .depth + nesting (group .level) ≤ mostDepth → WithinFour below
       → WithinFour (run group number ∷ below)
-  within-entry : {group : OpenGroup Layout} {own : OpenEntry} {below : List (Frame Layout)} → group .depth + nesting (group .level) ≤ mostDepth → WithinFour below
+  within-entry : {group : OpenGroup Layout} {own : OpenEntry} {below : List (Frame Layout)} → group .depth + nesting (group .level) ≤ mostDepth
+      → WithinFour below
       → WithinFour (entry group own ∷ below)
 
 -- a group's entries nest less deep than the layout that it stands in
@@ -91,7 +96,8 @@ below-within [] w = w
 below-within (f ∷ above) (within-run h w) = below-within above w
 below-within (f ∷ above) (within-entry h w) = below-within above w
 
-entry-within : {group : OpenGroup Layout} {own : OpenEntry} {below : List (Frame Layout)} → WithinFour (entry group own ∷ below) → group .depth + nesting (group .level) ≤ mostDepth
+entry-within : {group : OpenGroup Layout} {own : OpenEntry} {below : List (Frame Layout)} → WithinFour (entry group own ∷ below)
+    → group .depth + nesting (group .level) ≤ mostDepth
 entry-within (within-entry h w) = h
 
 module _ (accepts : ℕ → Bool) where
@@ -117,15 +123,19 @@ module _ (accepts : ℕ → Bool) where
   decide-within : (here tag : ℕ) {stack : List (Frame Layout)} → WithinFour stack → MoveWithin (decide (layoutRules accepts) here stack tag)
   unfolding decide
   decide-within here tag within-none = within-leaves
-  decide-within here tag (within-run {group} {number} {below} h f) = go (opens (layoutRules accepts) (group .level) tag) (eqb number 0) (decide-within here tag f)
+  decide-within here tag (within-run {group} {number} {below} h f) =
+      go (opens (layoutRules accepts) (group .level) tag) (eqb number 0) (decide-within here tag f)
     where
-      go : (b c : Bool) → MoveWithin (decide (layoutRules accepts) here below tag) → MoveWithin (pick b (adds (entry group (record { number = number + 1; last = 0; start = here }) ∷ run group (number + 1) ∷ below) (numbersIn group (number + 1))) (pick c (disorders (group .tag)) (decide (layoutRules accepts) here below tag)))
+      go : (b c : Bool) → MoveWithin (decide (layoutRules accepts) here below tag)
+          → MoveWithin (pick b (adds (entry group (record { number = number + 1; last = 0; start = here }) ∷ run group (number + 1) ∷ below) (numbersIn group (number + 1))) (pick c (disorders (group .tag)) (decide (layoutRules accepts) here below tag)))
       go true c m = within-adds (within-entry h (within-run h f))
       go false true m = within-disorders
       go false false m = m
-  decide-within here tag (within-entry {group} {own} {below} h f) = go _ (kind-within (group .depth) (own .last) (group .level) h tag) (decide-within here tag f)
+  decide-within here tag (within-entry {group} {own} {below} h f) =
+      go _ (kind-within (group .depth) (own .last) (group .level) h tag) (decide-within here tag f)
     where
-      go : (kind : Kind Layout) → KindWithin (group .depth) kind → MoveWithin (decide (layoutRules accepts) here below tag) → MoveWithin (inEntry group own below tag (decide (layoutRules accepts) here below tag) kind)
+      go : (kind : Kind Layout) → KindWithin (group .depth) kind → MoveWithin (decide (layoutRules accepts) here below tag)
+          → MoveWithin (inEntry group own below tag (decide (layoutRules accepts) here below tag) kind)
       go kind within-plain m = unfold inEntry in within-adds (within-entry h f)
       go kind (within-count k) m = unfold inEntry in within-adds (within-run k (within-entry h f))
       go kind within-joins m = unfold inEntry in within-joining (within-entry h f)
@@ -138,7 +148,8 @@ module _ (accepts : ℕ → Bool) where
   adds-within within-disorders stack numbers e = let z : _≡_ {A = ℕ} 0 1 = cc in absurd (omega arith)
   adds-within within-leaves stack numbers e = let z : _≡_ {A = ℕ} 0 1 = cc in absurd (omega arith)
 
-  joins-within : {move : Move Layout} → MoveWithin move → (stack : List (Frame Layout)) (start : ℕ) (numbers : Numbers) → move ≡ joinsAt stack start numbers → WithinFour stack
+  joins-within : {move : Move Layout} → MoveWithin move → (stack : List (Frame Layout)) (start : ℕ) (numbers : Numbers) → move ≡ joinsAt stack start numbers
+      → WithinFour stack
   joins-within (within-joining {stack = other} f) stack start numbers e = let same : other ≡ stack = cc in rw same at f
   joins-within (within-adds f) stack start numbers e = let z : _≡_ {A = ℕ} 0 1 = cc in absurd (omega arith)
   joins-within within-disorders stack start numbers e = let z : _≡_ {A = ℕ} 0 1 = cc in absurd (omega arith)
@@ -146,17 +157,21 @@ module _ (accepts : ℕ → Bool) where
 
   comes-within : {S W : Type 0} (store : Store S W) {room : ℕ} {stack later : List (Frame Layout)} {s : S} {fields : Fields} → WithinFour stack → ComesTo (layoutRules accepts) store room stack s fields later → WithinFour later
   comes-within store f comes-here = f
-  comes-within store {s = s} f (comes-adding {f = x} next numbers e c) = comes-within store (adds-within (decide-within (store .place s) (x .tag) f) next numbers e) c
-  comes-within store {s = s} f (comes-joining {f = x} next start numbers e c) = comes-within store (joins-within (decide-within (store .place s) (x .tag) f) next start numbers e) c
+  comes-within store {s = s} f (comes-adding {f = x} next numbers e c) =
+      comes-within store (adds-within (decide-within (store .place s) (x .tag) f) next numbers e) c
+  comes-within store {s = s} f (comes-joining {f = x} next start numbers e c) =
+      comes-within store (joins-within (decide-within (store .place s) (x .tag) f) next start numbers e) c
 
   -- the run of a tag of a message's layout, wherever reading comes in it
   module _ {S W : Type 0} (store : Store S W) (layout : Layout) (shallow : nesting layout ≤ mostDepth) (tag : ℕ) (inner : Layout) (counts : groupOf tag layout ≡ entries-of inner) {room : ℕ} {s : S} {fields : Fields} where
-    pub run-within : (later : List (Frame Layout)) → ComesTo (layoutRules accepts) store room (run (outermost tag inner) 0 ∷ []) s fields later → WithinFour later
+    pub run-within : (later : List (Frame Layout)) → ComesTo (layoutRules accepts) store room (run (outermost tag inner) 0 ∷ []) s fields later
+        → WithinFour later
     run-within later c = comes-within store (within-run (omega (arith, group-nests tag layout inner counts)) within-none) c
 
     -- a tag that counts entries in an open entry starts their run: the stop is never met
     pub nested-runs : (above below : List (Frame Layout)) (group : OpenGroup Layout) (own : OpenEntry)
         → ComesTo (layoutRules accepts) store room (run (outermost tag inner) 0 ∷ []) s fields (above ++ (entry group own ∷ below))
-        → (wanted : ℕ) (nested : Layout) → groupOf wanted (group .level) ≡ entries-of nested → (position : ℕ) → counting (group .depth) position (openedAs (groupOf wanted (group .level))) ≡ count nested position
+        → (wanted : ℕ) (nested : Layout) → groupOf wanted (group .level) ≡ entries-of nested → (position : ℕ)
+        → counting (group .depth) position (openedAs (groupOf wanted (group .level))) ≡ count nested position
     nested-runs above below group own c wanted nested e position =
         count-runs (group .depth) (group .level) (entry-within (below-within above (run-within _ c))) wanted nested e position

@@ -85,7 +85,8 @@ module _ {L S W : Type 0} (rules : Rules L) (store : Store S W) where
         taking rules store room (run group entries ∷ []) s f rest
         ≡ andThen (walk rules store room (entry group (record { number = entries + 1; last = 0; start = store .place s }) ∷ []) (store .add (entryRecord (group .depth) (entries + 1) f) s) rest) (λ room s f rest. taking rules store room (run group (entries + 1) ∷ []) s f rest)
     unfolding taking decide moved
-    run-entry e = rw e (compose room (entry group (record { number = entries + 1; last = 0; start = store .place s }) ∷ []) (run group (entries + 1) ∷ []) (store .add (entryRecord (group .depth) (entries + 1) f) s) rest)
+    run-entry e =
+        rw e (compose room (entry group (record { number = entries + 1; last = 0; start = store .place s }) ∷ []) (run group (entries + 1) ∷ []) (store .add (entryRecord (group .depth) (entries + 1) f) s) rest)
 
     pub run-first : opens rules (group .level) (f .tag) ≡ false → entries ≡ 0 →
         taking rules store room (run group entries ∷ []) s f rest ≡ refused (InvalidOrderInGroup (f .tag) (group .tag)) (store .left s)

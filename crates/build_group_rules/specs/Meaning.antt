@@ -45,7 +45,8 @@ outcome-same (ended-alike {f} {rest} {room} e) = ap (ended f rest room) e
 outcome-same (refused-alike {refusal} e) = ap (refused refusal) e
 
 -- whatever keeps the records, a level of a table is read as the layout that the table holds there
-pub table-reads : {S W : Type 0} (store : Store S W) (config : Config) (table : List ℕ) (known has : ℕ → Bool) → ((tag : ℕ) → known tag ≡ has tag) → (group : OpenGroup ℕ) (layout : Layout) → Tabled table (group .level) layout → (room number : ℕ) (s : S) (fields : Fields) →
+pub table-reads : {S W : Type 0} (store : Store S W) (config : Config) (table : List ℕ) (known has : ℕ → Bool) → ((tag : ℕ) → known tag ≡ has tag)
+    → (group : OpenGroup ℕ) (layout : Layout) → Tabled table (group .level) layout → (room number : ℕ) (s : S) (fields : Fields) →
     walk (tableRules config table known) store room (run group number ∷ []) s fields ≡ walk (layoutRules (accepted config has)) store room (run (onLevel layout group) number ∷ []) s fields
 table-reads store config table known has same group layout t room number s fields =
     outcome-same (walk-alike (Tabled table) (λ room s t. s ≡ t) (λ w x. w ≡ x) _ _ (rules-alike config table known has same) store store (same-store store) room _ _ s s fields (run-alike t empty-alike) refl)

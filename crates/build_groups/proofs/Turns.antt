@@ -111,11 +111,13 @@ module _ (message : List ℕ) (config : Config) (table : List ℕ) (known : ℕ 
     joined-field stack start = refl
 
     module _ (last start : ℕ) (kind : CodeKind) (k : meant kind ≡ kindAt config table known group last (f .tag)) where
-      pub left-ends : kind ≡ Ends → toldBy (config .mode) message (At f progress) words ≡ entryLeft (record { number = number; last = last; start = start }) reading words
+      pub left-ends : kind ≡ Ends → toldBy (config .mode) message (At f progress) words
+          ≡ entryLeft (record { number = number; last = last; start = start }) reading words
       unfolding going toldBy meant kindAt
       left-ends q = rw e (sym (entry-ends _ _ _ _ _ _ _ _ (sym k ∙ ap meant q)))
 
-      pub left-wrong : kind ≡ Wrong → toldBy (config .mode) message (Refused (InvalidOrderInGroup (f .tag) (group .tag))) words ≡ entryLeft (record { number = number; last = last; start = start }) reading words
+      pub left-wrong : kind ≡ Wrong → toldBy (config .mode) message (Refused (InvalidOrderInGroup (f .tag) (group .tag))) words
+          ≡ entryLeft (record { number = number; last = last; start = start }) reading words
       unfolding going toldBy meant kindAt wordStore memory
       left-wrong q = rw e (sym (entry-wrong _ _ _ _ _ _ _ _ (sym k ∙ ap meant q)))
 

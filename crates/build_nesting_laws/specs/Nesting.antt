@@ -83,35 +83,44 @@ module _ {L : Type 0} (rules : Rules L) where
 
     -- what is open, and the records so far
     pub data Open : List (Frame L) → List Record → Type 0 where
-      first-run : {entries : ℕ} (rs : List Record) → Formed rules (entriesOf (bottom .level) (bottom .depth) entries) rs → Open (run bottom entries ∷ []) (base ++ rs)
-      nested-run : {group : OpenGroup L} {inner : L} {number last position entries : ℕ} {stack : List (Frame L)} (c : Record) (before own more : List Record) → Open (run group number ∷ stack) before → Counted group (number + 1) last position own c
+      first-run : {entries : ℕ} (rs : List Record) → Formed rules (entriesOf (bottom .level) (bottom .depth) entries) rs
+          → Open (run bottom entries ∷ []) (base ++ rs)
+      nested-run : {group : OpenGroup L} {inner : L} {number last position entries : ℕ} {stack : List (Frame L)} (c : Record) (before own more : List Record)
+          → Open (run group number ∷ stack) before → Counted group (number + 1) last position own c
           → rules .group (group .level) (c .tag) ≡ opened inner → Formed rules (entriesOf inner (group .depth + 1) entries) more →
           Open (run (nested group (c .tag) inner) entries ∷ entry group (record { number = number + 1; last = position; start = length before }) ∷ run group (number + 1) ∷ stack)
           ((before ++ (own ++ (c ∷ []))) ++ more)
-      in-entry : {group : OpenGroup L} {number last : ℕ} {stack : List (Frame L)} (before own : List Record) → Open (run group number ∷ stack) before → Formed rules (fieldsOf (group .level) (group .depth) (number + 1) last) own →
+      in-entry : {group : OpenGroup L} {number last : ℕ} {stack : List (Frame L)} (before own : List Record) → Open (run group number ∷ stack) before
+          → Formed rules (fieldsOf (group .level) (group .depth) (number + 1) last) own →
           Open (entry group (record { number = number + 1; last = last; start = length before }) ∷ run group (number + 1) ∷ stack) (before ++ own)
 
     -- an entry is over, and counts for its run
-    close-entry : {group : OpenGroup L} {number last : ℕ} {stack : List (Frame L)} {before : List Record} (own : List Record) → Open (run group number ∷ stack) before → Formed rules (fieldsOf (group .level) (group .depth) (number + 1) last) own → Open (run group (number + 1) ∷ stack) (before ++ own)
+    close-entry : {group : OpenGroup L} {number last : ℕ} {stack : List (Frame L)} {before : List Record} (own : List Record)
+        → Open (run group number ∷ stack) before → Formed rules (fieldsOf (group .level) (group .depth) (number + 1) last) own
+        → Open (run group (number + 1) ∷ stack) (before ++ own)
     close-entry own (first-run rs f) e = rw (append-assoc base rs own) (first-run (rs ++ own) (next-entry f e))
     close-entry own (nested-run c before entry-own more o f g m) e = rw (append-assoc (before ++ (entry-own ++ (c ∷ []))) more own) (nested-run c before entry-own (more ++ own) o f g (next-entry m e))
 
     -- a nested run is over, and belongs to its entry
-    close-run : {group : OpenGroup L} {inner : L} {number last position entries : ℕ} {stack : List (Frame L)} (c : Record) (before own more : List Record) → Open (run group number ∷ stack) before → Counted group (number + 1) last position own c
+    close-run : {group : OpenGroup L} {inner : L} {number last position entries : ℕ} {stack : List (Frame L)} (c : Record) (before own more : List Record)
+        → Open (run group number ∷ stack) before → Counted group (number + 1) last position own c
         → rules .group (group .level) (c .tag) ≡ opened inner → Formed rules (entriesOf inner (group .depth + 1) entries) more →
         Open (entry group (record { number = number + 1; last = position; start = length before }) ∷ run group (number + 1) ∷ stack) ((before ++ (own ++ (c ∷ []))) ++ more)
     close-run c before own more o f g m = rw (append-assoc before (own ++ (c ∷ [])) more) (in-entry before ((own ++ (c ∷ [])) ++ more) o (hangs _ c (f .entry-formed) (f .placed) (f .rises-to) (f .count-own) (f .within) g m))
 
     -- what a move leaves open
     data Goes (rs : List Record) (f : Field) : Move L → Type 0 where
-      goes-adds : {stack : List (Frame L)} {numbers : Numbers} → Open stack (rs ++ (entryRecord (numbers .depth) (numbers .number) f ∷ [])) → Goes rs f (adds stack numbers)
-      goes-joins : {stack : List (Frame L)} {start : ℕ} {numbers : Numbers} → Open stack (joinedList start (entryRecord (numbers .depth) (numbers .number) f) rs)
+      goes-adds : {stack : List (Frame L)} {numbers : Numbers} → Open stack (rs ++ (entryRecord (numbers .depth) (numbers .number) f ∷ []))
+          → Goes rs f (adds stack numbers)
+      goes-joins : {stack : List (Frame L)} {start : ℕ} {numbers : Numbers}
+          → Open stack (joinedList start (entryRecord (numbers .depth) (numbers .number) f) rs)
           → Goes rs f (joinsAt stack start numbers)
       goes-disorders : {group : ℕ} → Goes rs f (disorders group)
       goes-leaves : Goes rs f leaves
 
     module _ (f : Field) where
-      opens-entry : {group : OpenGroup L} {entries : ℕ} {stack : List (Frame L)} (rs : List Record) → Open (run group entries ∷ stack) rs → (otherwise : Move L) → Goes rs f otherwise → (b c : Bool)
+      opens-entry : {group : OpenGroup L} {entries : ℕ} {stack : List (Frame L)} (rs : List Record) → Open (run group entries ∷ stack) rs
+          → (otherwise : Move L) → Goes rs f otherwise → (b c : Bool)
           → opens rules (group .level) (f .tag) ≡ b →
           Goes rs f (pick b (adds (entry group (record { number = entries + 1; last = 0; start = length rs }) ∷ run group (entries + 1) ∷ stack) (numbersIn group (entries + 1))) (pick c (disorders (group .tag)) otherwise))
       unfolding entryRecord
@@ -124,9 +133,11 @@ module _ {L : Type 0} (rules : Rules L) where
         open-plain : (position : ℕ) → rules .position (group .level) (f .tag) ≡ At position → last < position →
             Open (entry group (record { number = number + 1; last = position; start = length before }) ∷ run group (number + 1) ∷ stack) ((before ++ own) ++ (entryRecord (group .depth) (number + 1) f ∷ []))
         unfolding entryRecord
-        open-plain position p l = rw (append-assoc before own (entryRecord (group .depth) (number + 1) f ∷ [])) (in-entry before (own ++ (entryRecord (group .depth) (number + 1) f ∷ [])) o (rises position fm p l (own-record (group .depth) (number + 1) f)))
+        open-plain position p l =
+            rw (append-assoc before own (entryRecord (group .depth) (number + 1) f ∷ [])) (in-entry before (own ++ (entryRecord (group .depth) (number + 1) f ∷ [])) o (rises position fm p l (own-record (group .depth) (number + 1) f)))
 
-        open-count : (inner : L) (position : ℕ) → rules .position (group .level) (f .tag) ≡ At position → last < position → group .depth < 4 → rules .group (group .level) (f .tag) ≡ opened inner →
+        open-count : (inner : L) (position : ℕ) → rules .position (group .level) (f .tag) ≡ At position → last < position → group .depth < 4
+            → rules .group (group .level) (f .tag) ≡ opened inner →
             Open (run (nested group (f .tag) inner) 0 ∷ entry group (record { number = number + 1; last = position; start = length before }) ∷ run group (number + 1) ∷ stack)
             ((before ++ own) ++ (entryRecord (group .depth) (number + 1) f ∷ []))
         unfolding entryRecord
@@ -137,7 +148,8 @@ module _ {L : Type 0} (rules : Rules L) where
         open-user : rules .position (group .level) (f .tag) ≡ Nowhere → rules .accepts (f .tag) ≡ true →
             Open (entry group (record { number = number + 1; last = last; start = length before }) ∷ run group (number + 1) ∷ stack) (joinedList (length before) (entryRecord (group .depth) (number + 1) f) (before ++ own))
         unfolding entryRecord
-        open-user p a = rw (join-own before own (entryRecord (group .depth) (number + 1) f)) (in-entry before (stored (entryRecord (group .depth) (number + 1) f) own) o (user fm p a (own-record (group .depth) (number + 1) f)))
+        open-user p a =
+            rw (join-own before own (entryRecord (group .depth) (number + 1) f)) (in-entry before (stored (entryRecord (group .depth) (number + 1) f) own) o (user fm p a (own-record (group .depth) (number + 1) f)))
 
         takes-field : (otherwise : Move L) → Goes (before ++ own) f otherwise → {k : Kind L} → Says (group .level) (group .depth) last (f .tag) k →
             Goes (before ++ own) f (inEntry group (record { number = number + 1; last = last; start = length before }) (run group (number + 1) ∷ stack) (f .tag) otherwise k)
@@ -150,7 +162,8 @@ module _ {L : Type 0} (rules : Rules L) where
 
       step-frame : {frame : Frame L} {below : List (Frame L)} {rs : List Record} → Open (frame ∷ below) rs → ((rs₁ : List Record) → Open below rs₁ → Goes rs₁ f (decide rules (length rs₁) below (f .tag))) → Goes rs f (decide rules (length rs) (frame ∷ below) (f .tag))
       unfolding decide
-      step-frame (first-run {entries} rs fm) later = opens-entry (base ++ rs) (first-run rs fm) leaves goes-leaves (opens rules (bottom .level) (f .tag)) (eqb entries 0) refl
+      step-frame (first-run {entries} rs fm) later =
+          opens-entry (base ++ rs) (first-run rs fm) leaves goes-leaves (opens rules (bottom .level) (f .tag)) (eqb entries 0) refl
       step-frame (nested-run {inner = inner} {entries = entries} c before own more o fm g m) later =
           opens-entry ((before ++ (own ++ (c ∷ []))) ++ more) (nested-run c before own more o fm g m) _ (later _ (close-run c before own more o fm g m)) (opens rules inner (f .tag)) (eqb entries 0) refl
       step-frame (in-entry {group = group} {last = last} before own o fm) later =
@@ -204,7 +217,8 @@ module _ {L : Type 0} (rules : Rules L) where
     close-all (frame ∷ below) rs o = close-frame o (λ rs₁ o₁. close-all below rs₁ o₁)
 
     -- a run that was read to its end
-    pub run-formed : (room : ℕ) (fields : Fields) (f : Field) (rest : Fields) (room₁ : ℕ) (rs : List Record) → walk rules listStore room (run bottom 0 ∷ []) base fields ≡ ended f rest room₁ rs → Read rs
+    pub run-formed : (room : ℕ) (fields : Fields) (f : Field) (rest : Fields) (room₁ : ℕ) (rs : List Record)
+        → walk rules listStore room (run bottom 0 ∷ []) base fields ≡ ended f rest room₁ rs → Read rs
     run-formed room fields f rest room₁ rs e =
         let begun : Open (run bottom 0 ∷ []) (base ++ []) = first-run [] no-entry in
         let w = walk-open room (run bottom 0 ∷ []) base fields (rw (append-nil base) at begun) f rest room₁ rs e in

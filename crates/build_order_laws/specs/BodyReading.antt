@@ -48,12 +48,14 @@ module _ {L : Type 0} (rules : Rules L) (demands : Demands L) where
     unfolding runFrom
     run-taken f rest room₁ rs₁ e = by-outcome (walk rules listStore room (run (outermost tag inner) 0 ∷ []) [] fields) refl e
       where
-        by-lack : (h : Field) (last : Fields) (room₂ : ℕ) (es : List Record) → walk rules listStore room (run (outermost tag inner) 0 ∷ []) [] fields ≡ ran h last room₂ es
+        by-lack : (h : Field) (last : Fields) (room₂ : ℕ) (es : List Record) → walk rules listStore room (run (outermost tag inner) 0 ∷ []) [] fields
+            ≡ ran h last room₂ es
             → (lack : Lack) → runLack demands 4 inner tag 1 es ≡ lack → andThen (withRun count rs (checked h last room₂ es lack)) on ≡ ended f rest room₁ rs₁ → RunTaken inner tag room count rs fields on (ended f rest room₁ rs₁)
         by-lack h last room₂ es w Complete c e = record { found = h; behind = last; room-left = room₂; entries = es; walked = w; complete = c; goes-on = (unfold checked withRun andThen in e) }
         by-lack h last room₂ es w (Missing t u) c e = let z : _≡_ {A = ℕ} 0 1 = unfold checked withRun andThen in cc in absurd (omega arith)
 
-        by-outcome : (o : RunOutcome (List Record) (List Record)) → walk rules listStore room (run (outermost tag inner) 0 ∷ []) [] fields ≡ o → andThen (withRun count rs (ranAs rules demands inner tag o)) on ≡ ended f rest room₁ rs₁
+        by-outcome : (o : RunOutcome (List Record) (List Record)) → walk rules listStore room (run (outermost tag inner) 0 ∷ []) [] fields ≡ o
+            → andThen (withRun count rs (ranAs rules demands inner tag o)) on ≡ ended f rest room₁ rs₁
             → RunTaken inner tag room count rs fields on (ended f rest room₁ rs₁)
         by-outcome (ran h last room₂ es) w e = by-lack h last room₂ es w (runLack demands 4 inner tag 1 es) refl (unfold ranAs in e)
         by-outcome (stops refusal es) w e = let z : _≡_ {A = ℕ} 0 1 = unfold ranAs withRun andThen in cc in absurd (omega arith)

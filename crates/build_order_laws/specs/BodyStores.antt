@@ -116,7 +116,8 @@ module _ {L : Type 0} (rules : Rules L) (demands : Demands L) (tags : List ℕ) 
       after-lack h last left es Complete w e = stores-then (stores-run rs w) (later (field h last) (suc left) (storedRun (partRecord 2 g) es rs) e)
       after-lack h last left es (Missing t u) w e = let z : _≡_ {A = ℕ} 0 1 = cc in absurd (omega arith)
 
-      after-run : (inner : L) (o : RunOutcome (List Record) (List Record)) → walk rules listStore room (run (outermost (g .tag) inner) 0 ∷ []) [] more ≡ o → andThen (withRun (partRecord 2 g) rs (ranAs rules demands inner (g .tag) o)) (bodyWithin body turns) ≡ ended f rest room₁ rs₁
+      after-run : (inner : L) (o : RunOutcome (List Record) (List Record)) → walk rules listStore room (run (outermost (g .tag) inner) 0 ∷ []) [] more ≡ o
+          → andThen (withRun (partRecord 2 g) rs (ranAs rules demands inner (g .tag) o)) (bodyWithin body turns) ≡ ended f rest room₁ rs₁
           → Stores 2 (field g more) (suc room) rs (field f rest) (suc room₁) rs₁
       unfolding ranAs
       after-run inner (ran h last left es) w e =
@@ -130,7 +131,8 @@ module _ {L : Type 0} (rules : Rules L) (demands : Demands L) (tags : List ℕ) 
       after-kind : (k : Kind L) → takes body (bodyWithin body turns) g more room rs k ≡ ended f rest room₁ rs₁ → Stores 2 (field g more) (suc room) rs (field f rest) (suc room₁) rs₁
       unfolding takes
       after-kind plain e = stores-then stores-field (after-next more room (stored (partRecord 2 g) rs) e)
-      after-kind (counts inner) e = after-run inner (walk rules listStore room (run (outermost (g .tag) inner) 0 ∷ []) [] more) refl (unfold bodyOf runFrom in e)
+      after-kind (counts inner) e =
+          after-run inner (walk rules listStore room (run (outermost (g .tag) inner) 0 ∷ []) [] more) refl (unfold bodyOf runFrom in e)
       after-kind other e = after-other (holdsTag (g .tag) (body .trailer)) e
 
   within-stores : (turns : ℕ) (fields : Fields) (room : ℕ) (rs : List Record) (f : Field) (rest : Fields) (room₁ : ℕ) (rs₁ : List Record) → bodyWithin body turns fields room rs ≡ ended f rest room₁ rs₁ → Stores 2 fields room rs (field f rest) (suc room₁) rs₁

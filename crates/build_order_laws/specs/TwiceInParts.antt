@@ -117,7 +117,8 @@ module _ {L : Type 0} (rules : Rules L) (demands : Demands L) (tags : List ℕ) 
           tells-either inRun held behind (tells-then inRun (pick held true behind) a b)
       after-lack inRun h last left es (Missing t u) w e = let z : _≡_ {A = ℕ} 0 1 = cc in absurd (omega arith)
 
-      after-run : (inner : L) (o : RunOutcome (List Record) (List Record)) → walk rules listStore room (run (outermost (g .tag) inner) 0 ∷ []) [] more ≡ o → andThen (withRun (partRecord 2 g) rs (ranAs rules demands inner (g .tag) o)) (bodyWithin body turns) ≡ ended f rest room₁ rs₁
+      after-run : (inner : L) (o : RunOutcome (List Record) (List Record)) → walk rules listStore room (run (outermost (g .tag) inner) 0 ∷ []) [] more ≡ o
+          → andThen (withRun (partRecord 2 g) rs (ranAs rules demands inner (g .tag) o)) (bodyWithin body turns) ≡ ended f rest room₁ rs₁
           → Tells (pick (has 0 (g .tag) rs) true (pick (twiceInRun rules (run (outermost (g .tag) inner) 0 ∷ []) [] more) true (twiceBehind (withRun (partRecord 2 g) rs (ranAs rules demands inner (g .tag) o)) (twiceWithin rules body turns)))) (length rs + suc room) (length rs₁ + suc room₁)
       unfolding ranAs
       after-run inner (ran h last left es) w e =
@@ -132,7 +133,8 @@ module _ {L : Type 0} (rules : Rules L) (demands : Demands L) (tags : List ℕ) 
       after-kind : (k : Kind L) → takes body (bodyWithin body turns) g more room rs k ≡ ended f rest room₁ rs₁ → Tells (twiceTaking rules body (twiceWithin rules body turns) g more room rs k) (length rs + suc room) (length rs₁ + suc room₁)
       unfolding takes twiceTaking
       after-kind plain e = tells-then (has 0 (g .tag) rs) _ (tells-field 2 g rs room) (after-next more room (stored (partRecord 2 g) rs) e)
-      after-kind (counts inner) e = unfold bodyOf runFrom in after-run inner (walk rules listStore room (run (outermost (g .tag) inner) 0 ∷ []) [] more) refl (unfold bodyOf runFrom in e)
+      after-kind (counts inner) e =
+          unfold bodyOf runFrom in after-run inner (walk rules listStore room (run (outermost (g .tag) inner) 0 ∷ []) [] more) refl (unfold bodyOf runFrom in e)
       after-kind other e = after-other (holdsTag (g .tag) (body .trailer)) e
 
   within-tells : (turns : ℕ) (fields : Fields) (room : ℕ) (rs : List Record) (f : Field) (rest : Fields) (room₁ : ℕ) (rs₁ : List Record) → bodyWithin body turns fields room rs ≡ ended f rest room₁ rs₁ → Tells (twiceWithin rules body turns fields room rs) (length rs + room) (length rs₁ + suc room₁)

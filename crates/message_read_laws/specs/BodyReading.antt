@@ -78,7 +78,8 @@ run-fewer r es (x ∷ rs) = by-tests (eqb (x .depth) (r .depth)) (eqb (x .tag) (
 module _ {L : Type 0} (rules : Rules L) (first : (level : L) (tag : ℕ) → opens rules level tag ≡ true → rules .position level tag ≡ At 0) where
   -- the count's field is read, then its run, and both go into the body
   reads-run : {message : List ℕ} {most bytes : ℕ} {f g : Field} {rest more : Fields} {room room₁ : ℕ} {rs : List Record} (inner : L) (run-records : List Record) → Reads message 2 most bytes (field f rest) (suc room) rs
-      → walk rules listStore room (run (outermost (f .tag) inner) 0 ∷ []) [] rest ≡ ran g more room₁ run-records → Reads message 2 most bytes (field g more) (suc room₁) (storedRun (partRecord 2 f) run-records rs)
+      → walk rules listStore room (run (outermost (f .tag) inner) 0 ∷ []) [] rest ≡ ran g more room₁ run-records
+      → Reads message 2 most bytes (field g more) (suc room₁) (storedRun (partRecord 2 f) run-records rs)
   unfolding budget
   reads-run {message} {most} {bytes} {f} {g} {rest} {more} {room} {room₁} {rs} inner run-records r e =
       let c = r .counts in
@@ -159,5 +160,6 @@ module _ {L : Type 0} (rules : Rules L) (first : (level : L) (tag : ℕ) → ope
             → ((fields₃ : Fields) (room₃ : ℕ) (rs₃ : List Record) → Reads message 2 most bytes fields₃ room₃ rs₃ → bodyWithin body turns fields₃ room₃ rs₃ ≡ ended f rest room₁ rs₁ → Reads message 2 most bytes (field f rest) (suc room₁) rs₁)
             → Reads message 2 most bytes (field f rest) (suc room₁) rs₁
         by-kind plain q later = after-next more room (stored (partRecord 2 g) rs) (reads-on r) (unfold takes in q) later
-        by-kind (counts inner) q later = after-run inner (walk rules listStore room (run (outermost (g .tag) inner) 0 ∷ []) [] more) refl (unfold takes bodyOf runFrom in q) later
+        by-kind (counts inner) q later =
+            after-run inner (walk rules listStore room (run (outermost (g .tag) inner) 0 ∷ []) [] more) refl (unfold takes bodyOf runFrom in q) later
         by-kind other q later = by-tag (holdsTag (g .tag) (body .trailer)) (unfold takes in q)

@@ -58,8 +58,10 @@ entry-small depth number f d n fine = record { of-three = omega arith; shallow =
 
 data StackFits {L : Type 0} (room : ℕ) : List (Frame L) → Type 0 where
   nothing-open : StackFits room []
-  run-open : {group : OpenGroup L} {entries : ℕ} {below : List (Frame L)} → group .depth ≤ 4 → entries + room ≤ 1024 → StackFits room below → StackFits room (run group entries ∷ below)
-  entry-open : {group : OpenGroup L} {own : OpenEntry} {below : List (Frame L)} → group .depth ≤ 4 → own .number + room ≤ 1024 → StackFits room below → StackFits room (entry group own ∷ below)
+  run-open : {group : OpenGroup L} {entries : ℕ} {below : List (Frame L)} → group .depth ≤ 4 → entries + room ≤ 1024 → StackFits room below
+      → StackFits room (run group entries ∷ below)
+  entry-open : {group : OpenGroup L} {own : OpenEntry} {below : List (Frame L)} → group .depth ≤ 4 → own .number + room ≤ 1024 → StackFits room below
+      → StackFits room (entry group own ∷ below)
 
 one-less : {L : Type 0} {room : ℕ} {stack : List (Frame L)} → StackFits (suc room) stack → StackFits room stack
 one-less nothing-open = nothing-open
@@ -107,12 +109,14 @@ module _ {L : Type 0} (rules : Rules L) where
   unfolding entryKind
   kind-fits level depth last tag = kind-pick depth (opens rules level tag) ends (declared rules level depth last tag (rules .position level tag)) tt (declared-fits level depth last tag (rules .position level tag))
 
-  in-entry-fits : (room : ℕ) (group : OpenGroup L) (own : OpenEntry) (below : List (Frame L)) (tag : ℕ) (otherwise : Move L) (k : Kind L) → KindFits (group .depth) k → group .depth ≤ 4
+  in-entry-fits : (room : ℕ) (group : OpenGroup L) (own : OpenEntry) (below : List (Frame L)) (tag : ℕ) (otherwise : Move L) (k : Kind L)
+      → KindFits (group .depth) k → group .depth ≤ 4
       → own .number + room ≤ 1024 → room ≤ 1024 → StackFits room below → MoveFits room otherwise
       → MoveFits room (inEntry group own below tag otherwise k)
   unfolding inEntry
   in-entry-fits room group own below tag otherwise (plain position) k d n r s o = (entry-open d n s, d, omega (arith, n))
-  in-entry-fits room group own below tag otherwise (count inner position) k d n r s o = (run-open {group = nested group tag inner} {entries = 0} (omega (arith, k)) (omega (arith, r)) (entry-open d n s), d, omega (arith, n))
+  in-entry-fits room group own below tag otherwise (count inner position) k d n r s o =
+      (run-open {group = nested group tag inner} {entries = 0} (omega (arith, k)) (omega (arith, r)) (entry-open d n s), d, omega (arith, n))
   in-entry-fits room group own below tag otherwise joins k d n r s o = (entry-open d n s, d, omega (arith, n))
   in-entry-fits room group own below tag otherwise wrong k d n r s o = tt
   in-entry-fits room group own below tag otherwise ends k d n r s o = o
@@ -245,5 +249,6 @@ module _ {L : Type 0} (rules : Rules L) (demands : Demands L) (tags : List ℕ) 
 
       by-kind : (k : Taken L) → takes body (bodyWithin body turns) g more room rs k ≡ ended f rest room₁ rs₁ → Later → Kept message (field f rest) (suc room₁) rs₁
       by-kind takes-plain q later = after-next more room (stored (partRecord 2 g) rs) (part-kept 2 (omega arith) r) (unfold takes in q) later
-      by-kind (counts inner) q later = after-run inner (walk rules listStore room (run (outermost (g .tag) inner) 0 ∷ []) [] more) refl (unfold takes bodyOf runFrom in q) later
+      by-kind (counts inner) q later =
+          after-run inner (walk rules listStore room (run (outermost (g .tag) inner) 0 ∷ []) [] more) refl (unfold takes bodyOf runFrom in q) later
       by-kind other q later = by-tag (holdsTag (g .tag) (body .trailer)) (unfold takes in q)

@@ -52,13 +52,15 @@ module _ {L : Type 0} (rules : Rules L) (demands : Demands L) (tags : List ℕ) 
         after-next (field g more) (suc room) rs e p = later (field g more) (suc room) rs e p
 
         module _ (g : Field) (more : Fields) (room : ℕ) (rs : List Record) (p : P (suc turns) (field g more) (suc room) rs) where
-          after-lack : (inner : L) → body .kind (g .tag) ≡ counts inner → (h : Field) (last : Fields) (left : ℕ) (es : List Record) (lack : Lack) → walk rules listStore room (run (outermost (g .tag) inner) 0 ∷ []) [] more ≡ ran h last left es
+          after-lack : (inner : L) → body .kind (g .tag) ≡ counts inner → (h : Field) (last : Fields) (left : ℕ) (es : List Record) (lack : Lack)
+              → walk rules listStore room (run (outermost (g .tag) inner) 0 ∷ []) [] more ≡ ran h last left es
               → body .run inner (g .tag) more room ≡ checked h last left es lack → andThen (withRun (partRecord 2 g) rs (checked h last left es lack)) (bodyWithin body turns) ≡ ended f rest room₁ rs₁ → Ends f rest room₁ rs₁
           unfolding checked withRun andThen
           after-lack inner k h last left es Complete w c e = later (field h last) (suc left) (storedRun (partRecord 2 g) es rs) e (run-stored turns g more room rs inner h last left es k (record { walked = w; comes-to = c }) p)
           after-lack inner k h last left es (Missing t u) w c e = let z : _≡_ {A = ℕ} 0 1 = cc in absurd (omega arith)
 
-          after-run : (inner : L) → body .kind (g .tag) ≡ counts inner → (o : RunOutcome (List Record) (List Record)) → walk rules listStore room (run (outermost (g .tag) inner) 0 ∷ []) [] more ≡ o
+          after-run : (inner : L) → body .kind (g .tag) ≡ counts inner → (o : RunOutcome (List Record) (List Record))
+              → walk rules listStore room (run (outermost (g .tag) inner) 0 ∷ []) [] more ≡ o
               → andThen (withRun (partRecord 2 g) rs (ranAs rules demands inner (g .tag) o)) (bodyWithin body turns) ≡ ended f rest room₁ rs₁ → Ends f rest room₁ rs₁
           unfolding ranAs
           after-run inner k (ran h last left es) w e =
@@ -77,7 +79,8 @@ module _ {L : Type 0} (rules : Rules L) (demands : Demands L) (tags : List ℕ) 
           after-kind : (k : Kind L) → body .kind (g .tag) ≡ k → takes body (bodyWithin body turns) g more room rs k ≡ ended f rest room₁ rs₁ → Ends f rest room₁ rs₁
           unfolding takes
           after-kind plain k e = after-next more room (stored (partRecord 2 g) rs) e (field-stored turns g more room rs k p)
-          after-kind (counts inner) k e = after-run inner k (walk rules listStore room (run (outermost (g .tag) inner) 0 ∷ []) [] more) refl (unfold bodyOf runFrom in e)
+          after-kind (counts inner) k e =
+              after-run inner k (walk rules listStore room (run (outermost (g .tag) inner) 0 ∷ []) [] more) refl (unfold bodyOf runFrom in e)
           after-kind other k e = after-other k (holdsTag (g .tag) (body .trailer)) e
 
       pub body-ends : (turns : ℕ) (fields : Fields) (room : ℕ) (rs : List Record) → bodyWithin body turns fields room rs ≡ ended f rest room₁ rs₁ → P turns fields room rs → Ends f rest room₁ rs₁

@@ -101,9 +101,11 @@ module _ {L : Type 0} (rules : Rules L) (demands : Demands L) (tags : List ℕ) 
     lack-ascends g more left es Complete q = later (field g more) (suc left) q
     lack-ascends g more left es (Missing t u) q = ascends-none
 
-    run-ascends : (o : RunOutcome (List Record) (List Record)) → walk rules listStore room (run (outermost tag inner) 0 ∷ []) [] rest ≡ o → Ascending at (takenBehind (ranAs rules demands inner tag o) on)
+    run-ascends : (o : RunOutcome (List Record) (List Record)) → walk rules listStore room (run (outermost tag inner) 0 ∷ []) [] rest ≡ o
+        → Ascending at (takenBehind (ranAs rules demands inner tag o) on)
     unfolding ranAs
-    run-ascends (ran g more left es) w = lack-ascends g more left es (runLack demands 4 inner tag 1 es) (rising-reaches (walk-stores rules room (run (outermost tag inner) 0 ∷ []) [] rest g more left es w .reaches) r)
+    run-ascends (ran g more left es) w =
+        lack-ascends g more left es (runLack demands 4 inner tag 1 es) (rising-reaches (walk-stores rules room (run (outermost tag inner) 0 ∷ []) [] rest g more left es w .reaches) r)
     run-ascends (stops refusal es) w = unfold takenBehind in ascends-none
 
   kind-ascends : (on : Fields → ℕ → List Field) → ((at : ℕ) (fields : Fields) (left : ℕ) → Rising at fields → Ascending at (on fields left)) → (f : Field) (rest : Fields) (room at : ℕ) → at ≤ f .place → Rising (suc (f .place)) rest → (k : Kind L)

@@ -153,7 +153,8 @@ walk-loses {L} rules (suc room) stack rs (field g more) f rest room₁ rs₁ at 
         → ((stack₂ : List (Frame L)) (rs₂ : List Record) → walk rules listStore room stack₂ rs₂ more ≡ ran f rest room₁ rs₁ → Kept (suc (g .place)) (seen ++ (g ∷ [])) rs₂ → twiceInRun rules stack₂ rs₂ more ≡ true → RunLoses (seen ++ (g ∷ [])) more (field f rest) rs₁)
         → ((stack₂ : List (Frame L)) (rs₂ : List Record) (q : ℕ) → walk rules listStore room stack₂ rs₂ more ≡ ran f rest room₁ rs₁ → q < suc (g .place) → All (Elsewhere q) rs₂ → Goes more (field f rest) q rs₁)
         → RunLoses seen (field g more) (field f rest) rs₁
-    by-move (adds stack₂ numbers) e t later goes = loses-later seen g more (field f rest) rs₁ (later stack₂ (rs ++ (entryRecord (numbers .depth) (numbers .number) g ∷ [])) (unfold moved listStore in e) (kept-added g p (numbers .depth) (numbers .number) k) t)
+    by-move (adds stack₂ numbers) e t later goes =
+        loses-later seen g more (field f rest) rs₁ (later stack₂ (rs ++ (entryRecord (numbers .depth) (numbers .number) g ∷ [])) (unfold moved listStore in e) (kept-added g p (numbers .depth) (numbers .number) k) t)
     by-move (joinsAt stack₂ start numbers) e t later goes = by-test (has (numbers .depth) (g .tag) (drop start rs)) refl t
       where
         r₂ : Record
@@ -166,8 +167,10 @@ walk-loses {L} rules (suc room) stack rs (field g more) f rest room₁ rs₁ at 
             let b = all-member (k .before) (o .member) in
             loses-now seen g more (field f rest) rs₁ old (o .tagged ∙ entry-tag (numbers .depth) (numbers .number) g) (all-member (k .seen) (o .member)) (goes stack₂ (joinedList start r₂ rs) (old .place) (unfold moved listStore in e) (omega (arith, b .starts, p)) (o .gone))
 
-        by-test : (d : Bool) → has (numbers .depth) (g .tag) (drop start rs) ≡ d → pick d true (twiceInRun rules stack₂ (joinedList start r₂ rs) more) ≡ true → RunLoses seen (field g more) (field f rest) rs₁
+        by-test : (d : Bool) → has (numbers .depth) (g .tag) (drop start rs) ≡ d → pick d true (twiceInRun rules stack₂ (joinedList start r₂ rs) more) ≡ true
+            → RunLoses seen (field g more) (field f rest) rs₁
         by-test true d t = over d
-        by-test false d t = loses-later seen g more (field f rest) rs₁ (later stack₂ (joinedList start r₂ rs) (unfold moved listStore in e) (kept-joined g p (numbers .depth) (numbers .number) k start) t)
+        by-test false d t =
+            loses-later seen g more (field f rest) rs₁ (later stack₂ (joinedList start r₂ rs) (unfold moved listStore in e) (kept-joined g p (numbers .depth) (numbers .number) k start) t)
     by-move (disorders group) e t later goes = let z : _≡_ {A = ℕ} 0 1 = cc in absurd (omega arith)
     by-move leaves e t later goes = let z : _≡_ {A = ℕ} 0 1 = cc in absurd (omega arith)

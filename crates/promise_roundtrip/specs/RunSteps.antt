@@ -24,8 +24,10 @@ module _ {L : Type 0} (rules : Rules L) (P : Fields → List Record → Type 0)
     where
       by-move : (m : Move L) → moved listStore room rs g more (λ stack₂ rs₂. walk rules listStore room stack₂ rs₂ more) m ≡ ran f rest room₁ rs₁
           → ((stack₂ : List (Frame L)) (rs₂ : List Record) → walk rules listStore room stack₂ rs₂ more ≡ ran f rest room₁ rs₁ → P more rs₂ → P (field f rest) rs₁) → P (field f rest) rs₁
-      by-move (adds stack₂ numbers) e later = later stack₂ (rs ++ (entryRecord (numbers .depth) (numbers .number) g ∷ [])) (unfold moved listStore in e) (added g more rs (numbers .depth) (numbers .number) p)
-      by-move (joinsAt stack₂ start numbers) e later = later stack₂ (joinedList start (entryRecord (numbers .depth) (numbers .number) g) rs) (unfold moved listStore in e) (joined g more rs start (numbers .depth) (numbers .number) p)
+      by-move (adds stack₂ numbers) e later =
+          later stack₂ (rs ++ (entryRecord (numbers .depth) (numbers .number) g ∷ [])) (unfold moved listStore in e) (added g more rs (numbers .depth) (numbers .number) p)
+      by-move (joinsAt stack₂ start numbers) e later =
+          later stack₂ (joinedList start (entryRecord (numbers .depth) (numbers .number) g) rs) (unfold moved listStore in e) (joined g more rs start (numbers .depth) (numbers .number) p)
       by-move (disorders group) e later = let z : _≡_ {A = ℕ} 0 1 = unfold moved in cc in absurd (omega arith)
       by-move leaves e later =
           let q : _≡_ {A = RunOutcome (List Record) (List Record)} (ran g more room rs) (ran f rest room₁ rs₁) = unfold moved in e in

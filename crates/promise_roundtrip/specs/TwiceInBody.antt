@@ -99,7 +99,9 @@ module _ {L : Type 0} (rules : Rules L) (demands : Demands L) (tags : List ℕ) 
   lack-read h g last more room left rs es (Missing t u) e = let z : _≡_ {A = ℕ} 0 1 = cc in absurd (omega arith)
 
   module _ (inner : L) (f : Field) (rest : Fields) (room : ℕ) (g : Field) (more : Fields) (left : ℕ) (es : List Record) where
-    outcome-read : (o : RunOutcome (List Record) (List Record)) → walk rules listStore room (run (outermost (f .tag) inner) 0 ∷ []) [] rest ≡ o → ranAs rules demands inner (f .tag) o ≡ ended g more left es → walk rules listStore room (run (outermost (f .tag) inner) 0 ∷ []) [] rest ≡ ran g more left es
+    outcome-read : (o : RunOutcome (List Record) (List Record)) → walk rules listStore room (run (outermost (f .tag) inner) 0 ∷ []) [] rest ≡ o
+        → ranAs rules demands inner (f .tag) o ≡ ended g more left es → walk rules listStore room (run (outermost (f .tag) inner) 0 ∷ []) [] rest
+        ≡ ran g more left es
     unfolding ranAs
     outcome-read (ran h last room₁ rs) w e = w ∙ lack-read h g last more room₁ left rs es (runLack demands 4 inner (f .tag) 1 rs) e
     outcome-read (stops refusal rs) w e = let z : _≡_ {A = ℕ} 0 1 = cc in absurd (omega arith)
@@ -191,7 +193,9 @@ module _ {L : Type 0} (rules : Rules L) (demands : Demands L) (tags : List ℕ) 
         behind-repeats inner (refused answer) o e t = let z : _≡_ {A = ℕ} 0 1 = cc in absurd (omega arith)
 
         -- in a run
-        entry-repeats : (inner : L) → body .kind (g .tag) ≡ counts inner → (o : Reading) → body .run inner (g .tag) more room ≡ o → andThen (withRun (partRecord 2 g) rs o) (bodyWithin body turns) ≡ ended f rest room₁ rs₁ → twiceInRun rules (run (outermost (g .tag) inner) 0 ∷ []) [] more ≡ true → EntryLoses start rs₁
+        entry-repeats : (inner : L) → body .kind (g .tag) ≡ counts inner → (o : Reading) → body .run inner (g .tag) more room ≡ o
+            → andThen (withRun (partRecord 2 g) rs o) (bodyWithin body turns) ≡ ended f rest room₁ rs₁
+            → twiceInRun rules (run (outermost (g .tag) inner) 0 ∷ []) [] more ≡ true → EntryLoses start rs₁
         unfolding withRun andThen
         entry-repeats inner c (ended k last left es) o e t =
             let w = run-read inner g more room k last left es o in

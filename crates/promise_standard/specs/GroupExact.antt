@@ -55,13 +55,17 @@ module _ {L : Type 0} (rules : Rules L) (message : List ℕ) (x : Field) (rest :
 
     abbrev MembersExact : {ts : List ℕ} → (fs : List Told) → Stands T Here (members ts) fs → Type 0
     MembersExact fs s =
-        (group : OpenGroup L) (own : OpenEntry) (below : List (Frame L)) (more : List (ℕ × ℕ)) (fields : Fields) (y : Field) (later : Fields) → Gives rules (Elsewhere (group .depth) (own .number)) below → Head (Elsewhere (group .depth) (own .number)) more
-        → ReadsAs message fields fs (field y later) → Takes rules x rest (entry group own ∷ below) (numbered (group .depth) (own .number) s ++ more) fields → MembersFit (group .level) (group .depth) (own .last) fs s below more y later
+        (group : OpenGroup L) (own : OpenEntry) (below : List (Frame L)) (more : List (ℕ × ℕ)) (fields : Fields) (y : Field) (later : Fields)
+        → Gives rules (Elsewhere (group .depth) (own .number)) below → Head (Elsewhere (group .depth) (own .number)) more
+        → ReadsAs message fields fs (field y later) → Takes rules x rest (entry group own ∷ below) (numbered (group .depth) (own .number) s ++ more) fields
+        → MembersFit (group .level) (group .depth) (own .last) fs s below more y later
 
     abbrev EntriesExact : {c d n : ℕ} → (gs : List Told) → Stands T Here (entries c d n) gs → Type 0
     EntriesExact gs s =
-        (group : OpenGroup L) (number : ℕ) (below : List (Frame L)) (more : List (ℕ × ℕ)) (fields : Fields) (y : Field) (later : Fields) → Gives rules (Above (group .depth)) below → Head (Above (group .depth)) more
-        → ReadsAs message fields gs (field y later) → Takes rules x rest (run group number ∷ below) (numbered (group .depth) number s ++ more) fields → EntriesFit (group .level) (group .depth) gs s below more y later
+        (group : OpenGroup L) (number : ℕ) (below : List (Frame L)) (more : List (ℕ × ℕ)) (fields : Fields) (y : Field) (later : Fields)
+        → Gives rules (Above (group .depth)) below → Head (Above (group .depth)) more
+        → ReadsAs message fields gs (field y later) → Takes rules x rest (run group number ∷ below) (numbered (group .depth) number s ++ more) fields
+        → EntriesFit (group .level) (group .depth) gs s below more y later
 
     exact-no-member : MembersExact [] Stands.no-member
     unfolding numbered
@@ -83,7 +87,9 @@ module _ {L : Type 0} (rules : Rules L) (message : List ℕ) (x : Field) (rest :
     exact-field {t} {v} {ts} {fs} may single s inside group own below more _ y later gives head (one-field {f = f} {rest = behind} same value reads) (takes here {more = frames} e taken) =
         by-goes frames (entry-goes rules group own below gives here (f .tag) frames e) taken
       where
-        by-goes : (frames : List (Frame L)) → Goes rules group own below (f .tag) frames → Takes rules x rest frames (numbered (group .depth) (own .number) s ++ more) behind → MembersFit (group .level) (group .depth) (own .last) (told t v ∷ fs) (Stands.field {t = t} {v = v} may single s) below more y later
+        by-goes : (frames : List (Frame L)) → Goes rules group own below (f .tag) frames
+            → Takes rules x rest frames (numbered (group .depth) (own .number) s ++ more) behind
+            → MembersFit (group .level) (group .depth) (own .last) (told t v ∷ fs) (Stands.field {t = t} {v = v} may single s) below more y later
         by-goes _ (goes-plain {position} r g) taken =
             let m = inside group (reaching own position) below more behind y later gives head reads taken in
             record { fits = Fits.plain (rw same at r) (rw same at g) (m .fits); at = m .at; ended-there = m .ended-there; onward = m .onward }
@@ -99,12 +105,15 @@ module _ {L : Type 0} (rules : Rules L) (message : List ℕ) (x : Field) (rest :
         by-goes frames (entry-goes rules group own below gives here (f .tag) frames e) taken
       where
         -- a field that counts no entries has none behind it
-        deeper : (position : ℕ) → Takes rules x rest (entry group (reaching own position) ∷ below) ((numbered (group .depth + 1) 0 g ++ numbered (group .depth) (own .number) s) ++ more) behind → MembersFit (group .level) (group .depth) (own .last) (told t count ∷ (gs ++ fs)) (Stands.group {t = t} may opening i g s) below more y later
+        deeper : (position : ℕ)
+            → Takes rules x rest (entry group (reaching own position) ∷ below) ((numbered (group .depth + 1) 0 g ++ numbered (group .depth) (own .number) s) ++ more) behind → MembersFit (group .level) (group .depth) (own .last) (told t count ∷ (gs ++ fs)) (Stands.group {t = t} may opening i g s) below more y later
         deeper position taken =
             let first = entries-start (group .depth + 1) 0 g in
             absurd (not-deeper rules x rest (group .depth + 1) _ refl (entry-gives rules group (reaching own position) below gives) (rw (first .1) at taken))
 
-        by-goes : (frames : List (Frame L)) → Goes rules group own below (f .tag) frames → Takes rules x rest frames ((numbered (group .depth + 1) 0 g ++ numbered (group .depth) (own .number) s) ++ more) behind → MembersFit (group .level) (group .depth) (own .last) (told t count ∷ (gs ++ fs)) (Stands.group {t = t} may opening i g s) below more y later
+        by-goes : (frames : List (Frame L)) → Goes rules group own below (f .tag) frames
+            → Takes rules x rest frames ((numbered (group .depth + 1) 0 g ++ numbered (group .depth) (own .number) s) ++ more) behind
+            → MembersFit (group .level) (group .depth) (own .last) (told t count ∷ (gs ++ fs)) (Stands.group {t = t} may opening i g s) below more y later
         by-goes _ (goes-plain {position} r o) taken = deeper position taken
         by-goes _ (goes-joins j) taken = deeper (own .last) taken
         by-goes _ (goes-count {inner} {position} r o deep) taken =
@@ -167,7 +176,8 @@ module _ {L : Type 0} (rules : Rules L) (message : List ℕ) (x : Field) (rest :
 
     -- what is read as exactly its entries fits, and the field behind it is none that the group takes
     pub group-fits : {c d n : ℕ} {gs : List Told} (s : Stands T Here (entries c d (suc n)) gs) (group : OpenGroup L) (left : ℕ) (done : List Record) (fields : Fields) → ReadsAs message fields gs (field x rest)
-        → walk rules listStore (length gs + suc left) (run group 0 ∷ []) done fields ≡ ended x rest left (done ++ recordsAs (numbered (group .depth) 0 s) fields)
+        → walk rules listStore (length gs + suc left) (run group 0 ∷ []) done fields
+        ≡ ended x rest left (done ++ recordsAs (numbered (group .depth) 0 s) fields)
         → (Fits rules (entriesOf (group .level) (group .depth)) (x .tag) (entries c d (suc n)) gs s) × (Leaves rules (group .level) (x .tag))
     group-fits {c} {d} {n} {gs} s group left done fields reads e =
         let records : List Record = recordsAs (numbered (group .depth) 0 s) fields in

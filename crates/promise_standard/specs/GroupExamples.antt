@@ -95,7 +95,8 @@ shown (ended f rest room rs) = (0, f .tag, map (λ (r : Record). (r .depth, r .n
 shown (refused refusal rs) = (numberOf (answerOf refusal), 0, [])
 
 unfoldable reading : (ℕ → Bool) → Layout → String → Reading
-reading accepts layout text = shown (walk (layoutRules accepts) listStore 100 (run (outermost 78 layout) 0 ∷ []) [] (fieldsFrom standardMode (bytes text) (startAt 0)))
+reading accepts layout text =
+    shown (walk (layoutRules accepts) listStore 100 (run (outermost 78 layout) 0 ∷ []) [] (fieldsFrom standardMode (bytes text) (startAt 0)))
 
 abbrev one : Layout
 one = field 79 false end

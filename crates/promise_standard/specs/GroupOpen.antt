@@ -58,16 +58,20 @@ entries-start depth number (Stands.entry (Stands.group _ _ i b m) _ d g) = (_, r
 module _ {L : Type 0} (rules : Rules L) where
   -- what holds of each depth and number that is given by what is open
   abbrev pub Gives : (ℕ → ℕ → Type 0) → List (Frame L) → Type 0
-  Gives P frames = (here tag : ℕ) (more : List (Frame L)) (d n : ℕ) → given (decide rules here frames tag) ≡ adds more (record { depth = d; number = n }) → P d n
+  Gives P frames =
+      (here tag : ℕ) (more : List (Frame L)) (d n : ℕ) → given (decide rules here frames tag) ≡ adds more (record { depth = d; number = n }) → P d n
 
   module _ (group : OpenGroup L) (number : ℕ) (below : List (Frame L)) where
-    given-run : (b c : Bool) (frames : List (Frame L)) (m : Move L) → given (pick b (adds frames (numbersIn group (number + 1))) (pick c (disorders (group .tag)) m)) ≡ pick b (adds frames (numbersIn group (number + 1))) (pick c (disorders (group .tag)) (given m))
+    given-run : (b c : Bool) (frames : List (Frame L)) (m : Move L)
+        → given (pick b (adds frames (numbersIn group (number + 1))) (pick c (disorders (group .tag)) m))
+        ≡ pick b (adds frames (numbersIn group (number + 1))) (pick c (disorders (group .tag)) (given m))
     unfolding given
     given-run true c frames m = refl
     given-run false true frames m = refl
     given-run false false frames m = refl
 
-    run-decides : (here tag : ℕ) (b : Bool) → opens rules (group .level) tag ≡ b → given (decide rules here (run group number ∷ below) tag) ≡ pick b (adds (entry group (record { number = number + 1; last = 0; start = here }) ∷ run group (number + 1) ∷ below) (numbersIn group (number + 1))) (pick (eqb number 0) (disorders (group .tag)) (given (decide rules here below tag)))
+    run-decides : (here tag : ℕ) (b : Bool) → opens rules (group .level) tag ≡ b → given (decide rules here (run group number ∷ below) tag)
+        ≡ pick b (adds (entry group (record { number = number + 1; last = 0; start = here }) ∷ run group (number + 1) ∷ below) (numbersIn group (number + 1))) (pick (eqb number 0) (disorders (group .tag)) (given (decide rules here below tag)))
     unfolding decide
     run-decides here tag b o = rw o (given-run b (eqb number 0) _ _)
 
@@ -91,7 +95,8 @@ module _ {L : Type 0} (rules : Rules L) where
             record { up-to = omega (arith, p .above); other = λ a b. omega (arith, p .above) }
 
   module _ (group : OpenGroup L) (own : OpenEntry) (below : List (Frame L)) where
-    entry-decides : (here tag : ℕ) (k : Kind L) → entryKind rules (group .level) (group .depth) (own .last) tag ≡ k → given (decide rules here (entry group own ∷ below) tag) ≡ given (inEntry group own below tag (decide rules here below tag) k)
+    entry-decides : (here tag : ℕ) (k : Kind L) → entryKind rules (group .level) (group .depth) (own .last) tag ≡ k
+        → given (decide rules here (entry group own ∷ below) tag) ≡ given (inEntry group own below tag (decide rules here below tag) k)
     unfolding decide
     entry-decides here tag k e = rw e
 
@@ -112,15 +117,20 @@ module _ {L : Type 0} (rules : Rules L) where
 
     -- what a tag of the entry does to it
     pub data Goes (tag : ℕ) : List (Frame L) → Type 0 where
-      goes-plain : {position : ℕ} → Rises rules (group .level) (own .last) position tag → (rules .group (group .level) tag ≡ none) ⊎ (4 ≤ group .depth) → Goes tag (entry group (reaching own position) ∷ below)
+      goes-plain : {position : ℕ} → Rises rules (group .level) (own .last) position tag → (rules .group (group .level) tag ≡ none) ⊎ (4 ≤ group .depth)
+          → Goes tag (entry group (reaching own position) ∷ below)
       goes-joins : Joins rules (group .level) tag → Goes tag (entry group own ∷ below)
-      goes-count : {inner : L} {position : ℕ} → Rises rules (group .level) (own .last) position tag → rules .group (group .level) tag ≡ opened inner → group .depth < 4 → Goes tag (run (nested group tag inner) 0 ∷ entry group (reaching own position) ∷ below)
+      goes-count : {inner : L} {position : ℕ} → Rises rules (group .level) (own .last) position tag → rules .group (group .level) tag ≡ opened inner
+          → group .depth < 4 → Goes tag (run (nested group tag inner) 0 ∷ entry group (reaching own position) ∷ below)
 
-    pub entry-goes : Gives (Elsewhere (group .depth) (own .number)) below → (here tag : ℕ) (more : List (Frame L)) → given (decide rules here (entry group own ∷ below) tag) ≡ adds more (numbersIn group (own .number)) → Goes tag more
+    pub entry-goes : Gives (Elsewhere (group .depth) (own .number)) below → (here tag : ℕ) (more : List (Frame L))
+        → given (decide rules here (entry group own ∷ below) tag) ≡ adds more (numbersIn group (own .number)) → Goes tag more
     unfolding inEntry given
-    entry-goes g here tag more e = by-kind (entryKind rules (group .level) (group .depth) (own .last) tag) refl (kind-says rules (group .level) (group .depth) (own .last) tag)
+    entry-goes g here tag more e =
+        by-kind (entryKind rules (group .level) (group .depth) (own .last) tag) refl (kind-says rules (group .level) (group .depth) (own .last) tag)
       where
-        by-kind : (k : Kind L) → entryKind rules (group .level) (group .depth) (own .last) tag ≡ k → Says rules (group .level) (group .depth) (own .last) tag k → Goes tag more
+        by-kind : (k : Kind L) → entryKind rules (group .level) (group .depth) (own .last) tag ≡ k
+            → Says rules (group .level) (group .depth) (own .last) tag k → Goes tag more
         by-kind (plain p) q (says-plain r o) =
             let m = entry-decides here tag (plain p) q in
             let same : more ≡ entry group (reaching own p) ∷ below = cc in
@@ -138,10 +148,13 @@ module _ {L : Type 0} (rules : Rules L) where
 
   module _ (group : OpenGroup L) (number : ℕ) (below : List (Frame L)) where
     -- a tag that gets the next number opens an entry
-    pub run-goes : Gives (Above (group .depth)) below → (here tag : ℕ) (more : List (Frame L)) (n : ℕ) → given (decide rules here (run group number ∷ below) tag) ≡ adds more (numbersIn group n) → (opens rules (group .level) tag ≡ true) × (more ≡ entry group (record { number = number + 1; last = 0; start = here }) ∷ run group (number + 1) ∷ below)
+    pub run-goes : Gives (Above (group .depth)) below → (here tag : ℕ) (more : List (Frame L)) (n : ℕ)
+        → given (decide rules here (run group number ∷ below) tag) ≡ adds more (numbersIn group n) → (opens rules (group .level) tag ≡ true)
+        × (more ≡ entry group (record { number = number + 1; last = 0; start = here }) ∷ run group (number + 1) ∷ below)
     run-goes g here tag more n e = by-delimiter (opens rules (group .level) tag) refl (eqb number 0) refl
       where
-        by-delimiter : (b : Bool) → opens rules (group .level) tag ≡ b → (c : Bool) → eqb number 0 ≡ c → (opens rules (group .level) tag ≡ true) × (more ≡ entry group (record { number = number + 1; last = 0; start = here }) ∷ run group (number + 1) ∷ below)
+        by-delimiter : (b : Bool) → opens rules (group .level) tag ≡ b → (c : Bool) → eqb number 0 ≡ c → (opens rules (group .level) tag ≡ true)
+            × (more ≡ entry group (record { number = number + 1; last = 0; start = here }) ∷ run group (number + 1) ∷ below)
         by-delimiter true o c z =
             let m = run-decides group number below here tag true o in
             let same : more ≡ entry group (record { number = number + 1; last = 0; start = here }) ∷ run group (number + 1) ∷ below = cc in
@@ -160,7 +173,9 @@ module _ {L : Type 0} (rules : Rules L) where
     takes-same below same (takes here e t) = takes here (sym (same here) ∙ e) t
 
     -- a depth and number that a field can't have, where what is open would give it just these
-    takes-not : {P : ℕ → ℕ → Type 0} {frames : List (Frame L)} {ns : List (ℕ × ℕ)} {f : Field} {later : Fields} (more : ℕ → List (Frame L)) (d n : ℕ) → ((here : ℕ) → given (decide rules here frames (f .tag)) ≡ adds (more here) (record { depth = d; number = n })) → Takes rules x rest frames ns (field f later) → Head P ns → (P d n → ⊥) → ⊥
+    takes-not : {P : ℕ → ℕ → Type 0} {frames : List (Frame L)} {ns : List (ℕ × ℕ)} {f : Field} {later : Fields} (more : ℕ → List (Frame L)) (d n : ℕ)
+        → ((here : ℕ) → given (decide rules here frames (f .tag)) ≡ adds (more here) (record { depth = d; number = n }))
+        → Takes rules x rest frames ns (field f later) → Head P ns → (P d n → ⊥) → ⊥
     takes-not more d n same (over here e) h q = let s = same here in let y : _≡_ {A = ℕ} 0 1 = cc in omega arith
     takes-not more d n same (takes here {n = m} e t) (head-some p) q =
         let s = same here in
@@ -175,36 +190,51 @@ module _ {L : Type 0} (rules : Rules L) where
 
     module _ (group : OpenGroup L) (own : OpenEntry) (below : List (Frame L)) where
       -- a field behind the members of an entry ends it
-      pub entry-over : (y : Field) (later : Fields) (ns : List (ℕ × ℕ)) → Head (Elsewhere (group .depth) (own .number)) ns → Takes rules x rest (entry group own ∷ below) ns (field y later) → (entryKind rules (group .level) (group .depth) (own .last) (y .tag) ≡ ends) × (Takes rules x rest below ns (field y later))
+      pub entry-over : (y : Field) (later : Fields) (ns : List (ℕ × ℕ)) → Head (Elsewhere (group .depth) (own .number)) ns
+          → Takes rules x rest (entry group own ∷ below) ns (field y later) → (entryKind rules (group .level) (group .depth) (own .last) (y .tag) ≡ ends)
+          × (Takes rules x rest below ns (field y later))
       unfolding inEntry given
-      entry-over y later ns h t = by-kind (entryKind rules (group .level) (group .depth) (own .last) (y .tag)) refl (kind-says rules (group .level) (group .depth) (own .last) (y .tag))
+      entry-over y later ns h t =
+          by-kind (entryKind rules (group .level) (group .depth) (own .last) (y .tag)) refl (kind-says rules (group .level) (group .depth) (own .last) (y .tag))
         where
-          by-kind : (k : Kind L) → entryKind rules (group .level) (group .depth) (own .last) (y .tag) ≡ k → Says rules (group .level) (group .depth) (own .last) (y .tag) k → (entryKind rules (group .level) (group .depth) (own .last) (y .tag) ≡ ends) × (Takes rules x rest below ns (field y later))
-          by-kind (plain p) q s = absurd (takes-not _ (group .depth) (own .number) (λ here. entry-decides group own below here (y .tag) (plain p) q) t h (λ e. e .other refl refl))
-          by-kind (count inner p) q s = absurd (takes-not _ (group .depth) (own .number) (λ here. entry-decides group own below here (y .tag) (count inner p) q) t h (λ e. e .other refl refl))
-          by-kind joins q s = absurd (takes-not _ (group .depth) (own .number) (λ here. entry-decides group own below here (y .tag) joins q) t h (λ e. e .other refl refl))
+          by-kind : (k : Kind L) → entryKind rules (group .level) (group .depth) (own .last) (y .tag) ≡ k
+              → Says rules (group .level) (group .depth) (own .last) (y .tag) k → (entryKind rules (group .level) (group .depth) (own .last) (y .tag) ≡ ends)
+              × (Takes rules x rest below ns (field y later))
+          by-kind (plain p) q s =
+              absurd (takes-not _ (group .depth) (own .number) (λ here. entry-decides group own below here (y .tag) (plain p) q) t h (λ e. e .other refl refl))
+          by-kind (count inner p) q s =
+              absurd (takes-not _ (group .depth) (own .number) (λ here. entry-decides group own below here (y .tag) (count inner p) q) t h (λ e. e .other refl refl))
+          by-kind joins q s =
+              absurd (takes-not _ (group .depth) (own .number) (λ here. entry-decides group own below here (y .tag) joins q) t h (λ e. e .other refl refl))
           by-kind wrong q s = absurd (takes-no-disorder (group .tag) (λ here. entry-decides group own below here (y .tag) wrong q) t)
           by-kind ends q s = (q, takes-same below (λ here. entry-decides group own below here (y .tag) ends q) t)
 
     module _ (group : OpenGroup L) (number : ℕ) (below : List (Frame L)) where
       -- a field behind all entries ends the run
-      pub run-over : (y : Field) (later : Fields) (ns : List (ℕ × ℕ)) → Head (Above (group .depth)) ns → Takes rules x rest (run group number ∷ below) ns (field y later) → (opens rules (group .level) (y .tag) ≡ false) × (Takes rules x rest below ns (field y later))
+      pub run-over : (y : Field) (later : Fields) (ns : List (ℕ × ℕ)) → Head (Above (group .depth)) ns
+          → Takes rules x rest (run group number ∷ below) ns (field y later) → (opens rules (group .level) (y .tag) ≡ false)
+          × (Takes rules x rest below ns (field y later))
       run-over y later ns h t = by-delimiter (opens rules (group .level) (y .tag)) refl (eqb number 0) refl
         where
-          by-delimiter : (b : Bool) → opens rules (group .level) (y .tag) ≡ b → (c : Bool) → eqb number 0 ≡ c → (opens rules (group .level) (y .tag) ≡ false) × (Takes rules x rest below ns (field y later))
-          by-delimiter true o c z = absurd (takes-not _ (group .depth) (number + 1) (λ here. run-decides group number below here (y .tag) true o) t h (λ e. omega (arith, e .above)))
+          by-delimiter : (b : Bool) → opens rules (group .level) (y .tag) ≡ b → (c : Bool) → eqb number 0 ≡ c → (opens rules (group .level) (y .tag) ≡ false)
+              × (Takes rules x rest below ns (field y later))
+          by-delimiter true o c z =
+              absurd (takes-not _ (group .depth) (number + 1) (λ here. run-decides group number below here (y .tag) true o) t h (λ e. omega (arith, e .above)))
           by-delimiter false o true z = absurd (takes-no-disorder (group .tag) (λ here. run-decides group number below here (y .tag) false o ∙ rw z refl) t)
           by-delimiter false o false z = (o, takes-same below (λ here. run-decides group number below here (y .tag) false o ∙ rw z refl) t)
 
-      count-field : (y : Field) (later : Fields) (ns : List (ℕ × ℕ)) → number ≡ 0 → Head (Above (group .depth)) ns → Takes rules x rest (run group number ∷ below) ns (field y later) → ⊥
+      count-field : (y : Field) (later : Fields) (ns : List (ℕ × ℕ)) → number ≡ 0 → Head (Above (group .depth)) ns
+          → Takes rules x rest (run group number ∷ below) ns (field y later) → ⊥
       count-field y later ns z h t = by-delimiter (opens rules (group .level) (y .tag)) refl
         where
           by-delimiter : (b : Bool) → opens rules (group .level) (y .tag) ≡ b → ⊥
-          by-delimiter true o = takes-not _ (group .depth) (number + 1) (λ here. run-decides group number below here (y .tag) true o) t h (λ e. omega (arith, e .above))
+          by-delimiter true o =
+              takes-not _ (group .depth) (number + 1) (λ here. run-decides group number below here (y .tag) true o) t h (λ e. omega (arith, e .above))
           by-delimiter false o = takes-no-disorder (group .tag) (λ here. run-decides group number below here (y .tag) false o ∙ rw (eq-eqb number 0 z) refl) t
 
       -- behind a count comes an entry
-      pub count-open : {ns : List (ℕ × ℕ)} {fields : Fields} → number ≡ 0 → Head (Above (group .depth)) ns → Takes rules x rest (run group number ∷ below) ns fields → ⊥
+      pub count-open : {ns : List (ℕ × ℕ)} {fields : Fields} → number ≡ 0 → Head (Above (group .depth)) ns
+          → Takes rules x rest (run group number ∷ below) ns fields → ⊥
       count-open z h (over here e) = count-field x rest [] z h (over here e)
       count-open z h (takes here {n = n} {ns = ns} {f = f} {later = later} e t) = count-field f later (n ∷ ns) z h (takes here e t)
 

@@ -60,7 +60,8 @@ module _ {L : Type 0} (rules : Rules L) (message : List ℕ) where
     abbrev pub Reads : Part L → ℕ → (stretch : Stretch) → (fs : List Told) → Stands T Here stretch fs → Type 0
     Reads (membersOf level depth last) next stretch fs s = (group number start : ℕ) (done : List Record) → Over level depth next → Fresh start depth (tagsOf stretch) done
         → Walks (entry (record { level = level; tag = group; depth = depth }) (record { number = number; last = last; start = start })) (numbered depth number s) fs next done
-    Reads (entriesOf level depth) next stretch fs s = (group number : ℕ) (done : List Record) → Leaves rules level next → 1 ≤ number + length fs → Walks (run (record { level = level; tag = group; depth = depth }) number) (numbered depth number s) fs next done
+    Reads (entriesOf level depth) next stretch fs s =
+        (group number : ℕ) (done : List Record) → Leaves rules level next → 1 ≤ number + length fs → Walks (run (record { level = level; tag = group; depth = depth }) number) (numbered depth number s) fs next done
 
     reads-no-member : (level : L) (depth last next : ℕ) → Reads (membersOf level depth last) next _ [] Stands.no-member
     unfolding numbered recordsAs
@@ -149,12 +150,15 @@ module _ {L : Type 0} (rules : Rules L) (message : List ℕ) where
     -- and the entry number that the standard's structure gives it, and reading ends at the field behind them.
     pub group-read : {c d n : ℕ} {gs : List Told} (s : Stands T Here (entries c d (suc n)) gs) (group : OpenGroup L) (left : ℕ) (done : List Record) (fields : Fields) (x : Field) (rest : Fields)
         → Fits rules (entriesOf (group .level) (group .depth)) (x .tag) (entries c d (suc n)) gs s → Leaves rules (group .level) (x .tag)
-        → ReadsAs message fields gs (field x rest) → walk rules listStore (length gs + suc left) (run group 0 ∷ []) done fields ≡ ended x rest left (done ++ recordsAs (numbered (group .depth) 0 s) fields)
+        → ReadsAs message fields gs (field x rest) → walk rules listStore (length gs + suc left) (run group 0 ∷ []) done fields
+        ≡ ended x rest left (done ++ recordsAs (numbered (group .depth) 0 s) fields)
     group-read {c} {d} {n} {gs} s group left done fields x rest fits leaves reads =
         fits-read fits (group .tag) 0 done leaves (omega (arith, some-fields c d n s refl)) left [] fields x rest refl reads
         ∙ none-takes rules (done ++ recordsAs (numbered (group .depth) 0 s) fields) x rest left
 
 -- the same for layouts, from the first level on
 pub layout-group-read : {T : Tables} {Here : ℕ → Type 0} {c d n : ℕ} {gs : List Told} (message : List ℕ) (accepts : ℕ → Bool) (s : Stands T Here (entries c d (suc n)) gs) (layout : Layout) (tag left : ℕ) (fields : Fields) (x : Field) (rest : Fields) → Fits (layoutRules accepts) (entriesOf layout 1) (x .tag) (entries c d (suc n)) gs s → Leaves (layoutRules accepts) layout (x .tag)
-    → ReadsAs message fields gs (field x rest) → walk (layoutRules accepts) listStore (length gs + suc left) (run (outermost tag layout) 0 ∷ []) [] fields ≡ ended x rest left (recordsAs (numbered 1 0 s) fields)
-layout-group-read message accepts s layout tag left fields x rest fits leaves reads = group-read (layoutRules accepts) message _ _ s (outermost tag layout) left [] fields x rest fits leaves reads
+    → ReadsAs message fields gs (field x rest) → walk (layoutRules accepts) listStore (length gs + suc left) (run (outermost tag layout) 0 ∷ []) [] fields
+    ≡ ended x rest left (recordsAs (numbered 1 0 s) fields)
+layout-group-read message accepts s layout tag left fields x rest fits leaves reads =
+    group-read (layoutRules accepts) message _ _ s (outermost tag layout) left [] fields x rest fits leaves reads

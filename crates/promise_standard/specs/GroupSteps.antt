@@ -92,7 +92,8 @@ module _ {L : Type 0} (rules : Rules L) (done : List Record) (f : Field) (rest :
       unfolding taking decide inEntry moved listStore
       entry-counts inner position k = rw k
 
-      pub entry-passes : entryKind rules (group .level) (group .depth) (own .last) (f .tag) ≡ ends → taking rules listStore room (entry group own ∷ below) done f rest ≡ taking rules listStore room below done f rest
+      pub entry-passes : entryKind rules (group .level) (group .depth) (own .last) (f .tag) ≡ ends
+          → taking rules listStore room (entry group own ∷ below) done f rest ≡ taking rules listStore room below done f rest
       unfolding taking decide inEntry
       entry-passes k = rw k
 

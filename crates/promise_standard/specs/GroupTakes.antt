@@ -32,7 +32,8 @@ given leaves = leaves
 -- fields are taken one by one, each with a depth and an entry number, up to one that nothing takes
 pub data Takes {L : Type 0} (rules : Rules L) (x : Field) (rest : Fields) : List (Frame L) → List (ℕ × ℕ) → Fields → Type 0 where
   over : (here : ℕ) {stack : List (Frame L)} → given (decide rules here stack (x .tag)) ≡ leaves → Takes rules x rest stack [] (field x rest)
-  takes : (here : ℕ) {stack more : List (Frame L)} {n : ℕ × ℕ} {ns : List (ℕ × ℕ)} {f : Field} {later : Fields} → given (decide rules here stack (f .tag)) ≡ adds more (record { depth = n .0; number = n .1 })
+  takes : (here : ℕ) {stack more : List (Frame L)} {n : ℕ × ℕ} {ns : List (ℕ × ℕ)} {f : Field} {later : Fields} → given (decide rules here stack (f .tag))
+      ≡ adds more (record { depth = n .0; number = n .1 })
       → Takes rules x rest more ns later → Takes rules x rest stack (n ∷ ns) (field f later)
 
 module _ {L : Type 0} (rules : Rules L) where
@@ -84,8 +85,10 @@ module _ {L : Type 0} (rules : Rules L) where
   grows-move : (room : ℕ) (done : List Record) (f : Field) (later : Fields) (x : Field) (rest : Fields) (left : ℕ) (rs : List Record) → ((stack : List (Frame L)) (done₁ : List Record) → walk rules listStore room stack done₁ later ≡ ended x rest left rs → length rs + suc left ≤ length done₁ + room) →
       (m : Move L) → moved listStore room done f later (λ stack s. walk rules listStore room stack s later) m ≡ ended x rest left rs → length rs + suc left ≤ length done + suc room
   unfolding moved listStore
-  grows-move room done f later x rest left rs on (adds stack numbers) e = omega (arith, on stack _ e, length-append done (entryRecord (numbers .depth) (numbers .number) f ∷ []))
-  grows-move room done f later x rest left rs on (joinsAt stack at numbers) e = by-join (joined-either at (entryRecord (numbers .depth) (numbers .number) f) done) (on stack _ e)
+  grows-move room done f later x rest left rs on (adds stack numbers) e =
+      omega (arith, on stack _ e, length-append done (entryRecord (numbers .depth) (numbers .number) f ∷ []))
+  grows-move room done f later x rest left rs on (joinsAt stack at numbers) e =
+      by-join (joined-either at (entryRecord (numbers .depth) (numbers .number) f) done) (on stack _ e)
     where
       by-join : (joinedList at (entryRecord (numbers .depth) (numbers .number) f) done ≡ done ++ (entryRecord (numbers .depth) (numbers .number) f ∷ [])) ⊎ (length (joinedList at (entryRecord (numbers .depth) (numbers .number) f) done) ≡ length done) → length rs + suc left ≤ length (joinedList at (entryRecord (numbers .depth) (numbers .number) f) done) + room → length rs + suc left ≤ length done + suc room
       by-join (inl q) h = omega (arith, ap length q, length-append done (entryRecord (numbers .depth) (numbers .number) f ∷ []))
@@ -104,7 +107,8 @@ module _ {L : Type 0} (rules : Rules L) where
   walk-grows (suc room) frames done (field f later) x rest left rs e =
       grows-move room done f later x rest left rs (λ stack done₁ e₁. walk-grows room stack done₁ later x rest left rs e₁) (decide rules (length done) frames (f .tag)) e
 
-  takes-one : (frames stack : List (Frame L)) (done rs : List Record) (f : Field) (later : Fields) (x : Field) (rest : Fields) (numbers : Numbers) → given (decide rules (length done) frames (f .tag)) ≡ adds stack numbers
+  takes-one : (frames stack : List (Frame L)) (done rs : List Record) (f : Field) (later : Fields) (x : Field) (rest : Fields) (numbers : Numbers)
+      → given (decide rules (length done) frames (f .tag)) ≡ adds stack numbers
       → Taken stack (done ++ (entryRecord (numbers .depth) (numbers .number) f ∷ [])) rs later x rest → Taken frames done rs (field f later) x rest
   unfolding recordsAs
   takes-one frames stack done rs f later x rest numbers d t =
@@ -115,10 +119,12 @@ module _ {L : Type 0} (rules : Rules L) where
   unfolding moved listStore recordsAs given
   takes-move room frames done f later x rest left rs whole on (adds stack numbers) d e =
       takes-one frames stack done rs f later x rest numbers (ap given d) (on stack _ (omega (arith, length-append done (entryRecord (numbers .depth) (numbers .number) f ∷ []))) e)
-  takes-move room frames done f later x rest left rs whole on (joinsAt stack at numbers) d e = by-join (joined-either at (entryRecord (numbers .depth) (numbers .number) f) done)
+  takes-move room frames done f later x rest left rs whole on (joinsAt stack at numbers) d e =
+      by-join (joined-either at (entryRecord (numbers .depth) (numbers .number) f) done)
     where
       by-join : (joinedList at (entryRecord (numbers .depth) (numbers .number) f) done ≡ done ++ (entryRecord (numbers .depth) (numbers .number) f ∷ [])) ⊎ (length (joinedList at (entryRecord (numbers .depth) (numbers .number) f) done) ≡ length done) → Taken frames done rs (field f later) x rest
-      by-join (inl q) = takes-one frames stack done rs f later x rest numbers (ap given d) (on stack _ (omega (arith, length-append done (entryRecord (numbers .depth) (numbers .number) f ∷ []))) (rw q at e))
+      by-join (inl q) =
+          takes-one frames stack done rs f later x rest numbers (ap given d) (on stack _ (omega (arith, length-append done (entryRecord (numbers .depth) (numbers .number) f ∷ []))) (rw q at e))
       by-join (inr q) = absurd (omega (arith, walk-grows room stack _ later x rest left rs e))
   takes-move room frames done f later x rest left rs whole on (disorders group) d e = let z : _≡_ {A = ℕ} 0 1 = cc in absurd (omega arith)
   takes-move room frames done f later x rest left rs whole on leaves d e =

@@ -80,7 +80,8 @@ module _ (accepts : ℕ → Bool) (layout : Layout) (trailer : List ℕ) where
       → andThen (withRun count rs (runFrom (layoutRules accepts) layoutDemands inner tag fields room)) (bodyFrom theBody) ≡ ended x rest left ss
       → Ran inner tag room count fields rs ss x rest left
   unfolding runFrom
-  ran-reads inner tag room count fields rs ss x rest left e = by-outcome (walk (layoutRules accepts) listStore room (run (outermost tag inner) 0 ∷ []) [] fields) refl e
+  ran-reads inner tag room count fields rs ss x rest left e =
+      by-outcome (walk (layoutRules accepts) listStore room (run (outermost tag inner) 0 ∷ []) [] fields) refl e
     where
       by-lack : (y : Field) (later : Fields) (here : ℕ) (es : List Record)
           → walk (layoutRules accepts) listStore room (run (outermost tag inner) 0 ∷ []) [] fields ≡ ran y later here es

@@ -80,7 +80,8 @@ module _ (accepts : ℕ → Bool) (layout : Layout) (trailer : List ℕ) where
 
   -- the run of a count that ended with entries to which nothing is missing
   run-goes : (inner : Layout) (f : Field) (later : Fields) (room left : ℕ) (done es : List Record) (x : Field) (rest : Fields)
-      (on : Fields → ℕ → List Record → Reading) → walk (layoutRules accepts) listStore room (run (outermost (f .tag) inner) 0 ∷ []) [] later ≡ ran x rest left es
+      (on : Fields → ℕ → List Record → Reading) → walk (layoutRules accepts) listStore room (run (outermost (f .tag) inner) 0 ∷ []) [] later
+      ≡ ran x rest left es
       → runLack layoutDemands 4 inner (f .tag) 1 es ≡ Complete → storedRun (partRecord 2 f) es done ≡ done ++ (partRecord 2 f ∷ es)
       → andThen (withRun (partRecord 2 f) done (runFrom (layoutRules accepts) layoutDemands inner (f .tag) later room)) on ≡ on (field x rest) (suc left)
       (done ++ (partRecord 2 f ∷ es))
