@@ -75,7 +75,7 @@ pub data Frame (L : Type 0) : Type 0 where
   run : OpenGroup L → ℕ → Frame L
   entry : OpenGroup L → OpenEntry → Frame L
 
--- the numbers of a record in a group: its depth, and that of its entry
+-- the numbers of a record in a group: its depth, and the number of its entry
 pub record Numbers : Type 0 where
   pub depth : ℕ
   pub number : ℕ
