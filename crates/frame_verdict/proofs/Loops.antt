@@ -11,7 +11,8 @@ use lib.Dec.{leb, ltb}
 use borrow.Author.Tests.{eq-eqb, ne-eqb, le-leb, lt-leb, ltb-true, leb-true}
 use Rattle.field_rules.specs.Choice.{pick}
 use Rattle.field_rules.specs.Number.{isDigit, worth}
-use Rattle.frame_verdict_rules.specs.Readers.{Out, on, bad, short, Reader, literal, withHead, Kind, ends, goes, wrong, headed, textKind, text, mayBecome, digitKind, bodyLength}
+use Rattle.frame_verdict_rules.specs.Readers.{Out, on, bad, short, Reader, literal, withHead, Kind, ends, goes, wrong, headed, textKind, text, mayBecome}
+use Rattle.frame_verdict_rules.specs.Readers.{digitKind, bodyLength}
 use Rattle.frame_verdict_rules.specs.Verdict.{stageOf, lengthOf}
 use Rattle.frame_verdict_rules.specs.declared.Stage.the-variants.{On, Bad, Short}
 use Rattle.frame_verdict_rules.specs.declared.Length.the-variants.{Announced, BadLength, ShortLength}
@@ -108,7 +109,8 @@ module _ (s : List ℕ) (i least : ℕ) where
   text-late zero h e l = stage-bad s _ (byte-wrong _ _ s i h (kind-late least 0 _ e l))
   text-late (suc most) h e l = absurd (omega arith)
 
-  pub text-goes : (most : ℕ) → i < length s → (getD s i 0 ≡ 1 → ⊥) → (most ≡ 0 → ⊥) → stageOf s (text least most (drop i s)) ≡ stageOf s (text (least - 1) (most - 1) (drop (i + 1) s))
+  pub text-goes : (most : ℕ) → i < length s → (getD s i 0 ≡ 1 → ⊥) → (most ≡ 0 → ⊥)
+      → stageOf s (text least most (drop i s)) ≡ stageOf s (text (least - 1) (most - 1) (drop (i + 1) s))
   unfolding text
   text-goes zero h e l = absurd (l refl)
   text-goes (suc most) h e l = let y : suc most - 1 ≡ most = omega arith in rw y (stage-head s _ _ _ (byte-goes _ _ s i h (kind-goes least (suc most) _ e l)))
@@ -167,11 +169,13 @@ digit-more : (room v x : ℕ) → (x ≡ 1 → ⊥) → 48 ≤ x → x ≤ 57 �
 unfolding digitKind isDigit
 digit-more room v x e h k = rw (ne-eqb x 1 e, le-leb 48 x h, le-leb x 57 k)
 
-digit-large : (left room v x : ℕ) → (x ≡ 1 → ⊥) → 48 ≤ x → x ≤ 57 → (left ≡ 0 → ⊥) → mayBecome (left - 1) (room - 1) (v * 10 + (x - 48)) ≡ false → digitKind left room v x ≡ wrong
+digit-large : (left room v x : ℕ) → (x ≡ 1 → ⊥) → 48 ≤ x → x ≤ 57 → (left ≡ 0 → ⊥) → mayBecome (left - 1) (room - 1) (v * 10 + (x - 48)) ≡ false
+    → digitKind left room v x ≡ wrong
 unfolding digitKind isDigit
 digit-large left room v x e h k z m = rw (ne-eqb x 1 e, le-leb 48 x h, le-leb x 57 k, ne-eqb left 0 z, m)
 
-digit-goes : (left room v x : ℕ) → (x ≡ 1 → ⊥) → 48 ≤ x → x ≤ 57 → (left ≡ 0 → ⊥) → mayBecome (left - 1) (room - 1) (v * 10 + (x - 48)) ≡ true → digitKind left room v x ≡ goes
+digit-goes : (left room v x : ℕ) → (x ≡ 1 → ⊥) → 48 ≤ x → x ≤ 57 → (left ≡ 0 → ⊥) → mayBecome (left - 1) (room - 1) (v * 10 + (x - 48)) ≡ true
+    → digitKind left room v x ≡ goes
 unfolding digitKind isDigit
 digit-goes left room v x e h k z m = rw (ne-eqb x 1 e, le-leb 48 x h, le-leb x 57 k, ne-eqb left 0 z, m)
 
@@ -195,18 +199,23 @@ module _ (s : List ℕ) (i room v : ℕ) where
   pub length-high : (left : ℕ) → i < length s → (getD s i 0 ≡ 1 → ⊥) → 57 < getD s i 0 → lengthOf v s (bodyLength left room v (drop i s)) ≡ BadLength
   length-high left h e l = length-wrong left h (digit-high left room v _ e l)
 
-  pub length-more : (left : ℕ) → i < length s → (getD s i 0 ≡ 1 → ⊥) → 48 ≤ getD s i 0 → getD s i 0 ≤ 57 → left ≡ 0 → lengthOf v s (bodyLength left room v (drop i s)) ≡ BadLength
+  pub length-more : (left : ℕ) → i < length s → (getD s i 0 ≡ 1 → ⊥) → 48 ≤ getD s i 0 → getD s i 0 ≤ 57 → left ≡ 0
+      → lengthOf v s (bodyLength left room v (drop i s)) ≡ BadLength
   length-more zero h e a b z = length-wrong 0 h (digit-more room v _ e a b)
   length-more (suc left) h e a b z = absurd (omega arith)
 
-  pub length-large : (left : ℕ) → i < length s → (getD s i 0 ≡ 1 → ⊥) → 48 ≤ getD s i 0 → getD s i 0 ≤ 57 → (left ≡ 0 → ⊥) → mayBecome (left - 1) (room - 1) (v * 10 + (getD s i 0 - 48)) ≡ false → lengthOf v s (bodyLength left room v (drop i s)) ≡ BadLength
+  pub length-large : (left : ℕ) → i < length s → (getD s i 0 ≡ 1 → ⊥) → 48 ≤ getD s i 0 → getD s i 0 ≤ 57 → (left ≡ 0 → ⊥)
+      → mayBecome (left - 1) (room - 1) (v * 10 + (getD s i 0 - 48)) ≡ false → lengthOf v s (bodyLength left room v (drop i s)) ≡ BadLength
   length-large left h e a b z m = length-wrong left h (digit-large left room v _ e a b z m)
 
-  pub length-goes : (left : ℕ) → i < length s → (getD s i 0 ≡ 1 → ⊥) → 48 ≤ getD s i 0 → getD s i 0 ≤ 57 → (left ≡ 0 → ⊥) → mayBecome (left - 1) (room - 1) (v * 10 + (getD s i 0 - 48)) ≡ true →
-      lengthOf v s (bodyLength left room v (drop i s)) ≡ lengthOf (v * 10 + (getD s i 0 - 48)) s (bodyLength (left - 1) (room - 1) (v * 10 + (getD s i 0 - 48)) (drop (i + 1) s))
+  pub length-goes : (left : ℕ) → i < length s → (getD s i 0 ≡ 1 → ⊥) → 48 ≤ getD s i 0 → getD s i 0 ≤ 57 → (left ≡ 0 → ⊥)
+      → mayBecome (left - 1) (room - 1) (v * 10 + (getD s i 0 - 48)) ≡ true →
+      lengthOf v s (bodyLength left room v (drop i s))
+      ≡ lengthOf (v * 10 + (getD s i 0 - 48)) s (bodyLength (left - 1) (room - 1) (v * 10 + (getD s i 0 - 48)) (drop (i + 1) s))
   unfolding bodyLength
   length-goes zero h e a b z m = absurd (z refl)
-  length-goes (suc left) h e a b z m = let y : suc left - 1 ≡ left = omega arith in rw y (length-head v s _ _ _ (byte-goes _ _ s i h (digit-goes (suc left) room v _ e a b z m)))
+  length-goes (suc left) h e a b z m =
+      let y : suc left - 1 ≡ left = omega arith in rw y (length-head v s _ _ _ (byte-goes _ _ s i h (digit-goes (suc left) room v _ e a b z m)))
 
   pub length-none : (left : ℕ) → length s ≤ i → lengthOf v s (bodyLength left room v (drop i s)) ≡ ShortLength
   unfolding bodyLength
