@@ -31,7 +31,7 @@ pub clean-message-comes-back-exported : (message : List ℕ) (separator settings
 clean-message-comes-back-exported message separator settings dictionary records words values output calls whole store room answered clean =
     let a = built-valid (calls .builds) answered in
     let b = clean-message-comes-back message (configOf settings separator) dictionary (length records) (replicate recordWords 0) words values output whole store room a clean in
-    let t = taken-made (calls .takes-over) (b .taken-words) (b .taken-values) (taking-is (calls .builds) words values ∙ b .takes-over) in
+    let t = taken-made (calls .takes-over) _ _ (taking-is (calls .builds) words values ∙ b .calls .takes-over) in
     let written = encoding-as output (same-separator settings separator) (t .words-are) (t .values-are) ∙ b .encodes in
     let e = encoded-so (calls .encodes) (Written (length message)) _ _ _ written in
     let short = build-shown message (configOf settings separator) dictionary (length records) (replicate recordWords 0) a .short in

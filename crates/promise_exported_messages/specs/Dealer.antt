@@ -69,8 +69,8 @@ stored-twice-lost-exported message separator settings dictionary records words v
     let a = built-valid (calls .builds) answered in
     let s = build-shown message config dictionary (length records) blank a in
     let l = message-loses message config dictionary (length records) blank words values whole store a twice in
-    let m = l .taken in
-    let k = taken-made (calls .takes-over) (wordsOf m) (valueBytesOf m) (taking-is (calls .builds) words values ∙ l .takes-over) in
+    let m = l .calls .taken in
+    let k = taken-made (calls .takes-over) (wordsOf m) (valueBytesOf m) (taking-is (calls .builds) words values ∙ l .calls .takes-over) in
     let same = encoding-as output (same-separator settings separator) (k .words-are) (k .values-are) in
     let text = encoding (config .mode .separator) m in
     let only = l .only-length output in

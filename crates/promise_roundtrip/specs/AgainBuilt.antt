@@ -15,8 +15,6 @@ use Rattle.message_lent_rules.specs.Meaning.{Message, wordsOf, valueBytesOf}
 use Rattle.build_answers.specs.declared.Answer.the-variants.{Valid}
 use Rattle.build_rules.specs.Message.{Outcome, messageRead}
 use Rattle.builder.specs.Build.{BuildOutcome, wordsWith, shown, buildOf}
-use Rattle.message_take_over.specs.Taking.{after, takingOver}
-use Rattle.message_take_over.specs.declared.Taken.the-variants.{Made}
 use Rattle.message_take_over.specs.Derived.{derived, given}
 use Rattle.promise_records.specs.TakenOver.{Shown, build-shown, shown-build, build-of-taken}
 use Rattle.encode_rules.specs.Encoding.{encoding, encodedMessage}
@@ -27,6 +25,7 @@ use Rattle.build_order_laws.specs.SimilarLaws.{similar-length}
 use Rattle.promise_roundtrip.specs.Clean.{RepeatFree}
 use Rattle.promise_roundtrip.specs.AgainValues.{Split}
 use Rattle.promise_roundtrip.specs.Again.{Again}
+use Rattle.promise_roundtrip.specs.BuiltTaken.{BuiltTaken}
 use Rattle.promise_roundtrip.specs.AgainTheorem.{comes-back}
 
 module _ (message : List ℕ) (config : Config) (dictionary : List ℕ) (lent : ℕ) where
@@ -54,10 +53,9 @@ module _ (message : List ℕ) (config : Config) (dictionary : List ℕ) (lent : 
     pub count : buildOf message config dictionary lent first .records ≡ length (readOf message .records)
     pub built : buildOf message config dictionary lent first .words ≡ wordsWith (readOf message .records)
     pub before : Split (readOf message .records)
-    pub taken : Message
-    pub made : takingOver (buildOf message config dictionary lent first .words) (buildOf message config dictionary lent first .records) message words values ≡ after Made (wordsOf taken) (valueBytesOf taken)
-    pub kept : derived taken ≡ given message (readOf message .records)
-    pub encodes : Encodes before taken output second
+    pub calls : BuiltTaken message (buildOf message config dictionary lent first) words values
+    pub kept : derived (calls .taken) ≡ given message (readOf message .records)
+    pub encodes : Encodes before (calls .taken) output second
 
   -- the build of what was encoded
   module _ (before : Split (readOf message .records)) (built : BuildOutcome) (s : Shown message config dictionary lent built) (copy second : List ℕ) (short : length copy ≤ 8192) (again : Again message before copy (readOf copy)) where
@@ -84,8 +82,7 @@ module _ (message : List ℕ) (config : Config) (dictionary : List ℕ) (lent : 
         count = s .count;
         built = s .words;
         before = back .before;
-        taken = t .takes .meant;
-        made = made;
+        calls = record { taken = t .takes .meant; takes-over = made };
         kept = t .same;
         encodes =
             elim (decLe (length (encoding (config .mode .separator) (t .takes .meant))) 8192) [

@@ -25,10 +25,10 @@ use Rattle.message_read_laws.specs.PartReading.{of-field}
 use Rattle.message_read_laws.specs.ShapeLaws.{all-left, all-right}
 use Rattle.message_read_laws.specs.Parted.{Takes}
 use Rattle.promise_records.specs.TakenOver.{TakenOver, build-of-taken}
-use Rattle.message_take_over.specs.Taking.{takingOver, after}
+use Rattle.message_take_over.specs.Taking.{after}
 use Rattle.message_take_over.specs.declared.Taken.the-variants.{Made}
 use Rattle.message_maps.specs.Rows.{messageWords}
-use Rattle.message_lent_rules.specs.Meaning.{Message, wordsOf, valueBytesOf, messageIn}
+use Rattle.message_lent_rules.specs.Meaning.{Message, wordsOf, valueBytesOf}
 use Rattle.message_lent_rules.specs.MeantLaws.{layout-meant}
 use Rattle.build_order_laws.specs.Follows.{no-field, one-field}
 use Rattle.build_order_laws.specs.InOrder.{InOrder}
@@ -38,6 +38,7 @@ use Rattle.encode_rewriting_laws.specs.ReadMessage.{Followed, followed-writable
 use Rattle.promise_standard_encodings.specs.EncodedMaps.{Some}
 use Rattle.promise_standard_encodings.specs.EncodedStandard.{Conformant}
 use Rattle.promise_standard_encodings.specs.EncodedClean.{built-standard}
+use Rattle.promise_roundtrip.specs.BuiltTaken.{BuiltTaken}
 use Rattle.promise_roundtrip.specs.Clean.{Clean}
 use Rattle.promise_roundtrip.specs.ComesBack.{repeat-free-order, order-built, clean-text}
 
@@ -75,20 +76,19 @@ clean-standard dictionary config message one c t conforms =
     subst (λ (separator : ℕ). All (Writable separator message) (o .parts .header ++ (o .parts .body ++ (partRecord 3 (o .parts .verified .checksum) ∷ o .trailer)))) one (order-writable dictionary config message o) in
     built-standard built (subst (All (Writable 1 message)) starts writable) conforms (same ∙ ap (λ (separator : ℕ). encoding separator (t .meant)) one)
 
--- and of the calls: what a build answered with 0 is taken over, and what that leaves keeps to the tables
-pub clean-message-standard : {T : Tables} (message : List ℕ) (config : Config) (dictionary : List ℕ) (lent : ℕ) (before words values taken-words taken-values : List ℕ) → length words ≡ messageWords → length values ≡ 8192
-    → config .mode .separator ≡ 1 → buildOf message config dictionary lent before .answer ≡ Valid → Clean (dictionaryOf dictionary) config message
-    → takingOver (buildOf message config dictionary lent before .words) (buildOf message config dictionary lent before .records) message words values ≡ after Made taken-words taken-values
-    → Conformant T Some (messageIn taken-words taken-values) → standard.Message T message
-clean-message-standard {T} message config dictionary lent before words values taken-words taken-values whole store one valid c taken conforms =
+-- and of the calls: what a build answered with 0 is taken over, and the message that this leaves keeps to the tables
+pub clean-message-standard : {T : Tables} (message : List ℕ) (config : Config) (dictionary : List ℕ) (lent : ℕ) (before words values : List ℕ)
+    → length words ≡ messageWords → length values ≡ 8192 → config .mode .separator ≡ 1
+    → buildOf message config dictionary lent before .answer ≡ Valid → Clean (dictionaryOf dictionary) config message
+    → (calls : BuiltTaken message (buildOf message config dictionary lent before) words values) → Conformant T Some (calls .taken) → standard.Message T message
+clean-message-standard {T} message config dictionary lent before words values whole store one valid c calls conforms =
     let t = build-of-taken message config dictionary lent before words values whole store valid in
-    let m = t .0 .takes .meant in
-    let same : after Made (wordsOf m) (valueBytesOf m) ≡ after Made taken-words taken-values = sym (t .1) ∙ taken in
-    let meant : messageIn taken-words taken-values ≡ m = left-meant m taken-words taken-values same in
-    clean-standard (dictionaryOf dictionary) config message one c (t .0 .takes) (subst (Conformant T Some) meant conforms)
+    let same = one-meaning (t .0 .takes .meant) (calls .taken) (sym (t .1) ∙ calls .takes-over) in
+    clean-standard (dictionaryOf dictionary) config message one c (t .0 .takes) (subst (Conformant T Some) same conforms)
   where
-    left-meant : (m : Message) (w v : List ℕ) → after Made (wordsOf m) (valueBytesOf m) ≡ after Made w v → messageIn w v ≡ m
-    left-meant m w v e =
-        let words-same : wordsOf m ≡ w = cc in
-        let values-same : valueBytesOf m ≡ v = cc in
-        rw (← words-same, ← values-same) (layout-meant m)
+    -- one layout is that of one message
+    one-meaning : (m n : Message) → after Made (wordsOf m) (valueBytesOf m) ≡ after Made (wordsOf n) (valueBytesOf n) → n ≡ m
+    one-meaning m n e =
+        let words-same : wordsOf m ≡ wordsOf n = cc in
+        let values-same : valueBytesOf m ≡ valueBytesOf n = cc in
+        sym (layout-meant n) ∙ rw (← words-same, ← values-same) (layout-meant m)

@@ -25,8 +25,7 @@ use Rattle.build_config.specs.declared.Config.{Config}
 use Rattle.dictionary_meaning_rules.specs.Meaning.{dictionaryOf}
 use Rattle.build_answers.specs.declared.Answer.the-variants.{Valid}
 use Rattle.builder.specs.Build.{BuildOutcome, buildOf}
-use Rattle.message_take_over.specs.Taking.{after, takingOver}
-use Rattle.message_take_over.specs.declared.Taken.the-variants.{Made}
+use Rattle.promise_roundtrip.specs.BuiltTaken.{BuiltTaken}
 use Rattle.promise_records.specs.TakenOver.{TakenOver, build-taken, build-shown}
 use Rattle.message_read_laws.specs.Parted.{Takes}
 use Rattle.message_read_laws.specs.PartReading.{own-field}
@@ -116,12 +115,11 @@ clean-comes-back dictionary config message words values output c separates short
 
 -- the bytes that the calls of build, take-over and encode make of a message, one after the other
 pub record ComesBack (message : List ℕ) (config : Config) (built : BuildOutcome) (words values output : List ℕ) : Type 0 where
-  pub taken-words : List ℕ
-  pub taken-values : List ℕ
+  pub calls : BuiltTaken message built words values
   pub left-words : List ℕ
   pub left-values : List ℕ
-  pub takes-over : takingOver (built .words) (built .records) message words values ≡ after Made taken-words taken-values
-  pub encodes : encodingOf (config .mode .separator) taken-words taken-values output ≡ left (Written (length message)) left-words left-values (message ++ drop (length message) output)
+  pub encodes : encodingOf (config .mode .separator) (wordsOf (calls .taken)) (valueBytesOf (calls .taken)) output
+      ≡ left (Written (length message)) left-words left-values (message ++ drop (length message) output)
 
 -- CLEAN: "For every message, dictionary, separator and setting: if the build answers 0 and the message is clean, taking over what was built and
 -- encoding it answers with the message's own bytes."
@@ -132,10 +130,8 @@ clean-message-comes-back message config dictionary lent before words values outp
     let s = build-shown message config dictionary lent before a in
     let b = clean-comes-back (dictionaryOf dictionary) config message words values output c (s .separates) (s .short) whole store room in
     record {
-      taken-words = wordsOf (b .taken .takes .meant);
-      taken-values = valueBytesOf (b .taken .takes .meant);
+      calls = record { taken = b .taken .takes .meant; takes-over = rw (s .words, s .count) (b .taken .made) };
       left-words = b .left-words;
       left-values = b .left-values;
-      takes-over = rw (s .words, s .count) (b .taken .made);
       encodes = b .encoded;
     }

@@ -13,20 +13,19 @@ use Rattle.dictionary_layout_rules.specs.Tree.{Dictionary}
 use Rattle.build_answers.specs.declared.Answer.the-variants.{Valid}
 use Rattle.build_rules.specs.Message.{messageRead}
 use Rattle.builder.specs.Build.{BuildOutcome, buildOf}
-use Rattle.message_lent_rules.specs.Meaning.{Message, wordsOf, valueBytesOf, messageIn}
+use Rattle.message_lent_rules.specs.Meaning.{wordsOf, valueBytesOf, messageIn}
 use Rattle.message_rules.specs.Changes.{fieldTotal}
 use Rattle.encode_rules.specs.Encoding.{encodedMessage}
 use Rattle.encode_rules.specs.Encode.{left, encodingOf}
 use Rattle.encoder.specs.EncodedLaws.{encode-lends}
 use Rattle.encode_rules.specs.declared.Encoding.the-variants.{Written}
-use Rattle.message_take_over.specs.Taking.{after, takingOver}
-use Rattle.message_take_over.specs.declared.Taken.the-variants.{Made}
 use Rattle.message_read_laws.specs.Parted.{Takes}
 use Rattle.promise_records.specs.TakenOver.{TakenOver, build-taken, build-shown}
 use Rattle.build_order_laws.specs.Counted.{fieldsCounted}
 use Rattle.build_order_laws.specs.InParts.{in-parts}
 use Rattle.build_order_laws.specs.Twice.{storedTwice}
 use Rattle.build_order_laws.specs.TwiceMessage.{twice-fewer}
+use Rattle.promise_roundtrip.specs.BuiltTaken.{BuiltTaken}
 use Rattle.promise_roundtrip.specs.Clean.{Clean, none-twice-iff}
 use Rattle.promise_roundtrip.specs.DealerHolds.{length-held, checksum-held, encoded-records}
 use Rattle.promise_roundtrip.specs.DealerEncodes.{OnlyLength, built-encodes}
@@ -58,10 +57,10 @@ module _ (dictionary : Dictionary) (config : Config) (message : List ℕ) where
 -- what the calls of build and take-over make of a message, and what an encode then answers and leaves of it: it is refused by its length alone,
 -- with 20 or 23, and where it is not, there are fewer fields than were read
 pub record Loses (message : List ℕ) (config : Config) (dictionary : List ℕ) (built : BuildOutcome) (words values : List ℕ) : Type 0 where
-  pub taken : Message
-  pub takes-over : takingOver (built .words) (built .records) message words values ≡ after Made (wordsOf taken) (valueBytesOf taken)
-  pub only-length : (output : List ℕ) → OnlyLength (config .mode .separator) taken output
-  pub loses : (output : List ℕ) (size : ℕ) (left-words left-values left-output : List ℕ) → encodingOf (config .mode .separator) (wordsOf taken) (valueBytesOf taken) output ≡ left (Written size) left-words left-values left-output
+  pub calls : BuiltTaken message built words values
+  pub only-length : (output : List ℕ) → OnlyLength (config .mode .separator) (calls .taken) output
+  pub loses : (output : List ℕ) (size : ℕ) (left-words left-values left-output : List ℕ)
+      → encodingOf (config .mode .separator) (wordsOf (calls .taken)) (valueBytesOf (calls .taken)) output ≡ left (Written size) left-words left-values left-output
       → fieldTotal (messageIn left-words left-values) < fieldsCounted (config .mode) message (messageRead (dictionaryOf dictionary) config message .stop)
 
 -- THE DEALER'S CASE, for every message, dictionary, separator and setting, through the operations
@@ -73,8 +72,7 @@ message-loses message config dictionary lent before words values whole store a t
     let l = stored-twice-lost (dictionaryOf dictionary) config message words values (s .valid) twice (s .short) whole store in
     let t = l .taken in
     record {
-      taken = t .takes .meant;
-      takes-over = rw (s .words, s .count) (t .made);
+      calls = record { taken = t .takes .meant; takes-over = rw (s .words, s .count) (t .made) };
       only-length = λ output. built-encodes (dictionaryOf dictionary) config message output (s .valid) (s .separates) (t .takes);
       loses = λ output size w v o e.
           let left-is = encode-lends (config .mode .separator) (wordsOf (t .takes .meant)) (valueBytesOf (t .takes .meant)) output size w v o e .1 .meant in

@@ -1,4 +1,5 @@
 pub mod Clean
+pub mod BuiltTaken
 pub mod ComesBack
 pub mod AgainFields
 pub mod AgainParts
