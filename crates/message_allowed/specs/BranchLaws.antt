@@ -61,11 +61,13 @@ unfolding reached
 reached-stop zero table words level tag c rest e = refl
 reached-stop (suc n) table words level tag c rest e = rw (eq-eqb (getD table c 0) 0 e)
 
-pub reached-hit : (n : ℕ) (table words : List ℕ) (level tag c rest v : ℕ) → getD table c 0 ≡ v → (v ≡ 0 → ⊥) → tagged level tag (rowAt words (v - 1)) ≡ true → reached (suc n) table words level tag c rest ≡ 1023 + 3 * v
+pub reached-hit : (n : ℕ) (table words : List ℕ) (level tag c rest v : ℕ) → getD table c 0 ≡ v → (v ≡ 0 → ⊥) → tagged level tag (rowAt words (v - 1)) ≡ true
+    → reached (suc n) table words level tag c rest ≡ 1023 + 3 * v
 unfolding reached
 reached-hit n table words level tag c rest v e some hit = rw (e, ne-eqb v 0 some, hit)
 
-pub reached-on : (n : ℕ) (table words : List ℕ) (level tag c rest v : ℕ) → getD table c 0 ≡ v → (v ≡ 0 → ⊥) → tagged level tag (rowAt words (v - 1)) ≡ false → reached (suc n) table words level tag c rest ≡ reached n table words level tag (1021 + 3 * v + rest % 2) (rest / 2)
+pub reached-on : (n : ℕ) (table words : List ℕ) (level tag c rest v : ℕ) → getD table c 0 ≡ v → (v ≡ 0 → ⊥) → tagged level tag (rowAt words (v - 1)) ≡ false
+    → reached (suc n) table words level tag c rest ≡ reached n table words level tag (1021 + 3 * v + rest % 2) (rest / 2)
 unfolding reached
 reached-on n table words level tag c rest v e some off = rw (e, ne-eqb v 0 some, off)
 
@@ -87,9 +89,14 @@ module _ (table words : List ℕ) (i : ℕ) (tree : Tree table i) (level tag : �
   enough zero m h c rest l a b = sym (reached-stop m table words level tag c rest (link-stop table i tree h c l (omega arith)))
   enough (suc n) zero h c rest l a b = reached-stop (suc n) table words level tag c rest (link-stop table i tree h c l (omega arith))
   enough (suc n) (suc m) h c rest l a b =
-      go (eqb (getD table c 0) 0) refl (tagged level tag (rowAt words (getD table c 0 - 1))) refl (λ s. enough n m (getD table c 0) (1021 + 3 * getD table c 0 + rest % 2) (rest / 2) (next-link table i tree h c rest l s) (omega (arith, l .rise s)) (omega (arith, l .rise s)))
+      go (eqb (getD table c 0) 0) refl (tagged level tag (rowAt words (getD table c 0 - 1))) refl
+      (λ s. enough n m (getD table c 0) (1021 + 3 * getD table c 0 + rest % 2) (rest / 2) (next-link table i tree h c rest l s) (omega (arith, l .rise s))
+      (omega (arith, l .rise s)))
     where
-      go : (z : Bool) → eqb (getD table c 0) 0 ≡ z → (t : Bool) → tagged level tag (rowAt words (getD table c 0 - 1)) ≡ t → ((getD table c 0 ≡ 0 → ⊥) → reached n table words level tag (1021 + 3 * getD table c 0 + rest % 2) (rest / 2) ≡ reached m table words level tag (1021 + 3 * getD table c 0 + rest % 2) (rest / 2)) → reached (suc n) table words level tag c rest ≡ reached (suc m) table words level tag c rest
+      go : (z : Bool) → eqb (getD table c 0) 0 ≡ z → (t : Bool) → tagged level tag (rowAt words (getD table c 0 - 1)) ≡ t
+          → ((getD table c 0 ≡ 0 → ⊥) → reached n table words level tag (1021 + 3 * getD table c 0 + rest % 2) (rest / 2)
+          ≡ reached m table words level tag (1021 + 3 * getD table c 0 + rest % 2) (rest / 2))
+          → reached (suc n) table words level tag c rest ≡ reached (suc m) table words level tag c rest
       go true q t p later =
           let e = eqb-true (getD table c 0) 0 q in
           reached-stop (suc n) table words level tag c rest e ∙ sym (reached-stop (suc m) table words level tag c rest e)
@@ -98,15 +105,23 @@ module _ (table words : List ℕ) (i : ℕ) (tree : Tree table i) (level tag : �
           reached-hit n table words level tag c rest (getD table c 0) refl s p ∙ sym (reached-hit m table words level tag c rest (getD table c 0) refl s p)
       go false q false p later =
           let s = eqb-false (getD table c 0) 0 q in
-          reached-on n table words level tag c rest (getD table c 0) refl s p ∙ later s ∙ sym (reached-on m table words level tag c rest (getD table c 0) refl s p)
+          reached-on n table words level tag c rest (getD table c 0) refl s p ∙ later s
+          ∙ sym (reached-on m table words level tag c rest (getD table c 0) refl s p)
 
-  pub reached-bounds : (n h c rest : ℕ) → Link table i h c → (c ≤ reached n table words level tag c rest) × (reached n table words level tag c rest < 1024 + 3 * i)
+  pub reached-bounds : (n h c rest : ℕ) → Link table i h c
+      → (c ≤ reached n table words level tag c rest) × (reached n table words level tag c rest < 1024 + 3 * i)
   unfolding reached
   reached-bounds zero h c rest l = (omega arith, omega (arith, l .low, l .old))
   reached-bounds (suc n) h c rest l =
-      go (eqb (getD table c 0) 0) refl (tagged level tag (rowAt words (getD table c 0 - 1))) (λ s. reached-bounds n (getD table c 0) (1021 + 3 * getD table c 0 + rest % 2) (rest / 2) (next-link table i tree h c rest l s))
+      go (eqb (getD table c 0) 0) refl (tagged level tag (rowAt words (getD table c 0 - 1)))
+      (λ s. reached-bounds n (getD table c 0) (1021 + 3 * getD table c 0 + rest % 2) (rest / 2) (next-link table i tree h c rest l s))
     where
-      go : (z : Bool) → eqb (getD table c 0) 0 ≡ z → (t : Bool) → ((getD table c 0 ≡ 0 → ⊥) → (1021 + 3 * getD table c 0 + rest % 2 ≤ reached n table words level tag (1021 + 3 * getD table c 0 + rest % 2) (rest / 2)) × (reached n table words level tag (1021 + 3 * getD table c 0 + rest % 2) (rest / 2) < 1024 + 3 * i)) → (c ≤ pick z c (pick t (1023 + 3 * getD table c 0) (reached n table words level tag (1021 + 3 * getD table c 0 + rest % 2) (rest / 2)))) × (pick z c (pick t (1023 + 3 * getD table c 0) (reached n table words level tag (1021 + 3 * getD table c 0 + rest % 2) (rest / 2))) < 1024 + 3 * i)
+      go : (z : Bool) → eqb (getD table c 0) 0 ≡ z → (t : Bool)
+          → ((getD table c 0 ≡ 0 → ⊥) → (1021 + 3 * getD table c 0
+          + rest % 2 ≤ reached n table words level tag (1021 + 3 * getD table c 0 + rest % 2) (rest / 2))
+          × (reached n table words level tag (1021 + 3 * getD table c 0 + rest % 2) (rest / 2) < 1024 + 3 * i))
+          → (c ≤ pick z c (pick t (1023 + 3 * getD table c 0) (reached n table words level tag (1021 + 3 * getD table c 0 + rest % 2) (rest / 2))))
+          × (pick z c (pick t (1023 + 3 * getD table c 0) (reached n table words level tag (1021 + 3 * getD table c 0 + rest % 2) (rest / 2))) < 1024 + 3 * i)
       go true q t later = (omega arith, omega (arith, l .low, l .old))
       go false q true later = let s = eqb-false (getD table c 0) 0 q in (omega (arith, l .rise s, l .low), omega (arith, l .few))
       go false q false later =
@@ -114,13 +129,20 @@ module _ (table words : List ℕ) (i : ℕ) (tree : Tree table i) (level tag : �
           let next = later s in
           (omega (arith, next .0, l .rise s, l .low), next .1)
 
-  pub outcome : (n h c rest : ℕ) → Link table i h c → i ≤ h + n → Empty table (reached n table words level tag c rest) ⊎ Found words level tag (reached n table words level tag c rest)
+  pub outcome : (n h c rest : ℕ) → Link table i h c → i ≤ h + n
+      → Empty table (reached n table words level tag c rest) ⊎ Found words level tag (reached n table words level tag c rest)
   unfolding reached
   outcome zero h c rest l a = inl (record { free = l .free; none = link-stop table i tree h c l (omega arith) })
   outcome (suc n) h c rest l a =
-      go (eqb (getD table c 0) 0) refl (tagged level tag (rowAt words (getD table c 0 - 1))) refl (λ s. outcome n (getD table c 0) (1021 + 3 * getD table c 0 + rest % 2) (rest / 2) (next-link table i tree h c rest l s) (omega (arith, l .rise s)))
+      go (eqb (getD table c 0) 0) refl (tagged level tag (rowAt words (getD table c 0 - 1))) refl
+      (λ s. outcome n (getD table c 0) (1021 + 3 * getD table c 0 + rest % 2) (rest / 2) (next-link table i tree h c rest l s) (omega (arith, l .rise s)))
     where
-      go : (z : Bool) → eqb (getD table c 0) 0 ≡ z → (t : Bool) → tagged level tag (rowAt words (getD table c 0 - 1)) ≡ t → ((getD table c 0 ≡ 0 → ⊥) → Empty table (reached n table words level tag (1021 + 3 * getD table c 0 + rest % 2) (rest / 2)) ⊎ Found words level tag (reached n table words level tag (1021 + 3 * getD table c 0 + rest % 2) (rest / 2))) → Empty table (pick z c (pick t (1023 + 3 * getD table c 0) (reached n table words level tag (1021 + 3 * getD table c 0 + rest % 2) (rest / 2)))) ⊎ Found words level tag (pick z c (pick t (1023 + 3 * getD table c 0) (reached n table words level tag (1021 + 3 * getD table c 0 + rest % 2) (rest / 2))))
+      go : (z : Bool) → eqb (getD table c 0) 0 ≡ z → (t : Bool) → tagged level tag (rowAt words (getD table c 0 - 1)) ≡ t
+          → ((getD table c 0 ≡ 0 → ⊥) → Empty table (reached n table words level tag (1021 + 3 * getD table c 0 + rest % 2) (rest / 2))
+          ⊎ Found words level tag (reached n table words level tag (1021 + 3 * getD table c 0 + rest % 2) (rest / 2)))
+          → Empty table (pick z c (pick t (1023 + 3 * getD table c 0) (reached n table words level tag (1021 + 3 * getD table c 0 + rest % 2) (rest / 2))))
+          ⊎ Found words level tag (pick z c
+          (pick t (1023 + 3 * getD table c 0) (reached n table words level tag (1021 + 3 * getD table c 0 + rest % 2) (rest / 2))))
       go true q t p later = inl (record { free = l .free; none = eqb-true (getD table c 0) 0 q })
       go false q true p later = inr (record { v = getD table c 0; some = omega (arith, l .rise (eqb-false (getD table c 0) 0 q)); place = refl; hit = p })
       go false q false p later = later (eqb-false (getD table c 0) 0 q)
@@ -143,15 +165,22 @@ module _ (table after words : List ℕ) (i r : ℕ) (tree : Tree table i) (chang
   module _ (level tag : ℕ) (mine : tagged level tag (rowAt words i) ≡ true) where
     entered-here : (n c rest : ℕ) → c ≡ r → getD after (reached (suc n) after words level tag c rest) 0 ≡ i + 1
     entered-here n c rest e =
-        ap (λ (k : ℕ). getD after k 0) (reached-hit n after words level tag c rest (i + 1) (ap (λ (k : ℕ). getD after k 0) e ∙ change .here) new (rw last mine)) ∙ change .own
+        ap (λ (k : ℕ). getD after k 0) (reached-hit n after words level tag c rest (i + 1) (ap (λ (k : ℕ). getD after k 0) e ∙ change .here) new
+        (rw last mine)) ∙ change .own
 
-    pub found-mine : (n h c rest : ℕ) → Link table i h c → i ≤ h + n → reached n table words level tag c rest ≡ r → getD after (reached (suc n) after words level tag c rest) 0 ≡ i + 1
+    pub found-mine : (n h c rest : ℕ) → Link table i h c → i ≤ h + n → reached n table words level tag c rest ≡ r
+        → getD after (reached (suc n) after words level tag c rest) 0 ≡ i + 1
     unfolding reached
     found-mine zero h c rest l a e = entered-here zero c rest e
     found-mine (suc n) h c rest l a e =
-        go (eqb (getD table c 0) 0) refl (tagged level tag (rowAt words (getD table c 0 - 1))) refl (λ s. found-mine n (getD table c 0) (1021 + 3 * getD table c 0 + rest % 2) (rest / 2) (next-link table i tree h c rest l s) (omega (arith, l .rise s)))
+        go (eqb (getD table c 0) 0) refl (tagged level tag (rowAt words (getD table c 0 - 1))) refl
+        (λ s. found-mine n (getD table c 0) (1021 + 3 * getD table c 0 + rest % 2) (rest / 2) (next-link table i tree h c rest l s)
+        (omega (arith, l .rise s)))
       where
-        go : (z : Bool) → eqb (getD table c 0) 0 ≡ z → (t : Bool) → tagged level tag (rowAt words (getD table c 0 - 1)) ≡ t → ((getD table c 0 ≡ 0 → ⊥) → reached n table words level tag (1021 + 3 * getD table c 0 + rest % 2) (rest / 2) ≡ r → getD after (reached (suc n) after words level tag (1021 + 3 * getD table c 0 + rest % 2) (rest / 2)) 0 ≡ i + 1) → getD after (reached (suc (suc n)) after words level tag c rest) 0 ≡ i + 1
+        go : (z : Bool) → eqb (getD table c 0) 0 ≡ z → (t : Bool) → tagged level tag (rowAt words (getD table c 0 - 1)) ≡ t
+            → ((getD table c 0 ≡ 0 → ⊥) → reached n table words level tag (1021 + 3 * getD table c 0 + rest % 2) (rest / 2) ≡ r
+            → getD after (reached (suc n) after words level tag (1021 + 3 * getD table c 0 + rest % 2) (rest / 2)) 0 ≡ i + 1)
+            → getD after (reached (suc (suc n)) after words level tag c rest) 0 ≡ i + 1
         go true q t p later = entered-here (suc n) c rest (sym (reached-stop (suc n) table words level tag c rest (eqb-true (getD table c 0) 0 q)) ∙ e)
         go false q true p later =
             let s = eqb-false (getD table c 0) 0 q in
@@ -160,20 +189,28 @@ module _ (table after words : List ℕ) (i r : ℕ) (tree : Tree table i) (chang
             ap (λ (k : ℕ). getD after k 0) (reached-hit (suc n) after words level tag c rest (getD table c 0) same s p ∙ at) ∙ change .here
         go false q false p later =
             let s = eqb-false (getD table c 0) 0 q in
-            let at : reached n table words level tag (1021 + 3 * getD table c 0 + rest % 2) (rest / 2) ≡ r = sym (reached-on n table words level tag c rest (getD table c 0) refl s p) ∙ e in
-            let past = reached-bounds table words i tree level tag n (getD table c 0) (1021 + 3 * getD table c 0 + rest % 2) (rest / 2) (next-link table i tree h c rest l s) .0 in
+            let at : reached n table words level tag (1021 + 3 * getD table c 0 + rest % 2) (rest / 2) ≡ r =
+            sym (reached-on n table words level tag c rest (getD table c 0) refl s p) ∙ e in
+            let past =
+            reached-bounds table words i tree level tag n (getD table c 0) (1021 + 3 * getD table c 0 + rest % 2) (rest / 2)
+            (next-link table i tree h c rest l s) .0 in
             let same = change .kept c (omega (arith, l .low, l .old)) (λ k. omega (arith, at, k, past, l .low, l .rise s)) in
             ap (λ (k : ℕ). getD after k 0) (reached-on (suc n) after words level tag c rest (getD table c 0) same s p) ∙ later s at
 
   -- any other level and tag
-  module _ (level tag level₀ tag₀ : ℕ) (other : tagged level tag (rowAt words i) ≡ false) (apart : (k : ℕ) → tagged level tag (rowAt words k) ≡ true → tagged level₀ tag₀ (rowAt words k) ≡ true → ⊥) (out : Empty table r ⊎ Found words level₀ tag₀ r) where
+  module _ (level tag level₀ tag₀ : ℕ) (other : tagged level tag (rowAt words i) ≡ false)
+      (apart : (k : ℕ) → tagged level tag (rowAt words k) ≡ true → tagged level₀ tag₀ (rowAt words k) ≡ true → ⊥)
+      (out : Empty table r ⊎ Found words level₀ tag₀ r) where
     -- a link is the word entered only where it is empty
-    passed-by : (n h c rest : ℕ) → Link table i h c → c ≡ r → Empty table r ⊎ Found words level₀ tag₀ r → getD after (reached (suc n) after words level tag c rest) 0 ≡ getD table (reached n table words level tag c rest) 0
+    passed-by : (n h c rest : ℕ) → Link table i h c → c ≡ r → Empty table r ⊎ Found words level₀ tag₀ r
+        → getD after (reached (suc n) after words level tag c rest) 0 ≡ getD table (reached n table words level tag c rest) 0
     passed-by n h c rest l e (inr f) = absurd (l .free (f .v) (f .some) (e ∙ f .place))
     passed-by n h c rest l e (inl f) =
         let none : getD table c 0 ≡ 0 = ap (λ (k : ℕ). getD table k 0) e ∙ f .none in
         let bare = change .bare (rest % 2) (omega arith) in
-        ap (λ (k : ℕ). getD after k 0) (reached-on n after words level tag c rest (i + 1) (ap (λ (k : ℕ). getD after k 0) e ∙ change .here) new (rw last other) ∙ reached-stop n after words level tag (1021 + 3 * (i + 1) + rest % 2) (rest / 2) bare)
+        ap (λ (k : ℕ). getD after k 0)
+        (reached-on n after words level tag c rest (i + 1) (ap (λ (k : ℕ). getD after k 0) e ∙ change .here) new (rw last other)
+        ∙ reached-stop n after words level tag (1021 + 3 * (i + 1) + rest % 2) (rest / 2) bare)
         ∙ bare
         ∙ sym (ap (λ (k : ℕ). getD table k 0) (reached-stop n table words level tag c rest none) ∙ none)
 
@@ -184,21 +221,29 @@ module _ (table after words : List ℕ) (i r : ℕ) (tree : Tree table i) (chang
         let same : f .v ≡ v = omega (arith, e, f .place) in
         apart (v - 1) hit (rw same at (f .hit))
 
-    still-empty : (n h c rest : ℕ) → Link table i h c → getD table c 0 ≡ 0 → (c ≡ r → ⊥) → getD after (reached (suc n) after words level tag c rest) 0 ≡ getD table (reached n table words level tag c rest) 0
+    still-empty : (n h c rest : ℕ) → Link table i h c → getD table c 0 ≡ 0 → (c ≡ r → ⊥)
+        → getD after (reached (suc n) after words level tag c rest) 0 ≡ getD table (reached n table words level tag c rest) 0
     still-empty n h c rest l e q =
         let same = change .kept c (omega (arith, l .low, l .old)) q in
-        ap (λ (k : ℕ). getD after k 0) (reached-stop (suc n) after words level tag c rest (same ∙ e)) ∙ same ∙ sym (ap (λ (k : ℕ). getD table k 0) (reached-stop n table words level tag c rest e))
+        ap (λ (k : ℕ). getD after k 0) (reached-stop (suc n) after words level tag c rest (same ∙ e)) ∙ same
+        ∙ sym (ap (λ (k : ℕ). getD table k 0) (reached-stop n table words level tag c rest e))
 
-    pub found-other : (n h c rest : ℕ) → Link table i h c → i ≤ h + n → getD after (reached (suc n) after words level tag c rest) 0 ≡ getD table (reached n table words level tag c rest) 0
+    pub found-other : (n h c rest : ℕ) → Link table i h c → i ≤ h + n
+        → getD after (reached (suc n) after words level tag c rest) 0 ≡ getD table (reached n table words level tag c rest) 0
     found-other zero h c rest l a = go (eqb c r) refl
       where
         go : (b : Bool) → eqb c r ≡ b → getD after (reached 1 after words level tag c rest) 0 ≡ getD table (reached 0 table words level tag c rest) 0
         go true q = passed-by 0 h c rest l (eqb-true c r q) out
         go false q = still-empty 0 h c rest l (link-stop table i tree h c l (omega arith)) (eqb-false c r q)
     found-other (suc n) h c rest l a =
-        go (eqb c r) refl (eqb (getD table c 0) 0) refl (tagged level tag (rowAt words (getD table c 0 - 1))) refl (λ s. found-other n (getD table c 0) (1021 + 3 * getD table c 0 + rest % 2) (rest / 2) (next-link table i tree h c rest l s) (omega (arith, l .rise s)))
+        go (eqb c r) refl (eqb (getD table c 0) 0) refl (tagged level tag (rowAt words (getD table c 0 - 1))) refl
+        (λ s. found-other n (getD table c 0) (1021 + 3 * getD table c 0 + rest % 2) (rest / 2) (next-link table i tree h c rest l s)
+        (omega (arith, l .rise s)))
       where
-        go : (b : Bool) → eqb c r ≡ b → (z : Bool) → eqb (getD table c 0) 0 ≡ z → (t : Bool) → tagged level tag (rowAt words (getD table c 0 - 1)) ≡ t → ((getD table c 0 ≡ 0 → ⊥) → getD after (reached (suc n) after words level tag (1021 + 3 * getD table c 0 + rest % 2) (rest / 2)) 0 ≡ getD table (reached n table words level tag (1021 + 3 * getD table c 0 + rest % 2) (rest / 2)) 0) → getD after (reached (suc (suc n)) after words level tag c rest) 0 ≡ getD table (reached (suc n) table words level tag c rest) 0
+        go : (b : Bool) → eqb c r ≡ b → (z : Bool) → eqb (getD table c 0) 0 ≡ z → (t : Bool) → tagged level tag (rowAt words (getD table c 0 - 1)) ≡ t
+            → ((getD table c 0 ≡ 0 → ⊥) → getD after (reached (suc n) after words level tag (1021 + 3 * getD table c 0 + rest % 2) (rest / 2)) 0
+            ≡ getD table (reached n table words level tag (1021 + 3 * getD table c 0 + rest % 2) (rest / 2)) 0)
+            → getD after (reached (suc (suc n)) after words level tag c rest) 0 ≡ getD table (reached (suc n) table words level tag c rest) 0
         go true w z q t p later = passed-by (suc n) h c rest l (eqb-true c r w) out
         go false w true q t p later = still-empty (suc n) h c rest l (eqb-true (getD table c 0) 0 q) (eqb-false c r w)
         go false w false q true p later =

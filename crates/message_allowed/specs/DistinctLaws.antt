@@ -62,9 +62,13 @@ unfolding held heldBefore opened latest
 held-latest level tag [] = sym (le-ltb 0 0 (omega arith))
 held-latest level tag (r ∷ before) =
     rw (tagged-either level tag r)
-    (go (ltb (levelOf r) level) (matches 1 level tag r) (matches 2 level tag r) (held-latest level tag before) (opened-small level before) (latest-small level tag before))
+    (go (ltb (levelOf r) level) (matches 1 level tag r) (matches 2 level tag r) (held-latest level tag before) (opened-small level before)
+    (latest-small level tag before))
   where
-    go : (s m n : Bool) → held level tag before ≡ ltb (opened level before) (latest level tag before) → opened level before ≤ length before → latest level tag before ≤ length before → pick (pick s false (pick m true (heldBefore 1 level tag before))) true (pick s false (pick n true (heldBefore 2 level tag before))) ≡ ltb (pick s (length before + 1) (opened level before)) (pick (pick m true n) (length before + 1) (latest level tag before))
+    go : (s m n : Bool) → held level tag before ≡ ltb (opened level before) (latest level tag before) → opened level before ≤ length before
+        → latest level tag before ≤ length before
+        → pick (pick s false (pick m true (heldBefore 1 level tag before))) true (pick s false (pick n true (heldBefore 2 level tag before)))
+        ≡ ltb (pick s (length before + 1) (opened level before)) (pick (pick m true n) (length before + 1) (latest level tag before))
     go true true n rest o l = sym (le-ltb (length before + 1) (length before + 1) (omega arith))
     go true false true rest o l = sym (le-ltb (length before + 1) (length before + 1) (omega arith))
     go true false false rest o l = sym (le-ltb (length before + 1) (latest level tag before) (omega arith))
@@ -101,7 +105,10 @@ module _ (before : List Row) (level tag : ℕ) where
       go true b = refl
       go false b = refl
 
-  pub head-held : (delimiter : ℕ) → headAllowed before level tag delimiter ≡ pick (eqb level 0) true (pick (eqb tag 0) false (pick (eqb delimiter 0) false (pick (held level tag before) (followsOn level tag delimiter before) true)))
+  pub head-held : (delimiter : ℕ)
+      → headAllowed before level tag delimiter
+      ≡ pick (eqb level 0) true (pick (eqb tag 0) false
+      (pick (eqb delimiter 0) false (pick (held level tag before) (followsOn level tag delimiter before) true)))
   unfolding headAllowed held
   head-held delimiter =
       ap (λ (b : Bool). pick (eqb level 0) true (pick (eqb tag 0) false (pick (eqb delimiter 0) false b)))

@@ -15,7 +15,8 @@ use Rattle.message_lent_rules.specs.Lent.{rowAllowed, fieldAllowed, headAllowed
 use Rattle.message_allowed.specs.Distinct.{tagged, opened, latest, reach}
 use Rattle.message_allowed.specs.RowLaws.{before-length, before-next, latest-here, latest-on}
 use Rattle.message_allowed.specs.Branch.{bucketOf, restOf, reached, cellOf, Tree, tagOf, Sized, Known, grown}
-use Rattle.message_allowed.specs.BranchLaws.{Link, bucket-link, branch-link, reached-stop, reached-hit, reached-on, Empty, Found, enough, reached-bounds, outcome, Changed, found-mine, found-other, tree-on}
+use Rattle.message_allowed.specs.BranchLaws.{Link, bucket-link, branch-link, reached-stop, reached-hit, reached-on, Empty, Found, enough}
+use Rattle.message_allowed.specs.BranchLaws.{reached-bounds, outcome, Changed, found-mine, found-other, tree-on}
 
 pub bucket-few : (level tag : ℕ) → bucketOf level tag < 1024
 unfolding bucketOf
@@ -33,7 +34,8 @@ tagged-same level tag (row k l t x) h = go (eqb t tag) refl (eqb l level) refl
 -- a row that is allowed is a field or a head
 pub allowed-tagged : (before : List Row) (r : Row) → rowAllowed before r ≡ true → tagged (levelOf r) (tagOf r) r ≡ true
 unfolding rowAllowed tagged levelOf tagOf
-allowed-tagged before (row k l t x) h = rw (eq-eqb t t refl, eq-eqb l l refl) (go (leb l (deepest before)) (eqb k 1) (eqb k 2) (fieldAllowed before l t) (headAllowed before l t x) h)
+allowed-tagged before (row k l t x) h =
+    rw (eq-eqb t t refl, eq-eqb l l refl) (go (leb l (deepest before)) (eqb k 1) (eqb k 2) (fieldAllowed before l t) (headAllowed before l t x) h)
   where
     go : (a b c f g : Bool) → pick a (pick b f (pick c g false)) false ≡ true → pick b true c ≡ true
     go a true c f g e = refl
@@ -58,7 +60,11 @@ module _ (words : List ℕ) (n tops : ℕ) (low : 1024 ≤ tops) (high : tops < 
   unfolding rowsBefore latest opened reach cellOf
   known-none =
       record {
-        finds = λ level tag. let none = blank (bucketOf level tag) (omega (arith, bucket-few level tag)) in ap (λ (k : ℕ). getD (replicate n 0) k 0) (reached-stop 2051 (replicate n 0) words level tag (bucketOf level tag) (restOf level tag) none) ∙ none;
+        finds =
+            λ level tag. let none =
+            blank (bucketOf level tag) (omega (arith, bucket-few level tag)) in
+            ap (λ (k : ℕ). getD (replicate n 0) k 0) (reached-stop 2051 (replicate n 0) words level tag (bucketOf level tag) (restOf level tag) none)
+            ∙ none;
         tree = record { few = λ k h. omega (arith, blank k (omega arith)); rises = λ v s a b t n. absurd (omega arith) };
         opens = λ l h. blank (tops + l) (omega arith);
         near = omega arith;
@@ -66,7 +72,8 @@ module _ (words : List ℕ) (n tops : ℕ) (low : 1024 ≤ tops) (high : tops < 
 
 -- five words set apart from each other
 module _ (table : List ℕ) (a b c d e x : ℕ) where
-  at-other : (k : ℕ) → (k ≡ a → ⊥) → (k ≡ b → ⊥) → (k ≡ c → ⊥) → (k ≡ d → ⊥) → (k ≡ e → ⊥) → getD (set (set (set (set (set table a x) b 0) c 0) d x) e x) k 0 ≡ getD table k 0
+  at-other : (k : ℕ) → (k ≡ a → ⊥) → (k ≡ b → ⊥) → (k ≡ c → ⊥) → (k ≡ d → ⊥) → (k ≡ e → ⊥)
+      → getD (set (set (set (set (set table a x) b 0) c 0) d x) e x) k 0 ≡ getD table k 0
   at-other k p q r s t =
       getD-set-other (set (set (set (set table a x) b 0) c 0) d x) e k x 0 t
       ∙ getD-set-other (set (set (set table a x) b 0) c 0) d k x 0 s
@@ -103,7 +110,8 @@ module _ (table : List ℕ) (a b c d e x : ℕ) where
   at-e : e < length table → getD (set (set (set (set (set table a x) b 0) c 0) d x) e x) e 0 ≡ x
   at-e h = getD-set-same (set (set (set (set table a x) b 0) c 0) d x) e x 0 (simp length-set h)
 
-module _ (words : List ℕ) (i tops r : ℕ) (table : List ℕ) (few : i < 2051) (size : Sized table tops i) (deep : levelOf (rowAt words i) ≤ i) (small : r < 1024 + 3 * i) where
+module _ (words : List ℕ) (i tops r : ℕ) (table : List ℕ) (few : i < 2051) (size : Sized table tops i) (deep : levelOf (rowAt words i) ≤ i)
+    (small : r < 1024 + 3 * i) where
   pub grown-length : length (grown words i tops r table) ≡ length table
   unfolding grown
   grown-length = simp length-set
@@ -112,54 +120,83 @@ module _ (words : List ℕ) (i tops r : ℕ) (table : List ℕ) (few : i < 2051)
   unfolding grown
   changed =
       record {
-        kept = λ k h n. at-other table r (1024 + 3 * i) (1024 + 3 * i + 1) (1024 + 3 * i + 2) (tops + 1 + levelOf (rowAt words i)) (i + 1) k n (λ e. omega arith) (λ e. omega arith) (λ e. omega arith) (λ e. omega arith);
-        here = at-a table r (1024 + 3 * i) (1024 + 3 * i + 1) (1024 + 3 * i + 2) (tops + 1 + levelOf (rowAt words i)) (i + 1) (omega arith) (λ e. omega arith) (λ e. omega arith) (λ e. omega arith) (λ e. omega arith);
+        kept =
+            λ k h n. at-other table r (1024 + 3 * i) (1024 + 3 * i + 1) (1024 + 3 * i + 2) (tops + 1 + levelOf (rowAt words i)) (i + 1) k n (λ e. omega arith)
+            (λ e. omega arith) (λ e. omega arith) (λ e. omega arith);
+        here =
+            at-a table r (1024 + 3 * i) (1024 + 3 * i + 1) (1024 + 3 * i + 2) (tops + 1 + levelOf (rowAt words i)) (i + 1) (omega arith) (λ e. omega arith)
+            (λ e. omega arith) (λ e. omega arith) (λ e. omega arith);
         bare = bare;
         own = own;
       }
     where
-      left : getD (set (set (set (set (set table r (i + 1)) (1024 + 3 * i) 0) (1024 + 3 * i + 1) 0) (1024 + 3 * i + 2) (i + 1)) (tops + 1 + levelOf (rowAt words i)) (i + 1)) (1024 + 3 * i) 0 ≡ 0
-      left = at-b table r (1024 + 3 * i) (1024 + 3 * i + 1) (1024 + 3 * i + 2) (tops + 1 + levelOf (rowAt words i)) (i + 1) (omega arith) (λ e. omega arith) (λ e. omega arith) (λ e. omega arith)
+      left : getD (set (set (set (set (set table r (i + 1)) (1024 + 3 * i) 0) (1024 + 3 * i + 1) 0) (1024 + 3 * i + 2) (i + 1))
+          (tops + 1 + levelOf (rowAt words i)) (i + 1)) (1024 + 3 * i) 0 ≡ 0
+      left =
+          at-b table r (1024 + 3 * i) (1024 + 3 * i + 1) (1024 + 3 * i + 2) (tops + 1 + levelOf (rowAt words i)) (i + 1) (omega arith) (λ e. omega arith)
+          (λ e. omega arith) (λ e. omega arith)
 
-      right : getD (set (set (set (set (set table r (i + 1)) (1024 + 3 * i) 0) (1024 + 3 * i + 1) 0) (1024 + 3 * i + 2) (i + 1)) (tops + 1 + levelOf (rowAt words i)) (i + 1)) (1024 + 3 * i + 1) 0 ≡ 0
-      right = at-c table r (1024 + 3 * i) (1024 + 3 * i + 1) (1024 + 3 * i + 2) (tops + 1 + levelOf (rowAt words i)) (i + 1) (omega arith) (λ e. omega arith) (λ e. omega arith)
+      right : getD (set (set (set (set (set table r (i + 1)) (1024 + 3 * i) 0) (1024 + 3 * i + 1) 0) (1024 + 3 * i + 2) (i + 1))
+          (tops + 1 + levelOf (rowAt words i)) (i + 1)) (1024 + 3 * i + 1) 0 ≡ 0
+      right =
+          at-c table r (1024 + 3 * i) (1024 + 3 * i + 1) (1024 + 3 * i + 2) (tops + 1 + levelOf (rowAt words i)) (i + 1) (omega arith) (λ e. omega arith)
+          (λ e. omega arith)
 
-      bare : (s : ℕ) → s < 2 → getD (set (set (set (set (set table r (i + 1)) (1024 + 3 * i) 0) (1024 + 3 * i + 1) 0) (1024 + 3 * i + 2) (i + 1)) (tops + 1 + levelOf (rowAt words i)) (i + 1)) (1021 + 3 * (i + 1) + s) 0 ≡ 0
+      bare : (s : ℕ) → s < 2
+          → getD (set (set (set (set (set table r (i + 1)) (1024 + 3 * i) 0) (1024 + 3 * i + 1) 0) (1024 + 3 * i + 2) (i + 1))
+          (tops + 1 + levelOf (rowAt words i)) (i + 1)) (1021 + 3 * (i + 1) + s) 0 ≡ 0
       bare s h = go (eqb s 0) refl
         where
-          go : (b : Bool) → eqb s 0 ≡ b → getD (set (set (set (set (set table r (i + 1)) (1024 + 3 * i) 0) (1024 + 3 * i + 1) 0) (1024 + 3 * i + 2) (i + 1)) (tops + 1 + levelOf (rowAt words i)) (i + 1)) (1021 + 3 * (i + 1) + s) 0 ≡ 0
+          go : (b : Bool) → eqb s 0 ≡ b
+              → getD (set (set (set (set (set table r (i + 1)) (1024 + 3 * i) 0) (1024 + 3 * i + 1) 0) (1024 + 3 * i + 2) (i + 1))
+              (tops + 1 + levelOf (rowAt words i)) (i + 1)) (1021 + 3 * (i + 1) + s) 0 ≡ 0
           go true q = let e : 1021 + 3 * (i + 1) + s ≡ 1024 + 3 * i = omega (arith, eqb-true s 0 q) in rw e left
           go false q = one (eqb-false s 0 q)
             where
-              one : (s ≡ 0 → ⊥) → getD (set (set (set (set (set table r (i + 1)) (1024 + 3 * i) 0) (1024 + 3 * i + 1) 0) (1024 + 3 * i + 2) (i + 1)) (tops + 1 + levelOf (rowAt words i)) (i + 1)) (1021 + 3 * (i + 1) + s) 0 ≡ 0
+              one : (s ≡ 0 → ⊥)
+                  → getD (set (set (set (set (set table r (i + 1)) (1024 + 3 * i) 0) (1024 + 3 * i + 1) 0) (1024 + 3 * i + 2) (i + 1))
+                  (tops + 1 + levelOf (rowAt words i)) (i + 1)) (1021 + 3 * (i + 1) + s) 0 ≡ 0
               one n = let e : 1021 + 3 * (i + 1) + s ≡ 1024 + 3 * i + 1 = omega arith in rw e right
 
-      own : getD (set (set (set (set (set table r (i + 1)) (1024 + 3 * i) 0) (1024 + 3 * i + 1) 0) (1024 + 3 * i + 2) (i + 1)) (tops + 1 + levelOf (rowAt words i)) (i + 1)) (1023 + 3 * (i + 1)) 0 ≡ i + 1
+      own : getD (set (set (set (set (set table r (i + 1)) (1024 + 3 * i) 0) (1024 + 3 * i + 1) 0) (1024 + 3 * i + 2) (i + 1))
+          (tops + 1 + levelOf (rowAt words i)) (i + 1)) (1023 + 3 * (i + 1)) 0 ≡ i + 1
       own =
           let e : 1023 + 3 * (i + 1) ≡ 1024 + 3 * i + 2 = omega arith in
-          rw e (at-d table r (1024 + 3 * i) (1024 + 3 * i + 1) (1024 + 3 * i + 2) (tops + 1 + levelOf (rowAt words i)) (i + 1) (omega arith) (λ e. omega arith))
+          rw e (at-d table r (1024 + 3 * i) (1024 + 3 * i + 1) (1024 + 3 * i + 2) (tops + 1 + levelOf (rowAt words i)) (i + 1) (omega arith)
+          (λ e. omega arith))
 
-  module _ (known : Known words i tops table) (inside : levelOf (rowAt words i) ≤ reach (rowsBefore i words)) (mine : tagged (levelOf (rowAt words i)) (tagOf (rowAt words i)) (rowAt words i) ≡ true) (found : r ≡ cellOf table words (levelOf (rowAt words i)) (tagOf (rowAt words i))) where
+  module _ (known : Known words i tops table) (inside : levelOf (rowAt words i) ≤ reach (rowsBefore i words))
+      (mine : tagged (levelOf (rowAt words i)) (tagOf (rowAt words i)) (rowAt words i) ≡ true)
+      (found : r ≡ cellOf table words (levelOf (rowAt words i)) (tagOf (rowAt words i))) where
     -- one step fewer is enough for the rows before
     fewer : (level tag : ℕ) → cellOf table words level tag ≡ reached 2050 table words level tag (bucketOf level tag) (restOf level tag)
     unfolding cellOf
-    fewer level tag = enough table words i (known .tree) level tag 2051 2050 0 (bucketOf level tag) (restOf level tag) (start words i table (known .tree) (omega arith) level tag) (omega arith) (omega arith)
+    fewer level tag =
+        enough table words i (known .tree) level tag 2051 2050 0 (bucketOf level tag) (restOf level tag)
+        (start words i table (known .tree) (omega arith) level tag) (omega arith) (omega arith)
 
-    finds-on : (level tag : ℕ) → getD (grown words i tops r table) (cellOf (grown words i tops r table) words level tag) 0 ≡ latest level tag (rowsBefore (i + 1) words)
+    finds-on : (level tag : ℕ)
+        → getD (grown words i tops r table) (cellOf (grown words i tops r table) words level tag) 0 ≡ latest level tag (rowsBefore (i + 1) words)
     unfolding cellOf
     finds-on level tag = go (tagged level tag (rowAt words i)) refl
       where
         own-start : Link table i 0 (bucketOf level tag)
         own-start = start words i table (known .tree) (omega arith) level tag
 
-        go : (t : Bool) → tagged level tag (rowAt words i) ≡ t → getD (grown words i tops r table) (reached 2051 (grown words i tops r table) words level tag (bucketOf level tag) (restOf level tag)) 0 ≡ latest level tag (rowsBefore (i + 1) words)
+        go : (t : Bool) → tagged level tag (rowAt words i) ≡ t
+            → getD (grown words i tops r table) (reached 2051 (grown words i tops r table) words level tag (bucketOf level tag) (restOf level tag)) 0
+            ≡ latest level tag (rowsBefore (i + 1) words)
         go true p =
             let s = tagged-same level tag (rowAt words i) p in
-            let at : reached 2050 table words level tag (bucketOf level tag) (restOf level tag) ≡ r = sym (found ∙ ap (λ (l : ℕ). cellOf table words l (tagOf (rowAt words i))) (sym (s .0)) ∙ ap (cellOf table words level) (sym (s .1)) ∙ fewer level tag) in
-            found-mine table (grown words i tops r table) words i r (known .tree) changed level tag p 2050 0 (bucketOf level tag) (restOf level tag) own-start (omega arith) at
+            let at : reached 2050 table words level tag (bucketOf level tag) (restOf level tag) ≡ r =
+            sym (found ∙ ap (λ (l : ℕ). cellOf table words l (tagOf (rowAt words i))) (sym (s .0)) ∙ ap (cellOf table words level) (sym (s .1))
+            ∙ fewer level tag) in
+            found-mine table (grown words i tops r table) words i r (known .tree) changed level tag p 2050 0 (bucketOf level tag) (restOf level tag) own-start
+            (omega arith) at
             ∙ sym (latest-here words level tag i p)
         go false p =
-            found-other table (grown words i tops r table) words i r (known .tree) changed level tag (levelOf (rowAt words i)) (tagOf (rowAt words i)) p apart out 2050 0 (bucketOf level tag) (restOf level tag) own-start (omega arith)
+            found-other table (grown words i tops r table) words i r (known .tree) changed level tag (levelOf (rowAt words i))
+            (tagOf (rowAt words i)) p apart out 2050 0 (bucketOf level tag) (restOf level tag) own-start (omega arith)
             ∙ sym (ap (λ (k : ℕ). getD table k 0) (fewer level tag))
             ∙ known .finds level tag
             ∙ sym (latest-on words level tag i p)
@@ -173,19 +210,25 @@ module _ (words : List ℕ) (i tops r : ℕ) (table : List ℕ) (few : i < 2051)
                 let z : _≡_ {A = ℕ} 0 1 = cc in absurd (omega arith)
 
             out : Empty table r ⊎ Found words (levelOf (rowAt words i)) (tagOf (rowAt words i)) r
-            out = rw (sym found) at (outcome table words i (known .tree) (levelOf (rowAt words i)) (tagOf (rowAt words i)) 2051 0 (bucketOf (levelOf (rowAt words i)) (tagOf (rowAt words i))) (restOf (levelOf (rowAt words i)) (tagOf (rowAt words i))) (start words i table (known .tree) (omega arith) (levelOf (rowAt words i)) (tagOf (rowAt words i))) (omega arith))
+            out =
+                rw (sym found) at (outcome table words i (known .tree) (levelOf (rowAt words i)) (tagOf (rowAt words i)) 2051 0
+                (bucketOf (levelOf (rowAt words i)) (tagOf (rowAt words i))) (restOf (levelOf (rowAt words i)) (tagOf (rowAt words i)))
+                (start words i table (known .tree) (omega arith) (levelOf (rowAt words i)) (tagOf (rowAt words i))) (omega arith))
 
     opens-on : (l : ℕ) → l ≤ reach (rowsBefore (i + 1) words) → getD (grown words i tops r table) (tops + l) 0 ≡ opened l (rowsBefore (i + 1) words)
     unfolding opened reach grown
     opens-on l h = rw (before-next words i, before-length i words) (go (ltb (levelOf (rowAt words i)) l) refl (rw (before-next words i) at h))
       where
-        go : (t : Bool) → ltb (levelOf (rowAt words i)) l ≡ t → l ≤ levelOf (rowAt words i) + 1 → getD (set (set (set (set (set table r (i + 1)) (1024 + 3 * i) 0) (1024 + 3 * i + 1) 0) (1024 + 3 * i + 2) (i + 1)) (tops + 1 + levelOf (rowAt words i)) (i + 1)) (tops + l) 0 ≡ pick t (i + 1) (opened l (rowsBefore i words))
+        go : (t : Bool) → ltb (levelOf (rowAt words i)) l ≡ t → l ≤ levelOf (rowAt words i) + 1
+            → getD (set (set (set (set (set table r (i + 1)) (1024 + 3 * i) 0) (1024 + 3 * i + 1) 0) (1024 + 3 * i + 2) (i + 1))
+            (tops + 1 + levelOf (rowAt words i)) (i + 1)) (tops + l) 0 ≡ pick t (i + 1) (opened l (rowsBefore i words))
         go true q most =
             let e : tops + l ≡ tops + 1 + levelOf (rowAt words i) = omega (arith, ltb-true (levelOf (rowAt words i)) l q) in
             rw e (at-e table r (1024 + 3 * i) (1024 + 3 * i + 1) (1024 + 3 * i + 2) (tops + 1 + levelOf (rowAt words i)) (i + 1) (omega arith))
         go false q most =
             let low = ltb-false (levelOf (rowAt words i)) l q in
-            at-other table r (1024 + 3 * i) (1024 + 3 * i + 1) (1024 + 3 * i + 2) (tops + 1 + levelOf (rowAt words i)) (i + 1) (tops + l) (λ e. omega arith) (λ e. omega arith) (λ e. omega arith) (λ e. omega arith) (λ e. omega (arith, low))
+            at-other table r (1024 + 3 * i) (1024 + 3 * i + 1) (1024 + 3 * i + 2) (tops + 1 + levelOf (rowAt words i)) (i + 1) (tops + l) (λ e. omega arith)
+            (λ e. omega arith) (λ e. omega arith) (λ e. omega arith) (λ e. omega (arith, low))
             ∙ known .opens l (omega (arith, low, inside))
 
     near-on : reach (rowsBefore (i + 1) words) ≤ i + 1
@@ -193,7 +236,8 @@ module _ (words : List ℕ) (i tops r : ℕ) (table : List ℕ) (few : i < 2051)
     near-on = rw (before-next words i) (omega arith)
 
     pub known-on : Known words (i + 1) tops (grown words i tops r table)
-    known-on = record { finds = finds-on; tree = tree-on table (grown words i tops r table) words i r (known .tree) changed small; opens = opens-on; near = near-on }
+    known-on =
+        record { finds = finds-on; tree = tree-on table (grown words i tops r table) words i r (known .tree) changed small; opens = opens-on; near = near-on }
 
 -- on the way to the word of a level and tag
 pub record Way (table words : List ℕ) (i level tag cell rest : ℕ) : Type 0 where
@@ -227,9 +271,12 @@ module _ (table words : List ℕ) (i level tag : ℕ) (tree : Tree table i) (few
       pub way-on : tagged level tag (rowAt words (v - 1)) ≡ false → Way table words i level tag (1021 + 3 * v + rest % 2) (rest / 2)
       way-on off =
           let up = way .link .rise (λ e. some (value ∙ e)) in
-          let next : Link table i v (1021 + 3 * v + rest % 2) = branch-link table i tree v (rest % 2) (omega (arith, up, value)) (omega (arith, value, way .link .few)) (omega arith) in
+          let next : Link table i v (1021 + 3 * v + rest % 2) =
+          branch-link table i tree v (rest % 2) (omega (arith, up, value)) (omega (arith, value, way .link .few)) (omega arith) in
           let h : v ≡ (1021 + 3 * v + rest % 2 - 1021) / 3 = omega arith in
           record {
             link = subst (λ (n : ℕ). Link table i n (1021 + 3 * v + rest % 2)) h next;
-            same = way .same ∙ reached-on 2050 table words level tag cell rest v (sym value) some off ∙ enough table words i tree level tag 2050 2051 v (1021 + 3 * v + rest % 2) (rest / 2) next (omega (arith, up, value)) (omega arith);
+            same =
+                way .same ∙ reached-on 2050 table words level tag cell rest v (sym value) some off
+                ∙ enough table words i tree level tag 2050 2051 v (1021 + 3 * v + rest % 2) (rest / 2) next (omega (arith, up, value)) (omega arith);
           }

@@ -24,7 +24,8 @@ found-loose : (l t : ℕ) (r : Row) (before : List Row) → matches 2 l t r ≡ 
 unfolding matches isUncounted
 found-loose l t (row k m u x) before hit free deep = go (eqb k 2) (eqb m l) refl (eqb u t) refl hit
   where
-    go : (a b : Bool) → eqb m l ≡ b → (c : Bool) → eqb u t ≡ c → pick a (pick b c false) false ≡ true → pick a (pick (eqb m 0) false (pick (heldBefore 1 m u before) false true)) false ≡ true
+    go : (a b : Bool) → eqb m l ≡ b → (c : Bool) → eqb u t ≡ c → pick a (pick b c false) false ≡ true
+        → pick a (pick (eqb m 0) false (pick (heldBefore 1 m u before) false true)) false ≡ true
     go true true p true q h = rw (eqb-true m l p, eqb-true u t q, ne-eqb l 0 deep, free)
     go true true p false q h = never h
     go true false p c q h = never h
@@ -33,9 +34,12 @@ found-loose l t (row k m u x) before hit free deep = go (eqb k 2) (eqb m l) refl
 entry-loose : (l t : ℕ) (before : List Row) → heldBefore 2 l t before ≡ true → heldBefore 1 l t before ≡ false → (l ≡ 0 → ⊥) → loose before ≡ true
 unfolding heldBefore loose
 entry-loose l t [] some free deep = never some
-entry-loose l t (r ∷ before) some free deep = go (ltb (levelOf r) l) (matches 2 l t r) refl (matches 1 l t r) some free (λ s f. entry-loose l t before s f deep)
+entry-loose l t (r ∷ before) some free deep =
+    go (ltb (levelOf r) l) (matches 2 l t r) refl (matches 1 l t r) some free (λ s f. entry-loose l t before s f deep)
   where
-    go : (a b : Bool) → matches 2 l t r ≡ b → (c : Bool) → pick a false (pick b true (heldBefore 2 l t before)) ≡ true → pick a false (pick c true (heldBefore 1 l t before)) ≡ false → (heldBefore 2 l t before ≡ true → heldBefore 1 l t before ≡ false → loose before ≡ true) → pick (isUncounted before r) true (loose before) ≡ true
+    go : (a b : Bool) → matches 2 l t r ≡ b → (c : Bool) → pick a false (pick b true (heldBefore 2 l t before)) ≡ true
+        → pick a false (pick c true (heldBefore 1 l t before)) ≡ false
+        → (heldBefore 2 l t before ≡ true → heldBefore 1 l t before ≡ false → loose before ≡ true) → pick (isUncounted before r) true (loose before) ≡ true
     go true b p c s f later = never s
     go false b p true s f later = never (sym f)
     go false true p false s f later = rw (found-loose l t r before p f deep)
@@ -52,7 +56,9 @@ loose-next (row k l t x) before = go (eqb k 2) (eqb l 0) refl (heldBefore 1 l t 
     swap false true = refl
     swap false false = refl
 
-    go : (a b : Bool) → eqb l 0 ≡ b → (c : Bool) → heldBefore 1 l t before ≡ c → (d : Bool) → heldBefore 2 l t before ≡ d → pick (loose before) true (pick a (pick b false (pick (pick c true d) false true)) false) ≡ pick (pick a (pick b false (pick c false true)) false) true (loose before)
+    go : (a b : Bool) → eqb l 0 ≡ b → (c : Bool) → heldBefore 1 l t before ≡ c → (d : Bool) → heldBefore 2 l t before ≡ d
+        → pick (loose before) true (pick a (pick b false (pick (pick c true d) false true)) false)
+        ≡ pick (pick a (pick b false (pick c false true)) false) true (loose before)
     go false b p c q d s = swap (loose before) false
     go true true p c q d s = swap (loose before) false
     go true false p true q d s = swap (loose before) false
@@ -61,9 +67,14 @@ loose-next (row k l t x) before = go (eqb k 2) (eqb l 0) refl (heldBefore 1 l t 
 
 -- going on, from place i
 module _ (words : List ℕ) (i to : ℕ) where
-  pub loose-on : i < to → pick (loose (rowsBefore i words)) true (uncounted (rowsBefore i words) (rowsFrom (to - i) i words)) ≡ pick (loose (rowsBefore (i + 1) words)) true (uncounted (rowsBefore (i + 1) words) (rowsFrom (to - (i + 1)) (i + 1) words))
+  pub loose-on : i < to
+      → pick (loose (rowsBefore i words)) true (uncounted (rowsBefore i words) (rowsFrom (to - i) i words))
+      ≡ pick (loose (rowsBefore (i + 1) words)) true (uncounted (rowsBefore (i + 1) words) (rowsFrom (to - (i + 1)) (i + 1) words))
   unfolding loose uncounted
-  loose-on more = rw (rows-step words i to more, before-next words i) (go (loose (rowsBefore i words)) (isUncounted (rowsBefore i words) (rowAt words i)) (uncounted (rowAt words i ∷ rowsBefore i words) (rowsFrom (to - (i + 1)) (i + 1) words)))
+  loose-on more =
+      rw (rows-step words i to more, before-next words i)
+      (go (loose (rowsBefore i words)) (isUncounted (rowsBefore i words) (rowAt words i))
+      (uncounted (rowAt words i ∷ rowsBefore i words) (rowsFrom (to - (i + 1)) (i + 1) words)))
     where
       go : (a b c : Bool) → pick a true (pick b true c) ≡ pick (pick b true a) true c
       go true true c = refl

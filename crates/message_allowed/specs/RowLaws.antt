@@ -42,16 +42,25 @@ module _ (words : List ℕ) (level start delimiter : ℕ) where
   follows-nothing zero h = refl
   follows-nothing (suc i) h = go (ltb (levelOf (rowAt words i)) (level + 1)) refl (follows-nothing i)
     where
-      go : (t : Bool) → ltb (levelOf (rowAt words i)) (level + 1) ≡ t → (opened (level + 1) (rowsBefore i words) ≡ 0 → followsOn level start delimiter (rowsBefore i words) ≡ false) → pick (leb (levelOf (rowAt words i)) level) (continues level start delimiter (rowAt words i)) (followsOn level start delimiter (rowsBefore i words)) ≡ false
+      go : (t : Bool) → ltb (levelOf (rowAt words i)) (level + 1) ≡ t
+          → (opened (level + 1) (rowsBefore i words) ≡ 0 → followsOn level start delimiter (rowsBefore i words) ≡ false)
+          → pick (leb (levelOf (rowAt words i)) level) (continues level start delimiter (rowAt words i))
+          (followsOn level start delimiter (rowsBefore i words)) ≡ false
       go true q later = let z : length (rowsBefore i words) + 1 ≡ 0 = rw q at h in absurd (omega arith)
       go false q later = rw (lt-leb (levelOf (rowAt words i)) level (omega (arith, ltb-false (levelOf (rowAt words i)) (level + 1) q))) (later (rw q at h))
 
-  pub follows-row : (i : ℕ) → 0 < opened (level + 1) (rowsBefore i words) → followsOn level start delimiter (rowsBefore i words) ≡ continues level start delimiter (rowAt words (opened (level + 1) (rowsBefore i words) - 1))
+  pub follows-row : (i : ℕ) → 0 < opened (level + 1) (rowsBefore i words)
+      → followsOn level start delimiter (rowsBefore i words) ≡ continues level start delimiter (rowAt words (opened (level + 1) (rowsBefore i words) - 1))
   unfolding followsOn opened rowsBefore
   follows-row zero h = absurd (omega arith)
   follows-row (suc i) h = go (ltb (levelOf (rowAt words i)) (level + 1)) refl (follows-row i)
     where
-      go : (t : Bool) → ltb (levelOf (rowAt words i)) (level + 1) ≡ t → (0 < opened (level + 1) (rowsBefore i words) → followsOn level start delimiter (rowsBefore i words) ≡ continues level start delimiter (rowAt words (opened (level + 1) (rowsBefore i words) - 1))) → pick (leb (levelOf (rowAt words i)) level) (continues level start delimiter (rowAt words i)) (followsOn level start delimiter (rowsBefore i words)) ≡ continues level start delimiter (rowAt words (pick t (length (rowsBefore i words) + 1) (opened (level + 1) (rowsBefore i words)) - 1))
+      go : (t : Bool) → ltb (levelOf (rowAt words i)) (level + 1) ≡ t
+          → (0 < opened (level + 1) (rowsBefore i words) → followsOn level start delimiter (rowsBefore i words)
+          ≡ continues level start delimiter (rowAt words (opened (level + 1) (rowsBefore i words) - 1)))
+          → pick (leb (levelOf (rowAt words i)) level) (continues level start delimiter (rowAt words i))
+          (followsOn level start delimiter (rowsBefore i words))
+          ≡ continues level start delimiter (rowAt words (pick t (length (rowsBefore i words) + 1) (opened (level + 1) (rowsBefore i words)) - 1))
       go true q later =
           let e : length (rowsBefore i words) + 1 - 1 ≡ i = omega (arith, before-length i words) in
           rw (e, le-leb (levelOf (rowAt words i)) level (omega (arith, ltb-true (levelOf (rowAt words i)) (level + 1) q)))

@@ -33,11 +33,17 @@ add-result c = search needs
 
 returns-2 : tie.Need-returns-2
 unfolding deepest rowAt levelOf
-returns-2 c = let s = c .before .before .before .before .before .before in rw (before-step (s .args .words .now) (s .args .row) (omega arith), eq-eqb _ 2 (sym (c .before .kind-of .ensures) ∙ c .if2 .taken)) (omega (arith, c .before .before .wide .ensures, c .before .before .before .level-of .ensures))
+returns-2 c =
+    let s = c .before .before .before .before .before .before in
+    rw (before-step (s .args .words .now) (s .args .row) (omega arith), eq-eqb _ 2 (sym (c .before .kind-of .ensures) ∙ c .if2 .taken))
+    (omega (arith, c .before .before .wide .ensures, c .before .before .before .level-of .ensures))
 
 returns-3 : tie.Need-returns-3
 unfolding deepest rowAt levelOf
-returns-3 c = let s = c .before .before .before .before .before .before in rw (before-step (s .args .words .now) (s .args .row) (omega arith), ne-eqb _ 2 (λ e. c .if2 .left (c .before .kind-of .ensures ∙ e))) (omega (arith, c .before .before .wide .ensures, c .before .before .before .level-of .ensures))
+returns-3 c =
+    let s = c .before .before .before .before .before .before in
+    rw (before-step (s .args .words .now) (s .args .row) (omega arith), ne-eqb _ 2 (λ e. c .if2 .left (c .before .kind-of .ensures ∙ e)))
+    (omega (arith, c .before .before .wide .ensures, c .before .before .before .level-of .ensures))
 
 pub deepest-at-spec : {M : Type 1} → statement M
 deepest-at-spec =

@@ -10,14 +10,18 @@ use Rattle.message_allowed.specs.RowLaws.{opened-few, follows-nothing, f
 use Rattle.message_allowed.proofs.follows_on.Statement.{statement}
 use Rattle.message_allowed.proofs.follows_on.Tie as tie
 
-last : (c : tie.Then1) → c .before .number .result ≡ opened (c .before .before .before .before .before .before .args .level + 1) (rowsBefore (c .before .before .before .before .before .before .args .row) (c .before .before .before .before .before .before .args .words .now))
+last : (c : tie.Then1)
+    → let s = c .before .before .before .before .before .before .args in
+    c .before .number .result ≡ opened (s .level + 1) (rowsBefore (s .row) (s .words .now))
 last c =
     let s = c .before .before .before .before .before .before in
     c .before .number .ensures
     ∙ ap (λ (n : ℕ). getD (s .args .table .now) (s .args .tops + (n + 1)) 0) (c .before .before .before .wide .ensures)
     ∙ s .pre .3 .opens (s .args .level + 1) (omega (arith, s .pre .4))
 
-last-else : (c : tie.Else1) → c .before .number .result ≡ opened (c .before .before .before .before .before .before .args .level + 1) (rowsBefore (c .before .before .before .before .before .before .args .row) (c .before .before .before .before .before .before .args .words .now))
+last-else : (c : tie.Else1)
+    → let s = c .before .before .before .before .before .before .args in
+    c .before .number .result ≡ opened (s .level + 1) (rowsBefore (s .row) (s .words .now))
 last-else c =
     let s = c .before .before .before .before .before .before in
     c .before .number .ensures
@@ -43,16 +47,24 @@ number-requires : tie.Need-number-requires
 number-requires c κs = search needs
 
 returns : tie.Need-returns
-returns c = let s = c .before .before .before .before .before .before in sym (follows-nothing (s .args .words .now) (s .args .level) (s .args .start) (s .args .delimiter) (s .args .row) (sym (last c) ∙ c .if1 .taken))
+returns c =
+    let s = c .before .before .before .before .before .before in
+    sym (follows-nothing (s .args .words .now) (s .args .level) (s .args .start) (s .args .delimiter) (s .args .row) (sym (last c) ∙ c .if1 .taken))
 
 sub-continues-run : tie.Need-sub-continues-run
 sub-continues-run c = search needs
 
 continues-run-requires : tie.Need-continues-run-requires
-continues-run-requires c κs = let s = c .before .before .before .before .before .before in (omega (arith, last-else c, opened-few (s .args .words .now) (s .args .level + 1) (s .args .row)), s .pre .1)
+continues-run-requires c κs =
+    let s = c .before .before .before .before .before .before in
+    (omega (arith, last-else c, opened-few (s .args .words .now) (s .args .level + 1) (s .args .row)), s .pre .1)
 
 returns-2 : tie.Need-returns-2
-returns-2 c = let s = c .before .before .before .before .before .before .before in c .continues-run .ensures ∙ rw (last-else (c .before)) (sym (follows-row (s .args .words .now) (s .args .level) (s .args .start) (s .args .delimiter) (s .args .row) (omega (arith, last-else (c .before), c .before .if1 .left))))
+returns-2 c =
+    let s = c .before .before .before .before .before .before .before in
+    c .continues-run .ensures ∙ rw (last-else (c .before))
+    (sym (follows-row (s .args .words .now) (s .args .level) (s .args .start) (s .args .delimiter) (s .args .row)
+    (omega (arith, last-else (c .before), c .before .if1 .left))))
 
 pub follows-on-spec : {M : Type 1} → statement M
 follows-on-spec =

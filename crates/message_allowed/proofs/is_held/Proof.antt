@@ -26,7 +26,12 @@ number-requires : tie.Need-number-requires
 number-requires c κs = search needs
 
 returns : tie.Need-returns
-returns c = let s = c .before .before .before .before .before in let above : c .number .result ≡ opened (s .args .level) (rowsBefore (s .args .row) (s .args .words .now)) = c .number .ensures ∙ ap (λ (n : ℕ). getD (s .args .table .now) (s .args .tops + n) 0) (c .before .before .wide .ensures) ∙ s .pre .3 .opens (s .args .level) (s .pre .4) in rw (above, s .pre .5) (sym (held-latest (s .args .level) (s .args .tag) (rowsBefore (s .args .row) (s .args .words .now))))
+returns c =
+    let s = c .before .before .before .before .before in
+    let above : c .number .result ≡ opened (s .args .level) (rowsBefore (s .args .row) (s .args .words .now)) =
+    c .number .ensures ∙ ap (λ (n : ℕ). getD (s .args .table .now) (s .args .tops + n) 0) (c .before .before .wide .ensures)
+    ∙ s .pre .3 .opens (s .args .level) (s .pre .4) in
+    rw (above, s .pre .5) (sym (held-latest (s .args .level) (s .args .tag) (rowsBefore (s .args .row) (s .args .words .now))))
 
 pub is-held-spec : {M : Type 1} → statement M
 is-held-spec =

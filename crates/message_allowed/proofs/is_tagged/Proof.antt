@@ -19,18 +19,37 @@ level-of-requires c κs = search needs
 
 returns-2 : tie.Need-returns-2
 unfolding tagged rowAt levelOf
-returns-2 c = rw (eq-eqb _ _ (sym (c .before .before .before .tag-of .ensures) ∙ c .before .before .if1 .left), ne-eqb _ _ (λ e. c .if2 .taken (c .before .level-of .ensures ∙ e)))
+returns-2 c =
+    rw (
+      eq-eqb _ _ (sym (c .before .before .before .tag-of .ensures) ∙ c .before .before .if1 .left),
+      ne-eqb _ _ (λ e. c .if2 .taken (c .before .level-of .ensures ∙ e)),
+    )
 
 kind-of-requires : tie.Need-kind-of-requires
 kind-of-requires c κs = search needs
 
 returns-3 : tie.Need-returns-3
 unfolding tagged rowAt levelOf
-returns-3 c = rw (eq-eqb _ _ (sym (c .before .before .before .before .before .tag-of .ensures) ∙ c .before .before .before .before .if1 .left), eq-eqb _ _ (sym (c .before .before .before .level-of .ensures) ∙ c .before .before .if2 .left), eq-eqb _ 1 (sym (c .before .kind-of .ensures) ∙ c .if3 .taken))
+returns-3 c =
+    let if1 = c .before .before .before .before .if1 in
+    let tag-of = c .before .before .before .before .before .tag-of in
+    rw (
+      eq-eqb _ _ (sym (tag-of .ensures) ∙ if1 .left),
+      eq-eqb _ _ (sym (c .before .before .before .level-of .ensures) ∙ c .before .before .if2 .left),
+      eq-eqb _ 1 (sym (c .before .kind-of .ensures) ∙ c .if3 .taken),
+    )
 
 returns-4 : tie.Need-returns-4
 unfolding tagged rowAt levelOf
-returns-4 c = rw (eq-eqb _ _ (sym (c .before .before .before .before .before .tag-of .ensures) ∙ c .before .before .before .before .if1 .left), eq-eqb _ _ (sym (c .before .before .before .level-of .ensures) ∙ c .before .before .if2 .left), ne-eqb _ 1 (λ e. c .if3 .left (c .before .kind-of .ensures ∙ e)), c .before .kind-of .ensures)
+returns-4 c =
+    let if1 = c .before .before .before .before .if1 in
+    let tag-of = c .before .before .before .before .before .tag-of in
+    rw (
+      eq-eqb _ _ (sym (tag-of .ensures) ∙ if1 .left),
+      eq-eqb _ _ (sym (c .before .before .before .level-of .ensures) ∙ c .before .before .if2 .left),
+      ne-eqb _ 1 (λ e. c .if3 .left (c .before .kind-of .ensures ∙ e)),
+      c .before .kind-of .ensures,
+    )
 
 pub is-tagged-spec : {M : Type 1} → statement M
 is-tagged-spec =

@@ -21,7 +21,14 @@ loop-holds : tie.Need-loop-holds Inv-loop μ-loop
 loop-holds c = (omega arith, refl, refl)
 
 loop-again : tie.Need-loop-again Inv-loop μ-loop
-loop-again c = let l = c .before .before in let s = l .before .args in (omega arith, ap (λ (t : List ℕ). set t (l .loop .i) (getD (s .source .now) (l .loop .i) 0)) (l .loop .inv .1) ∙ copy-one (s .source .now) (s .target .now) (l .loop .i) (c .before .loop-test .taken) (omega arith), simp length-set (l .loop .inv .2))
+loop-again c =
+    let l = c .before .before in
+    let s = l .before .args in (
+      omega arith,
+      ap (λ (t : List ℕ). set t (l .loop .i) (getD (s .source .now) (l .loop .i) 0)) (l .loop .inv .1)
+          ∙ copy-one (s .source .now) (s .target .now) (l .loop .i) (c .before .loop-test .taken) (omega arith),
+      simp length-set (l .loop .inv .2),
+    )
 
 returns : tie.Need-returns Inv-loop μ-loop
 returns c = c .before .loop .inv .1 ∙ (let e : c .before .loop .i ≡ length (c .before .before .args .source .now) = omega arith in rw e)
@@ -29,5 +36,5 @@ returns c = c .before .loop .inv .1 ∙ (let e : c .before .loop .i ≡ length (
 pub copy-words-spec : {M : Type 1} → statement M
 copy-words-spec =
     tie.close
-    (tie.spec Inv-loop μ-loop loop-holds (λ c. omega arith) (λ c. omega arith) (λ c. omega arith) (λ c. omega arith)
-    (λ c. omega arith) (λ c. omega arith) loop-again (λ c. omega arith) returns)
+    (tie.spec Inv-loop μ-loop loop-holds (λ c. omega arith) (λ c. omega arith) (λ c. omega arith) (λ c. omega arith) (λ c. omega arith)
+    (λ c. omega arith) loop-again (λ c. omega arith) returns)

@@ -13,12 +13,19 @@ abbrev μ-loop : tie.MeasureT-loop
 μ-loop words₀ from to at size i₀ words i = size - i
 
 loop-again : tie.Need-loop-again Inv-loop μ-loop
-loop-again c = let l = c .before .before in let s = l .before .args in down-on (s .from) (s .to) (s .at) (s .words .now) (omega arith) (omega arith) (omega arith) (omega arith) _ _ (l .loop .inv) (c .before .loop-test .taken)
+loop-again c =
+    let l = c .before .before in
+    let s = l .before .args in
+    down-on (s .from) (s .to) (s .at) (s .words .now) (omega arith) (omega arith) (omega arith) (omega arith) _ _ (l .loop .inv) (c .before .loop-test .taken)
 
 returns : tie.Need-returns Inv-loop μ-loop
-returns c = let l = c .before in let s = l .before .args in down-done (s .from) (s .to) (s .at) (s .words .now) (omega arith) (omega arith) (omega arith) _ _ (l .loop .inv) (c .loop-test .left)
+returns c =
+    let l = c .before in
+    let s = l .before .args in
+    down-done (s .from) (s .to) (s .at) (s .words .now) (omega arith) (omega arith) (omega arith) _ _ (l .loop .inv) (c .loop-test .left)
 
 pub move-down-words-spec : {M : Type 1} → statement M
 move-down-words-spec =
     tie.close
-    (tie.spec Inv-loop μ-loop (λ c. omega arith) (λ c. forward-start _ _ _) (λ c. omega arith) (λ c. omega arith) (λ c. omega arith) (λ c. omega arith) (λ c. omega arith) (λ c. omega arith) (λ c. omega arith) (λ c. omega arith) loop-again (λ c. omega arith) returns)
+    (tie.spec Inv-loop μ-loop (λ c. omega arith) (λ c. forward-start _ _ _) (λ c. omega arith) (λ c. omega arith) (λ c. omega arith) (λ c. omega arith)
+    (λ c. omega arith) (λ c. omega arith) (λ c. omega arith) (λ c. omega arith) loop-again (λ c. omega arith) returns)

@@ -12,11 +12,15 @@ use Rattle.message_maps.proofs.put_words.Statement.{statement}
 use Rattle.message_maps.proofs.put_words.Tie as tie
 
 returns : tie.Need-returns
-returns c = let s = c .before .before .before .before .before .before .before .args in (refl, part-written (s .at) (s .from) (s .to) (s .source .now) (s .target .now) _ (omega arith) (omega arith) (omega arith) (c .before .before .copy-words .ensures))
+returns c =
+    let s = c .before .before .before .before .before .before .before .args in (
+      refl,
+      part-written (s .at) (s .from) (s .to) (s .source .now) (s .target .now) _ (omega arith) (omega arith) (omega arith)
+          (c .before .before .copy-words .ensures),
+    )
 
 pub put-words-spec : {M : Type 1} → statement M
 put-words-spec =
     tie.close
-    (tie.spec (λ c. search needs) (λ c. search needs) (λ c. search needs) (λ c. search needs) (λ c. search needs)
-    (λ c. search needs) (λ c. search needs) (λ c. search needs) (λ c κs. search needs) (λ c. search needs)
-    (λ c. search needs) (λ c. search needs) returns)
+    (tie.spec (λ c. search needs) (λ c. search needs) (λ c. search needs) (λ c. search needs) (λ c. search needs) (λ c. search needs) (λ c. search needs)
+    (λ c. search needs) (λ c κs. search needs) (λ c. search needs) (λ c. search needs) (λ c. search needs) returns)
