@@ -27,7 +27,9 @@ module _ (words : List ℕ) (to : ℕ) where
     bounds zero i e h = rw (end-end words i to (omega arith) m) (omega arith, h)
     bounds (suc n) i e h = go (leb (levelOf (rowAt words i)) m) refl (bounds n (i + 1) (omega arith) (omega arith))
       where
-        go : (b : Bool) → leb (levelOf (rowAt words i)) m ≡ b → ((i + 1) ≤ endFrom m (i + 1) (rowsFrom (to - (i + 1)) (i + 1) words)) × (endFrom m (i + 1) (rowsFrom (to - (i + 1)) (i + 1) words) ≤ to) → (i ≤ endFrom m i (rowsFrom (to - i) i words)) × (endFrom m i (rowsFrom (to - i) i words) ≤ to)
+        go : (b : Bool) → leb (levelOf (rowAt words i)) m ≡ b
+            → ((i + 1) ≤ endFrom m (i + 1) (rowsFrom (to - (i + 1)) (i + 1) words)) × (endFrom m (i + 1) (rowsFrom (to - (i + 1)) (i + 1) words) ≤ to)
+            → (i ≤ endFrom m i (rowsFrom (to - i) i words)) × (endFrom m i (rowsFrom (to - i) i words) ≤ to)
         go true q later = rw (end-here words i to (omega arith) m (leb-true (levelOf (rowAt words i)) m q)) (omega arith, h)
         go false q later = rw (end-on words i to (omega arith) m (leb-false (levelOf (rowAt words i)) m q)) (omega (arith, later .0), later .1)
 
@@ -35,31 +37,52 @@ module _ (words : List ℕ) (to : ℕ) where
     end-bounds i h = bounds (to - i) i refl h
 
     module _ (level : ℕ) (deeper : level < m) where
-      passing : (n i : ℕ) → n ≡ to - i → ownBelow level (rowsFrom (to - i) i words) ≡ ownBelow level (rowsFrom (to - endFrom m i (rowsFrom (to - i) i words)) (endFrom m i (rowsFrom (to - i) i words)) words)
+      passing : (n i : ℕ) → n ≡ to - i
+          → ownBelow level (rowsFrom (to - i) i words)
+          ≡ ownBelow level (rowsFrom (to - endFrom m i (rowsFrom (to - i) i words)) (endFrom m i (rowsFrom (to - i) i words)) words)
       passing zero i e = rw (end-end words i to (omega arith) m)
       passing (suc n) i e = go (leb (levelOf (rowAt words i)) m) refl (passing n (i + 1) (omega arith))
         where
-          go : (b : Bool) → leb (levelOf (rowAt words i)) m ≡ b → ownBelow level (rowsFrom (to - (i + 1)) (i + 1) words) ≡ ownBelow level (rowsFrom (to - endFrom m (i + 1) (rowsFrom (to - (i + 1)) (i + 1) words)) (endFrom m (i + 1) (rowsFrom (to - (i + 1)) (i + 1) words)) words) → ownBelow level (rowsFrom (to - i) i words) ≡ ownBelow level (rowsFrom (to - endFrom m i (rowsFrom (to - i) i words)) (endFrom m i (rowsFrom (to - i) i words)) words)
+          go : (b : Bool) → leb (levelOf (rowAt words i)) m ≡ b
+              → ownBelow level (rowsFrom (to - (i + 1)) (i + 1) words)
+              ≡ ownBelow level (rowsFrom (to - endFrom m (i + 1) (rowsFrom (to - (i + 1)) (i + 1) words))
+              (endFrom m (i + 1) (rowsFrom (to - (i + 1)) (i + 1) words)) words)
+              → ownBelow level (rowsFrom (to - i) i words)
+              ≡ ownBelow level (rowsFrom (to - endFrom m i (rowsFrom (to - i) i words)) (endFrom m i (rowsFrom (to - i) i words)) words)
           go true q later = rw (end-here words i to (omega arith) m (leb-true (levelOf (rowAt words i)) m q))
           go false q later =
               let deep = leb-false (levelOf (rowAt words i)) m q in
               rw (end-on words i to (omega arith) m deep)
               (own-on words i to (omega arith) level (omega (arith, deep)) (not-own (level + 1) (rowAt words i) (λ s. omega (arith, deep, s))) ∙ later)
 
-      own-past : (i : ℕ) → ownBelow level (rowsFrom (to - i) i words) ≡ ownBelow level (rowsFrom (to - endFrom m i (rowsFrom (to - i) i words)) (endFrom m i (rowsFrom (to - i) i words)) words)
+      own-past : (i : ℕ)
+          → ownBelow level (rowsFrom (to - i) i words)
+          ≡ ownBelow level (rowsFrom (to - endFrom m i (rowsFrom (to - i) i words)) (endFrom m i (rowsFrom (to - i) i words)) words)
       own-past i = passing (to - i) i refl
 
-      ending : (n i : ℕ) → n ≡ to - i → endFrom level i (rowsFrom (to - i) i words) ≡ endFrom level (endFrom m i (rowsFrom (to - i) i words)) (rowsFrom (to - endFrom m i (rowsFrom (to - i) i words)) (endFrom m i (rowsFrom (to - i) i words)) words)
+      ending : (n i : ℕ) → n ≡ to - i
+          → endFrom level i (rowsFrom (to - i) i words)
+          ≡ endFrom level (endFrom m i (rowsFrom (to - i) i words))
+          (rowsFrom (to - endFrom m i (rowsFrom (to - i) i words)) (endFrom m i (rowsFrom (to - i) i words)) words)
       ending zero i e = rw (end-end words i to (omega arith) m)
       ending (suc n) i e = go (leb (levelOf (rowAt words i)) m) refl (ending n (i + 1) (omega arith))
         where
-          go : (b : Bool) → leb (levelOf (rowAt words i)) m ≡ b → endFrom level (i + 1) (rowsFrom (to - (i + 1)) (i + 1) words) ≡ endFrom level (endFrom m (i + 1) (rowsFrom (to - (i + 1)) (i + 1) words)) (rowsFrom (to - endFrom m (i + 1) (rowsFrom (to - (i + 1)) (i + 1) words)) (endFrom m (i + 1) (rowsFrom (to - (i + 1)) (i + 1) words)) words) → endFrom level i (rowsFrom (to - i) i words) ≡ endFrom level (endFrom m i (rowsFrom (to - i) i words)) (rowsFrom (to - endFrom m i (rowsFrom (to - i) i words)) (endFrom m i (rowsFrom (to - i) i words)) words)
+          go : (b : Bool) → leb (levelOf (rowAt words i)) m ≡ b
+              → endFrom level (i + 1) (rowsFrom (to - (i + 1)) (i + 1) words)
+              ≡ endFrom level (endFrom m (i + 1) (rowsFrom (to - (i + 1)) (i + 1) words))
+              (rowsFrom (to - endFrom m (i + 1) (rowsFrom (to - (i + 1)) (i + 1) words)) (endFrom m (i + 1) (rowsFrom (to - (i + 1)) (i + 1) words)) words)
+              → endFrom level i (rowsFrom (to - i) i words)
+              ≡ endFrom level (endFrom m i (rowsFrom (to - i) i words))
+              (rowsFrom (to - endFrom m i (rowsFrom (to - i) i words)) (endFrom m i (rowsFrom (to - i) i words)) words)
           go true q later = rw (end-here words i to (omega arith) m (leb-true (levelOf (rowAt words i)) m q))
           go false q later =
               let deep = leb-false (levelOf (rowAt words i)) m q in
               rw (end-on words i to (omega arith) m deep) (end-on words i to (omega arith) level (omega (arith, deep)) ∙ later)
 
-      end-past : (i : ℕ) → endFrom level i (rowsFrom (to - i) i words) ≡ endFrom level (endFrom m i (rowsFrom (to - i) i words)) (rowsFrom (to - endFrom m i (rowsFrom (to - i) i words)) (endFrom m i (rowsFrom (to - i) i words)) words)
+      end-past : (i : ℕ)
+          → endFrom level i (rowsFrom (to - i) i words)
+          ≡ endFrom level (endFrom m i (rowsFrom (to - i) i words))
+          (rowsFrom (to - endFrom m i (rowsFrom (to - i) i words)) (endFrom m i (rowsFrom (to - i) i words)) words)
       end-past i = ending (to - i) i refl
 
 -- one step along the ends
@@ -69,7 +92,8 @@ module _ (words : List ℕ) (to i n : ℕ) (more : i < to) (link : n ≡ endFrom
       let b = end-bounds words to (levelOf (rowAt words i)) (i + 1) (omega arith) in
       (omega (arith, b .0, link), omega (arith, b .1, link))
 
-  pub own-link : (level : ℕ) → level < levelOf (rowAt words i) → isOwn (level + 1) (rowAt words i) ≡ false → ownBelow level (rowsFrom (to - i) i words) ≡ ownBelow level (rowsFrom (to - n) n words)
+  pub own-link : (level : ℕ) → level < levelOf (rowAt words i) → isOwn (level + 1) (rowAt words i) ≡ false
+      → ownBelow level (rowsFrom (to - i) i words) ≡ ownBelow level (rowsFrom (to - n) n words)
   own-link level deeper other =
       rw link (own-on words i to more level deeper other ∙ own-past words to (levelOf (rowAt words i)) level deeper (i + 1))
 
@@ -81,7 +105,8 @@ pub ended-none : (words : List ℕ) (to : ℕ) (ends : List ℕ) → Ended words
 unfolding Ended
 ended-none words to ends i a b = absurd (omega arith)
 
-pub ended-on : (words : List ℕ) (i to e : ℕ) (ends : List ℕ) → i < length ends → e ≡ endFrom (levelOf (rowAt words i)) (i + 1) (rowsFrom (to - (i + 1)) (i + 1) words) → Ended words (i + 1) to ends → Ended words i to (set ends i e)
+pub ended-on : (words : List ℕ) (i to e : ℕ) (ends : List ℕ) → i < length ends
+    → e ≡ endFrom (levelOf (rowAt words i)) (i + 1) (rowsFrom (to - (i + 1)) (i + 1) words) → Ended words (i + 1) to ends → Ended words i to (set ends i e)
 unfolding Ended
 ended-on words i to e ends room link later j a b = go (eqb j i) refl
   where
@@ -100,7 +125,9 @@ module _ (words : List ℕ) (i to : ℕ) (some : 0 < i) where
   pub ended-back : (ends : List ℕ) → Ended words i to ends → Ended words (i - 1 + 1) to ends
   ended-back ends h = subst (λ (n : ℕ). Ended words n to ends) back h
 
-  pub fields-back : (floor f w : ℕ) → i ≤ to → f ≡ fieldsIn floor (rowsFrom (to - i) i words) → w ≡ weight floor (rowAt words (i - 1)) (rowsFrom (to - (i - 1 + 1)) (i - 1 + 1) words) → f + w ≡ fieldsIn floor (rowsFrom (to - (i - 1)) (i - 1) words)
+  pub fields-back : (floor f w : ℕ) → i ≤ to → f ≡ fieldsIn floor (rowsFrom (to - i) i words)
+      → w ≡ weight floor (rowAt words (i - 1)) (rowsFrom (to - (i - 1 + 1)) (i - 1 + 1) words)
+      → f + w ≡ fieldsIn floor (rowsFrom (to - (i - 1)) (i - 1) words)
   fields-back floor f w h e g =
       let later : f ≡ fieldsIn floor (rowsFrom (to - (i - 1 + 1)) (i - 1 + 1) words) = e ∙ ap (λ (n : ℕ). fieldsIn floor (rowsFrom (to - n) n words)) back in
       omega (arith, later, g, fields-on words (i - 1) to (omega arith) floor)

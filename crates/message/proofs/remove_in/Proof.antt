@@ -26,14 +26,22 @@ find-row-requires c κs =
     let g = span-grows _ _ _ _ i in
     rw (c .before .span-of .ensures) (g .0, omega (arith, g .1, g .2), i .sized .whole)
 
-found-at : (c : tie.After-find-row) → let z = c .before .before .before .before .before .before .before .args in let s = spanOf (z .part) (messageIn (z .words .now) (z .values .now)) in c .find-row .result ≡ findFrom 1 1 (z .tag) (s .from) (rowsFrom (s .to - s .from) (s .from) (z .words .now))
+found-at : (c : tie.After-find-row)
+    → let z = c .before .before .before .before .before .before .before .args in
+    let s = spanOf (z .part) (messageIn (z .words .now) (z .values .now)) in
+    c .find-row .result ≡ findFrom 1 1 (z .tag) (s .from) (rowsFrom (s .to - s .from) (s .from) (z .words .now))
 found-at c = rw (c .before .before .span-of .ensures) at (c .find-row .ensures)
 
-held-at : (c : tie.After-held-rows) → let z = c .before .before .before .before .before .before .before .before .args in c .held-rows .result ≡ heldRows (c .before .find-row .result) (spanOf (z .part) (messageIn (z .words .now) (z .values .now)) .to)
+held-at : (c : tie.After-held-rows)
+    → let z = c .before .before .before .before .before .before .before .before .args in
+    c .held-rows .result ≡ heldRows (c .before .find-row .result) (spanOf (z .part) (messageIn (z .words .now) (z .values .now)) .to)
 held-at c = rw (c .before .before .before .span-of .ensures) at (c .held-rows .ensures)
 
 -- removing leaves no more fields than there were
-few-left : (c : tie.After-held-rows) → let z = c .before .before .before .before .before .before .before .before .args in let m = messageIn (z .words .now) (z .values .now) in fieldTotal (withPart (z .part) (withoutField (z .tag) (partOf (z .part) m)) m) ≤ 1024
+few-left : (c : tie.After-held-rows)
+    → let z = c .before .before .before .before .before .before .before .before .args in
+    let m = messageIn (z .words .now) (z .values .now) in
+    fieldTotal (withPart (z .part) (withoutField (z .tag) (partOf (z .part) m)) m) ≤ 1024
 few-left c =
     let z = c .before .before .before .before .before .before .before .before in
     omega (arith, remove-fields _ _ _ _ (lent-in _ _ _ (z .pre)) _ _ (found-at (c .before)) _ (held-at c), few-fields _ _ (z .pre))
@@ -43,7 +51,15 @@ row-at c =
     let z = c .before .before .before .before .before .before .before .before in
     let g = span-grows _ _ _ _ (lent-in _ _ _ (z .pre)) in
     let s = spanOf (z .args .part) (messageIn (z .args .words .now) (z .args .values .now)) in
-    omega (arith, find-within 1 1 (z .args .tag) (s .from) (s .to) (z .args .words .now) (g .0), found-at (c .before), g .1, g .2, remove-fields _ _ _ _ (lent-in _ _ _ (z .pre)) _ _ (found-at (c .before)) _ (held-at c), few-fields _ _ (z .pre))
+    omega (
+      arith,
+      find-within 1 1 (z .args .tag) (s .from) (s .to) (z .args .words .now) (g .0),
+      found-at (c .before),
+      g .1,
+      g .2,
+      remove-fields _ _ _ _ (lent-in _ _ _ (z .pre)) _ _ (found-at (c .before)) _ (held-at c),
+      few-fields _ _ (z .pre),
+    )
 
 add-t20 : tie.Need-add-t20
 add-t20 c = omega (arith, row-at c)
@@ -57,8 +73,13 @@ add-t22 c = omega (arith, row-at c)
 cut-rows-requires : tie.Need-cut-rows-requires
 cut-rows-requires c κs =
     let f = c .before .before .before .before in
-    let z = f .before .before .before .before .before .before .before .before in
-    (rw (f .before .before .before .span-of .ensures) (cut-any _ _ _ _ _ _ 0 (few-left f) (remove-leaves _ _ _ _ (lent-in _ _ _ (z .pre)) _ _ (found-at (f .before)) _ (held-at f) .able)), not-blank _ _ _)
+    let after-find-row = f .before in
+    let span-of = after-find-row .before .before .span-of in
+    let z = after-find-row .before .before .before .before .before .before .before in (
+      rw (span-of .ensures) (cut-any _ _ _ _ _ _ 0 (few-left f)
+          (remove-leaves _ _ _ _ (lent-in _ _ _ (z .pre)) _ _ (found-at after-find-row) _ (held-at f) .able)),
+      not-blank _ _ _,
+    )
 
 returns : tie.Need-returns
 returns c =
@@ -72,6 +93,5 @@ returns c =
 pub remove-in-spec : {M : Type 1} → statement M
 remove-in-spec =
     tie.close
-    (tie.spec span-of-requires find-row-requires (λ c κs. search needs) add-t20 add-t21 add-t22 (λ c. search needs)
-    (λ c. search needs) (λ c. search needs) (λ c. search needs) cut-rows-requires (λ c. search needs)
-    (λ c. search needs) returns)
+    (tie.spec span-of-requires find-row-requires (λ c κs. search needs) add-t20 add-t21 add-t22 (λ c. search needs) (λ c. search needs) (λ c. search needs)
+    (λ c. search needs) cut-rows-requires (λ c. search needs) (λ c. search needs) returns)

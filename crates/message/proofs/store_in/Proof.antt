@@ -28,7 +28,9 @@ counted-fields-requires c κs =
     let g = span-grows _ _ _ _ i in
     (rw (c .before .span-of .ensures) (g .2), i .sized .whole)
 
-fields-at : (c : tie.After-counted-fields) → let s = c .before .before .before .before .before .before .before .before .before .before .args in c .counted-fields .result ≡ countedFields (s .words .now) (spanOf (s .part) (messageIn (s .words .now) (s .values .now)) .count)
+fields-at : (c : tie.After-counted-fields)
+    → let s = c .before .before .before .before .before .before .before .before .before .before .args in
+    c .counted-fields .result ≡ countedFields (s .words .now) (spanOf (s .part) (messageIn (s .words .now) (s .values .now)) .count)
 fields-at c = rw (c .before .before .span-of .ensures) at (c .counted-fields .ensures)
 
 put-field-requires : tie.Need-put-field-requires
@@ -51,5 +53,4 @@ returns-3 c =
 pub store-in-spec : {M : Type 1} → statement M
 store-in-spec =
     tie.close
-    (tie.spec returns returns-2 span-of-requires counted-fields-requires put-field-requires (λ c. search needs)
-    (λ c. search needs) returns-3)
+    (tie.spec returns returns-2 span-of-requires counted-fields-requires put-field-requires (λ c. search needs) (λ c. search needs) returns-3)

@@ -23,10 +23,23 @@ loop-holds : tie.Need-loop-holds Inv-loop μ-loop
 loop-holds c = (omega arith, omega arith, refl)
 
 returns : tie.Need-returns Inv-loop μ-loop
-returns c = let l = c .before .before .before in sym (l .loop .inv .2 ∙ parts-not (l .before .before .args .words .now) (l .loop .i) (l .before .before .args .to) (c .before .before .loop-test .taken) (l .loop .part) (sym (c .before .next-part .ensures .0) ∙ c .if1 .taken))
+returns c =
+    let l = c .before .before .before in
+    let start = l .before .before in
+    sym (l .loop .inv .2 ∙ parts-not (start .args .words .now) (l .loop .i) (start .args .to) (c .before .before .loop-test .taken) (l .loop .part)
+    (sym (c .before .next-part .ensures .0) ∙ c .if1 .taken))
 
 loop-again : tie.Need-loop-again Inv-loop μ-loop
-loop-again c = let l = c .before .before .before in (omega arith, omega (arith, c .before .next-part .ensures .1, l .loop .inv .1), l .loop .inv .2 ∙ parts-on (l .before .before .args .words .now) (l .loop .i) (l .before .before .args .to) (c .before .before .loop-test .taken) (l .loop .part) (λ e. c .if1 .left (c .before .next-part .ensures .0 ∙ e)) ∙ ap (λ (p : ℕ). partsFrom p (rowsFrom (l .before .before .args .to - (l .loop .i + 1)) (l .loop .i + 1) (l .before .before .args .words .now))) (sym (c .before .next-part .ensures .0)))
+loop-again c =
+    let l = c .before .before .before in
+    let start = l .before .before in (
+      omega arith,
+      omega (arith, c .before .next-part .ensures .1, l .loop .inv .1),
+      l .loop .inv .2 ∙ parts-on (start .args .words .now) (l .loop .i) (start .args .to) (c .before .before .loop-test .taken) (l .loop .part)
+          (λ e. c .if1 .left (c .before .next-part .ensures .0 ∙ e))
+          ∙ ap (λ (p : ℕ). partsFrom p (rowsFrom (start .args .to - (l .loop .i + 1)) (l .loop .i + 1) (start .args .words .now)))
+          (sym (c .before .next-part .ensures .0)),
+    )
 
 returns-2 : tie.Need-returns-2 Inv-loop μ-loop
 returns-2 c = sym (c .before .loop .inv .2 ∙ parts-end _ _ _ (c .loop-test .left) _)
@@ -34,5 +47,4 @@ returns-2 c = sym (c .before .loop .inv .2 ∙ parts-end _ _ _ (c .loop-test .le
 pub has-parts-spec : {M : Type 1} → statement M
 has-parts-spec =
     tie.close
-    (tie.spec Inv-loop μ-loop loop-holds (λ c κs. omega arith) returns (λ c. omega arith) (λ c. omega arith) loop-again
-    returns-2)
+    (tie.spec Inv-loop μ-loop loop-holds (λ c κs. omega arith) returns (λ c. omega arith) (λ c. omega arith) loop-again returns-2)

@@ -24,7 +24,8 @@ returns c =
 returns-2 : tie.Need-returns-2
 returns-2 c =
     let s = c .before .before .before .before .before in
-    above-told (s .args .words .now) (s .args .row) (s .args .to) (s .args .floor) (head (c .before .before)) (omega (arith, c .before .level-of .ensures, c .if2 .taken))
+    above-told (s .args .words .now) (s .args .row) (s .args .to) (s .args .floor) (head (c .before .before))
+    (omega (arith, c .before .level-of .ensures, c .if2 .taken))
 
 returns-3 : tie.Need-returns-3
 returns-3 c =
@@ -34,15 +35,23 @@ returns-3 c =
 returns-4 : tie.Need-returns-4
 returns-4 c =
     let e = c .before .before .before in
-    let s = e .before .before .before .before .before in
-    bare-told (s .args .words .now) (s .args .row) (s .args .to) (s .args .floor) (head (e .before .before)) (low e) (omega arith) (omega (arith, c .before .level-of2 .ensures, e .before .level-of .ensures, c .if4 .taken))
+    let level-of = e .before .level-of in
+    let else1 = e .before .before in
+    let s = else1 .before .before .before in
+    bare-told (s .args .words .now) (s .args .row) (s .args .to) (s .args .floor) (head else1) (low e) (omega arith)
+    (omega (arith, c .before .level-of2 .ensures, level-of .ensures, c .if4 .taken))
 
 returns-5 : tie.Need-returns-5
 returns-5 c =
     let d = c .before .before .before in
+    let level-of2 = d .before .level-of2 in
     let e = d .before .before .before in
-    let s = e .before .before .before .before .before in
-    own-told (s .args .words .now) (s .args .row) (s .args .to) (s .args .floor) (head (e .before .before)) (low e) (omega arith) (omega (arith, d .before .level-of2 .ensures, e .before .level-of .ensures, d .if4 .left)) (sym (rw (c .before .before .wide .ensures, e .before .level-of .ensures) at (c .before .is-own .ensures)) ∙ c .if5 .taken)
+    let level-of = e .before .level-of in
+    let else1 = e .before .before in
+    let s = else1 .before .before .before in
+    own-told (s .args .words .now) (s .args .row) (s .args .to) (s .args .floor) (head else1) (low e) (omega arith)
+    (omega (arith, level-of2 .ensures, level-of .ensures, d .if4 .left))
+    (sym (rw (c .before .before .wide .ensures, level-of .ensures) at (c .before .is-own .ensures)) ∙ c .if5 .taken)
 
 returns-6 : tie.Need-returns-6
 returns-6 c =
@@ -53,6 +62,5 @@ returns-6 c =
 pub quick-weight-spec : {M : Type 1} → statement M
 quick-weight-spec =
     tie.close
-    (tie.spec (λ c κs. search needs) returns (λ c κs. search needs) returns-2 (λ c. search needs) returns-3
-    (λ c κs. search needs) returns-4 (λ c κs. search needs) (λ c. search needs) (λ c κs. search needs) returns-5
-    returns-6)
+    (tie.spec (λ c κs. search needs) returns (λ c κs. search needs) returns-2 (λ c. search needs) returns-3 (λ c κs. search needs) returns-4
+    (λ c κs. search needs) (λ c. search needs) (λ c κs. search needs) returns-5 returns-6)
