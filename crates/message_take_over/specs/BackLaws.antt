@@ -28,17 +28,20 @@ decided a b = by-test (eqb a b) refl
 
 -- what joining says of an entry number: 0 in a part's own map
 pub open-top : (before : List Record) (r : Record) → r .depth ≡ 0 → joinsOf before r ≡ Open → r .number ≡ 0
-open-top before r d j = ⊎-elim (λ e. e) (λ e. let q = sym (joins-numbered before r d e) ∙ j in let z : _≡_ {A = ℕ} 0 1 = cc in absurd (omega arith)) (decided (r .number) 0)
+open-top before r d j =
+    ⊎-elim (λ e. e) (λ e. let q = sym (joins-numbered before r d e) ∙ j in let z : _≡_ {A = ℕ} 0 1 = cc in absurd (omega arith)) (decided (r .number) 0)
 
 pub entry-deep : (before : List Record) (r : Record) (start : ℕ) → joinsOf before r ≡ Entry start → r .depth ≡ 0 → ⊥
 entry-deep before r start j d =
-    ⊎-elim (λ e. let q = sym (joins-own before r d e) ∙ j in let z : _≡_ {A = ℕ} 0 1 = cc in omega arith) (λ e. let q = sym (joins-numbered before r d e) ∙ j in let z : _≡_ {A = ℕ} 0 1 = cc in omega arith) (decided (r .number) 0)
+    ⊎-elim (λ e. let q = sym (joins-own before r d e) ∙ j in let z : _≡_ {A = ℕ} 0 1 = cc in
+    omega arith) (λ e. let q = sym (joins-numbered before r d e) ∙ j in let z : _≡_ {A = ℕ} 0 1 = cc in omega arith) (decided (r .number) 0)
 
 on-count : (q : Record) → onCount (Is q) ≡ Entry (q .tag)
 unfolding onCount
 on-count q = refl
 
-module _ (bytes : List ℕ) (part : ℕ) {depth number start entries : ℕ} {before : List Record} (r : Record) (c : Context bytes part depth number start entries before) (same : r .part ≡ part) where
+module _ (bytes : List ℕ) (part : ℕ) {depth number start entries : ℕ} {before : List Record} (r : Record)
+    (c : Context bytes part depth number start entries before) (same : r .part ≡ part) where
   -- the number of the entry that is open
   pub open-number : r .depth ≡ depth → (depth ≡ 0 → number ≡ 0) → joinsOf before r ≡ Open → r .number ≡ number
   open-number d top j = ⊎-elim (λ z. open-top before r z j ∙ sym (top (sym d ∙ z))) deep (decided (r .depth) 0)
@@ -67,14 +70,16 @@ module _ (bytes : List ℕ) (part : ℕ) {depth number start entries : ℕ} {bef
       near : nearestIn (r .depth) before ≡ Is (c .last)
       near = ap (λ (n : ℕ). nearestIn n before) d ∙ c .nearest-below
 
-      by-entries : ((entries ≡ 0) × (c .last ≡ c .count)) ⊎ ((c .last .part ≡ part) × (c .last .depth ≡ depth + 1) × (c .last .number ≡ entries)) → (r .number ≡ entries + 1) × (s ≡ start)
+      by-entries : ((entries ≡ 0) × (c .last ≡ c .count)) ⊎ ((c .last .part ≡ part) × (c .last .depth ≡ depth + 1) × (c .last .number ≡ entries))
+          → (r .number ≡ entries + 1) × (s ≡ start)
       by-entries (inl (e, l)) =
           let here : nearestIn (r .depth) before ≡ Is (c .count) = near ∙ ap Is l in
           let of : c .count .part ≡ r .part = c .counts .of ∙ sym same in
           let higher : c .count .depth ≡ r .depth → ⊥ = λ z. omega (arith, z, c .counts .deep) in
           let below : r .depth ≡ c .count .depth + 1 = omega (arith, c .counts .deep) in
           ⊎-elim
-          (λ f. let q = sym (joins-count before r deep (c .count) here of higher below f) ∙ j in let y : c .count .tag ≡ s = cc in (omega arith, sym y ∙ c .starts))
+          (λ f. let q = sym (joins-count before r deep (c .count) here of higher below f) ∙ j in let y : c .count .tag ≡ s = cc in
+          (omega arith, sym y ∙ c .starts))
           (λ f. let q = sym (joins-late before r deep (c .count) here of higher below f) ∙ j in let y : _≡_ {A = ℕ} 0 1 = cc in absurd (omega arith))
           (decided (r .number) 1)
       by-entries (inr (p, e, n)) =
@@ -83,7 +88,9 @@ module _ (bytes : List ℕ) (part : ℕ) {depth number start entries : ℕ} {bef
           ⊎-elim
           (λ f. let q = sym (k ∙ run-same before r (c .last .number) f) ∙ j in let y : _≡_ {A = ℕ} 0 1 = cc in absurd (omega arith))
           (λ f. ⊎-elim
-          (λ g. let q : Entry (c .count .tag) ≡ Entry s = sym (k ∙ run-next before r (c .last .number) f g (Is (c .count)) (ap (λ (i : ℕ). nearestIn i before) up ∙ c .nearest) ∙ on-count (c .count)) ∙ j in let y : c .count .tag ≡ s = cc in (omega arith, sym y ∙ c .starts))
+          (λ g. let q : Entry (c .count .tag) ≡ Entry s =
+          sym (k ∙ run-next before r (c .last .number) f g (Is (c .count)) (ap (λ (i : ℕ). nearestIn i before) up ∙ c .nearest) ∙ on-count (c .count)) ∙ j in
+          let y : c .count .tag ≡ s = cc in (omega arith, sym y ∙ c .starts))
           (λ g. let q = sym (k ∙ run-skips before r (c .last .number) f g) ∙ j in let y : _≡_ {A = ℕ} 0 1 = cc in absurd (omega arith))
           (decided (r .number) (c .last .number + 1)))
           (decided (r .number) (c .last .number))
@@ -96,7 +103,8 @@ pub record First (part : ℕ) (before : List Record) (rs : List Record) (rows : 
   pub of : head .part ≡ part
   pub lays : ownRows (joinsOf before head) head ++ rowsBehind part (head ∷ before) more ≡ rows
 
-pub first-row : (size part used : ℕ) (before rs : List Record) (k l t x : ℕ) (rows : List Row) → areNext size part used before rs ≡ true → ((k ≡ 2) × (l ≡ 0) → ⊥) → rowsBehind part before rs ≡ row k l t x ∷ rows → First part before rs (row k l t x ∷ rows)
+pub first-row : (size part used : ℕ) (before rs : List Record) (k l t x : ℕ) (rows : List Row) → areNext size part used before rs ≡ true
+    → ((k ≡ 2) × (l ≡ 0) → ⊥) → rowsBehind part before rs ≡ row k l t x ∷ rows → First part before rs (row k l t x ∷ rows)
 unfolding rowsBehind recordRows areNext
 first-row size part used before [] k l t x rows ok below e = absurd (heads (3 - part) e)
   where
@@ -108,8 +116,16 @@ first-row size part used before (r ∷ rs) k l t x rows ok below e = by-heads (r
     on : part ≤ r .part
     on = next-is size part used before r (both (isNext size part used before r) _ ok .0) .on
 
-    by-heads : (n : ℕ) → r .part - part ≡ n → (partHeads n part ++ ownRows (joinsOf before r) r) ++ rowsBehind (r .part) (r ∷ before) rs ≡ row k l t x ∷ rows → First part before (r ∷ rs) (row k l t x ∷ rows)
+    by-heads : (n : ℕ) → r .part - part ≡ n → (partHeads n part ++ ownRows (joinsOf before r) r) ++ rowsBehind (r .part) (r ∷ before) rs ≡ row k l t x ∷ rows
+        → First part before (r ∷ rs) (row k l t x ∷ rows)
     by-heads zero n e =
         let of : r .part ≡ part = omega (arith, on) in
-        record { head = r; more = rs; is = refl; of = of; lays = ap (λ (p : ℕ). ownRows (joinsOf before r) r ++ rowsBehind p (r ∷ before) rs) (sym of) ∙ (unfold partHeads in e) }
-    by-heads (suc m) n e = let f : row 2 0 (part + 1) 0 ≡ row k l t x = unfold partHeads in cc in let a : 2 ≡ k = cc in let b : 0 ≡ l = cc in absurd (below (sym a, sym b))
+        record {
+          head = r;
+          more = rs;
+          is = refl;
+          of = of;
+          lays = ap (λ (p : ℕ). ownRows (joinsOf before r) r ++ rowsBehind p (r ∷ before) rs) (sym of) ∙ (unfold partHeads in e);
+        }
+    by-heads (suc m) n e =
+        let f : row 2 0 (part + 1) 0 ≡ row k l t x = unfold partHeads in cc in let a : 2 ≡ k = cc in let b : 0 ≡ l = cc in absurd (below (sym a, sym b))

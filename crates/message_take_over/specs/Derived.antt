@@ -43,9 +43,11 @@ pub record Own (bytes : List ℕ) (part depth number : ℕ) (r : Record) : Type 
 -- records stand for a map: each of its fields, and each entry with its delimiter first, behind the count of its run
 pub data Stands (bytes : List ℕ) (part : ℕ) : ℕ → ℕ → ℕ → ℕ → Map → List Record → Type 0 where
   no-more : {depth number start entries : ℕ} → Stands bytes part depth number start entries end []
-  own : {depth number start entries : ℕ} {rest : Map} {rs : List Record} (r : Record) → Own bytes part depth number r → Stands bytes part depth number (r .tag) 0 rest rs
+  own : {depth number start entries : ℕ} {rest : Map} {rs : List Record} (r : Record) → Own bytes part depth number r
+      → Stands bytes part depth number (r .tag) 0 rest rs
       → Stands bytes part depth number start entries (field (r .tag) (valueAt bytes r) rest) (r ∷ rs)
-  in-entry : {depth number start entries : ℕ} {inner rest : Map} {rs ss : List Record} (r : Record) → Own bytes part (depth + 1) (entries + 1) r → Stands bytes part (depth + 1) (entries + 1) (r .tag) 0 inner rs → Stands bytes part depth number start (entries + 1) rest ss
+  in-entry : {depth number start entries : ℕ} {inner rest : Map} {rs ss : List Record} (r : Record) → Own bytes part (depth + 1) (entries + 1) r
+      → Stands bytes part (depth + 1) (entries + 1) (r .tag) 0 inner rs → Stands bytes part depth number start (entries + 1) rest ss
       → Stands bytes part depth number start entries (entry start (r .tag) (field (r .tag) (valueAt bytes r) inner) rest) (r ∷ (rs ++ ss))
 
 -- the records of the three parts, one behind the other

@@ -53,7 +53,8 @@ module _ (size : ℕ) (rs : List Record) (count : ℕ) where
     pub here : i ≤ count
 
   -- the header's head, and no record yet
-  pub going-start : (entry words : List ℕ) (rows : ℕ) → entry ≡ replicate messageWords 0 → Adds entry words 0 rows (row 2 0 1 0 ∷ []) → Going 0 words (record { part = 1; rows = rows; used = 0 })
+  pub going-start : (entry words : List ℕ) (rows : ℕ) → entry ≡ replicate messageWords 0 → Adds entry words 0 rows (row 2 0 1 0 ∷ [])
+      → Going 0 words (record { part = 1; rows = rows; used = 0 })
   going-start entry words rows e a =
       record {
         laid = row 2 0 1 0 ∷ [];
@@ -89,7 +90,8 @@ module _ (size : ℕ) (rs : List Record) (count : ℕ) where
       this : between i count rs ≡ recordAt i rs ∷ between (i + 1) count rs
       this = between-on i count rs more (omega arith)
 
-      pub going-refused : (left : List ℕ) → steppedBy size (recordsBefore i rs) laying (recordAt i rs) ≡ Refused → RowsLaid size (between 0 count rs) false left
+      pub going-refused : (left : List ℕ) → steppedBy size (recordsBefore i rs) laying (recordAt i rs) ≡ Refused
+          → RowsLaid size (between 0 count rs) false left
       unfolding areNext steppedBy
       going-refused left e =
           let no = by-test (isNext size (laying .part) (laying .used) (recordsBefore i rs) (recordAt i rs)) refl _ e in
@@ -98,7 +100,8 @@ module _ (size : ℕ) (rs : List Record) (count : ℕ) where
             laid = λ d. let z : _≡_ {A = ℕ} 0 1 = cc in absurd (omega arith);
           }
         where
-          by-test : (b : Bool) → isNext size (laying .part) (laying .used) (recordsBefore i rs) (recordAt i rs) ≡ b → (on : Laying) → pick b (On on) Refused ≡ Refused → isNext size (laying .part) (laying .used) (recordsBefore i rs) (recordAt i rs) ≡ false
+          by-test : (b : Bool) → isNext size (laying .part) (laying .used) (recordsBefore i rs) (recordAt i rs) ≡ b → (on : Laying)
+              → pick b (On on) Refused ≡ Refused → isNext size (laying .part) (laying .used) (recordsBefore i rs) (recordAt i rs) ≡ false
           by-test true b on e = let z : _≡_ {A = ℕ} 0 1 = cc in absurd (omega arith)
           by-test false b on e = b
 
@@ -109,7 +112,12 @@ module _ (size : ℕ) (rs : List Record) (count : ℕ) where
       stepped next e = by-test (isNext size (laying .part) (laying .used) (recordsBefore i rs) (recordAt i rs)) refl e
         where
           by-test : (b : Bool) → isNext size (laying .part) (laying .used) (recordsBefore i rs) (recordAt i rs) ≡ b
-              → pick b (On (record { part = recordAt i rs .part; rows = laying .rows + length (recordRows (laying .part) (joinsOf (recordsBefore i rs) (recordAt i rs)) (recordAt i rs)); used = laying .used + recordAt i rs .length })) Refused ≡ On next
+              → pick b (On (record {
+                part = recordAt i rs .part;
+                rows = laying .rows
+                    + length (recordRows (laying .part) (joinsOf (recordsBefore i rs) (recordAt i rs)) (recordAt i rs));
+                used = laying .used + recordAt i rs .length;
+              })) Refused ≡ On next
               → (isNext size (laying .part) (laying .used) (recordsBefore i rs) (recordAt i rs) ≡ true)
               × (next .part ≡ recordAt i rs .part) × (next .used ≡ laying .used + recordAt i rs .length)
           by-test true b e = (b, cc, cc)
@@ -132,8 +140,12 @@ module _ (size : ℕ) (rs : List Record) (count : ℕ) where
             laid = g .laid ++ new;
             in-words = a .adds (g .laid) (g .counted) (g .in-words);
             counted = omega (arith, length-append (g .laid) new, g .counted, a .counts);
-            rows = append-assoc (g .laid) new _ ∙ ap (λ (l : List Row). g .laid ++ l) (rw (before-next rs i, w .1) (sym (ap (rowsBehind (laying .part) before) this ∙ (unfold rowsBehind in refl)))) ∙ g .rows;
-            judged = g .judged ∙ ap (areNext size (laying .part) (laying .used) before) this ∙ rw (before-next rs i, w .1, w .2) (next-on size (laying .part) (laying .used) before r (between (i + 1) count rs) (w .0));
+            rows =
+                append-assoc (g .laid) new _ ∙ ap (λ (l : List Row). g .laid ++ l)
+                (rw (before-next rs i, w .1) (sym (ap (rowsBehind (laying .part) before) this ∙ (unfold rowsBehind in refl)))) ∙ g .rows;
+            judged =
+                g .judged ∙ ap (areNext size (laying .part) (laying .used) before) this
+                ∙ rw (before-next rs i, w .1, w .2) (next-on size (laying .part) (laying .used) before r (between (i + 1) count rs) (w .0));
             few = omega (arith, a .counts, rows-few (laying .part) (joinsOf before r) r, w .1, n .on, g .few);
             last = omega (arith, w .1, n .last);
             within = omega (arith, w .2, n .room);
@@ -155,7 +167,8 @@ module _ (size : ℕ) (rs : List Record) (count : ℕ) where
     going-done h wordsAfter all a =
         let none : between i count rs ≡ [] = between-end i count rs h in
         let heads = partHeads (3 - laying .part) (laying .part) in
-        let rows : g .laid ++ heads ≡ rowsOf (between 0 count rs) = ap (λ (l : List Row). g .laid ++ l) (sym (ap (rowsBehind (laying .part) (recordsBefore i rs)) none ∙ (unfold rowsBehind in refl))) ∙ g .rows in
+        let rows : g .laid ++ heads ≡ rowsOf (between 0 count rs) =
+        ap (λ (l : List Row). g .laid ++ l) (sym (ap (rowsBehind (laying .part) (recordsBefore i rs)) none ∙ (unfold rowsBehind in refl))) ∙ g .rows in
         let laid : wordsAfter ≡ rowed (rowsOf (between 0 count rs)) = a .adds (g .laid) (g .counted) (g .in-words) ∙ ap rowed rows in
         let many : all ≡ length (rowsOf (between 0 count rs)) = omega (arith, a .counts, g .counted, length-append (g .laid) heads, ap length rows) in
         record {

@@ -33,7 +33,8 @@ unfolding nearestIn
 nearest-deeper depth r before h = rw (lt-leb _ _ h)
 
 -- records of a map are looked past from above
-pub below-same : (bytes : List ℕ) (part above : ℕ) {depth number start entries : ℕ} {m : Map} {rs : List Record} → Stands bytes part depth number start entries m rs → above < depth → (before : List Record)
+pub below-same : (bytes : List ℕ) (part above : ℕ) {depth number start entries : ℕ} {m : Map} {rs : List Record}
+    → Stands bytes part depth number start entries m rs → above < depth → (before : List Record)
     → nearestIn above (passed before rs) ≡ nearestIn above before
 unfolding passed
 below-same bytes part above no-more h before = refl
@@ -68,7 +69,8 @@ module _ (bytes : List ℕ) (part : ℕ) where
       }
 
   -- a field joins the map that is open
-  pub own-joins : {depth number start entries : ℕ} {before : List Record} (r : Record) → Context depth number start entries before → Own bytes part depth number r → (depth ≡ 0 → number ≡ 0) → joinsOf before r ≡ Open
+  pub own-joins : {depth number start entries : ℕ} {before : List Record} (r : Record) → Context depth number start entries before
+      → Own bytes part depth number r → (depth ≡ 0 → number ≡ 0) → joinsOf before r ≡ Open
   own-joins {depth} {number} {before = before} r c o top = by-depth (decided (r .depth))
     where
       decided : (n : ℕ) → (n ≡ 0) ⊎ (n ≡ 0 → ⊥)
@@ -78,11 +80,13 @@ module _ (bytes : List ℕ) (part : ℕ) where
       by-depth : (r .depth ≡ 0) ⊎ (r .depth ≡ 0 → ⊥) → joinsOf before r ≡ Open
       by-depth (inl z) = joins-own before r z (o .numbered ∙ top (sym (o .deep) ∙ z))
       by-depth (inr z) =
-          joins-run before r z (c .count) (ap (λ (n : ℕ). nearestIn n before) (o .deep) ∙ c .nearest) (c .counts .of ∙ sym (o .of)) (c .counts .deep ∙ sym (o .deep))
+          joins-run before r z (c .count) (ap (λ (n : ℕ). nearestIn n before) (o .deep) ∙ c .nearest) (c .counts .of ∙ sym (o .of))
+          (c .counts .deep ∙ sym (o .deep))
           ∙ run-same before r (c .count .number) (o .numbered ∙ sym (c .counts .numbered))
 
   -- an entry's first record opens it
-  pub entry-joins : {depth number start entries : ℕ} {before : List Record} (r : Record) → Context depth number start entries before → Own bytes part (depth + 1) (entries + 1) r → joinsOf before r ≡ Entry start
+  pub entry-joins : {depth number start entries : ℕ} {before : List Record} (r : Record) → Context depth number start entries before
+      → Own bytes part (depth + 1) (entries + 1) r → joinsOf before r ≡ Entry start
   entry-joins {depth} {number} {start} {entries} {before} r c o = by-entries (c .either)
     where
       deep : r .depth ≡ 0 → ⊥
@@ -91,14 +95,17 @@ module _ (bytes : List ℕ) (part : ℕ) where
       near : nearestIn (r .depth) before ≡ Is (c .last)
       near = ap (λ (n : ℕ). nearestIn n before) (o .deep) ∙ c .nearest-below
 
-      by-entries : ((entries ≡ 0) × (c .last ≡ c .count)) ⊎ ((c .last .part ≡ part) × (c .last .depth ≡ depth + 1) × (c .last .number ≡ entries)) → joinsOf before r ≡ Entry start
+      by-entries : ((entries ≡ 0) × (c .last ≡ c .count)) ⊎ ((c .last .part ≡ part) × (c .last .depth ≡ depth + 1) × (c .last .number ≡ entries))
+          → joinsOf before r ≡ Entry start
       by-entries (inl (e, l)) =
-          joins-count before r deep (c .count) (near ∙ ap Is l) (c .counts .of ∙ sym (o .of)) (λ z. omega (arith, z, c .counts .deep, o .deep)) (omega (arith, c .counts .deep, o .deep)) (omega (arith, o .numbered))
+          joins-count before r deep (c .count) (near ∙ ap Is l) (c .counts .of ∙ sym (o .of)) (λ z. omega (arith, z, c .counts .deep, o .deep))
+          (omega (arith, c .counts .deep, o .deep)) (omega (arith, o .numbered))
           ∙ ap Entry (c .starts)
       by-entries (inr (p, d, n)) =
           let up : r .depth - 1 ≡ depth = omega (arith, o .deep) in
           joins-run before r deep (c .last) near (p ∙ sym (o .of)) (d ∙ sym (o .deep))
-          ∙ run-next before r (c .last .number) (λ z. omega (arith, z, n, o .numbered)) (omega (arith, n, o .numbered)) (Is (c .count)) (ap (λ (k : ℕ). nearestIn k before) up ∙ c .nearest)
+          ∙ run-next before r (c .last .number) (λ z. omega (arith, z, n, o .numbered)) (omega (arith, n, o .numbered)) (Is (c .count))
+          (ap (λ (k : ℕ). nearestIn k before) up ∙ c .nearest)
           ∙ (unfold onCount in ap Entry (c .starts))
 
   pub record ContextAfter (depth number : ℕ) (before : List Record) : Type 0 where
@@ -110,7 +117,9 @@ module _ (bytes : List ℕ) (part : ℕ) where
   after-same e k = rw e k
 
   -- past an entry the run has one more
-  pub past-entry : {depth number start entries : ℕ} {before : List Record} (r : Record) {inner : Map} {rs : List Record} → Context depth number start entries before → Own bytes part (depth + 1) (entries + 1) r → Stands bytes part (depth + 1) (entries + 1) (r .tag) 0 inner rs
+  pub past-entry : {depth number start entries : ℕ} {before : List Record} (r : Record) {inner : Map} {rs : List Record}
+      → Context depth number start entries before → Own bytes part (depth + 1) (entries + 1) r
+      → Stands bytes part (depth + 1) (entries + 1) (r .tag) 0 inner rs
       → ContextAfter (depth + 1) (entries + 1) (passed (r ∷ before) rs) → Context depth number start (entries + 1) (passed (r ∷ before) rs)
   past-entry {depth} {before = before} r c o inner a =
       let k = a .context in
@@ -124,7 +133,8 @@ module _ (bytes : List ℕ) (part : ℕ) where
         either = inr (k .counts .of, k .counts .deep, k .counts .numbered);
       }
 
-  pub past-map : {depth number start entries : ℕ} {m : Map} {rs : List Record} → Stands bytes part depth number start entries m rs → (before : List Record) → Context depth number start entries before → ContextAfter depth number (passed before rs)
+  pub past-map : {depth number start entries : ℕ} {m : Map} {rs : List Record} → Stands bytes part depth number start entries m rs → (before : List Record)
+      → Context depth number start entries before → ContextAfter depth number (passed before rs)
   unfolding passed
   past-map no-more before c = record { start = _; entries = _; context = c }
   past-map (own r o more) before c = past-map more (r ∷ before) (own-context r before o)

@@ -16,7 +16,8 @@ use Rattle.message_take_over.specs.declared.Joins.{Joins}
 use Rattle.message_take_over.specs.declared.Joins.the-variants.{Open, Entry, Nowhere}
 use Rattle.message_take_over.specs.declared.Laying.{Laying}
 use Rattle.message_take_over.specs.declared.Step.the-variants.{On, Refused}
-use Rattle.message_take_over.specs.Taking.{nearestIn, joinsInRun, joinsOnCount, joinsBehind, joinsOf, isJoined, hasRoom, isNext, partHeads, ownRows, recordRows}
+use Rattle.message_take_over.specs.Taking.{nearestIn, joinsInRun, joinsOnCount, joinsBehind, joinsOf, isJoined, hasRoom, isNext, partHeads, ownRows}
+use Rattle.message_take_over.specs.Taking.{recordRows}
 use Rattle.message_take_over.specs.Laying.{Adds, reach, steppedBy, addsRows}
 use Rattle.message_take_over.specs.LayingLaws.{adds-then, heads-length}
 
@@ -35,7 +36,8 @@ module _ (size used : ℕ) (r : Record) where
 
 -- no record joins anything deeper than one below the record before it
 deep-behind : (before : List Record) (r q : Record) (same deeper : Bool) → eqb (q .depth) (r .depth) ≡ same → eqb (r .depth) (q .depth + 1) ≡ deeper
-    → isJoined (pick same (joinsInRun before (q .number) r) (pick deeper (pick (eqb (r .number) 1) (Entry (q .tag)) Nowhere) Nowhere)) ≡ true → r .depth ≤ q .depth + 1
+    → isJoined (pick same (joinsInRun before (q .number) r) (pick deeper (pick (eqb (r .number) 1) (Entry (q .tag)) Nowhere) Nowhere)) ≡ true
+    → r .depth ≤ q .depth + 1
 unfolding isJoined
 deep-behind before r q true deeper s d h = omega (arith, eqb-true (q .depth) (r .depth) s)
 deep-behind before r q false true s d h = omega (arith, eqb-true (r .depth) (q .depth + 1) d)
@@ -45,15 +47,18 @@ pub joined-reach : (before : List Record) (r : Record) → isJoined (joinsOf bef
 unfolding joinsOf reach
 joined-reach before r h = by-depth (eqb (r .depth) 0) refl before h
   where
-    by-nearest : (q : Record) (before : List Record) (near : Bool) → leb (q .depth) (r .depth) ≡ near → isJoined (joinsBehind (q ∷ before) r (pick near (Is q) (nearestIn (r .depth) before))) ≡ true → r .depth ≤ q .depth + 1
+    by-nearest : (q : Record) (before : List Record) (near : Bool) → leb (q .depth) (r .depth) ≡ near
+        → isJoined (joinsBehind (q ∷ before) r (pick near (Is q) (nearestIn (r .depth) before))) ≡ true → r .depth ≤ q .depth + 1
     by-nearest q before true n h = by-part (eqb (q .part) (r .part)) (unfold joinsBehind in h)
       where
-        by-part : (p : Bool) → isJoined (pick p (pick (eqb (q .depth) (r .depth)) (joinsInRun (q ∷ before) (q .number) r) (joinsOnCount q r)) Nowhere) ≡ true → r .depth ≤ q .depth + 1
+        by-part : (p : Bool) → isJoined (pick p (pick (eqb (q .depth) (r .depth)) (joinsInRun (q ∷ before) (q .number) r) (joinsOnCount q r)) Nowhere) ≡ true
+            → r .depth ≤ q .depth + 1
         by-part true h = deep-behind (q ∷ before) r q (eqb (q .depth) (r .depth)) (eqb (r .depth) (q .depth + 1)) refl refl (unfold joinsOnCount in h)
         by-part false h = let z : _≡_ {A = ℕ} 0 1 = unfold isJoined in cc in absurd (omega arith)
     by-nearest q before false n h = omega (arith, leb-false (q .depth) (r .depth) n)
 
-    by-depth : (d : Bool) → eqb (r .depth) 0 ≡ d → (before : List Record) → isJoined (pick d (pick (eqb (r .number) 0) Open Nowhere) (joinsBehind before r (nearestIn (r .depth) before))) ≡ true → r .depth ≤ reach before
+    by-depth : (d : Bool) → eqb (r .depth) 0 ≡ d → (before : List Record)
+        → isJoined (pick d (pick (eqb (r .number) 0) Open Nowhere) (joinsBehind before r (nearestIn (r .depth) before))) ≡ true → r .depth ≤ reach before
     by-depth true d before h = omega (arith, eqb-true (r .depth) 0 d)
     by-depth false d [] h = let z : _≡_ {A = ℕ} 0 1 = unfold isJoined joinsBehind nearestIn in cc in absurd (omega arith)
     by-depth false d (q ∷ before) h = by-nearest q before (leb (q .depth) (r .depth)) refl (unfold nearestIn in h)
@@ -100,7 +105,8 @@ own-few Nowhere r = omega arith
 
 pub rows-few : (part : ℕ) (joined : Joins) (r : Record) → length (recordRows part joined r) ≤ r .part - part + 2
 unfolding recordRows
-rows-few part joined r = omega (arith, length-append (partHeads (r .part - part) part) (ownRows joined r), heads-length (r .part - part) part, own-few joined r)
+rows-few part joined r =
+    omega (arith, length-append (partHeads (r .part - part) part) (ownRows joined r), heads-length (r .part - part) part, own-few joined r)
 
 module _ (size : ℕ) (before : List Record) (laying : Laying) where
   -- a record that may not come next leaves nothing to be told
@@ -120,7 +126,8 @@ module _ (size : ℕ) (before : List Record) (laying : Laying) where
   step-on r words wordsAfter rows h a = (rw (h, a .counts), λ next e. let q : rows ≡ next .rows = cc in rw (← q) a)
 
   -- as the code has it, with its own names for the record, for what it joins, and for its length
-  pub step-laid : (taken r : Record) (joined : Joins) (more : ℕ) (words wordsAfter : List ℕ) (rows : ℕ) → taken ≡ r → joined ≡ joinsOf before taken → more ≡ taken .length
+  pub step-laid : (taken r : Record) (joined : Joins) (more : ℕ) (words wordsAfter : List ℕ) (rows : ℕ) → taken ≡ r → joined ≡ joinsOf before taken
+      → more ≡ taken .length
       → isNext size (laying .part) (laying .used) before taken ≡ true
       → Adds words wordsAfter (laying .rows) rows (recordRows (laying .part) joined taken)
       → (On (record { part = taken .part; rows = rows; used = laying .used + more }) ≡ steppedBy size before laying r)
@@ -129,11 +136,13 @@ module _ (size : ℕ) (before : List Record) (laying : Laying) where
 
 -- the rows that are laid for a record, by where it belongs
 module _ (part : ℕ) (joined : Joins) (r : Record) {a b : List ℕ} {rows opened : ℕ} where
-  pub lays-open : {c : List ℕ} {last : ℕ} → joined ≡ Open → Adds a b rows opened (partHeads (r .part - part) part) → Adds b c opened last (row 1 (r .depth + 1) (r .tag) (r .length) ∷ []) → Adds a c rows last (recordRows part joined r)
+  pub lays-open : {c : List ℕ} {last : ℕ} → joined ≡ Open → Adds a b rows opened (partHeads (r .part - part) part)
+      → Adds b c opened last (row 1 (r .depth + 1) (r .tag) (r .length) ∷ []) → Adds a c rows last (recordRows part joined r)
   unfolding recordRows ownRows
   lays-open e f g = rw e (adds-then f g)
 
-  pub lays-entry : {c d : List ℕ} {headed last : ℕ} (start : ℕ) → joined ≡ Entry start → Adds a b rows opened (partHeads (r .part - part) part) → Adds b c opened headed (row 2 (r .depth) start (r .tag) ∷ []) → Adds c d headed last (row 1 (r .depth + 1) (r .tag) (r .length) ∷ [])
+  pub lays-entry : {c d : List ℕ} {headed last : ℕ} (start : ℕ) → joined ≡ Entry start → Adds a b rows opened (partHeads (r .part - part) part)
+      → Adds b c opened headed (row 2 (r .depth) start (r .tag) ∷ []) → Adds c d headed last (row 1 (r .depth + 1) (r .tag) (r .length) ∷ [])
       → Adds a d rows last (recordRows part joined r)
   unfolding recordRows ownRows
   lays-entry start e f g h = rw e (adds-then f (adds-then g h))

@@ -28,25 +28,32 @@ module _ (bytes : List ℕ) (r : Record) where
   value-length h = simp (length-take, length-drop) (omega arith)
 
 -- what each record that may come next says of its value
-module _ (bytes : List ℕ) (part used : ℕ) (before : List Record) (r : Record) (rs : List Record) (h : areNext (length bytes) part used before (r ∷ rs) ≡ true) where
-  this-next : isNext (length bytes) part used before r ≡ true
-  unfolding areNext
-  this-next = both _ _ h .0
+module _ (bytes : List ℕ) (part used : ℕ) (before : List Record) (r : Record) (rs : List Record) (h : areNext (length bytes) part used before (r ∷ rs) ≡ true)
+  where
+    this-next : isNext (length bytes) part used before r ≡ true
+    unfolding areNext
+    this-next = both _ _ h .0
 
-  rest-next : areNext (length bytes) (r .part) (used + r .length) (r ∷ before) rs ≡ true
-  unfolding areNext
-  rest-next = both (isNext (length bytes) part used before r) _ h .1
+    rest-next : areNext (length bytes) (r .part) (used + r .length) (r ∷ before) rs ≡ true
+    unfolding areNext
+    rest-next = both (isNext (length bytes) part used before r) _ h .1
 
-  this-fits : (r .place + r .length ≤ length bytes) × (used + r .length ≤ 8192)
-  this-fits = let n = next-is (length bytes) part used before r this-next in (n .inside, n .room)
+    this-fits : (r .place + r .length ≤ length bytes) × (used + r .length ≤ 8192)
+    this-fits = let n = next-is (length bytes) part used before r this-next in (n .inside, n .room)
 
 -- all values have room
-pub values-fit : (bytes : List ℕ) (part used : ℕ) (before rs : List Record) → used ≤ 8192 → areNext (length bytes) part used before rs ≡ true → used + length (valuesAt bytes rs) ≤ 8192
+pub values-fit : (bytes : List ℕ) (part used : ℕ) (before rs : List Record) → used ≤ 8192 → areNext (length bytes) part used before rs ≡ true
+    → used + length (valuesAt bytes rs) ≤ 8192
 unfolding valuesAt
 values-fit bytes part used before [] h n = omega arith
 values-fit bytes part used before (r ∷ rs) h n =
     let f = this-fits bytes part used before r rs n in
-    omega (arith, values-fit bytes (r .part) (used + r .length) (r ∷ before) rs (f .1) (rest-next bytes part used before r rs n), length-append (valueAt bytes r) (valuesAt bytes rs), value-length bytes r (f .0))
+    omega (
+      arith,
+      values-fit bytes (r .part) (used + r .length) (r ∷ before) rs (f .1) (rest-next bytes part used before r rs n),
+      length-append (valueAt bytes r) (valuesAt bytes rs),
+      value-length bytes r (f .0),
+    )
 
 module _ (bytes : List ℕ) (rs : List Record) (count : ℕ) where
   pub record Storing (i used : ℕ) (values : List ℕ) : Type 0 where
@@ -82,13 +89,19 @@ module _ (bytes : List ℕ) (rs : List Record) (count : ℕ) where
             last = r .part;
             store = ap length written ∙ written-length used value values ∙ s .store;
             within = omega (arith, storing-fits .1);
-            texts = ap (λ (v : List ℕ). v ++ valuesAt bytes (between (i + 1) count rs)) (written-behind used behind value values stored (omega arith) (omega (arith, storing-fits .1, s .store)) written)
-                ∙ append-assoc (take used values) value _ ∙ ap (λ (v : List ℕ). take used values ++ v) (sym (ap (valuesAt bytes) this ∙ (unfold valuesAt in refl))) ∙ s .texts;
+            texts =
+                ap (λ (v : List ℕ). v ++ valuesAt bytes (between (i + 1) count rs))
+                (written-behind used behind value values stored (omega arith) (omega (arith, storing-fits .1, s .store)) written)
+                ∙ append-assoc (take used values) value _
+                ∙ ap (λ (v : List ℕ). take used values ++ v) (sym (ap (valuesAt bytes) this ∙ (unfold valuesAt in refl))) ∙ s .texts;
             next = rw (end, before-next rs i) (rest-next bytes (s .last) used (recordsBefore i rs) r (between (i + 1) count rs) goes);
           }
 
     -- zeros behind them all
-    pub storing-done : count ≤ i → (cleared : List ℕ) → cleared ≡ writtenAt used (replicate (8192 - used) 0) values → cleared ≡ padded 8192 (valuesAt bytes (between 0 count rs))
+    pub storing-done : count ≤ i → (cleared : List ℕ) → cleared ≡ writtenAt used (replicate (8192 - used) 0) values
+        → cleared ≡ padded 8192 (valuesAt bytes (between 0 count rs))
     storing-done h cleared e =
-        let all : take used values ≡ valuesAt bytes (between 0 count rs) = sym (append-nil (take used values)) ∙ ap (λ (l : List ℕ). take used values ++ l) (sym (ap (valuesAt bytes) (between-end i count rs h) ∙ (unfold valuesAt in refl))) ∙ s .texts in
+        let all : take used values ≡ valuesAt bytes (between 0 count rs) =
+        sym (append-nil (take used values)) ∙ ap (λ (l : List ℕ). take used values ++ l)
+        (sym (ap (valuesAt bytes) (between-end i count rs h) ∙ (unfold valuesAt in refl))) ∙ s .texts in
         cleared-behind 8192 used values cleared (s .store) (s .within) e ∙ ap (padded 8192) all

@@ -25,7 +25,8 @@ use Rattle.message_lent_rules.specs.FormedLaws.{lent-formed}
 use Rattle.message_take_over.specs.declared.Joins.{Joins}
 use Rattle.message_take_over.specs.declared.Joins.the-variants.{Open, Entry, Nowhere}
 use Rattle.message_take_over.specs.declared.Taken.the-variants.{Made, NoMessage}
-use Rattle.message_take_over.specs.Taking.{joinsOf, isJoined, isNext, areNext, partHeads, ownRows, recordRows, rowsBehind, rowsOf, valuesAt, laidOut, noRecords, layoutFrom, after, judged, takingOver}
+use Rattle.message_take_over.specs.Taking.{joinsOf, isJoined, isNext, areNext, partHeads, ownRows, recordRows, rowsBehind, rowsOf, valuesAt, laidOut}
+use Rattle.message_take_over.specs.Taking.{noRecords, layoutFrom, after, judged, takingOver}
 use Rattle.message_take_over.specs.StepLaws.{next-is}
 use Rattle.message_take_over.specs.Derived.{derived, given, StandFor}
 use Rattle.message_take_over.specs.GoesLaws.{value-size}
@@ -45,18 +46,22 @@ sizes-own Open r h = omega arith
 sizes-own (Entry start) r h = omega arith
 sizes-own Nowhere r h = absurd (nowhere-not h)
 
-rows-cons : (part : ℕ) (before : List Record) (r : Record) (rs : List Record) → rowsBehind part before (r ∷ rs) ≡ (partHeads (r .part - part) part ++ ownRows (joinsOf before r) r) ++ rowsBehind (r .part) (r ∷ before) rs
+rows-cons : (part : ℕ) (before : List Record) (r : Record) (rs : List Record)
+    → rowsBehind part before (r ∷ rs) ≡ (partHeads (r .part - part) part ++ ownRows (joinsOf before r) r) ++ rowsBehind (r .part) (r ∷ before) rs
 unfolding rowsBehind recordRows
 rows-cons part before r rs = refl
 
-sizes-behind : (bytes : List ℕ) (part used : ℕ) (before rs : List Record) → areNext (length bytes) part used before rs ≡ true → sizes (rowsBehind part before rs) ≡ length (valuesAt bytes rs)
+sizes-behind : (bytes : List ℕ) (part used : ℕ) (before rs : List Record) → areNext (length bytes) part used before rs ≡ true
+    → sizes (rowsBehind part before rs) ≡ length (valuesAt bytes rs)
 sizes-behind bytes part used before [] ok = unfold rowsBehind valuesAt in sizes-heads (3 - part) part
 sizes-behind bytes part used before (r ∷ rs) ok =
     let split = both (isNext (length bytes) part used before r) _ (sym (next-cons (length bytes) part used before r rs) ∙ ok) in
     let n = next-is (length bytes) part used before r (split .0) in
-    first (sizes-behind bytes (r .part) (used + r .length) (r ∷ before) rs (split .1)) (sizes-own (joinsOf before r) r (n .joined)) (value-size bytes r (n .inside))
+    first (sizes-behind bytes (r .part) (used + r .length) (r ∷ before) rs (split .1)) (sizes-own (joinsOf before r) r (n .joined))
+    (value-size bytes r (n .inside))
   where
-    first : sizes (rowsBehind (r .part) (r ∷ before) rs) ≡ length (valuesAt bytes rs) → sizes (ownRows (joinsOf before r) r) ≡ r .length → length (valueAt bytes r) ≡ r .length → sizes (rowsBehind part before (r ∷ rs)) ≡ length (valuesAt bytes (r ∷ rs))
+    first : sizes (rowsBehind (r .part) (r ∷ before) rs) ≡ length (valuesAt bytes rs) → sizes (ownRows (joinsOf before r) r) ≡ r .length
+        → length (valueAt bytes r) ≡ r .length → sizes (rowsBehind part before (r ∷ rs)) ≡ length (valuesAt bytes (r ∷ rs))
     first e o v =
         let own = ownRows (joinsOf before r) r in
         let heads = partHeads (r .part - part) part in
@@ -65,13 +70,16 @@ sizes-behind bytes part used before (r ∷ rs) ok =
         let b = sizes-append (heads ++ own) more in
         let c = sizes-append heads own in
         let z = sizes-heads (r .part - part) part in
-        let t : length (valuesAt bytes (r ∷ rs)) ≡ length (valueAt bytes r) + length (valuesAt bytes rs) = unfold valuesAt in length-append (valueAt bytes r) (valuesAt bytes rs) in
+        let t : length (valuesAt bytes (r ∷ rs)) ≡ length (valueAt bytes r) + length (valuesAt bytes rs) = unfold valuesAt in
+        length-append (valueAt bytes r) (valuesAt bytes rs) in
         omega (arith, a, b, c, z, e, o, v, t)
 
 -- the layout's words hold its rows
 words-rows : (rows : List Row) → rowsIn (padded messageWords (length rows ∷ flat rows)) ≡ rows
 unfolding rowsIn rowCount padded
-words-rows rows = rw (sub-zero (length rows)) (rows-back rows 0 (length rows ∷ (flat rows ++ replicate (messageWords - suc (length (flat rows))) 0)) (replicate (messageWords - suc (length (flat rows))) 0) refl)
+words-rows rows =
+    rw (sub-zero (length rows)) (rows-back rows 0 (length rows ∷ (flat rows ++ replicate (messageWords - suc (length (flat rows))) 0))
+    (replicate (messageWords - suc (length (flat rows))) 0) refl)
 
 -- a layout that is a message means what the records stand for
 module _ (bytes : List ℕ) (rs : List Record) (ok : areNext (length bytes) 1 0 [] rs ≡ true) where
@@ -89,7 +97,8 @@ module _ (bytes : List ℕ) (rs : List Record) (ok : areNext (length bytes) 1 0 
   layout-stands h =
       let m = means words values (message-held words values h) in
       let r = words-rows (rowsOf rs) in
-      let t : take (sizes (rowsIn words)) values ≡ valuesAt bytes rs = ap (λ (n : ℕ). take n values) (ap sizes r ∙ sizes-all) ∙ (unfold padded in take-at (valuesAt bytes rs) _ (length (valuesAt bytes rs)) refl) in
+      let t : take (sizes (rowsIn words)) values ≡ valuesAt bytes rs =
+      ap (λ (n : ℕ). take n values) (ap sizes r ∙ sizes-all) ∙ (unfold padded in take-at (valuesAt bytes rs) _ (length (valuesAt bytes rs)) refl) in
       stand-back bytes (messageIn words values) rs ok (sym r ∙ m .rows) (sym t ∙ m .texts)
 
 -- the message that is left has the records that were given
@@ -108,24 +117,35 @@ keeps bytes rs words values w v e = by-next (areNext (length bytes) 1 0 [] rs) r
     newValues : List ℕ
     newValues = padded 8192 (valuesAt bytes rs)
 
-    by-message : areNext (length bytes) 1 0 [] rs ≡ true → (b : Bool) → isMessage newWords newValues ≡ b → pick b (after Made newWords newValues) (after NoMessage words values) ≡ after Made w v → Keeps bytes rs w v
+    by-message : areNext (length bytes) 1 0 [] rs ≡ true → (b : Bool) → isMessage newWords newValues ≡ b
+        → pick b (after Made newWords newValues) (after NoMessage words values) ≡ after Made w v → Keeps bytes rs w v
     by-message ok true h e =
         let a : newWords ≡ w = cc in
         let b : newValues ≡ v = cc in
         let s = layout-stands bytes rs ok h in
-        rw (← a, ← b) (record { is-message = h; within = lent-formed newWords newValues h; stand = s; same = sym (given-derived bytes (messageIn newWords newValues) rs s) })
+        rw (← a, ← b) (record {
+          is-message = h;
+          within = lent-formed newWords newValues h;
+          stand = s;
+          same = sym (given-derived bytes (messageIn newWords newValues) rs s);
+        })
     by-message ok false h e = let z : _≡_ {A = ℕ} 0 1 = cc in absurd (omega arith)
 
-    by-next : (b : Bool) → areNext (length bytes) 1 0 [] rs ≡ b → judged words values (pick b (laidOut newWords newValues) noRecords) ≡ after Made w v → Keeps bytes rs w v
+    by-next : (b : Bool) → areNext (length bytes) 1 0 [] rs ≡ b → judged words values (pick b (laidOut newWords newValues) noRecords) ≡ after Made w v
+        → Keeps bytes rs w v
     by-next true ok e = by-message ok (isMessage newWords newValues) refl (unfold judged in e)
     by-next false ok e = let z : _≡_ {A = ℕ} 0 1 = unfold judged in cc in absurd (omega arith)
 
 -- "reading, changing and writing": where 0 is answered, what is left is a message with the records that were given
-pub taken-keeps : (records : List ℕ) (count : ℕ) (bytes words values w v : List ℕ) → takingOver records count bytes words values ≡ after Made w v → Keeps bytes (between 0 count (recordsOf records)) w v
+pub taken-keeps : (records : List ℕ) (count : ℕ) (bytes words values w v : List ℕ) → takingOver records count bytes words values ≡ after Made w v
+    → Keeps bytes (between 0 count (recordsOf records)) w v
 unfolding takingOver
-taken-keeps records count bytes words values w v e = by-tests (eqb (length words) messageWords) (eqb (length values) 8192) (leb count (length (recordsOf records))) (leb count 1024) e
+taken-keeps records count bytes words values w v e =
+    by-tests (eqb (length words) messageWords) (eqb (length values) 8192) (leb count (length (recordsOf records))) (leb count 1024) e
   where
-    by-tests : (a b c d : Bool) → pick a (pick b (pick c (pick d (judged words values (layoutFrom bytes (between 0 count (recordsOf records)))) (after NoMessage words values)) (after NoMessage words values)) (after NoMessage words values)) (after NoMessage words values) ≡ after Made w v
+    by-tests : (a b c d : Bool)
+        → pick a (pick b (pick c (pick d (judged words values (layoutFrom bytes (between 0 count (recordsOf records)))) (after NoMessage words values))
+        (after NoMessage words values)) (after NoMessage words values)) (after NoMessage words values) ≡ after Made w v
         → Keeps bytes (between 0 count (recordsOf records)) w v
     by-tests true true true true e = keeps bytes (between 0 count (recordsOf records)) words values w v e
     by-tests true true true false e = let z : _≡_ {A = ℕ} 0 1 = cc in absurd (omega arith)
