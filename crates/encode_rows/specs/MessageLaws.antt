@@ -204,7 +204,7 @@ tail-written separator at what output one two room e o t =
     let whole : one ≡ what ++ drop (length what) output = o ∙ written-fits 0 what output (omega arith) ∙ rw n in
     let before : take at one ≡ what = ap (take at) whole ∙ take-at what (drop (length what) output) at (sym e) in
     let together : length (what ++ tailOf separator what) ≡ length what + 7 = length-append what (tailOf separator what) ∙ rw (tail-length separator what) in
-    let last : writtenAt 0 (what ++ tailOf separator what) output ≡ writtenAt 0 (summed separator what) output = unfold summed tailOf in refl in
-    t ∙ rw (before, o, e) (ap (λ (k : ℕ). writtenAt k (tailOf separator what) (writtenAt 0 what output)) (sym n)
+    let last : writtenAt 0 (what ++ tailOf separator what) output ≡ writtenAt 0 (summed separator what) output = unfold summed tailOf in
+    refl in t ∙ rw (before, o, e) (ap (λ (k : ℕ). writtenAt k (tailOf separator what) (writtenAt 0 what output)) (sym n)
     ∙ written-twice 0 what (tailOf separator what) output (omega arith))
     ∙ last

@@ -11,11 +11,15 @@ use Rattle.field_rules.specs.CheckSum.{sumOf, checksumDigits}
 use Rattle.field_rules.specs.Separator.{isRefusedSeparator}
 use Rattle.message_maps.specs.Map.{Map, end, field, entry, joined, holds, holdsAny, replaced, withoutField, runOn, withoutRun, stored, fieldCount, valuesIn}
 use Rattle.message_maps.specs.Rows.{laid, flat, padded, rowAt, rowsFrom, levelOf, sizeOf, matches, sizes}
-use Rattle.message_lent_rules.specs.Lent.{heldBefore, delimiterIs, continues, followsOn, deepest, fieldAllowed, headAllowed, rowAllowed, rowsAllowed, isPart, nextPart, partsFrom, isOwn, ownBelow, weight, fieldsIn, rowCount, rowsOf, isLaid, isMessage}
-use Rattle.message_lent_rules.specs.Meaning.{Message, parts, wordsOf, valueBytesOf, opened, withField, withEntry, withRow, openIn, outermost, thirdOf, secondOf, partsIn, messageIn}
+use Rattle.message_lent_rules.specs.Lent.{heldBefore, delimiterIs, continues, followsOn, deepest, fieldAllowed, headAllowed, rowAllowed, rowsAllowed, isPart}
+use Rattle.message_lent_rules.specs.Lent.{nextPart, partsFrom, isOwn, ownBelow, weight, fieldsIn, rowCount, rowsOf, isLaid, isMessage}
+use Rattle.message_lent_rules.specs.Meaning.{Message, parts, wordsOf, valueBytesOf, opened, withField, withEntry, withRow, openIn, outermost, thirdOf}
+use Rattle.message_lent_rules.specs.Meaning.{secondOf, partsIn, messageIn}
 use Rattle.message_rules.specs.Changes.{fieldTotal}
-use Rattle.encode_rules.specs.Encoding.{text, textUnder, isFirst, isRest, headerText, messageText, bytesOf, dropped, bodyLength, measured, sumDigits, summed, encoding, encodedMessage}
-use Rattle.encode_rules.specs.Encode.{numberOfEncoding, lacksCount, hasUncounted, isIncomplete, judging, encodeVerdict, Left, left, encoded, afterVerdict, encodingOf}
+use Rattle.encode_rules.specs.Encoding.{text, textUnder, isFirst, isRest, headerText, messageText, bytesOf, dropped, bodyLength, measured, sumDigits}
+use Rattle.encode_rules.specs.Encoding.{summed, encoding, encodedMessage}
+use Rattle.encode_rules.specs.Encode.{numberOfEncoding, lacksCount, hasUncounted, isIncomplete, judging, encodeVerdict, Left, left, encoded}
+use Rattle.encode_rules.specs.Encode.{afterVerdict, encodingOf}
 use Rattle.encode_rules.specs.declared.Encoding.the-variants.{Written, NoMessage, InvalidSeparator, Incomplete, TooLong, TooManyFields, NoRoom}
 use Rattle.encode_rules.specs.declared.Verdict.{Verdict}
 use Rattle.encode_rules.specs.declared.Verdict.the-variants.{Measured, Refused}
@@ -86,7 +90,9 @@ verdicts : rooms ∷ headless ∷ runs ∷ []
     ≡ (Measured 5 ∷ Refused NoRoom ∷ Refused InvalidSeparator ∷ Refused InvalidSeparator ∷ Refused InvalidSeparator ∷ Measured 5 ∷ Measured 5 ∷ [])
     ∷ (Refused Incomplete ∷ Refused Incomplete ∷ Refused InvalidSeparator ∷ [])
     ∷ (Refused Incomplete ∷ Measured 15 ∷ Refused Incomplete ∷ Refused Incomplete ∷ Measured 10 ∷ Refused Incomplete ∷ Measured 15 ∷ []) ∷ []
-unfolding rooms headless runs with-body with-trailer with-header run judging isRefusedSeparator isDigit isIncomplete hasUncounted lacksCount encoding summed sumDigits messageText headerText textUnder text isFirst isRest measured dropped bodyLength bytesOf withoutField stored holds holdsAny replaced joined withoutRun runOn decimal decimalWithin sumOf checksumDigits encodedMessage fieldTotal fieldCount
+unfolding rooms headless runs with-body with-trailer with-header run judging isRefusedSeparator isDigit isIncomplete hasUncounted lacksCount encoding summed
+    sumDigits messageText headerText textUnder text isFirst isRest measured dropped bodyLength bytesOf withoutField stored holds holdsAny replaced joined
+    withoutRun runOn decimal decimalWithin sumOf checksumDigits encodedMessage fieldTotal fieldCount
 verdicts = refl
 
 -- P1 once it is encoded
@@ -100,16 +106,23 @@ calling m output = encodingOf 1 (wordsOf m) (valueBytesOf m) output
 
 -- P1's bytes stand at the start of the output, what was behind them stays, and the message holds the new 9 and 10, last where it had none;
 -- encoded again it is the same. What is refused leaves everything, and nothing that is lent is no message.
-calls : calling (with-body end) (bytes "..............................") ∷ calling heartbeat (bytes "..............................") ∷ calling heartbeat (bytes ".........................") ∷ encodingOf 1 [] [] (bytes "..") ∷ []
+calls : calling (with-body end) (bytes "..............................") ∷ calling heartbeat (bytes "..............................") ∷ calling heartbeat
+    (bytes ".........................") ∷ encodingOf 1 [] [] (bytes "..") ∷ []
     ≡ left (Written 26) (wordsOf heartbeat) (valueBytesOf heartbeat) (bytes "8=FIX.4.4|9=5|35=0|10=163|....")
     ∷ left (Written 26) (wordsOf heartbeat) (valueBytesOf heartbeat) (bytes "8=FIX.4.4|9=5|35=0|10=163|....")
     ∷ left NoRoom (wordsOf heartbeat) (valueBytesOf heartbeat) (bytes ".........................")
     ∷ left NoMessage [] [] (bytes "..") ∷ []
-unfolding calling heartbeat with-body encodingOf afterVerdict encodeVerdict encoded wordsOf valueBytesOf parts laid flat padded valuesIn isMessage isLaid rowsOf rowCount rowsFrom rowAt rowsAllowed rowAllowed fieldAllowed headAllowed heldBefore followsOn continues delimiterIs deepest levelOf sizeOf sizes matches partsFrom nextPart isPart fieldsIn weight ownBelow isOwn messageIn openIn withRow withEntry withField opened outermost thirdOf secondOf partsIn judging isRefusedSeparator isDigit isIncomplete hasUncounted lacksCount encoding summed sumDigits messageText headerText textUnder text isFirst isRest measured dropped bodyLength bytesOf withoutField stored holds holdsAny replaced joined withoutRun runOn decimal decimalWithin sumOf checksumDigits encodedMessage fieldTotal fieldCount
+unfolding calling heartbeat with-body encodingOf afterVerdict encodeVerdict encoded wordsOf valueBytesOf parts laid flat padded valuesIn isMessage isLaid
+    rowsOf rowCount rowsFrom rowAt rowsAllowed rowAllowed fieldAllowed headAllowed heldBefore followsOn continues delimiterIs deepest levelOf sizeOf sizes
+    matches partsFrom nextPart isPart fieldsIn weight ownBelow isOwn messageIn openIn withRow withEntry withField opened outermost thirdOf secondOf partsIn
+    judging isRefusedSeparator isDigit isIncomplete hasUncounted lacksCount encoding summed sumDigits messageText headerText textUnder text isFirst isRest
+    measured dropped bodyLength bytesOf withoutField stored holds holdsAny replaced joined withoutRun runOn decimal decimalWithin sumOf checksumDigits
+    encodedMessage fieldTotal fieldCount
 calls = refl
 
 -- The rules' numbers
-numbers : numberOfEncoding (Written 26) ∷ numberOfEncoding NoMessage ∷ numberOfEncoding InvalidSeparator ∷ numberOfEncoding Incomplete ∷ numberOfEncoding TooLong ∷ numberOfEncoding TooManyFields ∷ numberOfEncoding NoRoom ∷ []
+numbers : numberOfEncoding (Written 26) ∷ numberOfEncoding NoMessage ∷ numberOfEncoding InvalidSeparator ∷ numberOfEncoding Incomplete
+    ∷ numberOfEncoding TooLong ∷ numberOfEncoding TooManyFields ∷ numberOfEncoding NoRoom ∷ []
     ≡ 0 ∷ 27 ∷ 22 ∷ 43 ∷ 20 ∷ 21 ∷ 23 ∷ []
 unfolding numberOfEncoding
 numbers = refl

@@ -56,16 +56,28 @@ uncounted-map l (field t v more) map before rest some formed known =
     swapped true false c = refl
     swapped false b c = refl
 
-    counted : (s : ℕ) → pick (heldBefore 1 l s (row 1 l t (length v) ∷ before)) true (holds s more) ≡ pick (heldBefore 1 l s before) true (pick (eqb t s) true (holds s more))
-    counted s = unfold heldBefore matches levelOf in rw (le-ltb l l (omega arith), eq-eqb l l refl) (swapped (eqb t s) (heldBefore 1 l s before) (holds s more))
+    counted : (s : ℕ)
+        → pick (heldBefore 1 l s (row 1 l t (length v) ∷ before)) true (holds s more)
+        ≡ pick (heldBefore 1 l s before) true (pick (eqb t s) true (holds s more))
+    counted s =
+        unfold heldBefore matches levelOf in rw (le-ltb l l (omega arith), eq-eqb l l refl) (swapped (eqb t s) (heldBefore 1 l s before) (holds s more))
 uncounted-map l (entry s d own more) map before rest some formed known =
     let f = entry-formed s d own more formed in
     let head : List Row = row 2 l s d ∷ before in
-    let below : (u : ℕ) → pick (heldBefore 1 (l + 1) u head) true (holds u own) ≡ holds u own = λ u. (unfold heldBefore levelOf in rw (lt-ltb l (l + 1) (omega arith))) in
+    let below : (u : ℕ) → pick (heldBefore 1 (l + 1) u head) true (holds u own) ≡ holds u own =
+    λ u. (unfold heldBefore levelOf in rw (lt-ltb l (l + 1) (omega arith))) in
     let beside : (u : ℕ) → pick (heldBefore 1 l u (passed head (laid (l + 1) own))) true (holds u more) ≡ holds u map =
     λ u. rw (held-past l 1 u (l + 1) own head (omega arith)) (no-field u ∙ known u) in
-    let count : heldBefore 1 l s before ≡ holds s map = sym (either-way (heldBefore 1 l s before)) ∙ ap (pick (heldBefore 1 l s before) true) (sym (no-more s more (f .once))) ∙ known s in
-    rw (ne-eqb l 0 (λ e. omega arith), count, append-assoc (laid (l + 1) own) (laid l more) rest, uncounted-map (l + 1) own own head (laid l more ++ rest) (omega arith) (f .own-formed) below, uncounted-map l more map (passed head (laid (l + 1) own)) rest some (f .rest-formed) beside, passed-append head (laid (l + 1) own) (laid l more))
+    let count : heldBefore 1 l s before ≡ holds s map =
+    sym (either-way (heldBefore 1 l s before)) ∙ ap (pick (heldBefore 1 l s before) true) (sym (no-more s more (f .once))) ∙ known s in
+    rw (
+      ne-eqb l 0 (λ e. omega arith),
+      count,
+      append-assoc (laid (l + 1) own) (laid l more) rest,
+      uncounted-map (l + 1) own own head (laid l more ++ rest) (omega arith) (f .own-formed) below,
+      uncounted-map l more map (passed head (laid (l + 1) own)) rest some (f .rest-formed) beside,
+      passed-append head (laid (l + 1) own) (laid l more),
+    )
     (in-order (holds s map) (lacksCount own own) (lacksCount map more) (uncounted (passed (passed head (laid (l + 1) own)) (laid l more)) rest))
   where
     no-field : (u : ℕ) → pick (heldBefore 1 l u (row 2 l s d ∷ before)) true (holds u more) ≡ pick (heldBefore 1 l u before) true (holds u more)
@@ -85,15 +97,18 @@ pub uncounted-is : (m : Message) → Formed m → uncounted [] (laid 0 (parts m)
 unfolding uncounted isUncounted hasUncounted
 uncounted-is m f =
     rw (part-rows m, part-uncounted (m .header) 1 [] _ (f .header), part-uncounted (m .body) 2 _ _ (f .body), part-uncounted (m .trailer) 3 _ [] (f .trailer))
-    (ap (λ (b : Bool). pick (lacksCount (m .header) (m .header)) true (pick (lacksCount (m .body) (m .body)) true b)) (no-more-rows (lacksCount (m .trailer) (m .trailer))))
+    (ap (λ (b : Bool). pick (lacksCount (m .header) (m .header)) true (pick (lacksCount (m .body) (m .body)) true b))
+    (no-more-rows (lacksCount (m .trailer) (m .trailer))))
   where
     no-more-rows : (b : Bool) → pick b true false ≡ b
     no-more-rows true = refl
     no-more-rows false = refl
 
     part-uncounted : (map : Map) (part : ℕ) (before rest : List Row) → isFormed map ≡ true
-        → uncounted (row 2 0 part 0 ∷ before) (laid 1 map ++ rest) ≡ pick (lacksCount map map) true (uncounted (passed (row 2 0 part 0 ∷ before) (laid 1 map)) rest)
-    part-uncounted map part before rest formed = uncounted-map 1 map map (row 2 0 part 0 ∷ before) rest (omega arith) formed (λ s. (unfold heldBefore levelOf in refl))
+        → uncounted (row 2 0 part 0 ∷ before) (laid 1 map ++ rest)
+        ≡ pick (lacksCount map map) true (uncounted (passed (row 2 0 part 0 ∷ before) (laid 1 map)) rest)
+    part-uncounted map part before rest formed =
+        uncounted-map 1 map map (row 2 0 part 0 ∷ before) rest (omega arith) formed (λ s. (unfold heldBefore levelOf in refl))
 
 -- a dropped field is held no more, and every other is
 pub gone-once : (tag : ℕ) (m : Map) → isFormed m ≡ true → holds tag (withoutField tag m) ≡ false
@@ -127,7 +142,8 @@ unfolding lacksCount withoutField
 lacks-gone tag map end = refl
 lacks-gone tag map (field t v rest) = by-test (eqb t tag) (lacks-gone tag map rest)
   where
-    by-test : (b : Bool) → lacksCount map (withoutField tag rest) ≡ lacksCount map rest → lacksCount map (pick b rest (field t v (withoutField tag rest))) ≡ lacksCount map rest
+    by-test : (b : Bool) → lacksCount map (withoutField tag rest) ≡ lacksCount map rest
+        → lacksCount map (pick b rest (field t v (withoutField tag rest))) ≡ lacksCount map rest
     by-test true h = refl
     by-test false h = h
 lacks-gone tag map (entry s d own rest) = rw (lacks-gone tag map rest)

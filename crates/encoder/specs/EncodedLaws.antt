@@ -32,7 +32,8 @@ encoded-formed separator m f =
       trailer = formed-stored 10 _ _ (λ e. omega arith) (formed-without 10 (m .trailer) (f .trailer));
     }
 
-fit-within : (separator : ℕ) (words values output : List ℕ) (body : ℕ) → Encodable separator words values output body → Within (encodedMessage separator (messageIn words values))
+fit-within : (separator : ℕ) (words values output : List ℕ) (body : ℕ) → Encodable separator words values output body
+    → Within (encodedMessage separator (messageIn words values))
 fit-within separator words values output body fit =
     let m = messageIn words values in
     record {
@@ -46,10 +47,14 @@ pub never-written : (separator : ℕ) (words values : List ℕ) (room n : ℕ) �
 unfolding encodeVerdict judging
 never-written separator words values room n verdict =
     let m = messageIn words values in
-    by-tests (isMessage words values) (isRefusedSeparator separator) (isIncomplete (dropped m)) (ltb 8192 (length (encoding separator m))) (ltb 1024 (fieldTotal (encodedMessage separator m))) (ltb room (length (encoding separator m))) verdict
+    by-tests (isMessage words values) (isRefusedSeparator separator) (isIncomplete (dropped m)) (ltb 8192 (length (encoding separator m)))
+    (ltb 1024 (fieldTotal (encodedMessage separator m))) (ltb room (length (encoding separator m))) verdict
   where
     by-tests : (a b c d e f : Bool)
-        → pick a (pick b (Refused InvalidSeparator) (pick c (Refused Incomplete) (pick d (Refused TooLong) (pick e (Refused TooManyFields) (pick f (Refused NoRoom) (Measured (bodyLength (dropped (messageIn words values))))))))) (Refused NoMessage) ≡ Refused (Written n)
+        → pick a (pick b (Refused InvalidSeparator)
+        (pick c (Refused Incomplete) (pick d (Refused TooLong)
+        (pick e (Refused TooManyFields) (pick f (Refused NoRoom) (Measured (bodyLength (dropped (messageIn words values))))))))) (Refused NoMessage)
+        ≡ Refused (Written n)
         → ⊥
     by-tests false b c d e f v = let z : _≡_ {A = ℕ} 0 1 = cc in omega arith
     by-tests true true c d e f v = let z : _≡_ {A = ℕ} 0 1 = cc in omega arith
@@ -60,14 +65,18 @@ never-written separator words values room n verdict =
     by-tests true false false false false false v = let z : _≡_ {A = ℕ} 0 1 = cc in omega arith
 
 -- nor 27, where a message is lent
-pub never-none : (separator : ℕ) (words values : List ℕ) (room : ℕ) → isMessage words values ≡ true → encodeVerdict separator words values room ≡ Refused NoMessage → ⊥
+pub never-none : (separator : ℕ) (words values : List ℕ) (room : ℕ) → isMessage words values ≡ true
+    → encodeVerdict separator words values room ≡ Refused NoMessage → ⊥
 unfolding encodeVerdict judging
 never-none separator words values room lent verdict =
     let m = messageIn words values in
-    by-tests (isRefusedSeparator separator) (isIncomplete (dropped m)) (ltb 8192 (length (encoding separator m))) (ltb 1024 (fieldTotal (encodedMessage separator m))) (ltb room (length (encoding separator m))) (rw lent at verdict)
+    by-tests (isRefusedSeparator separator) (isIncomplete (dropped m)) (ltb 8192 (length (encoding separator m)))
+    (ltb 1024 (fieldTotal (encodedMessage separator m))) (ltb room (length (encoding separator m))) (rw lent at verdict)
   where
     by-tests : (b c d e f : Bool)
-        → pick b (Refused InvalidSeparator) (pick c (Refused Incomplete) (pick d (Refused TooLong) (pick e (Refused TooManyFields) (pick f (Refused NoRoom) (Measured (bodyLength (dropped (messageIn words values)))))))) ≡ Refused NoMessage
+        → pick b (Refused InvalidSeparator) (pick c (Refused Incomplete)
+        (pick d (Refused TooLong) (pick e (Refused TooManyFields) (pick f (Refused NoRoom) (Measured (bodyLength (dropped (messageIn words values))))))))
+        ≡ Refused NoMessage
         → ⊥
     by-tests true c d e f v = let z : _≡_ {A = ℕ} 0 1 = cc in omega arith
     by-tests false true d e f v = let z : _≡_ {A = ℕ} 0 1 = cc in omega arith
@@ -82,10 +91,13 @@ unfolding encoded
 left-is separator m output n w v o e = (cc, cc)
 
 -- the layout of the message that encoding leaves, with zeros behind it
-pub encode-layout : (separator : ℕ) (words values output : List ℕ) (n : ℕ) (w v o : List ℕ) → encodingOf separator words values output ≡ left (Written n) w v o → (isMessage words values ≡ true) × IsLayout (encodedMessage separator (messageIn words values)) w v
+pub encode-layout : (separator : ℕ) (words values output : List ℕ) (n : ℕ) (w v o : List ℕ)
+    → encodingOf separator words values output ≡ left (Written n) w v o
+    → (isMessage words values ≡ true) × IsLayout (encodedMessage separator (messageIn words values)) w v
 encode-layout separator words values output n w v o e = by-verdict (encodeVerdict separator words values (length output)) refl
   where
-    by-verdict : (d : Verdict) → encodeVerdict separator words values (length output) ≡ d → (isMessage words values ≡ true) × IsLayout (encodedMessage separator (messageIn words values)) w v
+    by-verdict : (d : Verdict) → encodeVerdict separator words values (length output) ≡ d
+        → (isMessage words values ≡ true) × IsLayout (encodedMessage separator (messageIn words values)) w v
     by-verdict (Measured body) d =
         let fit = fit-to-encode separator words values output body d in
         let same = left-is separator (messageIn words values) output n w v o (sym (encodes separator words values output body d) ∙ e) in
@@ -95,5 +107,6 @@ encode-layout separator words values output n w v o e = by-verdict (encodeVerdic
         let is-written : Refused refusal ≡ Refused (Written n) = cc in
         absurd (never-written separator words values (length output) n (d ∙ is-written))
 
-pub encode-lends : (separator : ℕ) (words values output : List ℕ) (n : ℕ) (w v o : List ℕ) → encodingOf separator words values output ≡ left (Written n) w v o → (isMessage words values ≡ true) × Lends w v (encodedMessage separator (messageIn words values))
+pub encode-lends : (separator : ℕ) (words values output : List ℕ) (n : ℕ) (w v o : List ℕ) → encodingOf separator words values output ≡ left (Written n) w v o
+    → (isMessage words values ≡ true) × Lends w v (encodedMessage separator (messageIn words values))
 encode-lends separator words values output n w v o e = let l = encode-layout separator words values output n w v o e in (l .0, is-layout-lends _ w v (l .1))

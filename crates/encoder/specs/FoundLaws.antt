@@ -38,11 +38,15 @@ run-place start l at (field t v rest) =
     rw q (run-place start l (at + 1) rest)
 run-place start l at (entry s d own rest) = rw (eq-eqb l l refl) (by-test (eqb s start) (run-place start l (at + 1 + length (laid (l + 1) own)) rest))
   where
-    by-test : (b : Bool) → ltb (findFrom 2 l start (at + 1 + length (laid (l + 1) own)) (laid l rest)) (at + 1 + length (laid (l + 1) own) + length (laid l rest)) ≡ hangs start rest
-        → ltb (pick b at (findFrom 2 l start (at + 1) (laid (l + 1) own ++ laid l rest))) (at + suc (length (laid (l + 1) own ++ laid l rest))) ≡ pick b true (hangs start rest)
+    by-test : (b : Bool)
+        → ltb (findFrom 2 l start (at + 1 + length (laid (l + 1) own)) (laid l rest)) (at + 1 + length (laid (l + 1) own) + length (laid l rest))
+        ≡ hangs start rest
+        → ltb (pick b at (findFrom 2 l start (at + 1) (laid (l + 1) own ++ laid l rest))) (at + suc (length (laid (l + 1) own ++ laid l rest)))
+        ≡ pick b true (hangs start rest)
     by-test true h = lt-ltb at (at + suc (length (laid (l + 1) own ++ laid l rest))) (omega arith)
     by-test false h =
-        let q : at + suc (length (laid (l + 1) own ++ laid l rest)) ≡ at + 1 + length (laid (l + 1) own) + length (laid l rest) = omega (arith, length-append (laid (l + 1) own) (laid l rest)) in
+        let q : at + suc (length (laid (l + 1) own ++ laid l rest)) ≡ at + 1 + length (laid (l + 1) own) + length (laid l rest) =
+        omega (arith, length-append (laid (l + 1) own) (laid l rest)) in
         rw (q, find-below l 2 start own (l + 1) (at + 1) (laid l rest) (omega arith)) h
 
 field-there : (tag l at : ℕ) (m : Map) → ltb (findFrom 1 l tag at (laid l m)) (at + length (laid l m)) ≡ holds tag m
@@ -51,8 +55,15 @@ field-there tag l at m = by-test (holds tag m) refl
     by-test : (b : Bool) → holds tag m ≡ b → ltb (findFrom 1 l tag at (laid l m)) (at + length (laid l m)) ≡ b
     by-test true e =
         let s = field-split tag m e in
-        let one : length (laid l (field tag (s .value) (s .back))) ≡ suc (length (laid l (s .back))) = unfold laid in refl in
-        lt-ltb (findFrom 1 l tag at (laid l m)) (at + length (laid l m)) (omega (arith, s .place l at, ap (λ (n : Map). length (laid l n)) (s .whole), ap length (laid-joined l (s .front) (field tag (s .value) (s .back))), length-append (laid l (s .front)) (laid l (field tag (s .value) (s .back)))))
+        let one : length (laid l (field tag (s .value) (s .back))) ≡ suc (length (laid l (s .back))) = unfold laid in
+        refl in lt-ltb (findFrom 1 l tag at (laid l m)) (at + length (laid l m))
+        (omega (
+          arith,
+          s .place l at,
+          ap (λ (n : Map). length (laid l n)) (s .whole),
+          ap length (laid-joined l (s .front) (field tag (s .value) (s .back))),
+          length-append (laid l (s .front)) (laid l (field tag (s .value) (s .back))),
+        ))
     by-test false e = le-ltb (findFrom 1 l tag at (laid l m)) (at + length (laid l m)) (omega (arith, field-absent tag m e l at))
 
 size-absent : (tag : ℕ) (m : Map) → holds tag m ≡ false → sizeUnder tag m ≡ 0
@@ -60,25 +71,31 @@ unfolding holds sizeUnder
 size-absent tag end h = refl
 size-absent tag (field t v rest) h = by-test (eqb t tag) h (size-absent tag rest)
   where
-    by-test : (b : Bool) → pick b true (holds tag rest) ≡ false → (holds tag rest ≡ false → sizeUnder tag rest ≡ 0) → pick b (length (decimal t) + length v + 2) (sizeUnder tag rest) ≡ 0
+    by-test : (b : Bool) → pick b true (holds tag rest) ≡ false → (holds tag rest ≡ false → sizeUnder tag rest ≡ 0)
+        → pick b (length (decimal t) + length v + 2) (sizeUnder tag rest) ≡ 0
     by-test true k again = let z : _≡_ {A = ℕ} 0 1 = cc in absurd (omega arith)
     by-test false k again = again k
 size-absent tag (entry s d own rest) h = size-absent tag rest h
 
 -- the row that is found has the bytes of the field
-size-row : (tag l : ℕ) (m : Map) → holds tag m ≡ true → (front behind : List Row) → (words : List ℕ) (n at : ℕ) → rowsFrom n 0 words ≡ front ++ (laid l m ++ behind) → at ≡ findFrom 1 l tag (length front) (laid l m)
+size-row : (tag l : ℕ) (m : Map) → holds tag m ≡ true → (front behind : List Row) → (words : List ℕ) (n at : ℕ)
+    → rowsFrom n 0 words ≡ front ++ (laid l m ++ behind) → at ≡ findFrom 1 l tag (length front) (laid l m)
     → rowBytes (rowAt words at) ≡ sizeUnder tag m
 unfolding holds laid findFrom matches sizeUnder rowsFrom rowBytes
 size-row tag l end h front behind words n at rows found = let z : _≡_ {A = ℕ} 0 1 = cc in absurd (omega arith)
 size-row tag l (field t v rest) h front behind words n at rows found =
     by-test (eqb t tag) refl h (rw (eq-eqb l l refl) at found)
-    (λ k f. size-row tag l rest k (front ++ (row 1 l t (length v) ∷ [])) behind words n at (rows ∙ sym (append-assoc front (row 1 l t (length v) ∷ []) (laid l rest ++ behind))) f)
+    (λ k f. size-row tag l rest k (front ++ (row 1 l t (length v) ∷ [])) behind words n at
+    (rows ∙ sym (append-assoc front (row 1 l t (length v) ∷ []) (laid l rest ++ behind))) f)
   where
-    by-test : (b : Bool) → eqb t tag ≡ b → pick b true (holds tag rest) ≡ true → at ≡ pick b (length front) (findFrom 1 l tag (length front + 1) (laid l rest))
-        → (holds tag rest ≡ true → at ≡ findFrom 1 l tag (length (front ++ (row 1 l t (length v) ∷ []))) (laid l rest) → rowBytes (rowAt words at) ≡ sizeUnder tag rest)
+    by-test : (b : Bool) → eqb t tag ≡ b → pick b true (holds tag rest) ≡ true
+        → at ≡ pick b (length front) (findFrom 1 l tag (length front + 1) (laid l rest))
+        → (holds tag rest ≡ true → at ≡ findFrom 1 l tag (length (front ++ (row 1 l t (length v) ∷ []))) (laid l rest)
+        → rowBytes (rowAt words at) ≡ sizeUnder tag rest)
         → rowBytes (rowAt words at) ≡ pick b (length (decimal t) + length v + 2) (sizeUnder tag rest)
     by-test true e k f again =
-        let one : rowsFrom (at + 1 - at) at words ≡ row 1 l t (length v) ∷ [] = rows-part words n at (at + 1) front (row 1 l t (length v) ∷ []) (laid l rest ++ behind) rows f (omega arith) in
+        let one : rowsFrom (at + 1 - at) at words ≡ row 1 l t (length v) ∷ [] =
+        rows-part words n at (at + 1) front (row 1 l t (length v) ∷ []) (laid l rest ++ behind) rows f (omega arith) in
         let s : at + 1 - at ≡ 1 = omega arith in
         let here : rowAt words at ∷ [] ≡ row 1 l t (length v) ∷ [] = rw s at one in
         let same : rowAt words at ≡ row 1 l t (length v) = cc in
@@ -115,8 +132,10 @@ module _ (words values : List ℕ) (part : Part) (m : Message) (i : In words val
   unfolding sizeAt
   size-found tag = rw (held-is tag) (by-test (holds tag (partOf part m)) refl)
     where
-      by-test : (b : Bool) → holds tag (partOf part m) ≡ b → pick b (rowBytes (rowAt words (fieldPlace (spanOf part m) tag words))) 0 ≡ sizeUnder tag (partOf part m)
+      by-test : (b : Bool) → holds tag (partOf part m) ≡ b
+          → pick b (rowBytes (rowAt words (fieldPlace (spanOf part m) tag words))) 0 ≡ sizeUnder tag (partOf part m)
       by-test true e =
-          size-row tag 1 (partOf part m) e (i .split .before) (i .split .behind) words (rowCount words) (fieldPlace (spanOf part m) tag words) (rows-all words values part m i)
+          size-row tag 1 (partOf part m) e (i .split .before) (i .split .behind) words (rowCount words) (fieldPlace (spanOf part m) tag words)
+          (rows-all words values part m i)
           (place-own tag ∙ ap (λ (n : ℕ). findFrom 1 1 tag n (laid 1 (partOf part m))) (i .split .from))
       by-test false e = sym (size-absent tag (partOf part m) e)

@@ -33,7 +33,8 @@ bytes-without tag end = refl
 bytes-without tag (field t v rest) = by-test (eqb t tag) (bytes-without tag rest)
   where
     by-test : (b : Bool) → bytesOf (withoutField tag rest) + sizeUnder tag rest ≡ bytesOf rest
-        → bytesOf (pick b rest (field t v (withoutField tag rest))) + pick b (length (decimal t) + length v + 2) (sizeUnder tag rest) ≡ (length (decimal t) + length v + 2) + bytesOf rest
+        → bytesOf (pick b rest (field t v (withoutField tag rest))) + pick b (length (decimal t) + length v + 2) (sizeUnder tag rest)
+        ≡ (length (decimal t) + length v + 2) + bytesOf rest
     by-test true h = omega arith
     by-test false h = omega arith
 bytes-without tag (entry s d own rest) = omega (arith, bytes-without tag rest)
@@ -71,10 +72,19 @@ unfolding stored
 bytes-stored tag value m = by-test (holds tag m) refl
   where
     by-test : (b : Bool) → holds tag m ≡ b
-        → bytesOf (pick b (replaced tag value m) (joined (withoutRun tag m) (field tag value (runOn tag m)))) + sizeUnder tag m ≡ bytesOf m + (length (decimal tag) + length value + 2)
+        → bytesOf (pick b (replaced tag value m) (joined (withoutRun tag m) (field tag value (runOn tag m)))) + sizeUnder tag m
+        ≡ bytesOf m + (length (decimal tag) + length value + 2)
     by-test true e =
         let s = field-split tag m e in
-        omega (arith, ap bytesOf (s .put value), bytes-joined (s .front) (field tag value (s .back)), bytes-field tag value (s .back), ap bytesOf (s .gone), bytes-joined (s .front) (s .back), bytes-without tag m)
+        omega (
+          arith,
+          ap bytesOf (s .put value),
+          bytes-joined (s .front) (field tag value (s .back)),
+          bytes-field tag value (s .back),
+          ap bytesOf (s .gone),
+          bytes-joined (s .front) (s .back),
+          bytes-without tag m,
+        )
     by-test false e =
         let s = run-split tag m in
         omega (
@@ -95,10 +105,19 @@ count-stored : (tag : ℕ) (value : List ℕ) (m : Map) → fieldCount (stored t
 unfolding stored
 count-stored tag value m = by-test (holds tag m) refl
   where
-    by-test : (b : Bool) → holds tag m ≡ b → fieldCount (pick b (replaced tag value m) (joined (withoutRun tag m) (field tag value (runOn tag m)))) ≡ fieldCount m + pick b 0 1
+    by-test : (b : Bool) → holds tag m ≡ b
+        → fieldCount (pick b (replaced tag value m) (joined (withoutRun tag m) (field tag value (runOn tag m)))) ≡ fieldCount m + pick b 0 1
     by-test true e =
         let s = field-split tag m e in
-        omega (arith, ap fieldCount (s .put value), count-joined (s .front) (field tag value (s .back)), count-field tag value (s .back), ap fieldCount (s .whole), count-joined (s .front) (field tag (s .value) (s .back)), count-field tag (s .value) (s .back))
+        omega (
+          arith,
+          ap fieldCount (s .put value),
+          count-joined (s .front) (field tag value (s .back)),
+          count-field tag value (s .back),
+          ap fieldCount (s .whole),
+          count-joined (s .front) (field tag (s .value) (s .back)),
+          count-field tag (s .value) (s .back),
+        )
     by-test false e =
         let s = run-split tag m in
         omega (
@@ -147,28 +166,39 @@ unfolding sumDigits checksumDigits
 sum-size before = refl
 
 -- the bytes of all fields, but the header's own 8 and 9 and the trailer's own 10
-pub body-bytes : (m : Message) → bodyLength (dropped m) + (sizeUnder 8 (m .header) + sizeUnder 9 (m .header) + sizeUnder 10 (m .trailer)) ≡ bytesOf (m .header) + (bytesOf (m .body) + bytesOf (m .trailer))
+pub body-bytes : (m : Message)
+    → bodyLength (dropped m) + (sizeUnder 8 (m .header) + sizeUnder 9 (m .header) + sizeUnder 10 (m .trailer))
+    ≡ bytesOf (m .header) + (bytesOf (m .body) + bytesOf (m .trailer))
 unfolding bodyLength dropped
 body-bytes m =
     omega (arith, bytes-without 9 (withoutField 8 (m .header)), bytes-without 8 (m .header), size-other 9 8 (m .header) refl, bytes-without 10 (m .trailer))
 
-measured-bytes : (m : Message) → bytesOf (measured m .header) + (bytesOf (measured m .body) + bytesOf (measured m .trailer)) ≡ bodyLength m + sizeUnder 8 (m .header) + length (decimal (bodyLength m)) + 3
+measured-bytes : (m : Message)
+    → bytesOf (measured m .header) + (bytesOf (measured m .body) + bytesOf (measured m .trailer)) ≡ bodyLength m + sizeUnder 8 (m .header)
+    + length (decimal (bodyLength m)) + 3
 unfolding measured
 measured-bytes m = with-length (bodyLength m) (unfold bodyLength in refl)
   where
     with-length : (n : ℕ) → n ≡ bytesOf (withoutField 9 (withoutField 8 (m .header))) + (bytesOf (m .body) + bytesOf (m .trailer))
         → bytesOf (stored 9 (decimal n) (m .header)) + (bytesOf (m .body) + bytesOf (m .trailer)) ≡ n + sizeUnder 8 (m .header) + length (decimal n) + 3
     with-length n e =
-        omega (arith, bytes-stored 9 (decimal n) (m .header), digits-of-nine, bytes-without 9 (withoutField 8 (m .header)), bytes-without 8 (m .header), size-other 9 8 (m .header) refl)
+        omega (
+          arith,
+          bytes-stored 9 (decimal n) (m .header),
+          digits-of-nine,
+          bytes-without 9 (withoutField 8 (m .header)),
+          bytes-without 8 (m .header),
+          size-other 9 8 (m .header) refl,
+        )
 
 -- the length of an encoding
-pub encoding-length : (separator : ℕ) (m : Message) → length (encoding separator m) ≡ sizeUnder 8 (m .header) + length (decimal (bodyLength (dropped m))) + bodyLength (dropped m) + 10
+pub encoding-length : (separator : ℕ) (m : Message)
+    → length (encoding separator m) ≡ sizeUnder 8 (m .header) + length (decimal (bodyLength (dropped m))) + bodyLength (dropped m) + 10
 unfolding encoding
 encoding-length separator m =
     summed-length separator (messageText separator (measured (dropped m)))
     ∙ (let e = message-length separator (measured (dropped m)) in
-    let f : sizeUnder 8 (dropped m .header) ≡ sizeUnder 8 (m .header) = unfold dropped in refl in
-    omega (arith, measured-bytes (dropped m)))
+    let f : sizeUnder 8 (dropped m .header) ≡ sizeUnder 8 (m .header) = unfold dropped in refl in omega (arith, measured-bytes (dropped m)))
 
 -- the fields with the new 9 and 10
 pub encoded-fields : (separator : ℕ) (m : Message) → holds 10 (withoutField 10 (m .trailer)) ≡ false
@@ -177,18 +207,32 @@ unfolding encodedMessage measured dropped fieldTotal
 encoded-fields separator m once = by-test (holds 10 (m .trailer)) (count-without 10 (m .trailer))
   where
     by-test : (b : Bool) → fieldCount (withoutField 10 (m .trailer)) + pick b 1 0 ≡ fieldCount (m .trailer)
-        → fieldCount (stored 9 (decimal (bodyLength (dropped m))) (m .header)) + (fieldCount (m .body) + fieldCount (stored 10 (sumDigits (messageText separator (measured (dropped m)))) (withoutField 10 (m .trailer))))
+        → fieldCount (stored 9 (decimal (bodyLength (dropped m))) (m .header))
+        + (fieldCount (m .body) + fieldCount (stored 10 (sumDigits (messageText separator (measured (dropped m)))) (withoutField 10 (m .trailer))))
         ≡ fieldCount (m .header) + (fieldCount (m .body) + fieldCount (m .trailer)) + pick (holds 9 (m .header)) 0 1 + pick b 0 1
     by-test true k =
-        omega (arith, count-stored 9 (decimal (bodyLength (dropped m))) (m .header), rw once at (count-stored 10 (sumDigits (messageText separator (measured (dropped m)))) (withoutField 10 (m .trailer))))
+        omega (
+          arith,
+          count-stored 9 (decimal (bodyLength (dropped m))) (m .header),
+          rw once at (count-stored 10 (sumDigits (messageText separator (measured (dropped m)))) (withoutField 10 (m .trailer))),
+        )
     by-test false k =
-        omega (arith, count-stored 9 (decimal (bodyLength (dropped m))) (m .header), rw once at (count-stored 10 (sumDigits (messageText separator (measured (dropped m)))) (withoutField 10 (m .trailer))))
+        omega (
+          arith,
+          count-stored 9 (decimal (bodyLength (dropped m))) (m .header),
+          rw once at (count-stored 10 (sumDigits (messageText separator (measured (dropped m)))) (withoutField 10 (m .trailer))),
+        )
 
 -- an encoding within the limits leaves a message within them, and a message within them is written
 pub measured-values : (separator : ℕ) (m : Message) → valueTotal (measured (dropped m)) ≤ length (encoding separator m)
 unfolding encoding
 measured-values separator m =
-    omega (arith, total-short (measured (dropped m)), message-length separator (measured (dropped m)), summed-length separator (messageText separator (measured (dropped m))))
+    omega (
+      arith,
+      total-short (measured (dropped m)),
+      message-length separator (measured (dropped m)),
+      summed-length separator (messageText separator (measured (dropped m))),
+    )
 
 pub measured-fields : (separator : ℕ) (m : Message) → fieldTotal (measured (dropped m)) ≤ fieldTotal (encodedMessage separator m)
 unfolding encodedMessage fieldTotal
@@ -201,4 +245,12 @@ encoded-values separator m =
     let n = measured (dropped m) in
     let digits = sumDigits (messageText separator n) in
     let new : Message = record { header = n .header; body = n .body; trailer = stored 10 digits (n .trailer) } in
-    omega (arith, total-short new, bytes-stored 10 digits (n .trailer), digits-of-ten, sum-size (messageText separator n), message-length separator n, summed-length separator (messageText separator n))
+    omega (
+      arith,
+      total-short new,
+      bytes-stored 10 digits (n .trailer),
+      digits-of-ten,
+      sum-size (messageText separator n),
+      message-length separator n,
+      summed-length separator (messageText separator n),
+    )

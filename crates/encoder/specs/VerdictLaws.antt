@@ -43,19 +43,26 @@ module _ (words values : List ℕ) (lent : isMessage words values ≡ true) wher
   unfolding partOf
   begin-is = size-found words values Header (messageIn words values) (lent-in words values Header lent) 8
 
-  taken-is : sizeAt words (spanOf Header (messageIn words values)) 8 + sizeAt words (spanOf Header (messageIn words values)) 9 + sizeAt words (spanOf Trailer (messageIn words values)) 10
+  taken-is : sizeAt words (spanOf Header (messageIn words values)) 8 + sizeAt words (spanOf Header (messageIn words values)) 9
+      + sizeAt words (spanOf Trailer (messageIn words values)) 10
       ≡ sizeUnder 8 (messageIn words values .header) + sizeUnder 9 (messageIn words values .header) + sizeUnder 10 (messageIn words values .trailer)
   unfolding partOf
   taken-is =
       let m = messageIn words values in
       let head = lent-in words values Header lent in
-      rw (size-found words values Header m head 8, size-found words values Header m head 9, size-found words values Trailer m (lent-in words values Trailer lent) 10)
+      rw (
+        size-found words values Header m head 8,
+        size-found words values Header m head 9,
+        size-found words values Trailer m (lent-in words values Trailer lent) 10,
+      )
 
-  all-is : allBytes words (spanOf Header (messageIn words values)) ≡ bytesOf (messageIn words values .header) + (bytesOf (messageIn words values .body) + bytesOf (messageIn words values .trailer))
+  all-is : allBytes words (spanOf Header (messageIn words values)) ≡ bytesOf (messageIn words values .header)
+      + (bytesOf (messageIn words values .body) + bytesOf (messageIn words values .trailer))
   unfolding allBytes
   all-is = size-is words values lent 1 ∙ message-length 1 (messageIn words values)
 
-  taken-within : sizeAt words (spanOf Header (messageIn words values)) 8 + sizeAt words (spanOf Header (messageIn words values)) 9 + sizeAt words (spanOf Trailer (messageIn words values)) 10
+  taken-within : sizeAt words (spanOf Header (messageIn words values)) 8 + sizeAt words (spanOf Header (messageIn words values)) 9
+      + sizeAt words (spanOf Trailer (messageIn words values)) 10
       ≤ allBytes words (spanOf Header (messageIn words values))
   taken-within = omega (arith, taken-is, all-is, body-bytes (messageIn words values))
 
@@ -63,16 +70,24 @@ module _ (words values : List ℕ) (lent : isMessage words values ≡ true) wher
   unfolding bodyAt
   body-is = rw (taken-is, all-is) (omega (arith, body-bytes (messageIn words values)))
 
-  fields-is : (separator : ℕ) → fieldsAt words (spanOf Header (messageIn words values)) (spanOf Trailer (messageIn words values)) ≡ fieldTotal (encodedMessage separator (messageIn words values))
+  fields-is : (separator : ℕ)
+      → fieldsAt words (spanOf Header (messageIn words values)) (spanOf Trailer (messageIn words values))
+      ≡ fieldTotal (encodedMessage separator (messageIn words values))
   unfolding fieldsAt addedAt partOf
   fields-is separator =
       let m = messageIn words values in
       let head = lent-in words values Header lent in
       let once = gone-once 10 (m .trailer) (lent-formed words values lent .formed .trailer) in
-      rw (held-is words values Header m head 9, held-is words values Trailer m (lent-in words values Trailer lent) 10, fields-now words values Header m head, encoded-fields separator m once)
+      rw (
+        held-is words values Header m head 9,
+        held-is words values Trailer m (lent-in words values Trailer lent) 10,
+        fields-now words values Header m head,
+        encoded-fields separator m once,
+      )
       (omega arith)
 
-  incomplete-is : incompleteAt words (spanOf Header (messageIn words values)) (spanOf Trailer (messageIn words values)) ≡ isIncomplete (dropped (messageIn words values))
+  incomplete-is : incompleteAt words (spanOf Header (messageIn words values)) (spanOf Trailer (messageIn words values))
+      ≡ isIncomplete (dropped (messageIn words values))
   unfolding incompleteAt isIncomplete partOf rowsOf
   incomplete-is =
       let m = messageIn words values in
@@ -80,7 +95,13 @@ module _ (words values : List ℕ) (lent : isMessage words values ≡ true) wher
       let f = lent-formed words values lent .formed in
       let rows : uncounted [] (rowsFrom (spanOf Header m .count - 0) 0 words) ≡ hasUncounted m =
       ap (λ (n : ℕ). uncounted [] (rowsFrom (n - 0) 0 words)) (count-is words values Header m head) ∙ ap (uncounted []) (head .all) ∙ uncounted-is m f in
-      rw (held-is words values Header m head 8, held-is words values Header m head 35, hung-is words values Trailer m (lent-in words values Trailer lent) 10, rows, ← dropped-uncounted m (f .trailer))
+      rw (
+        held-is words values Header m head 8,
+        held-is words values Header m head 35,
+        hung-is words values Trailer m (lent-in words values Trailer lent) 10,
+        rows,
+        ← dropped-uncounted m (f .trailer),
+      )
       (unfold dropped in refl)
 
   -- the judgement in its order
@@ -100,7 +121,8 @@ module _ (words values : List ℕ) (lent : isMessage words values ≡ true) wher
         refused-long l = rw (lent, separates, complete, lt-ltb 8192 _ l)
 
         module _ (short : length (encoding separator (messageIn words values)) ≤ 8192) where
-          pub refused-many : 1024 < fieldTotal (encodedMessage separator (messageIn words values)) → encodeVerdict separator words values room ≡ Refused TooManyFields
+          pub refused-many : 1024 < fieldTotal (encodedMessage separator (messageIn words values))
+              → encodeVerdict separator words values room ≡ Refused TooManyFields
           unfolding encodeVerdict judging
           refused-many f = rw (lent, separates, complete, le-ltb 8192 _ short, lt-ltb 1024 _ f)
 
@@ -109,11 +131,13 @@ module _ (words values : List ℕ) (lent : isMessage words values ≡ true) wher
             unfolding encodeVerdict judging
             refused-room r = rw (lent, separates, complete, le-ltb 8192 _ short, le-ltb 1024 _ few, lt-ltb room _ r)
 
-            pub found-fit : length (encoding separator (messageIn words values)) ≤ room → encodeVerdict separator words values room ≡ Measured (bodyLength (dropped (messageIn words values)))
+            pub found-fit : length (encoding separator (messageIn words values)) ≤ room
+                → encodeVerdict separator words values room ≡ Measured (bodyLength (dropped (messageIn words values)))
             unfolding encodeVerdict judging
             found-fit r = rw (lent, separates, complete, le-ltb 8192 _ short, le-ltb 1024 _ few, le-ltb room _ r)
 
-pub refused-message : (separator : ℕ) (words values : List ℕ) (room : ℕ) → isMessage words values ≡ false → encodeVerdict separator words values room ≡ Refused NoMessage
+pub refused-message : (separator : ℕ) (words values : List ℕ) (room : ℕ) → isMessage words values ≡ false
+    → encodeVerdict separator words values room ≡ Refused NoMessage
 unfolding encodeVerdict
 refused-message separator words values room h = rw h
 
@@ -140,7 +164,9 @@ module _ (words values : List ℕ) (head tail : Span) (p : Parts words values he
   pub judged-body : bodyAt words head tail ≡ bodyLength (dropped (messageIn words values))
   judged-body = rw (p .head-is, p .tail-is) (body-is words values (p .lent))
 
-  pub judged-length : (separator : ℕ) → length (encoding separator (messageIn words values)) ≡ sizeAt words head 8 + length (decimal (bodyLength (dropped (messageIn words values)))) + bodyLength (dropped (messageIn words values)) + 10
+  pub judged-length : (separator : ℕ)
+      → length (encoding separator (messageIn words values)) ≡ sizeAt words head 8 + length (decimal (bodyLength (dropped (messageIn words values))))
+      + bodyLength (dropped (messageIn words values)) + 10
   judged-length separator = encoding-length separator (messageIn words values) ∙ rw (p .head-is, begin-is words values (p .lent))
 
   pub judged-fields : (separator : ℕ) → fieldsAt words head tail ≡ fieldTotal (encodedMessage separator (messageIn words values))
@@ -153,11 +179,16 @@ module _ (separator : ℕ) (words values output : List ℕ) where
   fit-to-encode body verdict =
       let m = messageIn words values in
       let n = length (encoding separator m) in
-      by-tests (isMessage words values) (isRefusedSeparator separator) (isIncomplete (dropped m)) (ltb 8192 n) (ltb 1024 (fieldTotal (encodedMessage separator m))) (ltb (length output) n) refl refl refl refl verdict
+      by-tests (isMessage words values) (isRefusedSeparator separator) (isIncomplete (dropped m)) (ltb 8192 n)
+      (ltb 1024 (fieldTotal (encodedMessage separator m))) (ltb (length output) n) refl refl refl refl verdict
     where
-      by-tests : (a b c d e f : Bool) → isMessage words values ≡ a → ltb 8192 (length (encoding separator (messageIn words values))) ≡ d → ltb 1024 (fieldTotal (encodedMessage separator (messageIn words values))) ≡ e
+      by-tests : (a b c d e f : Bool) → isMessage words values ≡ a → ltb 8192 (length (encoding separator (messageIn words values))) ≡ d
+          → ltb 1024 (fieldTotal (encodedMessage separator (messageIn words values))) ≡ e
           → ltb (length output) (length (encoding separator (messageIn words values))) ≡ f
-          → pick a (pick b (Refused InvalidSeparator) (pick c (Refused Incomplete) (pick d (Refused TooLong) (pick e (Refused TooManyFields) (pick f (Refused NoRoom) (Measured (bodyLength (dropped (messageIn words values))))))))) (Refused NoMessage) ≡ Measured body
+          → pick a (pick b (Refused InvalidSeparator)
+          (pick c (Refused Incomplete) (pick d (Refused TooLong)
+          (pick e (Refused TooManyFields) (pick f (Refused NoRoom) (Measured (bodyLength (dropped (messageIn words values))))))))) (Refused NoMessage)
+          ≡ Measured body
           → Encodable separator words values output body
       by-tests true false false false false false lent short few room v =
           record { message = lent; measured = cc; short = ltb-false _ _ short; few = ltb-false _ _ few; room = ltb-false _ _ room }
@@ -168,10 +199,12 @@ module _ (separator : ℕ) (words values output : List ℕ) where
       by-tests true true c d e f lent short few room v = let z : _≡_ {A = ℕ} 0 1 = cc in absurd (omega arith)
       by-tests false b c d e f lent short few room v = let z : _≡_ {A = ℕ} 0 1 = cc in absurd (omega arith)
 
-  pub encodes : (body : ℕ) → encodeVerdict separator words values (length output) ≡ Measured body → encodingOf separator words values output ≡ encoded separator (messageIn words values) output
+  pub encodes : (body : ℕ) → encodeVerdict separator words values (length output) ≡ Measured body
+      → encodingOf separator words values output ≡ encoded separator (messageIn words values) output
   unfolding encodingOf afterVerdict
   encodes body verdict = rw verdict
 
-  pub refuses : (refusal : Encoding) → encodeVerdict separator words values (length output) ≡ Refused refusal → encodingOf separator words values output ≡ left refusal words values output
+  pub refuses : (refusal : Encoding) → encodeVerdict separator words values (length output) ≡ Refused refusal
+      → encodingOf separator words values output ≡ left refusal words values output
   unfolding encodingOf afterVerdict
   refuses refusal verdict = rw verdict

@@ -20,7 +20,8 @@ use Rattle.message_rules.specs.FrameLaws.{Frame, Leaves}
 use Rattle.message_rules.specs.FrameLaws as frame
 use Rattle.message_rules.specs.declared.Span.{Span}
 use Rattle.message_rules.specs.declared.Change.the-variants.{NoRun}
-use Rattle.message_hung_rows.specs.Hanging.{raised, within, allOf, hungPlace, hungStop, hungCut, replacedFields, hungFields, startOf, delimiterOf, hangAt, Lent, Hangable}
+use Rattle.message_hung_rows.specs.Hanging.{raised, within, allOf, hungPlace, hungStop, hungCut, replacedFields, hungFields, startOf, delimiterOf, hangAt}
+use Rattle.message_hung_rows.specs.Hanging.{Lent, Hangable}
 use Rattle.message_hung_rows.specs.RowLaws.{hang-none, hang-some}
 use Rattle.message_hung_rows.specs.RaiseLaws.{raised-length}
 use Rattle.message_rules.specs.Runs.{isEmpty, isWhole, hungRun}
@@ -63,7 +64,8 @@ any-alone start run end h = ap holdsAny (sym (joined-end run)) ∙ any-behind ru
 any-alone start run (field t v rest) h = refl
 any-alone start run (entry s d own rest) h = by-test (eqb s start) (any-alone start run rest h)
   where
-    by-test : (b : Bool) → holdsAny (hungAlone start run rest) ≡ holdsAny rest → holdsAny (pick b (joined run (pastLeading start rest)) (entry s d own (hungAlone start run rest))) ≡ holdsAny rest
+    by-test : (b : Bool) → holdsAny (hungAlone start run rest) ≡ holdsAny rest
+        → holdsAny (pick b (joined run (pastLeading start rest)) (entry s d own (hungAlone start run rest))) ≡ holdsAny rest
     by-test true e = any-behind run (pastLeading start rest) h ∙ any-past start rest
     by-test false e = e
 
@@ -97,9 +99,11 @@ row-tags : (words : List ℕ) (s t : ℕ) → rowAt words 0 ≡ row 2 0 s t → 
 unfolding rowAt startOf delimiterOf
 row-tags words s t e = (cc, cc)
 
-pub first-tags : (runWords runValues : List ℕ) (s t : ℕ) (own rest : Map) → Draft runWords runValues (entry s t own rest) → (startOf runWords ≡ s) × (delimiterOf runWords ≡ t)
+pub first-tags : (runWords runValues : List ℕ) (s t : ℕ) (own rest : Map) → Draft runWords runValues (entry s t own rest)
+    → (startOf runWords ≡ s) × (delimiterOf runWords ≡ t)
 unfolding rowsOf laid
-first-tags runWords runValues s t own rest d = row-tags runWords s t (first-row (rowCount runWords - 0) runWords (row 2 0 s t) (laid 1 own ++ laid 0 rest) (d .rows))
+first-tags runWords runValues s t own rest d =
+    row-tags runWords s t (first-row (rowCount runWords - 0) runWords (row 2 0 s t) (laid 1 own ++ laid 0 rest) (d .rows))
 
 whole-first : (s t : ℕ) (own rest : Map) → isRun s t (entry s t own rest) ≡ isWhole (entry s t own rest)
 unfolding isRun isWhole
@@ -123,12 +127,20 @@ rows-some end h e = let n : _≡_ {A = ℕ} 0 1 = cc in omega arith
 rows-some (field t v rest) h e = omega arith
 rows-some (entry s d own rest) h e = omega arith
 
-module _ (words values : List ℕ) (span : Span) (own : Map) (whole : Map → Map) (total : Map → ℕ) (i : Frame words values span own whole total) (runWords runValues : List ℕ) (run : Map) (d : Draft runWords runValues run)
-    (fields : ℕ) (adds : (x : Map) → holdsAny x ≡ holdsAny own → total x + fieldCount own ≡ fields + fieldCount x) (most : fieldCount own ≤ fields) (counted : fields ≤ 1024) where
+module _ (words values : List ℕ) (span : Span) (own : Map) (whole : Map → Map) (total : Map → ℕ) (i : Frame words values span own whole total)
+    (runWords runValues : List ℕ) (run : Map) (d : Draft runWords runValues run)
+    (fields : ℕ) (adds : (x : Map) → holdsAny x ≡ holdsAny own → total x + fieldCount own ≡ fields + fieldCount x) (most : fieldCount own ≤ fields)
+    (counted : fields ≤ 1024) where
   old-few : replacedFields span (startOf runWords) words ≤ fields
   old-few =
       let h = hung-at words values span own whole total i (startOf runWords) run in
-      omega (arith, hung-replaced words values span own whole total i (startOf runWords) run, ap fieldCount (h .own-is), count-joined (h .front) (joined (h .old) (h .back)), count-joined (h .old) (h .back))
+      omega (
+        arith,
+        hung-replaced words values span own whole total i (startOf runWords) run,
+        ap fieldCount (h .own-is),
+        count-joined (h .front) (joined (h .old) (h .back)),
+        count-joined (h .old) (h .back),
+      )
 
   hung-fields : total (hung (startOf runWords) run own) ≡ hungFields span (startOf runWords) runWords fields words
   unfolding hungFields
@@ -153,7 +165,9 @@ module _ (words values : List ℕ) (span : Span) (own : Map) (whole : Map → Ma
   hang-able =
       let g = frame.span-grows _ _ _ _ _ _ i in
       let h = hung-at words values span own whole total i (startOf runWords) run in
-      let size : length (laid 1 own) ≡ length (laid 1 (h .front)) + length (laid 1 (joined (h .old) (h .back))) = ap (λ (m : Map). length (laid 1 m)) (h .own-is) ∙ ap length (laid-joined 1 (h .front) (joined (h .old) (h .back))) ∙ length-append (laid 1 (h .front)) (laid 1 (joined (h .old) (h .back))) in
+      let size : length (laid 1 own) ≡ length (laid 1 (h .front)) + length (laid 1 (joined (h .old) (h .back))) =
+      ap (λ (m : Map). length (laid 1 m)) (h .own-is) ∙ ap length (laid-joined 1 (h .front) (joined (h .old) (h .back)))
+      ∙ length-append (laid 1 (h .front)) (laid 1 (joined (h .old) (h .back))) in
       record {
         run = draft-lent runWords runValues run d;
         whole = i .sized .whole;
@@ -166,10 +180,12 @@ module _ (words values : List ℕ) (span : Span) (own : Map) (whole : Map → Ma
         able = rw (run-flat, run-count, ← hung-fields) (hung-leaves words values span own whole total i (startOf runWords) run .able);
       }
 
-  hung-first : isEmpty run ≡ false → (hung (startOf runWords) run own ≡ hungRun run own) × (allOf (startOf runWords) (delimiterOf runWords) (laid 0 run) ≡ isWhole run)
+  hung-first : isEmpty run ≡ false
+      → (hung (startOf runWords) run own ≡ hungRun run own) × (allOf (startOf runWords) (delimiterOf runWords) (laid 0 run) ≡ isWhole run)
   hung-first some = by-run run refl
     where
-      by-run : (m : Map) → run ≡ m → (hung (startOf runWords) m own ≡ hungRun m own) × (allOf (startOf runWords) (delimiterOf runWords) (laid 0 m) ≡ isWhole m)
+      by-run : (m : Map) → run ≡ m
+          → (hung (startOf runWords) m own ≡ hungRun m own) × (allOf (startOf runWords) (delimiterOf runWords) (laid 0 m) ≡ isWhole m)
       by-run end e = absurd (not-empty (rw e at some))
       by-run (field t v rest) e = absurd (no-field t v rest (rw e at (d .only)))
       by-run (entry s t o rest) e =
@@ -177,12 +193,15 @@ module _ (words values : List ℕ) (span : Span) (own : Map) (whole : Map → Ma
           let only : onlyEntries (entry s t o rest) ≡ true = rw e at (d .only) in
           (rw (k .0) (hung-entry s t o rest own), rw (k .0, k .1) (all-laid s t (entry s t o rest) only ∙ whole-first s t o rest))
 
-  pub hang-judged : isEmpty run ≡ false → hangAt span fields runWords runValues words values ≡ judgedMap words values (isWhole run) (total (hungRun run own)) (whole (hungRun run own))
+  pub hang-judged : isEmpty run ≡ false
+      → hangAt span fields runWords runValues words values ≡ judgedMap words values (isWhole run) (total (hungRun run own)) (whole (hungRun run own))
   hang-judged some =
       let f = hung-first some in
       let rows : rowCount runWords ≡ 0 → ⊥ = λ z. no-rows some (sym (count-rows runWords runValues run d) ∙ z) in
       hang-some span fields runWords runValues words values rows
-      ∙ rw (run-flat, run-count, d .texts, ← hung-fields) (ap (λ (b : Bool). changedAt (hungCut span (startOf runWords) words) (flat (laid 1 run)) (length (laid 1 run)) (valuesIn run) b (total (hung (startOf runWords) run own)) words values) (ap (allOf (startOf runWords) (delimiterOf runWords)) (d .rows) ∙ f .1))
+      ∙ rw (run-flat, run-count, d .texts, ← hung-fields)
+      (ap (λ (b : Bool). changedAt (hungCut span (startOf runWords) words) (flat (laid 1 run)) (length (laid 1 run)) (valuesIn run) b
+      (total (hung (startOf runWords) run own)) words values) (ap (allOf (startOf runWords) (delimiterOf runWords)) (d .rows) ∙ f .1))
       ∙ hung-leaves words values span own whole total i (startOf runWords) run .done (isWhole run)
       ∙ ap (λ (m : Map). judgedMap words values (isWhole run) (total m) (whole m)) (f .0)
     where

@@ -38,12 +38,14 @@ module _ (words values runWords runValues : List ℕ) (lent : isDraft words valu
     unfolding hangingLast
     last-untagged h = draft-yes words values _ _ lent ∙ draft-yes runWords runValues _ _ drafted ∙ rw h
 
-    pub last-nowhere : hasUntagged (runIn runWords runValues) ≡ false → isEmpty (runIn words values) ≡ true → hangingLast runWords runValues words values ≡ after NoRun words values
+    pub last-nowhere : hasUntagged (runIn runWords runValues) ≡ false → isEmpty (runIn words values) ≡ true
+        → hangingLast runWords runValues words values ≡ after NoRun words values
     unfolding hangingLast
     last-nowhere h e = draft-yes words values _ _ lent ∙ draft-yes runWords runValues _ _ drafted ∙ rw (h, e)
 
     pub last-on : hasUntagged (runIn runWords runValues) ≡ false → isEmpty (runIn words values) ≡ false
-        → hangingLast runWords runValues words values ≡ judgedRun words values (isWhole (runIn runWords runValues)) (inLast (hungRun (runIn runWords runValues)) (runIn words values))
+        → hangingLast runWords runValues words values ≡ judgedRun words values (isWhole (runIn runWords runValues))
+        (inLast (hungRun (runIn runWords runValues)) (runIn words values))
     unfolding hangingLast
     last-on h e = draft-yes words values _ _ lent ∙ draft-yes runWords runValues _ _ drafted ∙ rw (h, e)
 
@@ -54,7 +56,8 @@ module _ (words values runWords runValues : List ℕ) (lent : isDraft words valu
       same-total : fieldCount (runIn words values) ≡ fieldCount (s .front) + (pick (holdsAny (s .own)) 0 1 + fieldCount (s .own))
       same-total = ap fieldCount (s .whole) ∙ last-fields words values (runIn words values) outer s count from counted starts (s .own)
 
-      adds : (x : Map) → holdsAny x ≡ holdsAny (s .own) → fieldCount (joined (s .front) (entry (s .start) (s .delimiter) x end)) + fieldCount (s .own) ≡ fieldCount (runIn words values) + fieldCount x
+      adds : (x : Map) → holdsAny x ≡ holdsAny (s .own)
+          → fieldCount (joined (s .front) (entry (s .start) (s .delimiter) x end)) + fieldCount (s .own) ≡ fieldCount (runIn words values) + fieldCount x
       adds x e =
           let t = last-fields words values (runIn words values) outer s count from counted starts x in
           let p : _≡_ {A = ℕ} (pick (holdsAny x) 0 1) (pick (holdsAny (s .own)) 0 1) = ap {B = ℕ} (λ (b : Bool). pick b 0 1) e in
@@ -65,7 +68,8 @@ module _ (words values runWords runValues : List ℕ) (lent : isDraft words valu
 
       pub last-able : Hangable words values (record { from = from; to = count; count = count }) runWords runValues (fieldCount (runIn words values))
       last-able =
-          hang-able words values _ _ _ _ (entry-frame words values (runIn words values) outer s count from counted starts) runWords runValues (runIn runWords runValues) (draft-of runWords runValues drafted)
+          hang-able words values _ _ _ _ (entry-frame words values (runIn words values) outer s count from counted starts) runWords runValues
+          (runIn runWords runValues) (draft-of runWords runValues drafted)
           (fieldCount (runIn words values)) adds most (outer .few)
 
       pub last-hung : hangAt (record { from = from; to = count; count = count }) (fieldCount (runIn words values)) runWords runValues words values
@@ -75,14 +79,19 @@ module _ (words values runWords runValues : List ℕ) (lent : isDraft words valu
           small : length (valuesIn (runIn words values)) ≤ 8192
           small = omega (arith, sizes-laid 0 (runIn words values), ap sizes (outer .rows), outer .sized .within)
 
-          by-run : (b : Bool) → isEmpty (runIn runWords runValues) ≡ b → hangAt (record { from = from; to = count; count = count }) (fieldCount (runIn words values)) runWords runValues words values
+          by-run : (b : Bool) → isEmpty (runIn runWords runValues) ≡ b
+              → hangAt (record { from = from; to = count; count = count }) (fieldCount (runIn words values)) runWords runValues words values
               ≡ judgedRun words values (isWhole (runIn runWords runValues)) (inLast (hungRun (runIn runWords runValues)) (runIn words values))
           by-run true e =
               let q = empty-run (runIn runWords runValues) e in
-              let same : inLast (hungRun (runIn runWords runValues)) (runIn words values) ≡ runIn words values = s .changed (hungRun (runIn runWords runValues)) ∙ ap (λ (x : Map). joined (s .front) (entry (s .start) (s .delimiter) x end)) (q .2 (s .own)) ∙ sym (s .whole) in
+              let same : inLast (hungRun (runIn runWords runValues)) (runIn words values) ≡ runIn words values =
+              s .changed (hungRun (runIn runWords runValues)) ∙ ap (λ (x : Map). joined (s .front) (entry (s .start) (s .delimiter) x end)) (q .2 (s .own))
+              ∙ sym (s .whole) in
               hang-none _ _ _ _ _ _ (count-rows runWords runValues _ (draft-of runWords runValues drafted) ∙ q .0)
               ∙ sym (rw (q .1, same) (judged-none words values (runIn words values) small))
           by-run false e =
-              hang-judged words values _ _ _ _ (entry-frame words values (runIn words values) outer s count from counted starts) runWords runValues (runIn runWords runValues) (draft-of runWords runValues drafted)
+              hang-judged words values _ _ _ _ (entry-frame words values (runIn words values) outer s count from counted starts) runWords runValues
+              (runIn runWords runValues) (draft-of runWords runValues drafted)
               (fieldCount (runIn words values)) adds most (outer .few) e
-              ∙ (unfold judgedRun in ap (λ (m : Map). judgedMap words values (isWhole (runIn runWords runValues)) (fieldCount m) m) (sym (s .changed (hungRun (runIn runWords runValues)))))
+              ∙ (unfold judgedRun in ap (λ (m : Map). judgedMap words values (isWhole (runIn runWords runValues)) (fieldCount m) m)
+              (sym (s .changed (hungRun (runIn runWords runValues)))))

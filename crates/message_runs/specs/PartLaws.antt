@@ -27,7 +27,8 @@ use Rattle.message_runs.specs.EnterLaws.{count-rows}
 use Rattle.message_runs.specs.HangLaws.{hang-able, hang-judged}
 
 -- the tags of a draft that is lent
-pub draft-tags : (runWords runValues : List ℕ) (count : ℕ) → isDraft runWords runValues ≡ true → count ≡ rowCount runWords → untaggedIn (rowsFrom (count - 0) 0 runWords) ≡ hasUntagged (runIn runWords runValues)
+pub draft-tags : (runWords runValues : List ℕ) (count : ℕ) → isDraft runWords runValues ≡ true → count ≡ rowCount runWords
+    → untaggedIn (rowsFrom (count - 0) 0 runWords) ≡ hasUntagged (runIn runWords runValues)
 unfolding rowsOf
 draft-tags runWords runValues count h e =
     let d = draft-of runWords runValues h in rw e (ap untaggedIn (d .rows) ∙ untagged-laid (runIn runWords runValues) (d .only))
@@ -53,11 +54,16 @@ module _ (part : Part) (words values runWords runValues : List ℕ) (lent : isMe
     unfolding hanging
     hang-untagged h = of-message words values _ lent ∙ draft-yes runWords runValues _ _ drafted ∙ rw h
 
-    pub hang-on : hasUntagged (runIn runWords runValues) ≡ false → hanging part runWords runValues words values ≡ judged words values (isWhole (runIn runWords runValues)) (withPart part (hungRun (runIn runWords runValues) (partOf part (messageIn words values))) (messageIn words values))
+    pub hang-on : hasUntagged (runIn runWords runValues) ≡ false
+        → hanging part runWords runValues words values
+        ≡ judged words values (isWhole (runIn runWords runValues)) (withPart part (hungRun (runIn runWords runValues) (partOf part (messageIn words values)))
+        (messageIn words values))
     unfolding hanging
     hang-on h = of-message words values _ lent ∙ draft-yes runWords runValues _ _ drafted ∙ rw h
 
-    adds : (x : Map) → holdsAny x ≡ holdsAny (partOf part (messageIn words values)) → fieldTotal (withPart part x (messageIn words values)) + fieldCount (partOf part (messageIn words values)) ≡ fieldTotal (messageIn words values) + fieldCount x
+    adds : (x : Map) → holdsAny x ≡ holdsAny (partOf part (messageIn words values))
+        → fieldTotal (withPart part x (messageIn words values)) + fieldCount (partOf part (messageIn words values))
+        ≡ fieldTotal (messageIn words values) + fieldCount x
     adds x e = fields-of words values part (messageIn words values) (lent-in words values part lent) x
 
     most : fieldCount (partOf part (messageIn words values)) ≤ fieldTotal (messageIn words values)
@@ -65,26 +71,34 @@ module _ (part : Part) (words values runWords runValues : List ℕ) (lent : isMe
 
     pub part-able : Hangable words values (spanOf part (messageIn words values)) runWords runValues (fieldTotal (messageIn words values))
     part-able =
-        hang-able words values _ _ _ _ (part-frame words values part (messageIn words values) (lent-in words values part lent)) runWords runValues (runIn runWords runValues) (draft-of runWords runValues drafted)
+        hang-able words values _ _ _ _ (part-frame words values part (messageIn words values) (lent-in words values part lent)) runWords runValues
+        (runIn runWords runValues) (draft-of runWords runValues drafted)
         (fieldTotal (messageIn words values)) adds most (few-fields words values lent)
 
     pub part-judged : hangAt (spanOf part (messageIn words values)) (fieldTotal (messageIn words values)) runWords runValues words values
-        ≡ judged words values (isWhole (runIn runWords runValues)) (withPart part (hungRun (runIn runWords runValues) (partOf part (messageIn words values))) (messageIn words values))
+        ≡ judged words values (isWhole (runIn runWords runValues)) (withPart part (hungRun (runIn runWords runValues) (partOf part (messageIn words values)))
+        (messageIn words values))
     part-judged = by-run (isEmpty (runIn runWords runValues)) refl
       where
         m : Message
         m = messageIn words values
 
         small : valueTotal (messageIn words values) ≤ 8192
-        small = let i = lent-in words values part lent in unfold valueTotal in omega (arith, sizes-laid 0 (parts (messageIn words values)), ap sizes (i .all), i .sized .within)
+        small =
+            let i = lent-in words values part lent in
+            unfold valueTotal in omega (arith, sizes-laid 0 (parts (messageIn words values)), ap sizes (i .all), i .sized .within)
 
-        by-run : (b : Bool) → isEmpty (runIn runWords runValues) ≡ b → hangAt (spanOf part (messageIn words values)) (fieldTotal (messageIn words values)) runWords runValues words values
-            ≡ judged words values (isWhole (runIn runWords runValues)) (withPart part (hungRun (runIn runWords runValues) (partOf part (messageIn words values))) (messageIn words values))
+        by-run : (b : Bool) → isEmpty (runIn runWords runValues) ≡ b
+            → hangAt (spanOf part (messageIn words values)) (fieldTotal (messageIn words values)) runWords runValues words values
+            ≡ judged words values (isWhole (runIn runWords runValues))
+            (withPart part (hungRun (runIn runWords runValues) (partOf part (messageIn words values))) (messageIn words values))
         by-run true e =
             let q = empty-run (runIn runWords runValues) e in
             hang-none _ _ _ _ _ _ (count-rows runWords runValues _ (draft-of runWords runValues drafted) ∙ q .0)
-            ∙ sym (rw (q .1, q .2 (partOf part (messageIn words values)), part-split part (messageIn words values) .same) (judged-none words values (messageIn words values) small))
+            ∙ sym (rw (q .1, q .2 (partOf part (messageIn words values)), part-split part (messageIn words values) .same)
+            (judged-none words values (messageIn words values) small))
         by-run false e =
-            hang-judged words values _ _ _ _ (part-frame words values part (messageIn words values) (lent-in words values part lent)) runWords runValues (runIn runWords runValues) (draft-of runWords runValues drafted)
+            hang-judged words values _ _ _ _ (part-frame words values part (messageIn words values) (lent-in words values part lent)) runWords runValues
+            (runIn runWords runValues) (draft-of runWords runValues drafted)
             (fieldTotal (messageIn words values)) adds most (few-fields words values lent) e
             ∙ judged-parts words values _ _

@@ -50,7 +50,8 @@ within-laid bound l end h = refl
 within-laid bound l (field t v rest) h = rw (le-leb l bound (omega arith)) (within-laid bound l rest (omega arith))
 within-laid bound l (entry s d own rest) h =
     let n = length-append (laid (l + 1) own) (laid l rest) in
-    rw (le-leb l bound (omega arith)) (within-append bound (laid (l + 1) own) (laid l rest) (within-laid bound (l + 1) own (omega arith)) (within-laid bound l rest (omega arith)))
+    rw (le-leb l bound (omega arith)) (within-append bound (laid (l + 1) own) (laid l rest) (within-laid bound (l + 1) own (omega arith))
+    (within-laid bound l rest (omega arith)))
 
 -- rows below the top level are passed over
 untagged-below : (m : Map) (l : ℕ) (rest : List Row) → untaggedIn (laid (l + 1) m ++ rest) ≡ untaggedIn rest
@@ -59,7 +60,8 @@ untagged-below end l rest = refl
 untagged-below (field t v more) l rest = rw (ne-eqb (l + 1) 0 (λ e. omega arith)) (untagged-below more l rest)
 untagged-below (entry s d own more) l rest =
     rw (ne-eqb (l + 1) 0 (λ e. omega arith))
-    (ap untaggedIn (append-assoc (laid (l + 1 + 1) own) (laid (l + 1) more) rest) ∙ untagged-below own (l + 1) (laid (l + 1) more ++ rest) ∙ untagged-below more l rest)
+    (ap untaggedIn (append-assoc (laid (l + 1 + 1) own) (laid (l + 1) more) rest) ∙ untagged-below own (l + 1) (laid (l + 1) more ++ rest)
+    ∙ untagged-below more l rest)
 
 pub untagged-laid : (m : Map) → onlyEntries m ≡ true → untaggedIn (laid 0 m) ≡ hasUntagged m
 unfolding untaggedIn isUntagged laid hasUntagged onlyEntries
@@ -68,7 +70,8 @@ untagged-laid (field t v rest) h = let z : _≡_ {A = ℕ} 0 1 = cc in absurd (o
 untagged-laid (entry s d own rest) h =
     by-tests (eqb s 0) (eqb d 0) (untagged-below own 0 (laid 0 rest) ∙ untagged-laid rest h)
   where
-    by-tests : (a b : Bool) → untaggedIn (laid 1 own ++ laid 0 rest) ≡ hasUntagged rest → pick (pick a true b) true (untaggedIn (laid 1 own ++ laid 0 rest)) ≡ pick a true (pick b true (hasUntagged rest))
+    by-tests : (a b : Bool) → untaggedIn (laid 1 own ++ laid 0 rest) ≡ hasUntagged rest
+        → pick (pick a true b) true (untaggedIn (laid 1 own ++ laid 0 rest)) ≡ pick a true (pick b true (hasUntagged rest))
     by-tests true b e = refl
     by-tests false true e = refl
     by-tests false false e = e
@@ -80,7 +83,8 @@ module _ (start delimiter : ℕ) where
   all-below (field t v more) l rest = rw (ne-eqb (l + 1) 0 (λ e. omega arith)) (all-below more l rest)
   all-below (entry s d own more) l rest =
       rw (ne-eqb (l + 1) 0 (λ e. omega arith))
-      (ap (allOf start delimiter) (append-assoc (laid (l + 1 + 1) own) (laid (l + 1) more) rest) ∙ all-below own (l + 1) (laid (l + 1) more ++ rest) ∙ all-below more l rest)
+      (ap (allOf start delimiter) (append-assoc (laid (l + 1 + 1) own) (laid (l + 1) more) rest) ∙ all-below own (l + 1) (laid (l + 1) more ++ rest)
+      ∙ all-below more l rest)
 
   pub all-laid : (m : Map) → onlyEntries m ≡ true → allOf start delimiter (laid 0 m) ≡ isRun start delimiter m
   unfolding allOf isOf laid isRun onlyEntries
@@ -89,7 +93,8 @@ module _ (start delimiter : ℕ) where
   all-laid (entry s d own rest) h =
       by-tests (eqb s start) (eqb d delimiter) (all-below own 0 (laid 0 rest) ∙ all-laid rest h)
     where
-      by-tests : (a b : Bool) → allOf start delimiter (laid 1 own ++ laid 0 rest) ≡ isRun start delimiter rest → pick (pick a b false) (allOf start delimiter (laid 1 own ++ laid 0 rest)) false ≡ pick a (pick b (isRun start delimiter rest) false) false
+      by-tests : (a b : Bool) → allOf start delimiter (laid 1 own ++ laid 0 rest) ≡ isRun start delimiter rest
+          → pick (pick a b false) (allOf start delimiter (laid 1 own ++ laid 0 rest)) false ≡ pick a (pick b (isRun start delimiter rest) false) false
       by-tests true true e = e
       by-tests true false e = refl
       by-tests false b e = refl

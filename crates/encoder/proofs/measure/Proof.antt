@@ -13,7 +13,8 @@ use Rattle.message_lent_rules.specs.Meaning.{messageIn}
 use Rattle.message_rules.specs.Changes.{fieldTotal}
 use Rattle.encode_rules.specs.Encoding.{dropped, bodyLength, encoding, encodedMessage}
 use Rattle.encode_rules.specs.Encode.{isIncomplete}
-use Rattle.encoder.specs.VerdictLaws.{Parts, both-within, loose-at, taken-fits, judged-incomplete, judged-body, judged-length, judged-fields, refused-separator, refused-incomplete, refused-long, refused-many, refused-room, found-fit}
+use Rattle.encoder.specs.VerdictLaws.{Parts, both-within, loose-at, taken-fits, judged-incomplete, judged-body, judged-length, judged-fields}
+use Rattle.encoder.specs.VerdictLaws.{refused-separator, refused-incomplete, refused-long, refused-many, refused-room, found-fit}
 use Rattle.encode_rules.specs.declared.Verdict.the-variants.{Measured}
 use Rattle.encoder.proofs.measure.Statement.{statement}
 use Rattle.encoder.proofs.measure.Tie as tie
@@ -24,7 +25,9 @@ span-of-requires c κs = c .before .before .pre .0
 span-of-requires-2 : tie.Need-span-of-requires-2
 span-of-requires-2 c κs = c .before .before .before .pre .0
 
-known : (c : tie.After-span-of2) → let s = c .before .before .before .before .args in Parts (s .words .now) (s .values .now) (c .before .span-of .result) (c .span-of2 .result)
+known : (c : tie.After-span-of2)
+    → let s = c .before .before .before .before .args in
+    Parts (s .words .now) (s .values .now) (c .before .span-of .result) (c .span-of2 .result)
 known c = record { lent = c .before .before .before .before .pre .0; head-is = c .before .span-of .ensures; tail-is = c .span-of2 .ensures }
 
 returns : tie.Need-returns
@@ -43,30 +46,43 @@ returns-2 c =
     sym (refused-incomplete _ _ ((known (c .before .before .before .before)) .lent) _ _ (separates (c .before .before))
     (sym (judged-incomplete _ _ _ _ (known (c .before .before .before .before))) ∙ sym (c .before .is-incomplete .ensures) ∙ c .if2 .taken))
 
-complete : (c : tie.Else2) → isIncomplete (dropped (messageIn (c .before .before .before .before .before .before .before .before .args .words .now) (c .before .before .before .before .before .before .before .before .args .values .now))) ≡ false
+complete : (c : tie.Else2)
+    → let s = c .before .before .before .before .before .before .before .before .args in
+    isIncomplete (dropped (messageIn (s .words .now) (s .values .now))) ≡ false
 complete c = sym (judged-incomplete _ _ _ _ (known (c .before .before .before .before))) ∙ sym (c .before .is-incomplete .ensures) ∙ c .if2 .left
 
 body-length-requires : tie.Need-body-length-requires
 body-length-requires c κs = (both-within _ _ _ _ (known (c .before .before .before .before)), taken-fits _ _ _ _ (known (c .before .before .before .before)))
 
-body-is : (c : tie.After-body-length) → c .body-length .result ≡ bodyLength (dropped (messageIn (c .before .before .before .before .before .before .before .before .before .args .words .now) (c .before .before .before .before .before .before .before .before .before .args .values .now)))
+body-is : (c : tie.After-body-length)
+    → let s = c .before .before .before .before .before .before .before .before .before .args in
+    c .body-length .result ≡ bodyLength (dropped (messageIn (s .words .now) (s .values .now)))
 body-is c = c .body-length .ensures ∙ judged-body _ _ _ _ (known (c .before .before .before .before .before))
 
 returns-3 : tie.Need-returns-3
 returns-3 c =
-    sym (refused-long _ _ ((known (c .before .before .before .before .before .before)) .lent) _ _ (separates (c .before .before .before .before)) (complete (c .before .before))
-    (omega (arith, judged-length _ _ _ _ (known (c .before .before .before .before .before .before)) (c .before .before .before .before .before .before .before .before .before .before .args .separator), body-is (c .before), c .if3 .taken)))
+    let else1 = c .before .before .before .before in
+    let after-span-of2 = else1 .before .before in
+    let start = after-span-of2 .before .before .before .before in
+    sym (refused-long _ _ ((known after-span-of2) .lent) _ _ (separates else1) (complete (c .before .before))
+    (omega (arith, judged-length _ _ _ _ (known after-span-of2) (start .args .separator), body-is (c .before), c .if3 .taken)))
 
 field-bytes-requires : tie.Need-field-bytes-requires
 field-bytes-requires c κs = both-within _ _ _ _ (known (c .before .before .before .before .before .before)) .0
 
-length-is : (c : tie.After-digit-count) → c .before .field-bytes .result + c .digit-count .result + c .before .before .before .body-length .result + 10 ≡ length (encoding (c .before .before .before .before .before .before .before .before .before .before .before .before .args .separator) (messageIn (c .before .before .before .before .before .before .before .before .before .before .before .before .args .words .now) (c .before .before .before .before .before .before .before .before .before .before .before .before .args .values .now)))
+length-is : (c : tie.After-digit-count)
+    → let s = c .before .before .before .before .before .before .before .before .before .before .before .before .args in
+    c .before .field-bytes .result + c .digit-count .result + c .before .before .before .body-length .result + 10
+    ≡ length (encoding (s .separator) (messageIn (s .words .now) (s .values .now)))
 length-is c =
+    let after-span-of2 = c .before .before .before .before .before .before .before .before in
+    let start = after-span-of2 .before .before .before .before in
     rw (c .before .field-bytes .ensures .0, c .digit-count .ensures, body-is (c .before .before .before))
-    (sym (judged-length _ _ _ _ (known (c .before .before .before .before .before .before .before .before)) (c .before .before .before .before .before .before .before .before .before .before .before .before .args .separator)))
+    (sym (judged-length _ _ _ _ (known after-span-of2) (start .args .separator)))
 
 small : (c : tie.After-digit-count) → c .digit-count .result ≤ 10
-small c = omega (arith, c .digit-count .ensures, decimal-length (c .before .before .before .body-length .result) (omega (arith, c .before .before .if3 .left)) .1)
+small c =
+    omega (arith, c .digit-count .ensures, decimal-length (c .before .before .before .body-length .result) (omega (arith, c .before .before .if3 .left)) .1)
 
 add-length : tie.Need-add-length
 add-length c = omega (arith, small c, c .before .field-bytes .ensures .1)
@@ -79,40 +95,64 @@ add-length-3 c = omega (arith, small c, c .before .field-bytes .ensures .1, c .b
 
 returns-4 : tie.Need-returns-4
 returns-4 c =
-    sym (refused-long _ _ ((known (c .before .before .before .before .before .before .before .before .before)) .lent) _ _ (separates (c .before .before .before .before .before .before .before)) (complete (c .before .before .before .before .before))
+    let else2 = c .before .before .before .before .before in
+    let else1 = else2 .before .before in
+    let after-span-of2 = else1 .before .before in
+    sym (refused-long _ _ ((known after-span-of2) .lent) _ _ (separates else1) (complete else2)
     (omega (arith, length-is (c .before), c .if4 .taken)))
 
-short : (c : tie.Else4) → length (encoding (c .before .before .before .before .before .before .before .before .before .before .before .before .before .args .separator) (messageIn (c .before .before .before .before .before .before .before .before .before .before .before .before .before .args .words .now) (c .before .before .before .before .before .before .before .before .before .before .before .before .before .args .values .now))) ≤ 8192
+short : (c : tie.Else4)
+    → let s = c .before .before .before .before .before .before .before .before .before .before .before .before .before .args in
+    length (encoding (s .separator) (messageIn (s .words .now) (s .values .now))) ≤ 8192
 short c = omega (arith, length-is (c .before), c .if4 .left)
 
 passes-limit-requires : tie.Need-passes-limit-requires
 passes-limit-requires c κs = both-within _ _ _ _ (known (c .before .before .before .before .before .before .before .before .before))
 
-fields-are : (c : tie.After-passes-limit) → c .passes-limit .result ≡ ltb 1024 (fieldTotal (encodedMessage (c .before .before .before .before .before .before .before .before .before .before .before .before .before .before .args .separator) (messageIn (c .before .before .before .before .before .before .before .before .before .before .before .before .before .before .args .words .now) (c .before .before .before .before .before .before .before .before .before .before .before .before .before .before .args .values .now))))
-fields-are c = c .passes-limit .ensures ∙ ap (ltb 1024) (judged-fields _ _ _ _ (known (c .before .before .before .before .before .before .before .before .before .before)) (c .before .before .before .before .before .before .before .before .before .before .before .before .before .before .args .separator))
+fields-are : (c : tie.After-passes-limit)
+    → let s = c .before .before .before .before .before .before .before .before .before .before .before .before .before .before .args in
+    c .passes-limit .result ≡ ltb 1024 (fieldTotal (encodedMessage (s .separator) (messageIn (s .words .now) (s .values .now))))
+fields-are c =
+    let after-span-of2 = c .before .before .before .before .before .before .before .before .before .before in
+    let start = after-span-of2 .before .before .before .before in
+    c .passes-limit .ensures ∙ ap (ltb 1024) (judged-fields _ _ _ _ (known after-span-of2) (start .args .separator))
 
 returns-5 : tie.Need-returns-5
 returns-5 c =
-    sym (refused-many _ _ ((known (c .before .before .before .before .before .before .before .before .before .before .before)) .lent) _ _ (separates (c .before .before .before .before .before .before .before .before .before)) (complete (c .before .before .before .before .before .before .before)) (short (c .before .before))
+    let else2 = c .before .before .before .before .before .before .before in
+    let else1 = else2 .before .before in
+    let after-span-of2 = else1 .before .before in
+    sym (refused-many _ _ ((known after-span-of2) .lent) _ _ (separates else1) (complete else2) (short (c .before .before))
     (ltb-true _ _ (sym (fields-are (c .before)) ∙ c .if5 .taken)))
 
-few : (c : tie.Else5) → fieldTotal (encodedMessage (c .before .before .before .before .before .before .before .before .before .before .before .before .before .before .before .args .separator) (messageIn (c .before .before .before .before .before .before .before .before .before .before .before .before .before .before .before .args .words .now) (c .before .before .before .before .before .before .before .before .before .before .before .before .before .before .before .args .values .now))) ≤ 1024
+few : (c : tie.Else5)
+    → let s = c .before .before .before .before .before .before .before .before .before .before .before .before .before .before .before .args in
+    fieldTotal (encodedMessage (s .separator) (messageIn (s .words .now) (s .values .now))) ≤ 1024
 few c = ltb-false _ _ (sym (fields-are (c .before)) ∙ c .if5 .left)
 
 returns-6 : tie.Need-returns-6
 returns-6 c =
-    sym (refused-room _ _ ((known (c .before .before .before .before .before .before .before .before .before .before .before .before)) .lent) _ _ (separates (c .before .before .before .before .before .before .before .before .before .before)) (complete (c .before .before .before .before .before .before .before .before)) (short (c .before .before .before)) (few (c .before))
-    (omega (arith, length-is (c .before .before .before .before), c .if6 .taken)))
+    let after-digit-count = c .before .before .before .before in
+    let else2 = after-digit-count .before .before .before .before in
+    let else1 = else2 .before .before in
+    let after-span-of2 = else1 .before .before in
+    sym (refused-room _ _ ((known after-span-of2) .lent) _ _ (separates else1) (complete else2) (short (c .before .before .before)) (few (c .before))
+    (omega (arith, length-is after-digit-count, c .if6 .taken)))
 
 returns-7 : tie.Need-returns-7
 returns-7 c =
-    ap Measured (body-is (c .before .before .before .before .before .before .before))
-    ∙ sym (found-fit _ _ ((known (c .before .before .before .before .before .before .before .before .before .before .before .before)) .lent) _ _ (separates (c .before .before .before .before .before .before .before .before .before .before)) (complete (c .before .before .before .before .before .before .before .before)) (short (c .before .before .before)) (few (c .before))
-    (omega (arith, length-is (c .before .before .before .before), c .if6 .left)))
+    let after-digit-count = c .before .before .before .before in
+    let after-body-length = after-digit-count .before .before .before in
+    let else2 = after-body-length .before in
+    let else1 = else2 .before .before in
+    let after-span-of2 = else1 .before .before in
+    ap Measured (body-is after-body-length)
+    ∙ sym (found-fit _ _ ((known after-span-of2) .lent) _ _ (separates else1) (complete else2) (short (c .before .before .before)) (few (c .before))
+    (omega (arith, length-is after-digit-count, c .if6 .left)))
 
 pub measure-spec : {M : Type 1} → statement M
 measure-spec =
     tie.close
-    (tie.spec span-of-requires span-of-requires-2 (λ c κs. search needs) returns is-incomplete-requires returns-2
-    body-length-requires returns-3 field-bytes-requires (λ c. search needs) (λ c κs. search needs) add-length
-    add-length-2 add-length-3 returns-4 passes-limit-requires returns-5 returns-6 (λ c. search needs) returns-7)
+    (tie.spec span-of-requires span-of-requires-2 (λ c κs. search needs) returns is-incomplete-requires returns-2 body-length-requires returns-3
+    field-bytes-requires (λ c. search needs) (λ c κs. search needs) add-length add-length-2 add-length-3 returns-4 passes-limit-requires returns-5 returns-6
+    (λ c. search needs) returns-7)

@@ -19,7 +19,12 @@ returns-2 : tie.Need-returns-2
 returns-2 c = sym (start-store _ _ (c .before .if1 .left) (c .if2 .taken))
 
 returns-3 : tie.Need-returns-3
-returns-3 c = rw (empty-words _ _ (c .before .before .before .before .before .before .before .before .before .before .before .if1 .left) (c .before .before .before .before .before .before .before .splice-words .ensures), empty-values _ _ (c .before .before .splice-bytes .ensures)) (sym (start-made _ _ (c .before .before .before .before .before .before .before .before .before .before .before .if1 .left) (c .before .before .before .before .before .before .before .before .before .before .if2 .left)))
+returns-3 c =
+    let splice-words = c .before .before .before .before .before .before .before .splice-words in
+    let if2 = c .before .before .before .before .before .before .before .before .before .before .if2 in
+    let if1 = c .before .before .before .before .before .before .before .before .before .before .before .if1 in
+    rw (empty-words _ _ (if1 .left) (splice-words .ensures), empty-values _ _ (c .before .before .splice-bytes .ensures))
+    (sym (start-made _ _ (if1 .left) (if2 .left)))
 
 splice-words-requires : tie.Need-splice-words-requires
 splice-words-requires c κs = (search needs, λ e. let z : _≡_ {A = ℕ} 0 1 = cc in absurd (omega arith))
@@ -30,5 +35,5 @@ splice-bytes-requires c κs = (search needs, λ e. let z : _≡_ {A = ℕ} 0 1 =
 pub empty-spec : {M : Type 1} → statement M
 empty-spec =
     tie.close
-    (tie.spec returns returns-2 (λ c. search needs) (λ c. search needs) splice-words-requires (λ c. search needs)
-    (λ c. search needs) (λ c. search needs) splice-bytes-requires (λ c. search needs) (λ c. search needs) returns-3)
+    (tie.spec returns returns-2 (λ c. search needs) (λ c. search needs) splice-words-requires (λ c. search needs) (λ c. search needs)
+    (λ c. search needs) splice-bytes-requires (λ c. search needs) (λ c. search needs) returns-3)
