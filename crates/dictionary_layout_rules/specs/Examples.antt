@@ -6,8 +6,10 @@ use mathlib.Core.Bool.{true, false}
 use Prim.Native.Nat.{ℕ, zero, suc}
 use native.Mathlib.Omega.{arith}
 use Rattle.field_rules.specs.Text.{bytes}
-use Rattle.dictionary_layout_rules.specs.Layout.{Layout, end, field, group, followedBy, firstOf, positionFrom, positionIn, none, entries, groupSince, groupOf, delimiterOf, requiredTags, items, larger, depth}
-use Rattle.dictionary_layout_rules.specs.Tree.{Nodes, nothing, fieldItem, componentItem, groupItem, Dictionary, holdsTag, knows, plainFields, flattened, sameBytes, noMessage, laidOut, messageOf, layoutOf}
+use Rattle.dictionary_layout_rules.specs.Layout.{Layout, end, field, group, followedBy, firstOf, positionFrom, positionIn, none, entries, groupSince}
+use Rattle.dictionary_layout_rules.specs.Layout.{groupOf, delimiterOf, requiredTags, items, larger, depth}
+use Rattle.dictionary_layout_rules.specs.Tree.{Nodes, nothing, fieldItem, componentItem, groupItem, Dictionary, holdsTag, knows, plainFields, flattened}
+use Rattle.dictionary_layout_rules.specs.Tree.{sameBytes, noMessage, laidOut, messageOf, layoutOf}
 use Rattle.dictionary_layout_rules.specs.Table.{mark, marks, rowsFrom}
 use Rattle.dictionary_layout_rules.specs.Measures.{NoEmptyGroup, none-at-end, none-after-field, none-in-group, Bounded}
 use Rattle.dictionary_layout_rules.specs.declared.Position.the-variants.{At, Nowhere}
@@ -23,12 +25,17 @@ allocations = fieldItem 79 true (fieldItem 80 true (groupItem 539 false (fieldIt
 
 -- "Dictionary: header 8 9 35 34 49; trailer 93 89 10; message `0` with 112; message `D` with 38, group 78 (..), 58."
 abbrev dictionary : Dictionary
-dictionary = record {
-  known = 8 ∷ 9 ∷ 35 ∷ 34 ∷ 49 ∷ 93 ∷ 89 ∷ 10 ∷ 112 ∷ 38 ∷ 78 ∷ 79 ∷ 80 ∷ 539 ∷ 524 ∷ 525 ∷ 58 ∷ [];
-  header = plain (8 ∷ 9 ∷ 35 ∷ 34 ∷ 49 ∷ []);
-  trailer = plain (93 ∷ 89 ∷ 10 ∷ []);
-  messages = record { msgType = bytes "0"; nodes = plain (112 ∷ []) } ∷ record { msgType = bytes "D"; nodes = fieldItem 38 false (groupItem 78 false allocations (fieldItem 58 false nothing)) } ∷ [];
-}
+dictionary =
+    record {
+      known = 8 ∷ 9 ∷ 35 ∷ 34 ∷ 49 ∷ 93 ∷ 89 ∷ 10 ∷ 112 ∷ 38 ∷ 78 ∷ 79 ∷ 80 ∷ 539 ∷ 524 ∷ 525 ∷ 58 ∷ [];
+      header = plain (8 ∷ 9 ∷ 35 ∷ 34 ∷ 49 ∷ []);
+      trailer = plain (93 ∷ 89 ∷ 10 ∷ []);
+      messages =
+          record { msgType = bytes "0"; nodes = plain (112 ∷ []) } ∷ record {
+            msgType = bytes "D";
+            nodes = fieldItem 38 false (groupItem 78 false allocations (fieldItem 58 false nothing));
+          } ∷ [];
+    }
 
 abbrev entriesOf : Layout
 entriesOf = field 79 true (field 80 true (group 539 false (field 524 true (field 525 false end)) end))
@@ -37,12 +44,15 @@ abbrev order : Layout
 order = field 38 false (group 78 false entriesOf (field 58 false end))
 
 -- a MsgType is compared with its length
-layouts : map (layoutOf dictionary) (bytes "D" ∷ bytes "0" ∷ (68 ∷ 0 ∷ []) ∷ bytes "" ∷ bytes "DD" ∷ bytes "d" ∷ []) ≡ laidOut order ∷ laidOut (field 112 false end) ∷ noMessage ∷ noMessage ∷ noMessage ∷ noMessage ∷ []
+layouts : map (layoutOf dictionary) (bytes "D" ∷ bytes "0" ∷ (68 ∷ 0 ∷ []) ∷ bytes "" ∷ bytes "DD" ∷ bytes "d" ∷ [])
+    ≡ laidOut order ∷ laidOut (field 112 false end) ∷ noMessage ∷ noMessage ∷ noMessage ∷ noMessage ∷ []
 unfolding layoutOf messageOf sameBytes flattened followedBy
 layouts = refl
 
 -- a group's count in component 0 is no header tag, nor is a field of a component within it
-header-tags : map plainFields (dictionary .header ∷ dictionary .trailer ∷ fieldItem 8 true (componentItem true (plain (9 ∷ [])) (groupItem 627 false (plain (628 ∷ [])) (fieldItem 35 false nothing))) ∷ []) ≡ (8 ∷ 9 ∷ 35 ∷ 34 ∷ 49 ∷ []) ∷ (93 ∷ 89 ∷ 10 ∷ []) ∷ (8 ∷ 35 ∷ []) ∷ []
+header-tags : map plainFields (dictionary .header ∷ dictionary .trailer ∷ fieldItem 8 true
+    (componentItem true (plain (9 ∷ [])) (groupItem 627 false (plain (628 ∷ [])) (fieldItem 35 false nothing))) ∷ [])
+    ≡ (8 ∷ 9 ∷ 35 ∷ 34 ∷ 49 ∷ []) ∷ (93 ∷ 89 ∷ 10 ∷ []) ∷ (8 ∷ 35 ∷ []) ∷ []
 unfolding plainFields
 header-tags = refl
 
@@ -51,7 +61,10 @@ unfolding knows holdsTag
 known-tags = refl
 
 -- components are flattened in place, also in a group, and only an item's own mark counts
-flattening : map flattened (componentItem true (plain (1 ∷ 2 ∷ [])) (fieldItem 3 true nothing) ∷ fieldItem 1 false (componentItem false (componentItem true nothing (fieldItem 2 true nothing)) (fieldItem 3 false nothing)) ∷ groupItem 4 false (componentItem true allocations nothing) nothing ∷ []) ≡ field 1 false (field 2 false (field 3 true end)) ∷ field 1 false (field 2 true (field 3 false end)) ∷ group 4 false entriesOf end ∷ []
+flattening : map flattened (componentItem true (plain (1 ∷ 2 ∷ [])) (fieldItem 3 true nothing) ∷ fieldItem 1 false
+    (componentItem false (componentItem true nothing (fieldItem 2 true nothing)) (fieldItem 3 false nothing)) ∷ groupItem 4 false
+    (componentItem true allocations nothing) nothing ∷ [])
+    ≡ field 1 false (field 2 false (field 3 true end)) ∷ field 1 false (field 2 true (field 3 false end)) ∷ group 4 false entriesOf end ∷ []
 unfolding flattened followedBy
 flattening = refl
 
@@ -106,7 +119,8 @@ fields-filled zero = none-at-end
 fields-filled (suc n) = none-after-field (fields-filled n)
 
 -- the bounds can be reached and not passed: "five deep", "1,024 items", "closes empty"
-measures : (depth (nested 4) ≡ 4) × (items (nested 4) ≡ 5) × (depth (nested 5) ≡ 5) × (depth (fields 1024) ≡ 0) × (items (fields 1024) ≡ 1024) × (items (fields 1025) ≡ 1025)
+measures : (depth (nested 4) ≡ 4) × (items (nested 4) ≡ 5) × (depth (nested 5) ≡ 5) × (depth (fields 1024) ≡ 0) × (items (fields 1024) ≡ 1024)
+    × (items (fields 1025) ≡ 1025)
 unfolding items depth larger
 measures = (refl, refl, refl, refl, refl, refl)
 

@@ -34,7 +34,11 @@ siblings-fuel zero (suc g) table at stop p q = rw (le-ltb at stop (omega arith))
 siblings-fuel (suc f) zero table at stop p q = rw (le-ltb at stop (omega arith))
 siblings-fuel (suc f) (suc g) table at stop p q = go (ltb at stop) refl (siblings-fuel f g table (nextSibling table at stop) stop)
   where
-    go : (t : Bool) → ltb at stop ≡ t → (stop - nextSibling table at stop ≤ f → stop - nextSibling table at stop ≤ g → siblingsWithin f table (nextSibling table at stop) stop ≡ siblingsWithin g table (nextSibling table at stop) stop) → pick t (rowAt table at stop ∷ siblingsWithin f table (nextSibling table at stop) stop) [] ≡ pick t (rowAt table at stop ∷ siblingsWithin g table (nextSibling table at stop) stop) []
+    go : (t : Bool) → ltb at stop ≡ t
+        → (stop - nextSibling table at stop ≤ f → stop - nextSibling table at stop ≤ g → siblingsWithin f table (nextSibling table at stop) stop
+        ≡ siblingsWithin g table (nextSibling table at stop) stop)
+        → pick t (rowAt table at stop ∷ siblingsWithin f table (nextSibling table at stop) stop) []
+        ≡ pick t (rowAt table at stop ∷ siblingsWithin g table (nextSibling table at stop) stop) []
     go true e r = let h = sibling-rises table at stop (ltb-true _ _ e) in
         ap (λ (l : List Row). rowAt table at stop ∷ l) (r (omega arith) (omega arith))
     go false e r = refl
@@ -42,10 +46,12 @@ siblings-fuel (suc f) (suc g) table at stop p q = go (ltb at stop) refl (sibling
 module _ (table : List ℕ) (at stop : ℕ) where
   pub walk-on : at < stop → siblingsFrom table at stop ≡ rowAt table at stop ∷ siblingsFrom table (nextSibling table at stop) stop
   unfolding siblingsFrom
-  walk-on h = let n = sibling-rises table at stop h in
+  walk-on h =
+      let n = sibling-rises table at stop h in
       siblings-fuel (stop - at) (suc (stop - at)) table at stop (omega arith) (omega arith)
       ∙ step (stop - at)
-      ∙ ap (λ (l : List Row). rowAt table at stop ∷ l) (siblings-fuel (stop - at) (stop - nextSibling table at stop) table (nextSibling table at stop) stop (omega arith) (omega arith))
+      ∙ ap (λ (l : List Row). rowAt table at stop ∷ l) (siblings-fuel (stop - at) (stop - nextSibling table at stop) table (nextSibling table at stop) stop
+      (omega arith) (omega arith))
     where
       step : (f : ℕ) → siblingsWithin (suc f) table at stop ≡ rowAt table at stop ∷ siblingsWithin f table (nextSibling table at stop) stop
       step f = unfold siblingsWithin in rw (lt-ltb _ _ h)

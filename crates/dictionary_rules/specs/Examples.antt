@@ -7,9 +7,12 @@ use Prim.Native.String.{String}
 use native.Mathlib.Omega.{arith}
 use lib.ListN.{take, replicate, length-replicate}
 use Rattle.field_rules.specs.Text.{bytes}
-use Rattle.dictionary_rules.specs.Record.{lowFirst, recordBodyLength, withTag, withMark, zeroFilled, knownTag, opensComponent, opensMessage, fieldItem, componentItem, opensGroup, recordBody, withBody, withKind, recordFrom, recordAt}
+use Rattle.dictionary_rules.specs.Record.{lowFirst, recordBodyLength, withTag, withMark, zeroFilled, knownTag, opensComponent, opensMessage, fieldItem}
+use Rattle.dictionary_rules.specs.Record.{componentItem, opensGroup, recordBody, withBody, withKind, recordFrom, recordAt}
 use Rattle.dictionary_rules.specs.Records.{followedBy, recordsWithin, recordsFrom}
-use Rattle.dictionary_rules.specs.Step.{depthOf, opened, opens, deeper, grown, heldAlso, heldWith, standsFor, atTop, inside, closedBefore, knownBefore, notEmpty, notTooDeep, onceComponent, onceMessage, notTooMany, onTag, onComponent, onMessage, onField, onItem, onGroup, closesOwner, closesGroup, closesInnermost, onClose, stepOf, present, atEnd}
+use Rattle.dictionary_rules.specs.Step.{depthOf, opened, opens, deeper, grown, heldAlso, heldWith, standsFor, atTop, inside, closedBefore, knownBefore}
+use Rattle.dictionary_rules.specs.Step.{notEmpty, notTooDeep, onceComponent, onceMessage, notTooMany, onTag, onComponent, onMessage, onField, onItem}
+use Rattle.dictionary_rules.specs.Step.{onGroup, closesOwner, closesGroup, closesInnermost, onClose, stepOf, present, atEnd}
 use Rattle.dictionary_rules.specs.Check.{onStep, walked, tooLong, readOf, answerOf, checkOf, numberOfCheck, valuesOfCheck}
 use Rattle.dictionary_rules.specs.Prepared.{check-long}
 use Rattle.dictionary_rules.specs.declared.Checked.the-variants.{TooLong}
@@ -74,7 +77,8 @@ doubled n = joined (component (n + 1) ∷ item n ∷ item n ∷ close ∷ [])
 
 abbrev thousand : List ℕ
 thousand =
-    joined (tag 8 ∷ component 1 ∷ field 8 ∷ field 8 ∷ close ∷ doubled 1 ∷ doubled 2 ∷ doubled 3 ∷ doubled 4 ∷ doubled 5 ∷ doubled 6 ∷ doubled 7 ∷ doubled 8 ∷ doubled 9 ∷ [])
+    joined (tag 8 ∷ component 1 ∷ field 8 ∷ field 8 ∷ close ∷ doubled 1 ∷ doubled 2 ∷ doubled 3 ∷ doubled 4 ∷ doubled 5 ∷ doubled 6 ∷ doubled 7 ∷ doubled 8
+    ∷ doubled 9 ∷ [])
 
 -- four groups, one in the other, from inside a component of a dictionary that knows tag 8
 abbrev four : List ℕ
@@ -130,9 +134,18 @@ table =
     -- 35: five groups; four groups and a component of depth one; three and a component of depth two
     ∷ (joined (tag 8 ∷ component 5 ∷ four ∷ group 8 ∷ []), 35, 32 ∷ [])
     ∷ (joined (tag 8 ∷ component 9 ∷ group 8 ∷ field 8 ∷ close ∷ close ∷ message "D" ∷ four ∷ item 9 ∷ []), 35, 55 ∷ [])
-    ∷ (joined (tag 8 ∷ component 9 ∷ group 8 ∷ group 8 ∷ field 8 ∷ close ∷ close ∷ close ∷ component 5 ∷ group 8 ∷ group 8 ∷ group 8 ∷ item 9 ∷ []), 35, 50 ∷ [])
+    ∷ (
+      joined (tag 8 ∷ component 9 ∷ group 8 ∷ group 8 ∷ field 8 ∷ close ∷ close ∷ close ∷ component 5 ∷ group 8 ∷ group 8 ∷ group 8 ∷ item 9 ∷ []),
+      35,
+      50 ∷ [],
+    )
     -- 35: the deepest group counts, also where one less deep comes after it
-    ∷ (joined (tag 8 ∷ component 9 ∷ group 8 ∷ group 8 ∷ field 8 ∷ close ∷ close ∷ group 8 ∷ field 8 ∷ close ∷ close ∷ component 5 ∷ group 8 ∷ group 8 ∷ group 8 ∷ item 9 ∷ []), 35, 63 ∷ [])
+    ∷ (
+      joined (tag 8 ∷ component 9 ∷ group 8 ∷ group 8 ∷ field 8 ∷ close ∷ close ∷ group 8 ∷ field 8 ∷ close ∷ close ∷ component 5 ∷ group 8 ∷ group 8
+          ∷ group 8 ∷ item 9 ∷ []),
+      35,
+      63 ∷ [],
+    )
     -- 36: a component's number, a MsgType
     ∷ (joined (least ∷ component 0 ∷ []), 36, 8 ∷ [])
     ∷ (joined (message "D" ∷ close ∷ message "D" ∷ []), 36, 10 ∷ [])
@@ -152,11 +165,18 @@ table =
     ∷ []
 
 answers : map (λ (row : Row). numberOfCheck (checkOf (row .0)) ∷ valuesOfCheck (checkOf (row .0))) table ≡ map (λ (row : Row). row .1 ∷ row .2) table
-unfolding checkOf numberOfCheck valuesOfCheck readOf answerOf tooLong walked onStep isKnown componentIn messageIn looksIn named noNames stepOf onTag onComponent onMessage onField onItem onGroup onClose closesInnermost closesGroup closesOwner atTop inside closedBefore knownBefore notEmpty notTooDeep notTooMany onceComponent onceMessage standsFor heldWith heldAlso grown opens opened deeper depthOf present atEnd recordsFrom recordsWithin followedBy recordAt recordFrom withKind withBody recordBody knownTag opensComponent opensMessage fieldItem componentItem opensGroup withTag withMark zeroFilled recordBodyLength lowFirst
+unfolding checkOf numberOfCheck valuesOfCheck readOf answerOf tooLong walked onStep isKnown componentIn messageIn looksIn named noNames stepOf onTag
+    onComponent onMessage onField onItem onGroup onClose closesInnermost closesGroup closesOwner atTop inside closedBefore knownBefore notEmpty notTooDeep
+    notTooMany onceComponent onceMessage standsFor heldWith heldAlso grown opens opened deeper depthOf present atEnd recordsFrom recordsWithin followedBy
+    recordAt recordFrom withKind withBody recordBody knownTag opensComponent opensMessage fieldItem componentItem opensGroup withTag withMark zeroFilled
+    recordBodyLength lowFirst
 answers = refl
 
 pub examples-pass : numberOfCheck (checkOf examples) ≡ 0
-unfolding checkOf numberOfCheck readOf answerOf tooLong walked onStep isKnown componentIn messageIn looksIn named noNames stepOf onTag onComponent onMessage onField onItem onGroup onClose closesInnermost closesGroup closesOwner atTop inside closedBefore knownBefore notEmpty notTooDeep notTooMany onceComponent onceMessage standsFor heldWith heldAlso grown opens opened deeper depthOf present atEnd recordsFrom recordsWithin followedBy recordAt recordFrom withKind withBody recordBody knownTag opensComponent opensMessage fieldItem componentItem opensGroup withTag withMark zeroFilled recordBodyLength lowFirst
+unfolding checkOf numberOfCheck readOf answerOf tooLong walked onStep isKnown componentIn messageIn looksIn named noNames stepOf onTag onComponent onMessage
+    onField onItem onGroup onClose closesInnermost closesGroup closesOwner atTop inside closedBefore knownBefore notEmpty notTooDeep notTooMany onceComponent
+    onceMessage standsFor heldWith heldAlso grown opens opened deeper depthOf present atEnd recordsFrom recordsWithin followedBy recordAt recordFrom withKind
+    withBody recordBody knownTag opensComponent opensMessage fieldItem componentItem opensGroup withTag withMark zeroFilled recordBodyLength lowFirst
 examples-pass = refl
 
 -- 30: one byte over 60,000, whatever it holds

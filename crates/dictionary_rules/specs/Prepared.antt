@@ -13,7 +13,9 @@ use Rattle.dictionary_rules.specs.Records.{Records, recordsFrom}
 use Rattle.dictionary_rules.specs.RecordsLaws.{sizeOf, Spaced, at-last, at-bad, at-next, spaced}
 use Rattle.dictionary_rules.specs.declared.Record.{Record}
 use Rattle.dictionary_rules.specs.declared.Record.the-variants.{KnownTag, OpensComponent, OpensMessage, FieldItem, ComponentItem, OpensGroup, Closes}
-use Rattle.dictionary_rules.specs.Step.{depthOf, opens, deeper, grown, heldWith, atTop, inside, closedBefore, knownBefore, notEmpty, notTooDeep, notTooMany, onceComponent, onceMessage, onTag, onComponent, onMessage, onField, onItem, onGroup, closesOwner, closesGroup, closesInnermost, onClose, stepOf, atEnd}
+use Rattle.dictionary_rules.specs.Step.{depthOf, opens, deeper, grown, heldWith, atTop, inside, closedBefore, knownBefore, notEmpty, notTooDeep}
+use Rattle.dictionary_rules.specs.Step.{notTooMany, onceComponent, onceMessage, onTag, onComponent, onMessage, onField, onItem, onGroup, closesOwner}
+use Rattle.dictionary_rules.specs.Step.{closesGroup, closesInnermost, onClose, stepOf, atEnd}
 use Rattle.dictionary_rules.specs.Check.{CheckOutcome, outcome, onStep, walked, tooLong, readOf, answerOf, storeOf, checkOf}
 use Rattle.dictionary_rules.specs.Check.{preparedOf}
 use Rattle.dictionary_rules.specs.Index.{looksAt, noted}
@@ -114,7 +116,11 @@ module _ (names : Names) (place b : ℕ) where
   fine-close o (ThreeGroups x y z) r = fine-group o x _ r
   fine-close o (FourGroups x y z w) r = fine-group o x _ r
 
-  fine-item : (o : Open) (looked : Looked) (number : ℕ) → ReadyFor names (o .owner) (o .place) b place → Fine names b (place + 4) (closedBefore looked number (λ c. notTooDeep (depthOf (o .groups) + c .depth) place (notTooMany (o .items + c .items) place (Goes (Inside (grown o (o .items + c .items) (deeper (o .depth) (depthOf (o .groups) + c .depth)) (heldWith (o .held) c) (o .groups))) Unchanged))))
+  fine-item : (o : Open) (looked : Looked) (number : ℕ) → ReadyFor names (o .owner) (o .place) b place
+      → Fine names b (place + 4) (closedBefore looked number
+      (λ c. notTooDeep (depthOf (o .groups) + c .depth) place
+      (notTooMany (o .items + c .items) place
+      (Goes (Inside (grown o (o .items + c .items) (deeper (o .depth) (depthOf (o .groups) + c .depth)) (heldWith (o .held) c) (o .groups))) Unchanged))))
   unfolding closedBefore notTooDeep notTooMany grown
   fine-item o Missing number r = tt
   fine-item o (Closed c) number r =
@@ -127,18 +133,21 @@ module _ (names : Names) (place b : ℕ) where
   fine-tag true tag h r = omega arith
   fine-tag false tag h r = (h, omega arith, omega arith)
 
-  fine-component : (looked : Looked) (number : ℕ) → componentIn (names .components) number ≡ looked → place < 60000 → b ≤ place → Fine names b (place + 3) (onceComponent looked place (Goes (Inside (opens (OfComponent number) place)) Unchanged))
+  fine-component : (looked : Looked) (number : ℕ) → componentIn (names .components) number ≡ looked → place < 60000 → b ≤ place
+      → Fine names b (place + 3) (onceComponent looked place (Goes (Inside (opens (OfComponent number) place)) Unchanged))
   unfolding onceComponent opens
   fine-component Missing number e h r = (h, r, omega arith, e)
   fine-component (Closed c) number e h r = tt
 
-  fine-message : (placed : Placed) (msgType : ℕ) → messageIn (names .messages) msgType ≡ placed → place < 60000 → b ≤ place → Fine names b (place + 9) (onceMessage placed place (Goes (Inside (opens OfMessage place)) (NamesMessage place msgType)))
+  fine-message : (placed : Placed) (msgType : ℕ) → messageIn (names .messages) msgType ≡ placed → place < 60000 → b ≤ place
+      → Fine names b (place + 9) (onceMessage placed place (Goes (Inside (opens OfMessage place)) (NamesMessage place msgType)))
   unfolding onceMessage opens numberAt
   fine-message Nowhere msgType e h r = (h, omega arith, omega arith, e)
   fine-message (At p) msgType e h r = tt
 
   -- a record's own entry is newer than every entry before it, and names what had no name
-  step-fine : (state : State) (r : Record) → place < 60000 → Ready names state b place → Fine names b (place + sizeOf r) (stepOf (looksIn names) state place r)
+  step-fine : (state : State) (r : Record) → place < 60000 → Ready names state b place
+      → Fine names b (place + sizeOf r) (stepOf (looksIn names) state place r)
   unfolding stepOf onTag onComponent onMessage onField onItem onGroup onClose atTop inside knownBefore notTooDeep notTooMany grown sizeOf looksIn
   step-fine TopLevel (KnownTag tag) h r = fine-tag (isKnown (names .tags) tag) tag h r
   step-fine (Inside o) (KnownTag tag) h r = tt
@@ -163,11 +172,13 @@ module _ (names : Names) (place b : ℕ) where
   step-fine (Inside o) Closes h r = fine-close o (o .groups) r
 
 -- what was noted leaves them in agreement
-note-agrees : (index : List ℕ) (names : Names) (b : ℕ) → Agrees index names b → (state : State) (note : Note) (next : ℕ) → After names state note b next → (c : ℕ) × Agrees (noted index note) (named names note) c × Ready (named names note) state c next
+note-agrees : (index : List ℕ) (names : Names) (b : ℕ) → Agrees index names b → (state : State) (note : Note) (next : ℕ) → After names state note b next
+    → (c : ℕ) × Agrees (noted index note) (named names note) c × Ready (named names note) state c next
 note-agrees index names b a state Unchanged next r = unfold noted named in (b, a, r)
 note-agrees index names b a state (KnowsTag place tag) next r = (numberAt place, knows-tag index names b a place tag (r .0) (r .1), r .2)
 note-agrees index names b a state (ClosesComponent c) next r = (numberAt (c .place), closes-component index names b a c (r .0) (r .1) (r .3), r .2)
-note-agrees index names b a state (NamesMessage place msgType) next r = (numberAt place, names-message index names b a place msgType (r .0) (r .1) (r .3), r .2)
+note-agrees index names b a state (NamesMessage place msgType) next r =
+    (numberAt place, names-message index names b a place msgType (r .0) (r .1) (r .3), r .2)
 
 -- the same answer, and stores that agree
 abbrev Same : CheckOutcome (List ℕ) → CheckOutcome Names → Type 0
@@ -181,16 +192,22 @@ same-store : (x : CheckOutcome (List ℕ)) (y : CheckOutcome Names) → Same x y
 unfolding storeOf
 same-store (outcome checked index) (outcome other names) same = same .1
 
-simulate : (n : ℕ) → n ≤ 60000 → {place : ℕ} {rs : Records} → Spaced n place rs → (state : State) (index : List ℕ) (names : Names) (b : ℕ) → Ready names state b place → Agrees index names b → Same (walked looksAt noted rs state index) (walked looksIn named rs state names)
+simulate : (n : ℕ) → n ≤ 60000 → {place : ℕ} {rs : Records} → Spaced n place rs → (state : State) (index : List ℕ) (names : Names) (b : ℕ)
+    → Ready names state b place → Agrees index names b → Same (walked looksAt noted rs state index) (walked looksIn named rs state names)
 unfolding walked
 simulate n few at-last state index names b ready a = (same-end index names b a state _, (b, a))
 simulate n few at-bad state index names b ready a = (refl, (b, a))
 simulate n few (at-next {place = place} {r = r} {rest = rest} here others) state index names b ready a =
     rw (same-step index names b a state place r)
     (go (stepOf (looksIn names) state place r) (step-fine names place b state r (omega arith) ready)
-    (λ state₁ note after. let m = note-agrees index names b a state₁ note (place + sizeOf r) after in simulate n few others state₁ (noted index note) (named names note) (m .0) (m .2) (m .1)))
+    (λ state₁ note after. let m = note-agrees index names b a state₁ note (place + sizeOf r) after in
+    simulate n few others state₁ (noted index note) (named names note) (m .0) (m .2) (m .1)))
   where
-    go : (step : Step) → Fine names b (place + sizeOf r) step → ((state₁ : State) (note : Note) → After names state₁ note b (place + sizeOf r) → Same (walked looksAt noted rest state₁ (noted index note)) (walked looksIn named rest state₁ (named names note))) → Same (onStep index step (λ state₁ note. walked looksAt noted rest state₁ (noted index note))) (onStep names step (λ state₁ note. walked looksIn named rest state₁ (named names note)))
+    go : (step : Step) → Fine names b (place + sizeOf r) step
+        → ((state₁ : State) (note : Note) → After names state₁ note b (place + sizeOf r)
+        → Same (walked looksAt noted rest state₁ (noted index note)) (walked looksIn named rest state₁ (named names note)))
+        → Same (onStep index step (λ state₁ note. walked looksAt noted rest state₁ (noted index note)))
+        (onStep names step (λ state₁ note. walked looksIn named rest state₁ (named names note)))
     go (Refuses checked) fine follows = unfold onStep in (refl, (b, a))
     go (Goes state₁ note) fine follows = unfold onStep in follows state₁ note fine
 
@@ -216,23 +233,33 @@ unfolding checkOf readOf tooLong answerOf
 check-long d h = rw (lt-ltb 60000 (length d) h)
 
 module _ (d index : List ℕ) (size : length index ≡ indexWords) where
-  same-walk : tooLong d ≡ false → Same (walked looksAt noted (recordsFrom d 0) TopLevel (replicate headWords 0 ++ drop headWords index)) (walked looksIn named (recordsFrom d 0) TopLevel noNames)
+  same-walk : tooLong d ≡ false
+      → Same (walked looksAt noted (recordsFrom d 0) TopLevel (replicate headWords 0 ++ drop headWords index))
+      (walked looksIn named (recordsFrom d 0) TopLevel noNames)
   unfolding tooLong
-  same-walk short = simulate (length d) (ltb-false 60000 (length d) short) (spaced d 0) TopLevel (replicate headWords 0 ++ drop headWords index) noNames 0 (omega arith) (clear-agrees index size)
+  same-walk short =
+      simulate (length d) (ltb-false 60000 (length d) short) (spaced d 0) TopLevel (replicate headWords 0 ++ drop headWords index) noNames 0 (omega arith)
+      (clear-agrees index size)
 
   -- the check over the index is the check
   pub prepared-answer : answerOf (preparedOf d index) ≡ checkOf d
   unfolding preparedOf checkOf readOf
   prepared-answer = go (tooLong d) refl
     where
-      go : (t : Bool) → tooLong d ≡ t → answerOf (pick t (outcome TooLong index) (walked looksAt noted (recordsFrom d 0) TopLevel (replicate headWords 0 ++ drop headWords index))) ≡ answerOf (pick t (outcome TooLong noNames) (walked looksIn named (recordsFrom d 0) TopLevel noNames))
+      go : (t : Bool) → tooLong d ≡ t
+          → answerOf (pick t (outcome TooLong index) (walked looksAt noted (recordsFrom d 0) TopLevel (replicate headWords 0 ++ drop headWords index)))
+          ≡ answerOf (pick t (outcome TooLong noNames) (walked looksIn named (recordsFrom d 0) TopLevel noNames))
       go true e = unfold answerOf in refl
-      go false e = same-answer (walked looksAt noted (recordsFrom d 0) TopLevel (replicate headWords 0 ++ drop headWords index)) (walked looksIn named (recordsFrom d 0) TopLevel noNames) (same-walk e)
+      go false e =
+          same-answer (walked looksAt noted (recordsFrom d 0) TopLevel (replicate headWords 0 ++ drop headWords index))
+          (walked looksIn named (recordsFrom d 0) TopLevel noNames) (same-walk e)
 
   -- and what it leaves in the index answers every look-up as what the dictionary names does
   pub prepared-names : tooLong d ≡ false → (b : ℕ) × Agrees (storeOf (preparedOf d index)) (storeOf (readOf d)) b
   unfolding preparedOf readOf
-  prepared-names short = rw short (same-store (walked looksAt noted (recordsFrom d 0) TopLevel (replicate headWords 0 ++ drop headWords index)) (walked looksIn named (recordsFrom d 0) TopLevel noNames) (same-walk short))
+  prepared-names short =
+      rw short (same-store (walked looksAt noted (recordsFrom d 0) TopLevel (replicate headWords 0 ++ drop headWords index))
+      (walked looksIn named (recordsFrom d 0) TopLevel noNames) (same-walk short))
 
   -- after a check that passes, the lent index answers every look-up as the dictionary's names do
   pub passes-agrees : (out : List ℕ) → outcome Passes out ≡ preparedOf d index → (b : ℕ) × Agrees out (storeOf (readOf d)) b

@@ -11,7 +11,9 @@ use Rattle.field_rules.specs.Choice.{pick}
 use Rattle.dictionary_rules.specs.Records.{Records, ends, bad, whole, recordsFrom}
 use Rattle.dictionary_rules.specs.declared.Record.{Record}
 use Rattle.dictionary_rules.specs.declared.Record.the-variants.{KnownTag, OpensComponent, OpensMessage, FieldItem, ComponentItem, OpensGroup, Closes}
-use Rattle.dictionary_rules.specs.Step.{depthOf, opens, deeper, grown, heldAlso, heldWith, standsFor, atTop, inside, closedBefore, knownBefore, notEmpty, notTooDeep, notTooMany, onceComponent, onceMessage, onTag, onComponent, onMessage, onField, onItem, onGroup, closesOwner, closesGroup, closesInnermost, onClose, stepOf}
+use Rattle.dictionary_rules.specs.Step.{depthOf, opens, deeper, grown, heldAlso, heldWith, standsFor, atTop, inside, closedBefore, knownBefore}
+use Rattle.dictionary_rules.specs.Step.{notEmpty, notTooDeep, notTooMany, onceComponent, onceMessage, onTag, onComponent, onMessage, onField, onItem}
+use Rattle.dictionary_rules.specs.Step.{onGroup, closesOwner, closesGroup, closesInnermost, onClose, stepOf}
 use Rattle.dictionary_rules.specs.Check.{outcome, onStep, walked, tooLong, readOf, storeOf}
 use Rattle.dictionary_rules.specs.declared.Checked.{Checked}
 use Rattle.dictionary_rules.specs.declared.Checked.the-variants.{TooLong}
@@ -83,7 +85,8 @@ unfolding deeper
 deeper-none a = rw (le-ltb a 0 (omega arith))
 
 -- an empty component adds neither items nor depth
-adds-nothing : (components : List Component) (held : Held) (items depth groups more below : ℕ) → more ≡ 0 → below ≡ 0 → HeldSound components held items depth groups → HeldSound components held (items + more) (deeper depth (groups + below)) groups
+adds-nothing : (components : List Component) (held : Held) (items depth groups more below : ℕ) → more ≡ 0 → below ≡ 0
+    → HeldSound components held items depth groups → HeldSound components held (items + more) (deeper depth (groups + below)) groups
 adds-nothing components Empty items depth groups more below z y (i, d, g) =
     (omega arith, rw (g, y) (deeper-none depth ∙ d), g)
 adds-nothing components (Only number) items depth groups more below z y (s, g, l) =
@@ -100,12 +103,15 @@ deeper-first x = go (ltb 0 (0 + x)) refl
     go false e = omega (arith, ltb-false 0 (0 + x) e)
 
 -- a component item, by what it adds
-held-with : (components : List Component) (held : Held) (c : Component) (items depth groups : ℕ) → Sound components c → HeldSound components held items depth groups → HeldSound components (heldWith held c) (items + c .items) (deeper depth (groups + c .depth)) groups
+held-with : (components : List Component) (held : Held) (c : Component) (items depth groups : ℕ) → Sound components c
+    → HeldSound components held items depth groups → HeldSound components (heldWith held c) (items + c .items) (deeper depth (groups + c .depth)) groups
 unfolding heldWith heldAlso
 held-with components held c items depth groups sound h = go (eqb (c .items) 0) refl held h
   where
-    go : (t : Bool) → eqb (c .items) 0 ≡ t → (held : Held) → HeldSound components held items depth groups → HeldSound components (pick t held (heldAlso held (c .stands))) (items + c .items) (deeper depth (groups + c .depth)) groups
-    go true e held h = let z : c .items ≡ 0 = eqb-true (c .items) 0 e in adds-nothing components held items depth groups (c .items) (c .depth) z (sound .flat z) h
+    go : (t : Bool) → eqb (c .items) 0 ≡ t → (held : Held) → HeldSound components held items depth groups
+        → HeldSound components (pick t held (heldAlso held (c .stands))) (items + c .items) (deeper depth (groups + c .depth)) groups
+    go true e held h =
+        let z : c .items ≡ 0 = eqb-true (c .items) 0 e in adds-nothing components held items depth groups (c .items) (c .depth) z (sound .flat z) h
     go false e Empty (i, d, g) =
         let some : c .items ≡ 0 → ⊥ = eqb-false (c .items) 0 e in
         let same : items + c .items ≡ c .items = omega arith in
@@ -114,13 +120,15 @@ held-with components held c items depth groups sound h = go (eqb (c .items) 0) r
     go false e Several l = omega arith
 
 -- a group that closes leaves what was held
-regroup : (components : List Component) (held : Held) (items depth n m : ℕ) → 1 ≤ n → HeldSound components held items depth n → HeldSound components held items depth m
+regroup : (components : List Component) (held : Held) (items depth n m : ℕ) → 1 ≤ n → HeldSound components held items depth n
+    → HeldSound components held items depth m
 regroup components Empty items depth n m l (i, d, g) = absurd (omega arith)
 regroup components (Only number) items depth n m l (s, g, k) = absurd (omega arith)
 regroup components Several items depth n m l k = k
 
 -- a new number hides no component
-older : (c : Component) (components : List Component) → componentIn components (c .number) ≡ Missing → (number : ℕ) (x : Component) → componentIn components number ≡ Closed x → componentIn (c ∷ components) number ≡ Closed x
+older : (c : Component) (components : List Component) → componentIn components (c .number) ≡ Missing → (number : ℕ) (x : Component)
+    → componentIn components number ≡ Closed x → componentIn (c ∷ components) number ≡ Closed x
 unfolding componentIn
 older c components fresh number x h = go (eqb number (c .number)) refl
   where
@@ -134,7 +142,13 @@ older c components fresh number x h = go (eqb number (c .number)) refl
 module _ (c : Component) (components : List Component) (fresh : componentIn components (c .number) ≡ Missing) where
   stood-older : (number items depth : ℕ) → Stood components number items depth → Stood (c ∷ components) number items depth
   stood-older number items depth s =
-      record { meant = s .meant; closed = older c components fresh number (s .meant) (s .closed); same-items = s .same-items; same-depth = s .same-depth; itself = s .itself }
+      record {
+        meant = s .meant;
+        closed = older c components fresh number (s .meant) (s .closed);
+        same-items = s .same-items;
+        same-depth = s .same-depth;
+        itself = s .itself;
+      }
 
   sound-older : (x : Component) → Sound components x → Sound (c ∷ components) x
   sound-older x s = record { flat = s .flat; stood = λ some. stood-older (x .stands) (x .items) (x .depth) (s .stood some) }
@@ -143,13 +157,20 @@ module _ (c : Component) (components : List Component) (fresh : componentIn comp
   unfolding componentIn
   found-new = rw (eq-eqb (c .number) (c .number) refl)
 
-  sound-new : (held : Held) (groups : ℕ) → c .stands ≡ standsFor (c .number) held → HeldSound components held (c .items) (c .depth) groups → Sound (c ∷ components) c
+  sound-new : (held : Held) (groups : ℕ) → c .stands ≡ standsFor (c .number) held → HeldSound components held (c .items) (c .depth) groups
+      → Sound (c ∷ components) c
   unfolding standsFor
   sound-new Empty groups e (i, d, g) = record { flat = λ z. d; stood = λ some. absurd (some i) }
   sound-new (Only number) groups e (s, g, l) =
-      record { flat = λ z. absurd (omega arith); stood = λ some. subst (λ (n : ℕ). Stood (c ∷ components) n (c .items) (c .depth)) (sym e) (stood-older number (c .items) (c .depth) s) }
+      record {
+        flat = λ z. absurd (omega arith);
+        stood = λ some. subst (λ (n : ℕ). Stood (c ∷ components) n (c .items) (c .depth)) (sym e) (stood-older number (c .items) (c .depth) s);
+      }
   sound-new Several groups e l =
-      record { flat = λ z. absurd (omega arith); stood = λ some. record { meant = c; closed = ap (componentIn (c ∷ components)) e ∙ found-new; same-items = refl; same-depth = refl; itself = refl } }
+      record {
+        flat = λ z. absurd (omega arith);
+        stood = λ some. record { meant = c; closed = ap (componentIn (c ∷ components)) e ∙ found-new; same-items = refl; same-depth = refl; itself = refl };
+      }
 
   all-sound : AllSound components → Sound (c ∷ components) c → AllSound (c ∷ components)
   unfolding AllSound componentIn
@@ -160,19 +181,23 @@ module _ (c : Component) (components : List Component) (fresh : componentIn comp
       go false e q = sound-older x (all number x q)
 
 module _ (names : Names) (all : AllSound (names .components)) where
-  keeps-owner : (o : Open) (owner : Owner) (groups : ℕ) → OwnerSound (names .components) owner → HeldSound (names .components) (o .held) (o .items) (o .depth) groups → Keeps names (closesOwner o owner)
+  keeps-owner : (o : Open) (owner : Owner) (groups : ℕ) → OwnerSound (names .components) owner
+      → HeldSound (names .components) (o .held) (o .items) (o .depth) groups → Keeps names (closesOwner o owner)
   unfolding closesOwner named
   keeps-owner o (OfComponent number) groups own h =
       let c : Component = record { number = number; place = o .place; items = o .items; depth = o .depth; stands = standsFor number (o .held) } in
       (all-sound c (names .components) own all (sound-new c (names .components) own (o .held) groups refl h), tt)
   keeps-owner o OfMessage groups own h = (all, tt)
 
-  keeps-group : (o : Open) (g : Group) (inner groups : Groups) → 1 ≤ depthOf inner → OwnerSound (names .components) (o .owner) → HeldSound (names .components) (o .held) (o .items) (o .depth) (depthOf inner) → Keeps names (closesGroup o g groups)
+  keeps-group : (o : Open) (g : Group) (inner groups : Groups) → 1 ≤ depthOf inner → OwnerSound (names .components) (o .owner)
+      → HeldSound (names .components) (o .held) (o .items) (o .depth) (depthOf inner) → Keeps names (closesGroup o g groups)
   unfolding closesGroup notEmpty grown named
   keeps-group o g inner groups l own h =
-      keeps-refuses names (eqb (o .items) (g .since)) _ _ (all, (own, regroup (names .components) (o .held) (o .items) (o .depth) (depthOf inner) (depthOf groups) l h))
+      keeps-refuses names (eqb (o .items) (g .since)) _ _
+      (all, (own, regroup (names .components) (o .held) (o .items) (o .depth) (depthOf inner) (depthOf groups) l h))
 
-  keeps-close : (o : Open) (groups : Groups) → OwnerSound (names .components) (o .owner) → HeldSound (names .components) (o .held) (o .items) (o .depth) (depthOf groups) → Keeps names (closesInnermost o groups)
+  keeps-close : (o : Open) (groups : Groups) → OwnerSound (names .components) (o .owner)
+      → HeldSound (names .components) (o .held) (o .items) (o .depth) (depthOf groups) → Keeps names (closesInnermost o groups)
   unfolding closesInnermost depthOf
   keeps-close o NoGroup own h = keeps-owner o (o .owner) 0 own h
   keeps-close o (OneGroup x) own h = keeps-group o x (OneGroup x) NoGroup (omega arith) own h
@@ -185,17 +210,24 @@ module _ (names : Names) (all : AllSound (names .components)) where
   keeps-tag true place tag = (all, tt)
   keeps-tag false place tag = (all, tt)
 
-  keeps-component : (looked : Looked) (number place : ℕ) → componentIn (names .components) number ≡ looked → Keeps names (onceComponent looked place (Goes (Inside (opens (OfComponent number) place)) Unchanged))
+  keeps-component : (looked : Looked) (number place : ℕ) → componentIn (names .components) number ≡ looked
+      → Keeps names (onceComponent looked place (Goes (Inside (opens (OfComponent number) place)) Unchanged))
   unfolding onceComponent opens named depthOf
   keeps-component Missing number place e = (all, (e, (refl, refl, refl)))
   keeps-component (Closed c) number place e = tt
 
-  keeps-message : (placed : Placed) (msgType place : ℕ) → Keeps names (onceMessage placed place (Goes (Inside (opens OfMessage place)) (NamesMessage place msgType)))
+  keeps-message : (placed : Placed) (msgType place : ℕ)
+      → Keeps names (onceMessage placed place (Goes (Inside (opens OfMessage place)) (NamesMessage place msgType)))
   unfolding onceMessage opens named depthOf
   keeps-message Nowhere msgType place = (all, (tt, (refl, refl, refl)))
   keeps-message (At p) msgType place = tt
 
-  keeps-item : (o : Open) (looked : Looked) (number place : ℕ) → componentIn (names .components) number ≡ looked → OwnerSound (names .components) (o .owner) → HeldSound (names .components) (o .held) (o .items) (o .depth) (depthOf (o .groups)) → Keeps names (closedBefore looked number (λ c. notTooDeep (depthOf (o .groups) + c .depth) place (notTooMany (o .items + c .items) place (Goes (Inside (grown o (o .items + c .items) (deeper (o .depth) (depthOf (o .groups) + c .depth)) (heldWith (o .held) c) (o .groups))) Unchanged))))
+  keeps-item : (o : Open) (looked : Looked) (number place : ℕ) → componentIn (names .components) number ≡ looked → OwnerSound (names .components) (o .owner)
+      → HeldSound (names .components) (o .held) (o .items) (o .depth) (depthOf (o .groups))
+      → Keeps names (closedBefore looked number
+      (λ c. notTooDeep (depthOf (o .groups) + c .depth) place
+      (notTooMany (o .items + c .items) place
+      (Goes (Inside (grown o (o .items + c .items) (deeper (o .depth) (depthOf (o .groups) + c .depth)) (heldWith (o .held) c) (o .groups))) Unchanged))))
   unfolding closedBefore notTooDeep notTooMany grown named AllSound
   keeps-item o Missing number place e own h = tt
   keeps-item o (Closed c) number place e own h =
@@ -225,14 +257,18 @@ module _ (names : Names) (all : AllSound (names .components)) where
   step-keeps TopLevel place Closes s = tt
   step-keeps (Inside o) place Closes s = keeps-close o (o .groups) (s .0) (s .1)
 
-walk-sound : (rs : Records) (state : State) (names : Names) → AllSound (names .components) → StateSound (names .components) state → AllSound (storeOf (walked looksIn named rs state names) .components)
+walk-sound : (rs : Records) (state : State) (names : Names) → AllSound (names .components) → StateSound (names .components) state
+    → AllSound (storeOf (walked looksIn named rs state names) .components)
 unfolding walked storeOf
 walk-sound (ends size) state names all s = all
 walk-sound (bad place) state names all s = all
 walk-sound (whole place r rest) state names all s =
     go (stepOf (looksIn names) state place r) (step-keeps names all state place r s) (λ state₁ note. walk-sound rest state₁ (named names note))
   where
-    go : (step : Step) → Keeps names step → ((state₁ : State) (note : Note) → AllSound (named names note .components) → StateSound (named names note .components) state₁ → AllSound (storeOf (walked looksIn named rest state₁ (named names note)) .components)) → AllSound (storeOf (onStep names step (λ state₁ note. walked looksIn named rest state₁ (named names note))) .components)
+    go : (step : Step) → Keeps names step
+        → ((state₁ : State) (note : Note) → AllSound (named names note .components) → StateSound (named names note .components) state₁
+        → AllSound (storeOf (walked looksIn named rest state₁ (named names note)) .components))
+        → AllSound (storeOf (onStep names step (λ state₁ note. walked looksIn named rest state₁ (named names note))) .components)
     go (Refuses checked) k later = unfold onStep in all
     go (Goes state₁ note) k later = unfold onStep in later state₁ note (k .0) (k .1)
 

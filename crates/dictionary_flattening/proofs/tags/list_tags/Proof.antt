@@ -18,7 +18,8 @@ use Rattle.dictionary_flattening.proofs.tags.list_tags.Statement.{state
 use Rattle.dictionary_flattening.proofs.tags.list_tags.Tie as tie
 
 abbrev Inv-loop : tie.InvT-loop
-Inv-loop dictionary from tags₀ at₀ groups₀ count₀ tags at groups count = (count ≤ 1024) × (groups ≤ at) × (length tags ≡ length tags₀) × (tagsFrom dictionary from 0 0 tags₀ ≡ tagsFrom dictionary at groups count tags)
+Inv-loop dictionary from tags₀ at₀ groups₀ count₀ tags at groups count =
+    (count ≤ 1024) × (groups ≤ at) × (length tags ≡ length tags₀) × (tagsFrom dictionary from 0 0 tags₀ ≡ tagsFrom dictionary at groups count tags)
 
 abbrev μ-loop : tie.MeasureT-loop
 μ-loop dictionary from tags₀ at₀ groups₀ count₀ tags at groups count = length dictionary - at
@@ -53,13 +54,19 @@ read-rises : (c : tie.After-known-told Inv-loop μ-loop) → let h = c .before .
 read-rises c = record-falls _ _ _ _ (read-here c)
 
 -- src/tags.rt:33:25
-field-here : (c : tie.After-known-told2 Inv-loop μ-loop) → let k = c .before .before .before in let h = k .before .before .before .before in let a = h .before .before .before .args in
-    recordAt (a .dictionary .now) (h .loop .at) ≡ Whole (FieldItem (c .before .record2 .given .0 .0) (c .before .record2 .given .0 .1 .0)) (k .before .«record» .given .0 .1 .0)
+field-here : (c : tie.After-known-told2 Inv-loop μ-loop)
+    → let after-record = c .before .before .before .before in
+    let h = after-record .before .before .before in
+    let a = h .before .before .before .args in
+    recordAt (a .dictionary .now) (h .loop .at) ≡ Whole (FieldItem (c .before .record2 .given .0 .0) (c .before .record2 .given .0 .1 .0))
+    (after-record .«record» .given .0 .1 .0)
 field-here c = read-as (read-here (c .before .before .before)) (c .before .record2 .given .1)
 
 -- src/tags.rt:33:25
 returns-2 : tie.Need-returns-2 Inv-loop μ-loop
-returns-2 c = sym (c .before .before .before .before .before .before .before .before .before .loop .inv .3 ∙ tags-full _ _ _ _ _ _ _ _ (field-here (c .before .before)) (c .before .if1 .taken) (c .if2 .taken))
+returns-2 c =
+    let loop = c .before .before .before .before .before .before .before .before .before .loop in
+    sym (loop .inv .3 ∙ tags-full _ _ _ _ _ _ _ _ (field-here (c .before .before)) (c .before .if1 .taken) (c .if2 .taken))
 
 -- src/tags.rt:35:21
 mul-tags : tie.Need-mul-tags Inv-loop μ-loop
@@ -79,7 +86,14 @@ loop-less c = omega (arith, read-rises (c .before .before .before .before .befor
 
 -- src/tags.rt:24:5
 loop-again : tie.Need-loop-again Inv-loop μ-loop
-loop-again c = (omega (arith, c .if2 .left), omega (arith, read-rises (c .before .before .before .before .before), c .before .before .before .before .before .before .before .before .before .loop .inv .1), simp length-set (c .before .before .before .before .before .before .before .before .before .loop .inv .2), c .before .before .before .before .before .before .before .before .before .loop .inv .3 ∙ tags-field _ _ _ _ _ _ _ _ (field-here (c .before .before)) (c .before .if1 .taken) (c .if2 .left))
+loop-again c =
+    let after-known-told = c .before .before .before .before .before in
+    let loop = after-known-told .before .before .before .before .loop in (
+      omega (arith, c .if2 .left),
+      omega (arith, read-rises after-known-told, loop .inv .1),
+      simp length-set (loop .inv .2),
+      loop .inv .3 ∙ tags-field _ _ _ _ _ _ _ _ (field-here (c .before .before)) (c .before .if1 .taken) (c .if2 .left),
+    )
 
 -- src/tags.rt:24:5
 loop-less-2 : tie.Need-loop-less-2 Inv-loop μ-loop
@@ -87,7 +101,14 @@ loop-less-2 c = omega (arith, read-rises (c .before .before .before .before))
 
 -- src/tags.rt:24:5
 loop-again-2 : tie.Need-loop-again-2 Inv-loop μ-loop
-loop-again-2 c = (c .before .before .before .before .before .before .before .before .loop .inv .0, omega (arith, read-rises (c .before .before .before .before), c .before .before .before .before .before .before .before .before .loop .inv .1), c .before .before .before .before .before .before .before .before .loop .inv .2, c .before .before .before .before .before .before .before .before .loop .inv .3 ∙ tags-within _ _ _ _ _ _ _ _ (field-here (c .before)) (c .if1 .left))
+loop-again-2 c =
+    let after-known-told = c .before .before .before .before in
+    let loop = after-known-told .before .before .before .before .loop in (
+      loop .inv .0,
+      omega (arith, read-rises after-known-told, loop .inv .1),
+      loop .inv .2,
+      loop .inv .3 ∙ tags-within _ _ _ _ _ _ _ _ (field-here (c .before)) (c .if1 .left),
+    )
 
 -- src/tags.rt:40:17
 enum-told : tie.Need-enum-told Inv-loop μ-loop
@@ -99,7 +120,13 @@ loop-less-3 c = omega (arith, read-rises (c .before .before))
 
 -- src/tags.rt:24:5
 loop-again-3 : tie.Need-loop-again-3 Inv-loop μ-loop
-loop-again-3 c = (c .before .before .before .before .before .before .loop .inv .0, omega (arith, read-rises (c .before .before), c .before .before .before .before .before .before .loop .inv .1), c .before .before .before .before .before .before .loop .inv .2, c .before .before .before .before .before .before .loop .inv .3 ∙ tags-component _ _ _ _ _ _ _ _ (read-as (read-here (c .before .before)) (c .enum-told .given .1)))
+loop-again-3 c =
+    let loop = c .before .before .before .before .before .before .loop in (
+      loop .inv .0,
+      omega (arith, read-rises (c .before .before), loop .inv .1),
+      loop .inv .2,
+      loop .inv .3 ∙ tags-component _ _ _ _ _ _ _ _ (read-as (read-here (c .before .before)) (c .enum-told .given .1)),
+    )
 
 -- src/tags.rt:43:17
 enum-told-2 : tie.Need-enum-told-2 Inv-loop μ-loop
@@ -115,7 +142,13 @@ loop-less-4 c = omega (arith, read-rises (c .before .before))
 
 -- src/tags.rt:24:5
 loop-again-4 : tie.Need-loop-again-4 Inv-loop μ-loop
-loop-again-4 c = (c .before .before .before .before .before .before .loop .inv .0, omega (arith, read-rises (c .before .before), c .before .before .before .before .before .before .loop .inv .1), c .before .before .before .before .before .before .loop .inv .2, c .before .before .before .before .before .before .loop .inv .3 ∙ tags-group _ _ _ _ _ _ _ _ (read-as (read-here (c .before .before)) (c .enum-told2 .given .1)))
+loop-again-4 c =
+    let loop = c .before .before .before .before .before .before .loop in (
+      loop .inv .0,
+      omega (arith, read-rises (c .before .before), loop .inv .1),
+      loop .inv .2,
+      loop .inv .3 ∙ tags-group _ _ _ _ _ _ _ _ (read-as (read-here (c .before .before)) (c .enum-told2 .given .1)),
+    )
 
 -- src/tags.rt:47:17
 enum-told-3 : tie.Need-enum-told-3 Inv-loop μ-loop
@@ -127,7 +160,9 @@ same-length-3 c = search needs
 
 -- src/tags.rt:49:21
 returns-3 : tie.Need-returns-3 Inv-loop μ-loop
-returns-3 c = sym (c .before .before .before .before .before .before .before .loop .inv .3 ∙ tags-closed _ _ _ _ _ _ (read-as (read-here (c .before .before .before)) (c .before .enum-told3 .given .1)) (c .if3 .taken))
+returns-3 c =
+    let loop = c .before .before .before .before .before .before .before .loop in
+    sym (loop .inv .3 ∙ tags-closed _ _ _ _ _ _ (read-as (read-here (c .before .before .before)) (c .before .enum-told3 .given .1)) (c .if3 .taken))
 
 -- src/tags.rt:51:17
 sub-groups : tie.Need-sub-groups Inv-loop μ-loop
@@ -139,7 +174,13 @@ loop-less-5 c = omega (arith, read-rises (c .before .before .before))
 
 -- src/tags.rt:24:5
 loop-again-5 : tie.Need-loop-again-5 Inv-loop μ-loop
-loop-again-5 c = (c .before .before .before .before .before .before .before .loop .inv .0, omega (arith, read-rises (c .before .before .before), c .before .before .before .before .before .before .before .loop .inv .1), c .before .before .before .before .before .before .before .loop .inv .2, c .before .before .before .before .before .before .before .loop .inv .3 ∙ tags-closes _ _ _ _ _ _ (read-as (read-here (c .before .before .before)) (c .before .enum-told3 .given .1)) (c .if3 .left))
+loop-again-5 c =
+    let loop = c .before .before .before .before .before .before .before .loop in (
+      loop .inv .0,
+      omega (arith, read-rises (c .before .before .before), loop .inv .1),
+      loop .inv .2,
+      loop .inv .3 ∙ tags-closes _ _ _ _ _ _ (read-as (read-here (c .before .before .before)) (c .before .enum-told3 .given .1)) (c .if3 .left),
+    )
 
 -- src/tags.rt:54:17
 same-length-4 : tie.Need-same-length-4 Inv-loop μ-loop
@@ -153,6 +194,5 @@ pub list-tags-spec : {M : Type 1} → statement M
 list-tags-spec =
     tie.close
     (tie.spec Inv-loop μ-loop loop-holds record-at-requires enum-known-record same-length returns (λ c. search needs)
-    (λ c. search needs) returns-2 mul-tags slice-write-tags add-count loop-less loop-again loop-less-2 loop-again-2
-    enum-told loop-less-3 loop-again-3 enum-told-2 add-groups loop-less-4 loop-again-4 enum-told-3 same-length-3
-    returns-3 sub-groups loop-less-5 loop-again-5 same-length-4 returns-4)
+    (λ c. search needs) returns-2 mul-tags slice-write-tags add-count loop-less loop-again loop-less-2 loop-again-2 enum-told loop-less-3 loop-again-3
+    enum-told-2 add-groups loop-less-4 loop-again-4 enum-told-3 same-length-3 returns-3 sub-groups loop-less-5 loop-again-5 same-length-4 returns-4)
