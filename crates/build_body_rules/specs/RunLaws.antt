@@ -91,7 +91,9 @@ run-later x r rs run at i h e =
     let k : i + 1 - at ≡ suc (i + 1 - (at + 1)) = omega arith in
     rw k (ap (λ (l : List Record). x ∷ l) e)
 
-run-step : (x r : Record) (rs run : List Record) (at i : ℕ) (d t : Bool) (later : Standing) → pick d (pick t (At at) later) later ≡ At i → (later ≡ At i → at + 1 ≤ i) → (later ≡ At i → storedRun r run rs ≡ take (i + 1 - (at + 1)) (stored r rs) ++ (run ++ behindRun (drop (i + 1 - (at + 1)) (stored r rs)))) →
+run-step : (x r : Record) (rs run : List Record) (at i : ℕ) (d t : Bool) (later : Standing) → pick d (pick t (At at) later) later ≡ At i → (later ≡ At i →
+    at + 1 ≤ i) → (later ≡ At i → storedRun r run rs ≡ take (i + 1 - (at + 1)) (stored r rs) ++ (run
+    ++ behindRun (drop (i + 1 - (at + 1)) (stored r rs)))) →
     pick d (pick t (r ∷ (run ++ behindRun rs)) (x ∷ storedRun r run rs)) (x ∷ storedRun r run rs) ≡ take (i + 1 - at) (pick d (pick t (r ∷ rs) (x ∷ stored r rs)) (x ∷ stored r rs)) ++ (run ++ behindRun (drop (i + 1 - at) (pick d (pick t (r ∷ rs) (x ∷ stored r rs)) (x ∷ stored r rs))))
 run-step x r rs run at i true true later e from next =
     let same : at ≡ i = cc in
@@ -121,7 +123,9 @@ run-new r (x ∷ rs) run at e =
 
 module _ (entry stores exit : List ℕ) (from count : ℕ) (r : Record) where
   -- a count that is held keeps its place, and its old run goes
-  pub open-held : (i after : ℕ) → from ≤ count → count < length entry / stride → length stores ≡ length entry → length exit ≡ length entry → heldFrom from (r .depth) (r .tag) (between from count (recordsOf entry)) ≡ At i → stores ≡ onRecords (storedBetween count from count r) entry → Dropped stores exit (i + 1) count after → Opened entry exit from count r (record { records = after; place = i + 1 })
+  pub open-held : (i after : ℕ) → from ≤ count → count < length entry / stride → length stores ≡ length entry → length exit ≡ length entry →
+      heldFrom from (r .depth) (r .tag) (between from count (recordsOf entry)) ≡ At i → stores ≡ onRecords (storedBetween count from count r) entry →
+      Dropped stores exit (i + 1) count after → Opened entry exit from count r (record { records = after; place = i + 1 })
   unfolding partOf
   open-held i after h l same last e is gone =
       let kept : Kept entry stores from count r count = rw is (keep-held entry from count r h l i e) in

@@ -95,7 +95,9 @@ module _ (before after : List Record) where
   stands-add room m entries r s = added (m .words) (m .place) (m .records) room entries r (s .slack) (s .whole) (s .here) (s .counted) (s .fits)
 
   -- what joins an entry is stored in the entry's own map
-  joins-held : (words : List ℕ) (place records room start i : ℕ) (kept map : List Record) (r : Record) (slack : List Record) → recordsOf words ≡ before ++ ((kept ++ map) ++ (after ++ slack)) → start ≡ length kept → place ≡ length before + length (kept ++ map) → records ≡ place + length after → suc room ≤ length slack →
+  joins-held : (words : List ℕ) (place records room start i : ℕ) (kept map : List Record) (r : Record) (slack : List Record) → recordsOf words ≡ before
+      ++ ((kept ++ map) ++ (after ++ slack)) → start ≡ length kept → place ≡ length before + length (kept ++ map) → records ≡ place + length after →
+      suc room ≤ length slack →
       heldFrom (length before + start) (r .depth) (r .tag) map ≡ At i → WordsStand room (record { words = onRecords (storedBetween records (length before + start) place r) words; records = records + 0; place = place + 0 }) (kept ++ stored r map)
   joins-held words place records room start i kept map r slack whole starts here counted fits e =
       let front = length-append before kept in
@@ -114,7 +116,9 @@ module _ (before after : List Record) where
         fits = omega arith;
       }
 
-  joins-new : (words : List ℕ) (place records room start : ℕ) (kept map : List Record) (r : Record) (slack : List Record) → recordsOf words ≡ before ++ ((kept ++ map) ++ (after ++ slack)) → start ≡ length kept → place ≡ length before + length (kept ++ map) → records ≡ place + length after → suc room ≤ length slack →
+  joins-new : (words : List ℕ) (place records room start : ℕ) (kept map : List Record) (r : Record) (slack : List Record) → recordsOf words ≡ before
+      ++ ((kept ++ map) ++ (after ++ slack)) → start ≡ length kept → place ≡ length before + length (kept ++ map) → records ≡ place + length after →
+      suc room ≤ length slack →
       heldFrom (length before + start) (r .depth) (r .tag) map ≡ Nowhere → WordsStand room (record { words = onRecords (storedBetween records (length before + start) place r) words; records = records + 1; place = place + 1 }) (kept ++ stored r map)
   joins-new words place records room start kept map r [] whole starts here counted fits e = absurd (omega arith)
   joins-new words place records room start kept map r (x ∷ slack) whole starts here counted fits e =
@@ -150,7 +154,10 @@ module _ (before after : List Record) where
         ∙ between-parts (before ++ take start entries) (drop start entries) (after ++ s .slack) (length before + start) (m .place) (omega arith) (omega (arith, s .here)) in
         go standing e (sym (ap (heldFrom (length before + start) (r .depth) (r .tag)) map) ∙ e) whole starts here
       where
-        go : (standing : Standing) → standingIn (length before + start) (m .place) r (m .words) ≡ standing → heldFrom (length before + start) (r .depth) (r .tag) (drop start entries) ≡ standing → recordsOf (m .words) ≡ before ++ ((take start entries ++ drop start entries) ++ (after ++ s .slack)) → start ≡ length (take start entries) → m .place ≡ length before + length (take start entries ++ drop start entries) →
+        go : (standing : Standing) → standingIn (length before + start) (m .place) r (m .words) ≡ standing →
+            heldFrom (length before + start) (r .depth) (r .tag) (drop start entries) ≡ standing → recordsOf (m .words) ≡ before ++ ((take start entries
+            ++ drop start entries) ++ (after ++ s .slack)) → start ≡ length (take start entries) → m .place ≡ length before + length (take start entries
+            ++ drop start entries) →
             WordsStand room (joinedWords (length before + start) r m) (joinedList start r entries)
         go (At i) e held whole starts here = rw e (joins-held (m .words) (m .place) (m .records) room start i (take start entries) (drop start entries) r (s .slack) whole starts here (s .counted) (s .fits) held)
         go Nowhere e held whole starts here = rw e (joins-new (m .words) (m .place) (m .records) room start (take start entries) (drop start entries) r (s .slack) whole starts here (s .counted) (s .fits) held)

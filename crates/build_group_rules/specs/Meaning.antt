@@ -70,7 +70,10 @@ module _ (after : List Record) (tail : List ℕ) (room : ℕ) (m : Memory) (done
   add-holds r [] whole same place count enough = absurd (omega arith)
   add-holds r (x ∷ slack) whole same place count enough =
       let size = length-append done (r ∷ []) in
-      record { lays = record { slack = slack; whole = records-on (inserted (m .records) (m .place) r) (m .words) ∙ ap (inserted (m .records) (m .place) r) whole ∙ inserted-parts done after x r slack (m .records) (m .place) place count ∙ sym (append-assoc done (r ∷ []) (after ++ slack)); same = leftover-on (inserted (m .records) (m .place) r) (m .words) ∙ same }; place = omega arith; count = omega arith; enough = omega arith }
+      record { lays = record { slack = slack; whole = records-on (inserted (m .records) (m .place) r) (m .words)
+          ∙ ap (inserted (m .records) (m .place) r) whole ∙ inserted-parts done after x r slack (m .records) (m .place) place count
+          ∙ sym (append-assoc done (r ∷ []) (after ++ slack)); same = leftover-on (inserted (m .records) (m .place) r) (m .words)
+          ∙ same }; place = omega arith; count = omega arith; enough = omega arith }
 
   holds-add : (r : Record) → Holds after tail (suc room) m done → Holds after tail room (addedWords r m) (done ++ (r ∷ []))
   holds-add r h = add-holds r (h .lays .slack) (h .lays .whole) (h .lays .same) (h .place) (h .count) (h .enough)
@@ -157,7 +160,10 @@ unfolding wordStore listStore
 stores-alike after tail = record { places = λ room m done h. h .place; adding = λ room m done r h. holds-add after tail room m done r h; joining = λ room m done start r h. holds-join after tail room m done start r h; leaving = λ room m done h. h .lays }
 
 -- a run that was read from a table into words is the run of the layout that the table holds, its records as a list
-pub run-means : (message : List ℕ) (config : Config) (table : List ℕ) (known has : ℕ → Bool) → ((tag : ℕ) → known tag ≡ has tag) → (group : Group) (layout : Layout) → Tabled table (group .level) layout → (cursor : Cursor) (progress : Progress) (words : List ℕ) (done after : List Record) (tail : List ℕ) → Holds after tail (progress .room) (memory progress words) done →
+pub run-means : (message : List ℕ) (config : Config) (table : List ℕ) (known has : ℕ → Bool) → ((tag : ℕ) → known tag ≡ has tag) →
+    (group : Group) (layout : Layout) → Tabled table (group .level) layout →
+    (cursor : Cursor) (progress : Progress) (words : List ℕ) (done after : List Record) (tail : List ℕ) →
+    Holds after tail (progress .room) (memory progress words) done →
     OutcomeAlike (Holds after tail) (Lays after tail) (runOf message config table known group cursor progress words) (walk (layoutRules (accepted config has)) listStore (progress .room) (run (onLevel layout (openGroup group)) 0 ∷ []) done (fieldsFrom (config .mode) message cursor))
 unfolding runOf
 run-means message config table known has same group layout t cursor progress words done after tail h =

@@ -25,6 +25,11 @@ module _ {L : Type 0} (rules : Rules L) where
     no-entry : {level : L} {depth : ℕ} → Formed (entriesOf level depth 0) []
     next-entry : {level : L} {depth entries last : ℕ} {run entry : List Record} → Formed (entriesOf level depth entries) run → Formed (fieldsOf level depth (entries + 1) last) entry → Formed (entriesOf level depth (entries + 1)) (run ++ entry)
     starts : {level : L} {depth number : ℕ} {r : Record} → opens rules level (r .tag) ≡ true → Own depth number r → Formed (fieldsOf level depth number 0) (r ∷ [])
-    rises : {level : L} {depth number last : ℕ} {entry : List Record} (position : ℕ) {r : Record} → Formed (fieldsOf level depth number last) entry → rules .position level (r .tag) ≡ At position → last < position → Own depth number r → Formed (fieldsOf level depth number position) (entry ++ (r ∷ []))
-    hangs : {level : L} {depth number last : ℕ} {entry : List Record} (position : ℕ) (count : Record) {inner : L} {entries : ℕ} {run : List Record} → Formed (fieldsOf level depth number last) entry → rules .position level (count .tag) ≡ At position → last < position → Own depth number count → depth < 4 → rules .group level (count .tag) ≡ opened inner → Formed (entriesOf inner (depth + 1) entries) run → Formed (fieldsOf level depth number position) ((entry ++ (count ∷ [])) ++ run)
+    rises : {level : L} {depth number last : ℕ} {entry : List Record} (position : ℕ) {r : Record} → Formed (fieldsOf level depth number last) entry →
+        rules .position level (r .tag) ≡ At position → last < position → Own depth number r → Formed (fieldsOf level depth number position) (entry ++ (r
+        ∷ []))
+    hangs : {level : L} {depth number last : ℕ} {entry : List Record} (position : ℕ) (count : Record) {inner : L} {entries : ℕ} {run : List Record} →
+        Formed (fieldsOf level depth number last) entry → rules .position level (count .tag) ≡ At position → last < position → Own depth number count →
+        depth < 4 → rules .group level (count .tag) ≡ opened inner → Formed (entriesOf inner (depth + 1) entries) run →
+        Formed (fieldsOf level depth number position) ((entry ++ (count ∷ [])) ++ run)
     user : {level : L} {depth number last : ℕ} {entry : List Record} {r : Record} → Formed (fieldsOf level depth number last) entry → rules .position level (r .tag) ≡ Nowhere → rules .accepts (r .tag) ≡ true → Own depth number r → Formed (fieldsOf level depth number last) (stored r entry)

@@ -74,7 +74,9 @@ table =
     ∷ []
 
 all-hold : map (λ row. verdict (row .0 .0) (row .0 .1)) table ≡ map (λ row. row .1) table
-unfolding verdict runIn checked answer answerOfLack numberOf valuesOf listed answerOf layoutDemands runLack entryLack opensEntry entriesLack nestedLack runLacks shallow before fieldsLack has orElse requiredTags layoutRules openedAs accepted joinedList listStore walk moved decide inEntry entryKind declared counting opens isDelimiter entryRecord positionIn positionFrom firstOf groupOf groupSince delimiterOf holdsTag stored reading-fields
+unfolding verdict runIn checked answer answerOfLack numberOf valuesOf listed answerOf layoutDemands runLack entryLack opensEntry entriesLack nestedLack
+    runLacks shallow before fieldsLack has orElse requiredTags layoutRules openedAs accepted joinedList listStore walk moved decide inEntry entryKind
+    declared counting opens isDelimiter entryRecord positionIn positionFrom firstOf groupOf groupSince delimiterOf holdsTag stored reading-fields
 all-hold = refl
 
 -- a field of a depth, an entry and a tag, wherever its value stands

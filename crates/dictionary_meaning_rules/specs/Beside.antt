@@ -99,7 +99,10 @@ module _ (defined : List Defined) where
   shallow-more {o} c more h =
       omega (arith, deep-more c more, larger-least (o .depth) (depthOf (o .groups) + depth (flat defined more)) 4 (c .shallow) h)
 
-  pub counted-more : {o : Open} {level : Items} {groups : List OpenGroup} → Counted o defined level groups → (more : Items) (count deep : ℕ) (held : Held) → NoEmptyGroup (flat defined more) → count ≡ o .items + items (flat defined more) → deep ≡ larger (o .depth) (depthOf (o .groups) + depth (flat defined more)) → count ≤ 1024 → depthOf (o .groups) + depth (flat defined more) ≤ 4 → Counted (grown o count deep held (o .groups)) defined (continued level more) groups
+  pub counted-more : {o : Open} {level : Items} {groups : List OpenGroup} → Counted o defined level groups →
+      (more : Items) (count deep : ℕ) (held : Held) → NoEmptyGroup (flat defined more) → count ≡ o .items + items (flat defined more) → deep
+      ≡ larger (o .depth) (depthOf (o .groups) + depth (flat defined more)) → count ≤ 1024 → depthOf (o .groups) + depth (flat defined more) ≤ 4 →
+      Counted (grown o count deep held (o .groups)) defined (continued level more) groups
   unfolding grown
   counted-more {o} {level} {groups} c more count deep held f n d m h =
       record {
@@ -164,7 +167,10 @@ module _ (defined : List Defined) {o : Open} {level : Items} {groups : List Open
   pub component-shallow : (number : ℕ) (required : Bool) → depthOf (o .groups) + depth (layoutOf defined number) ≤ 4 → depth (flat defined (wrapped groups (continued level (componentThen number required closed)))) ≤ 4
   component-shallow number required h = shallow-more defined c (componentThen number required closed) (omega (arith, ap depth (one-component defined number required)))
 
-  pub counted-component : (number : ℕ) (required : Bool) (count deep : ℕ) (held : Held) → count ≡ items (layoutOf defined number) → deep ≡ depth (layoutOf defined number) → NoEmptyGroup (layoutOf defined number) → depthOf (o .groups) + deep ≤ 4 → o .items + count ≤ 1024 → Counted (grown o (o .items + count) (deeper (o .depth) (depthOf (o .groups) + deep)) held (o .groups)) defined (continued level (componentThen number required closed)) groups
+  pub counted-component : (number : ℕ) (required : Bool) (count deep : ℕ) (held : Held) → count ≡ items (layoutOf defined number) → deep
+      ≡ depth (layoutOf defined number) → NoEmptyGroup (layoutOf defined number) → depthOf (o .groups) + deep ≤ 4 → o .items + count ≤ 1024 →
+      Counted (grown o (o .items + count) (deeper (o .depth) (depthOf (o .groups) + deep)) held (o .groups)) defined (continued level
+      (componentThen number required closed)) groups
   counted-component number required count deep held n d f h m =
       let whole = one-component defined number required in
       let same = ap depth whole in
@@ -182,7 +188,9 @@ module _ (defined : List Defined) {o : Open} {level : Items} {groups : List Open
   pub group-shallow : (tag : ℕ) (required : Bool) → depthOf (o .groups) + 1 ≤ 4 → depth (flat defined (wrapped groups (continued level (groupThen tag required closed closed)))) ≤ 4
   group-shallow tag required h = shallow-more defined c (groupThen tag required closed closed) (omega (arith, one-group defined tag required .1))
 
-  pub counted-group : (tag : ℕ) (required : Bool) (held : Held) → depthOf (o .groups) + 1 ≤ 4 → o .items + 1 ≤ 1024 → Counted (grown o (o .items + 1) (deeper (o .depth) (depthOf (o .groups) + 1)) held (opened (record { tag = tag; since = o .items + 1 }) (o .groups))) defined closed (record { before = level; tag = tag; required = required } ∷ groups)
+  pub counted-group : (tag : ℕ) (required : Bool) (held : Held) → depthOf (o .groups) + 1 ≤ 4 → o .items + 1 ≤ 1024 →
+      Counted (grown o (o .items + 1) (deeper (o .depth) (depthOf (o .groups) + 1)) held (opened (record { tag = tag; since = o .items + 1 })
+      (o .groups))) defined closed (record { before = level; tag = tag; required = required } ∷ groups)
   unfolding grown
   counted-group tag required held h m =
       let g : Group = record { tag = tag; since = o .items + 1 } in
@@ -231,7 +239,9 @@ module _ (defined : List Defined) {o : Open} {level : Items} {g : OpenGroup} {gr
       let since = inside .since in
       let none : flat defined level ≡ end = items-none (flat defined level) (omega arith) in
       let n : length groups + 1 ≡ suc (length groups) = omega arith in
-      let here : flat defined (continued (g .before) (groupThen (g .tag) (g .required) level closed)) ≡ followedBy (flat defined (g .before)) (group (g .tag) (g .required) end end) = flat-around defined (g .before) level (g .tag) (g .required) ∙ ap (λ (l : Layout). followedBy (flat defined (g .before)) (group (g .tag) (g .required) l end)) none in
+      let here : flat defined (continued (g .before) (groupThen (g .tag) (g .required) level closed))
+          ≡ followedBy (flat defined (g .before)) (group (g .tag) (g .required) end end) = flat-around defined (g .before) level (g .tag) (g .required)
+          ∙ ap (λ (l : Layout). followedBy (flat defined (g .before)) (group (g .tag) (g .required) l end)) none in
       rw (inside .tag) (rw n at (innermost-wrapped defined groups (g .tag) end 1 (continued (g .before) (groupThen (g .tag) (g .required) level closed)) (rw here (innermost-here (flat defined (g .before)) (g .required)))))
 
   -- else it is not, and it is an item of the level around it

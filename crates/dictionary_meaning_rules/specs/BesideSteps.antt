@@ -45,7 +45,9 @@ use Rattle.dictionary_meaning_rules.specs.Beside.{listed, listed-opened,
 -- the state of the check, with the names so far, beside the tree that was read
 pub data Beside : State → Names → (Records → List Layout) → Type 0 where
   at-top : {names : Names} {layouts : Records → List Layout} → Tree names layouts → Beside TopLevel names layouts
-  within : {o : Open} {names : Names} {layouts : Records → List Layout} {defined : List Defined} {read : List Layout} {level : Items} {groups : List OpenGroup} → AllMeasured names defined → Each Bounded read → OpenTree (o .owner) layouts defined read level groups → Counted o defined level groups → Beside (Inside o) names layouts
+  within : {o : Open} {names : Names} {layouts : Records →
+      List Layout} {defined : List Defined} {read : List Layout} {level : Items} {groups : List OpenGroup} → AllMeasured names defined →
+      Each Bounded read → OpenTree (o .owner) layouts defined read level groups → Counted o defined level groups → Beside (Inside o) names layouts
 
 -- how many things are open
 unfoldable pub thingsOf : State → ℕ
@@ -160,7 +162,10 @@ module _ (names : Names) (layouts : Records → List Layout) (place : ℕ) where
         over : (P : Layout → Type 0) → P (flat defined (wrapped groups (continued level (componentThen number required closed)))) → Latest P (layouts (whole place (ComponentItem required number) (closes (openAfter (ComponentItem required number) (thingsOf (Inside o))) (ends 0))))
         over P p = latest-off (o .owner) _ defined read _ P groups _ next (unfold openAfter in as-open) p
 
-        go : (l : Looked) → componentIn (names .components) number ≡ l → Stepped (Inside o) names layouts place (ComponentItem required number) (closedBefore l number (λ d. notTooDeep (depthOf (o .groups) + d .depth) place (notTooMany (o .items + d .items) place (Goes (Inside (grown o (o .items + d .items) (deeper (o .depth) (depthOf (o .groups) + d .depth)) (heldWith (o .held) d) (o .groups))) Unchanged))))
+        go : (l : Looked) → componentIn (names .components) number ≡ l →
+            Stepped (Inside o) names layouts place (ComponentItem required number) (closedBefore l number (λ d. notTooDeep (depthOf
+            (o .groups) + d .depth) place (notTooMany (o .items + d .items) place (Goes (Inside (grown o (o .items + d .items) (deeper (o .depth) (depthOf
+            (o .groups) + d .depth)) (heldWith (o .held) d) (o .groups))) Unchanged))))
         go Missing e = unfold closedBefore in refuses no-component
         go (Closed d) e =
             let m = measured number d e in
@@ -169,7 +174,9 @@ module _ (names : Names) (layouts : Records → List Layout) (place : ℕ) where
             (λ h. refuses (nests-too-deep (over FiveDeep (omega (arith, ltb-true 4 (depthOf (o .groups) + d .depth) h, component-deep defined c number required, m .deep)))))
             (λ h. picked (Inside o) (ComponentItem required number) (ltb 1024 (o .items + d .items)) _ _
             (λ k. refuses (holds-too-many (over OverThousand (omega (arith, ltb-true 1024 (o .items + d .items) k, component-whole defined c number required, m .count), component-shallow defined c number required (omega (arith, ltb-false 4 (depthOf (o .groups) + d .depth) h, m .deep))))))
-            (λ k. goes (within measured bounded next (counted-component defined c number required (d .items) (d .depth) (heldWith (o .held) d) (m .count) (m .deep) (m .filled) (ltb-false 4 (depthOf (o .groups) + d .depth) h) (ltb-false 1024 (o .items + d .items) k))) (unfold thingsOf openAfter grown in refl)))
+            (λ k. goes (within measured bounded next (counted-component defined c number required (d .items) (d .depth) (heldWith (o .held) d) (m .count)
+                (m .deep) (m .filled) (ltb-false 4 (depthOf (o .groups) + d .depth) h) (ltb-false 1024 (o .items + d .items) k)))
+                (unfold thingsOf openAfter grown in refl)))
 
     inside-group : (tag : ℕ) (required : Bool) → Stepped (Inside o) names layouts place (OpensGroup tag required) (stepOf (looksIn names) (Inside o) place (OpensGroup tag required))
     unfolding stepOf onGroup inside knownBefore notTooDeep notTooMany looksIn named grown
@@ -225,7 +232,9 @@ module _ (names : Names) (layouts : Records → List Layout) (place : ℕ) (o : 
       none-left : thingsOf TopLevel ≡ openAfter Closes (thingsOf (Inside o))
       none-left = unfold thingsOf openAfter in omega (arith, c .nests)
 
-      go : (owner : Owner) (declares : Items → Declaration) → Declares owner declares → ((later : Records) → layouts (whole place Closes later) ≡ layoutsAfter (definedBy defined (declares level)) (flat defined level ∷ read) (declarationsOf later)) → Stepped (Inside o) names layouts place Closes (closesOwner o owner)
+      go : (owner : Owner) (declares : Items → Declaration) → Declares owner declares → ((later : Records) → layouts (whole place Closes later)
+          ≡ layoutsAfter (definedBy defined (declares level)) (flat defined level ∷ read) (declarationsOf later)) →
+          Stepped (Inside o) names layouts place Closes (closesOwner o owner)
       go owner declares (declares-component number) means =
           goes (at-top (record {
             defined = definedBy defined (component number level);
@@ -244,7 +253,9 @@ module _ (names : Names) (layouts : Records → List Layout) (place : ℕ) (o : 
           })) none-left
 
   -- a group closes
-  group-closes : (g : OpenGroup) (groups : List OpenGroup) (counted : Group) (others : Groups) → listed (o .groups) ≡ counted ∷ listed others → depthOf (o .groups) ≡ suc (depthOf others) → OpenTree (o .owner) layouts defined read level (g ∷ groups) → Counted o defined level (g ∷ groups) → Stepped (Inside o) names layouts place Closes (closesGroup o counted others)
+  group-closes : (g : OpenGroup) (groups : List OpenGroup) (counted : Group) (others : Groups) → listed (o .groups) ≡ counted ∷ listed others →
+      depthOf (o .groups) ≡ suc (depthOf others) → OpenTree (o .owner) layouts defined read level (g ∷ groups) → Counted o defined level (g ∷ groups) →
+      Stepped (Inside o) names layouts place Closes (closesGroup o counted others)
   unfolding closesGroup notEmpty named grown
   group-closes g groups counted others l d t c =
       picked names layouts place (Inside o) Closes (eqb (o .items) (counted .since)) _ _

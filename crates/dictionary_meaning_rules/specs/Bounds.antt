@@ -59,7 +59,10 @@ taken-bounded (suc first) (whole place r rest) state names layouts b h =
     go (stepOf (looksIn names) state place r) (step-beside state names layouts place r b) h
     (λ later note b h. taken-bounded first rest later (named names note) (λ (q : Records). layouts (whole place r q)) b h)
   where
-    go : (step : Step) → Stepped state names layouts place r step → suc first ≤ goesOn step (λ later note. takenFrom rest later (named names note)) → ((later : State) (note : Note) → Beside later (named names note) (λ (q : Records). layouts (whole place r q)) → first ≤ takenFrom rest later (named names note) → KeepsBounds (thingsOf later) rest (λ (q : Records). layouts (whole place r q)) first) → AllBounded (openOf first (openAfter r (thingsOf state)) rest - 1) (layouts (whole place r (closedOff first (openAfter r (thingsOf state)) rest)))
+    go : (step : Step) → Stepped state names layouts place r step → suc first ≤ goesOn step (λ later note. takenFrom rest later (named names note)) →
+        ((later : State) (note : Note) → Beside later (named names note) (λ (q : Records). layouts (whole place r q)) →
+        first ≤ takenFrom rest later (named names note) → KeepsBounds (thingsOf later) rest (λ (q : Records). layouts (whole place r q)) first) →
+        AllBounded (openOf first (openAfter r (thingsOf state)) rest - 1) (layouts (whole place r (closedOff first (openAfter r (thingsOf state)) rest)))
     go step (refuses x) h again = unfold goesOn in absurd (omega arith)
     go step (goes {later} {note} b e) h again =
         subst (λ (things : ℕ). AllBounded (openOf first things rest - 1) (layouts (whole place r (closedOff first things rest)))) e (again later note b (unfold goesOn in omega arith))
@@ -117,7 +120,12 @@ verdict (whole place r rest) state names layouts b =
     go (stepOf (looksIn names) state place r) (step-beside state names layouts place r b)
     (λ later note b. verdict rest later (named names note) (λ (q : Records). layouts (whole place r q)) b)
   where
-    go : (step : Step) → Stepped state names layouts place r step → ((later : State) (note : Note) → Beside later (named names note) (λ (q : Records). layouts (whole place r q)) → Verdict (thingsOf later) rest (λ (q : Records). layouts (whole place r q)) (takenFrom rest later (named names note)) (answerOf (walked looksIn named rest later (named names note)))) → Verdict (thingsOf state) (whole place r rest) layouts (goesOn step (λ later note. takenFrom rest later (named names note))) (answerOf (onStep names step (λ later note. walked looksIn named rest later (named names note))))
+    go : (step : Step) → Stepped state names layouts place r step → ((later : State) (note : Note) →
+        Beside later (named names note) (λ (q : Records). layouts (whole place r q)) →
+        Verdict (thingsOf later) rest (λ (q : Records). layouts (whole place r q)) (takenFrom rest later (named names note)) (answerOf
+        (walked looksIn named rest later (named names note)))) →
+        Verdict (thingsOf state) (whole place r rest) layouts (goesOn step (λ later note. takenFrom rest later (named names note))) (answerOf
+        (onStep names step (λ later note. walked looksIn named rest later (named names note))))
     go step (refuses {checked} x) again = unfold goesOn onStep in verdict-here state names layouts place r rest b checked x
     go step (goes {later} {note} b e) again =
         unfold goesOn onStep in

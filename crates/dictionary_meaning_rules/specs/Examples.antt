@@ -66,7 +66,9 @@ tree : dictionaryOf dictionary ≡ record {
   trailer = fieldItem 10 true nothing;
   messages = record { msgType = bytes "D"; nodes = fieldItem 38 false (groupItem 78 true (componentItem true fourth nothing) (componentItem true fourth (fieldItem 58 false nothing))) } ∷ [];
 }
-unfolding dictionaryOf meaningOf tagsFrom tagIn messagesFrom messageIn msgTypeBytes bytesWithin definedAfter definedBy expanded nodesOf declarationsOf declarationsIn sizeOf bodyOf noItems itemBefore recordsFrom recordsWithin followedBy recordAt recordFrom withKind withBody recordBody recordBodyLength knownTag opensComponent opensMessage fieldBody componentBody groupBody withTag withMark zeroFilled lowFirst
+unfolding dictionaryOf meaningOf tagsFrom tagIn messagesFrom messageIn msgTypeBytes bytesWithin definedAfter definedBy expanded nodesOf declarationsOf
+    declarationsIn sizeOf bodyOf noItems itemBefore recordsFrom recordsWithin followedBy recordAt recordFrom withKind withBody recordBody recordBodyLength
+    knownTag opensComponent opensMessage fieldBody componentBody groupBody withTag withMark zeroFilled lowFirst
 tree = refl
 
 -- groups in a group, one with items behind it and one that stands last, an item behind the whole, and a message behind that
@@ -90,7 +92,9 @@ nested-tree : dictionaryOf nested .messages ≡
     }
     ∷ record { msgType = bytes "D"; nodes = fieldItem 58 true nothing }
     ∷ []
-unfolding dictionaryOf meaningOf tagsFrom tagIn messagesFrom messageIn msgTypeBytes bytesWithin definedAfter definedBy expanded nodesOf declarationsOf declarationsIn sizeOf bodyOf noItems itemBefore recordsFrom recordsWithin followedBy recordAt recordFrom withKind withBody recordBody recordBodyLength knownTag opensComponent opensMessage fieldBody componentBody groupBody withTag withMark zeroFilled lowFirst
+unfolding dictionaryOf meaningOf tagsFrom tagIn messagesFrom messageIn msgTypeBytes bytesWithin definedAfter definedBy expanded nodesOf declarationsOf
+    declarationsIn sizeOf bodyOf noItems itemBefore recordsFrom recordsWithin followedBy recordAt recordFrom withKind withBody recordBody recordBodyLength
+    knownTag opensComponent opensMessage fieldBody componentBody groupBody withTag withMark zeroFilled lowFirst
 nested-tree = refl
 
 -- as far as it was read: 38 in the message with group 78 open, the same with component 4 in the group, and with the group closed
@@ -106,7 +110,9 @@ so-far : map {B = ℕ × List Layout} (λ (first : ℕ). (openOf first 0 (record
     ∷ (2, plainField 38 false (group 78 true pair end) ∷ others)
     ∷ (1, plainField 38 false (group 78 true pair end) ∷ others)
     ∷ []
-unfolding openOf openAfter closedOff closes layoutsOf layoutsAfter layoutsBy flattened followedInPlace definedBy expanded nodesOf declarationsOf declarationsIn sizeOf bodyOf noItems itemBefore recordsFrom recordsWithin followedBy recordAt recordFrom withKind withBody recordBody recordBodyLength knownTag opensComponent opensMessage fieldBody componentBody groupBody withTag withMark zeroFilled lowFirst
+unfolding openOf openAfter closedOff closes layoutsOf layoutsAfter layoutsBy flattened followedInPlace definedBy expanded nodesOf declarationsOf
+    declarationsIn sizeOf bodyOf noItems itemBefore recordsFrom recordsWithin followedBy recordAt recordFrom withKind withBody recordBody recordBodyLength
+    knownTag opensComponent opensMessage fieldBody componentBody groupBody withTag withMark zeroFilled lowFirst
 so-far = refl
 
 abbrev components : List Component
@@ -128,7 +134,9 @@ rows : map (λ (depth : ℕ). layItems depth dictionary (componentIn components)
     58 ∷ 0 ∷ 0 ∷ 7 ∷ 9 ∷ 9 ∷ 9 ∷ 9 ∷ [])
     ∷ laying Broken (38 ∷ 0 ∷ 0 ∷ 1 ∷ replicate 28 9)
     ∷ []
-unfolding layItems itemsFrom itemsWithin onRead onRecord onComponent afterComponent afterGroup putRow standsAt expanding behindOpening componentIn marks mark recordAt recordFrom withKind withBody recordBody recordBodyLength knownTag opensComponent opensMessage fieldBody componentBody groupBody withTag withMark zeroFilled lowFirst
+unfolding layItems itemsFrom itemsWithin onRead onRecord onComponent afterComponent afterGroup putRow standsAt expanding behindOpening componentIn marks
+    mark recordAt recordFrom withKind withBody recordBody recordBodyLength knownTag opensComponent opensMessage fieldBody componentBody groupBody withTag
+    withMark zeroFilled lowFirst
 rows = refl
 
 -- an index that claims items for component 4 and leads to the empty one: no row is added, so the laying breaks off

@@ -101,7 +101,10 @@ module _ (bytes : List ℕ) (final names : Names) where
   Look = lookIn names
 
   -- one item before what is known of the rest
-  field-before : (at place : ℕ) (tag : ℕ) (required : Bool) (rest : Records) (o : Open) (depth : ℕ) → (n : Next bytes at (FieldItem tag required) rest place) → o .items + 1 ≤ 1024 → Closing bytes final names (n .next) rest (grown o (o .items + 1) depth Several (o .groups)) → Closing bytes final names at (whole place (FieldItem tag required) rest) o
+  field-before : (at place : ℕ) (tag : ℕ) (required : Bool) (rest : Records) (o : Open) (depth : ℕ) →
+      (n : Next bytes at (FieldItem tag required) rest place) → o .items + 1 ≤ 1024 →
+      Closing bytes final names (n .next) rest (grown o (o .items + 1) depth Several (o .groups)) →
+      Closing bytes final names at (whole place (FieldItem tag required) rest) o
   unfolding grown countAll countOf heldAll heldFrom sizeOf
   field-before at place tag required rest o depth n h c = go (c .levels) (c .deep) (c .reads) (c .resolved) (c .count) (c .held)
     where
@@ -130,7 +133,10 @@ module _ (bytes : List ℕ) (final names : Names) where
             fewer = omega (arith, c .fewer);
           }
 
-  component-before : (at place : ℕ) (number : ℕ) (required : Bool) (rest : Records) (o : Open) (depth : ℕ) (component : Component) → (n : Next bytes at (ComponentItem required number) rest place) → Look number ≡ Closed component → o .items + component .items ≤ 1024 → Closing bytes final names (n .next) rest (grown o (o .items + component .items) depth (heldWith (o .held) component) (o .groups)) → Closing bytes final names at (whole place (ComponentItem required number) rest) o
+  component-before : (at place : ℕ) (number : ℕ) (required : Bool) (rest : Records) (o : Open) (depth : ℕ) (component : Component) →
+      (n : Next bytes at (ComponentItem required number) rest place) → Look number ≡ Closed component → o .items + component .items ≤ 1024 →
+      Closing bytes final names (n .next) rest (grown o (o .items + component .items) depth (heldWith (o .held) component) (o .groups)) →
+      Closing bytes final names at (whole place (ComponentItem required number) rest) o
   unfolding grown countAll countOf itemsIn heldAll heldFrom heldBy sizeOf
   component-before at place number required rest o depth component n looked h c = go (c .levels) (c .deep) (c .reads) (c .resolved) (c .count) (c .held)
     where
@@ -165,7 +171,10 @@ module _ (bytes : List ℕ) (final names : Names) where
   opened-depth group (ThreeGroups a b c) h = refl
   opened-depth group (FourGroups a b c d) h = absurd (omega arith)
 
-  group-before : (at place : ℕ) (tag : ℕ) (required : Bool) (rest : Records) (o : Open) (depth : ℕ) (group : Group) → (n : Next bytes at (OpensGroup tag required) rest place) → depthOf (o .groups) + 1 ≤ 4 → o .items + 1 ≤ 1024 → Closing bytes final names (n .next) rest (grown o (o .items + 1) depth Several (opened group (o .groups))) → Closing bytes final names at (whole place (OpensGroup tag required) rest) o
+  group-before : (at place : ℕ) (tag : ℕ) (required : Bool) (rest : Records) (o : Open) (depth : ℕ) (group : Group) →
+      (n : Next bytes at (OpensGroup tag required) rest place) → depthOf (o .groups) + 1 ≤ 4 → o .items + 1 ≤ 1024 →
+      Closing bytes final names (n .next) rest (grown o (o .items + 1) depth Several (opened group (o .groups))) →
+      Closing bytes final names at (whole place (OpensGroup tag required) rest) o
   unfolding grown countAll countOf heldAll heldFrom sizeOf
   group-before at place tag required rest o depth group n g h c = go (c .levels) (c .deep ∙ ap (λ (k : ℕ). 1 + k) (opened-depth group (o .groups) g)) (c .reads) (c .resolved) (c .count) (c .held)
     where
@@ -193,7 +202,9 @@ module _ (bytes : List ℕ) (final names : Names) where
             fewer = omega (arith, c .fewer);
           }
 
-  close-before : (at place : ℕ) (rest : Records) (o : Open) (groups : Groups) → (n : Next bytes at Closes rest place) → depthOf (o .groups) ≡ 1 + depthOf groups → Closing bytes final names (n .next) rest (grown o (o .items) (o .depth) (o .held) groups) → Closing bytes final names at (whole place Closes rest) o
+  close-before : (at place : ℕ) (rest : Records) (o : Open) (groups : Groups) → (n : Next bytes at Closes rest place) → depthOf (o .groups)
+      ≡ 1 + depthOf groups → Closing bytes final names (n .next) rest (grown o (o .items) (o .depth) (o .held) groups) →
+      Closing bytes final names at (whole place Closes rest) o
   unfolding grown countAll countOf heldAll heldFrom sizeOf
   close-before at place rest o groups n g c =
       record {

@@ -70,7 +70,10 @@ same-known : (names other : Names) (declarations : List Declaration) (tag : ℕ)
     knownWith names declarations tag ≡ knownWith other declarations tag
 same-known names other declarations tag t = ap (λ (tags : List ℕ). pick (isKnown tags tag) true (holdsTag tag (tagsFrom declarations))) t
 
-known-step : (bytes : List ℕ) (final : Names) (tag : ℕ) (rs : Records) (at : ℕ) (names : Names) → ((fewer : Records) (there : ℕ) (later : Names) → sizeOf fewer < sizeOf rs → recordsFrom bytes there ≡ fewer → Passing final fewer TopLevel later → isKnown (final .tags) tag ≡ knownWith later (declarationsOf fewer) tag) → recordsFrom bytes at ≡ rs → Passing final rs TopLevel names → isKnown (final .tags) tag ≡ knownWith names (declarationsOf rs) tag
+known-step : (bytes : List ℕ) (final : Names) (tag : ℕ) (rs : Records) (at : ℕ) (names : Names) → ((fewer : Records) (there : ℕ) (later : Names) →
+    sizeOf fewer < sizeOf rs → recordsFrom bytes there ≡ fewer → Passing final fewer TopLevel later → isKnown (final .tags) tag
+    ≡ knownWith later (declarationsOf fewer) tag) → recordsFrom bytes at ≡ rs → Passing final rs TopLevel names → isKnown (final .tags) tag
+    ≡ knownWith names (declarationsOf rs) tag
 unfolding sizeOf tagsFrom tagIn
 known-step bytes final tag (ends size) at names again e p = rw (declared-end size) (end-known final names tag (end-passes final names size p .0))
 known-step bytes final tag (bad place) at names again e p = bad-stops final names place TopLevel p

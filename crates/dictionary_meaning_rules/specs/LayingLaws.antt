@@ -149,7 +149,10 @@ module _ (inner : Step) (bytes : List ℕ) (components : ℕ → Looked) (rises 
   fuel-agrees (suc f) zero at row table p q = read-past inner _ bytes components at row table (omega arith)
   fuel-agrees (suc f) (suc g) at row table p q = go (recordAt bytes at) (record-falls bytes at) (fuel-agrees f g)
     where
-      go : (read : RecordRead) → ((r : Record) (next : ℕ) → read ≡ Whole r next → (at < next) × (next ≤ length bytes)) → ((at row : ℕ) (table : List ℕ) → length bytes - at ≤ f → length bytes - at ≤ g → itemsWithin f inner bytes components at row table ≡ itemsWithin g inner bytes components at row table) → onRead inner (itemsWithin f inner bytes components) components row table read ≡ onRead inner (itemsWithin g inner bytes components) components row table read
+      go : (read : RecordRead) → ((r : Record) (next : ℕ) → read ≡ Whole r next → (at < next) × (next ≤ length bytes)) → ((at row : ℕ) (table : List ℕ) →
+          length bytes - at ≤ f → length bytes - at ≤ g → itemsWithin f inner bytes components at row table
+          ≡ itemsWithin g inner bytes components at row table) → onRead inner (itemsWithin f inner bytes components) components row table read
+          ≡ onRead inner (itemsWithin g inner bytes components) components row table read
       go (Whole r next) n again = let w = n r next refl in
           unfold onRead in record-agrees (length bytes) inner rises (itemsWithin f inner bytes components) (itemsWithin g inner bytes components) next (λ at₁ row₁ table₁ h. again at₁ row₁ table₁ (omega arith) (omega arith)) row components table r
       go Bad n again = unfold onRead in refl

@@ -45,7 +45,10 @@ message-body : (kind : ℕ) (body : List ℕ) (m : ℕ) → recordBody kind body
 unfolding recordBody knownTag opensComponent opensMessage fieldItem componentItem opensGroup
 message-body kind body m h = go (eqb kind 1) (eqb kind 2) (eqb kind 3) refl (eqb kind 4) (eqb kind 5) (eqb kind 6) (eqb kind 7) (eqb (getD body 0 0) 0) refl (zeroFilled false body) refl h
   where
-    go : (a b c : Bool) → eqb kind 3 ≡ c → (d e f g x : Bool) → eqb (getD body 0 0) 0 ≡ x → (y : Bool) → zeroFilled false body ≡ y → pick a (knownTag body) (pick b (opensComponent body) (pick c (pick x Wrong (pick y (Good (OpensMessage (lowFirst (take 8 body)))) Wrong)) (pick d (fieldItem body) (pick e (componentItem body) (pick f (opensGroup body) (pick g (Good Closes) Wrong)))))) ≡ Good (OpensMessage m) → MessageBody kind body m
+    go : (a b c : Bool) → eqb kind 3 ≡ c → (d e f g x : Bool) → eqb (getD body 0 0) 0 ≡ x → (y : Bool) → zeroFilled false body ≡ y →
+        pick a (knownTag body) (pick b (opensComponent body) (pick c (pick x Wrong (pick y (Good (OpensMessage (lowFirst (take 8 body)))) Wrong)) (pick d
+        (fieldItem body) (pick e (componentItem body) (pick f (opensGroup body) (pick g (Good Closes) Wrong)))))) ≡ Good (OpensMessage m) →
+        MessageBody kind body m
     go true b c k d e f g x p y q w = let t = tag-body _ _ _ w in let z : _≡_ {A = ℕ} 0 1 = cc in absurd (omega arith)
     go false true c k d e f g x p y q w = let z : _≡_ {A = ℕ} 0 1 = cc in absurd (omega arith)
     go false false true k d e f g true p y q w = let z : _≡_ {A = ℕ} 0 1 = cc in absurd (omega arith)

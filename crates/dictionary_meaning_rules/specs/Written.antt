@@ -119,7 +119,11 @@ written-over row (group tag required inner rest) before old after e o =
     let f = four old (4 * (items inner + items rest)) (omega arith) in
     by-parts (written-over (row + 1) inner) (written-over (row + 1 + items inner) rest) (f .a) (f .b) (f .c) (f .d) (f .more) (f .whole) (f .size)
   where
-    by-parts : ((before old after : List ℕ) → length before ≡ 4 * (row + 1) → length old ≡ 4 * items inner → written (row + 1) inner (before ++ (old ++ after)) ≡ before ++ (rowsFrom (row + 1) inner ++ after)) → ((before old after : List ℕ) → length before ≡ 4 * (row + 1 + items inner) → length old ≡ 4 * items rest → written (row + 1 + items inner) rest (before ++ (old ++ after)) ≡ before ++ (rowsFrom (row + 1 + items inner) rest ++ after)) → (a b c d : ℕ) (more : List ℕ) → old ≡ a ∷ b ∷ c ∷ d ∷ more → length more ≡ 4 * (items inner + items rest) → written row (group tag required inner rest) (before ++ (old ++ after)) ≡ before ++ (rowsFrom row (group tag required inner rest) ++ after)
+    by-parts : ((before old after : List ℕ) → length before ≡ 4 * (row + 1) → length old ≡ 4 * items inner → written (row + 1) inner (before ++ (old
+        ++ after)) ≡ before ++ (rowsFrom (row + 1) inner ++ after)) → ((before old after : List ℕ) → length before ≡ 4 * (row + 1 + items inner) →
+        length old ≡ 4 * items rest → written (row + 1 + items inner) rest (before ++ (old ++ after)) ≡ before ++ (rowsFrom (row + 1 + items inner) rest
+        ++ after)) → (a b c d : ℕ) (more : List ℕ) → old ≡ a ∷ b ∷ c ∷ d ∷ more → length more ≡ 4 * (items inner + items rest) →
+        written row (group tag required inner rest) (before ++ (old ++ after)) ≡ before ++ (rowsFrom row (group tag required inner rest) ++ after)
     by-parts inners follows a b c d more w n =
         ap (λ (l : List ℕ). written row (group tag required inner rest) (before ++ (l ++ after))) (w ∙ ap (λ (l : List ℕ). a ∷ b ∷ c ∷ d ∷ l) (sym (take-append-drop (4 * items inner) more)))
         ∙ ap (λ (l : List ℕ). written row (group tag required inner rest) (before ++ (a ∷ b ∷ c ∷ d ∷ l))) (append-assoc (take (4 * items inner) more) (drop (4 * items inner) more) after)

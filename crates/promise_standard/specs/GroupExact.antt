@@ -99,14 +99,18 @@ module _ {L : Type 0} (rules : Rules L) (message : List ℕ) (x : Field) (rest :
         by-goes _ (goes-count {inner} {position} r g deep) taken =
             absurd (count-open rules x rest (nested group (f .tag) inner) 0 _ refl (members-head (group .depth) (own .number) more s (deeper-head (group .depth) (own .number) head)) taken)
 
-    exact-group : {t d n : ℕ} {count : List ℕ} {ts : List ℕ} {gs fs : List Told} (may : Here t) (opening : T .Group t d) (i : Int count (suc n)) (g : Stands T Here (entries t d (suc n)) gs) (s : Stands T Here (members ts) fs) → EntriesExact gs g → MembersExact fs s → MembersExact (told t count ∷ (gs ++ fs)) (Stands.group {t = t} may opening i g s)
+    exact-group : {t d n : ℕ} {count : List ℕ} {ts : List ℕ} {gs fs : List Told} (may : Here t) (opening : T .Group t d) (i : Int count (suc n))
+        (g : Stands T Here (entries t d (suc n)) gs) (s : Stands T Here (members ts) fs) → EntriesExact gs g → MembersExact fs s →
+        MembersExact (told t count ∷ (gs ++ fs)) (Stands.group {t = t} may opening i g s)
     unfolding numbered
     exact-group {t} {d} {n} {count} {ts} {gs} {fs} may opening i g s within inside group own below more _ y later gives head (one-field {f = f} {rest = behind} same value reads) (takes here {more = frames} e taken) =
         by-goes frames (entry-goes rules group own below gives here (f .tag) frames e) taken
       where
         -- a field that counts no entries has none behind it
         deeper : (position : ℕ)
-            → Takes rules x rest (entry group (reaching own position) ∷ below) ((numbered (group .depth + 1) 0 g ++ numbered (group .depth) (own .number) s) ++ more) behind → MembersFit (group .level) (group .depth) (own .last) (told t count ∷ (gs ++ fs)) (Stands.group {t = t} may opening i g s) below more y later
+            → Takes rules x rest (entry group (reaching own position) ∷ below) ((numbered (group .depth + 1) 0 g
+                ++ numbered (group .depth) (own .number) s) ++ more) behind → MembersFit (group .level) (group .depth) (own .last) (told t count ∷ (gs
+                ++ fs)) (Stands.group {t = t} may opening i g s) below more y later
         deeper position taken =
             let first = entries-start (group .depth + 1) 0 g in
             absurd (not-deeper rules x rest (group .depth + 1) _ refl (entry-gives rules group (reaching own position) below gives) (rw (first .1) at taken))
@@ -118,7 +122,10 @@ module _ {L : Type 0} (rules : Rules L) (message : List ℕ) (x : Field) (rest :
         by-goes _ (goes-joins j) taken = deeper (own .last) taken
         by-goes _ (goes-count {inner} {position} r o deep) taken =
             let cut = reads-split message y later behind gs fs reads in
-            let e = within (nested group (f .tag) inner) 0 (entry group (reaching own position) ∷ below) (numbered (group .depth) (own .number) s ++ more) behind (cut .next) (cut .rest) (entry-gives rules group (reaching own position) below gives) (members-head (group .depth) (own .number) more s (deeper-head (group .depth) (own .number) head)) (cut .reads-first) (rw (append-assoc (numbered (group .depth + 1) 0 g) (numbered (group .depth) (own .number) s) more) at taken) in
+            let e = within (nested group (f .tag) inner) 0 (entry group (reaching own position) ∷ below) (numbered (group .depth) (own .number) s
+                ++ more) behind (cut .next) (cut .rest) (entry-gives rules group (reaching own position) below gives) (members-head (group .depth)
+                (own .number) more s (deeper-head (group .depth) (own .number) head)) (cut .reads-first) (rw (append-assoc (numbered
+                (group .depth + 1) 0 g) (numbered (group .depth) (own .number) s) more) at taken) in
             let m = inside group (reaching own position) below more (field (cut .next) (cut .rest)) y later gives head (cut .reads-second) (e .onward) in
             let leaves : Leaves rules inner (cut .next .tag) = record { no-delimiter = e .no-delimiter; no-position = e .untaken (some-fields _ d n g refl) .0; not-accepted = e .untaken (some-fields _ d n g refl) .1 } in
             record { fits = Fits.nested (rw same at r) (rw same at o) deep (rw (cut .tag-is) at leaves) (rw (cut .tag-is) at (e .fits)) (m .fits); at = m .at; ended-there = m .ended-there; onward = m .onward }
@@ -129,7 +136,9 @@ module _ {L : Type 0} (rules : Rules L) (message : List ℕ) (x : Field) (rest :
     behind-last [] next y level depth last tag k o h = ends-untaken level depth last (y .tag) (rw tag at k) o
     behind-last (g ∷ gs) next y level depth last tag k o h = h (omega arith)
 
-    exact-starts : {c d n : ℕ} {v : List ℕ} {ts : List ℕ} {fs gs : List Told} (may : Here d) (single : NoCount T d) (m : Stands T Here (members ts) fs) (own : All (T .Member c) (d ∷ ts)) (once : Once (d ∷ ts)) (g : Stands T Here (entries c d n) gs) → MembersExact fs m → EntriesExact gs g → EntriesExact (told d v ∷ (fs ++ gs)) (Stands.entry (Stands.field {t = d} {v = v} may single m) own once g)
+    exact-starts : {c d n : ℕ} {v : List ℕ} {ts : List ℕ} {fs gs : List Told} (may : Here d) (single : NoCount T d) (m : Stands T Here (members ts) fs)
+        (own : All (T .Member c) (d ∷ ts)) (once : Once (d ∷ ts)) (g : Stands T Here (entries c d n) gs) → MembersExact fs m → EntriesExact gs g →
+        EntriesExact (told d v ∷ (fs ++ gs)) (Stands.entry (Stands.field {t = d} {v = v} may single m) own once g)
     unfolding numbered
     exact-starts {c} {d} {n} {v} {ts} {fs} {gs} may single m own once g inside others group number below more _ y later gives head (one-field {f = f} {rest = behind} same value reads) (takes here {more = frames} e taken) =
         let goes = run-goes rules group number below gives here (f .tag) frames (number + 1) e in
@@ -147,7 +156,10 @@ module _ {L : Type 0} (rules : Rules L) (message : List ℕ) (x : Field) (rest :
         }
 
     -- a delimiter that is a group of the standard has no entries of its own
-    exact-group-first : {c d n e k : ℕ} {count : List ℕ} {ts : List ℕ} {hs fs gs : List Told} (may : Here d) (opening : T .Group d e) (i : Int count (suc k)) (h : Stands T Here (entries d e (suc k)) hs) (m : Stands T Here (members ts) fs) (own : All (T .Member c) (d ∷ ts)) (once : Once (d ∷ ts)) (g : Stands T Here (entries c d n) gs) → EntriesExact ((told d count ∷ (hs ++ fs)) ++ gs) (Stands.entry (Stands.group {t = d} may opening i h m) own once g)
+    exact-group-first : {c d n e k : ℕ} {count : List ℕ} {ts : List ℕ} {hs fs gs : List Told} (may : Here d) (opening : T .Group d e) (i : Int count
+        (suc k)) (h : Stands T Here (entries d e (suc k)) hs) (m : Stands T Here (members ts) fs) (own : All (T .Member c) (d ∷ ts)) (once : Once (d
+        ∷ ts)) (g : Stands T Here (entries c d n) gs) → EntriesExact ((told d count ∷ (hs ++ fs))
+        ++ gs) (Stands.entry (Stands.group {t = d} may opening i h m) own once g)
     unfolding numbered
     exact-group-first may opening i h m own once g group number below more _ y later gives head (one-field {f = f} same value reads) (takes here {more = frames} e taken) =
         let goes = run-goes rules group number below gives here (f .tag) frames (number + 1) e in
@@ -192,6 +204,8 @@ module _ {L : Type 0} (rules : Rules L) (message : List ℕ) (x : Field) (rest :
 -- THE STANDARD, repeating groups: a group of the standard is read as exactly its entries, up to the field behind them, where it fits its layout
 -- and that field is none that it takes; and only there.
 pub group-exact : {T : Tables} {Here : ℕ → Type 0} {c d n : ℕ} {gs : List Told} (s : Stands T Here (entries c d (suc n)) gs) (message : List ℕ) (accepts : ℕ → Bool) (layout : Layout) (tag left : ℕ) (fields : Fields) (x : Field) (rest : Fields) → ReadsAs message fields gs (field x rest)
-    → (walk (layoutRules accepts) listStore (length gs + suc left) (run (outermost tag layout) 0 ∷ []) [] fields ≡ ended x rest left (recordsAs (numbered 1 0 s) fields)) ↔ ((Fits (layoutRules accepts) (entriesOf layout 1) (x .tag) (entries c d (suc n)) gs s) × (Leaves (layoutRules accepts) layout (x .tag)))
+    → (walk (layoutRules accepts) listStore (length gs + suc left) (run (outermost tag layout) 0 ∷ []) [] fields
+        ≡ ended x rest left (recordsAs (numbered 1 0 s) fields)) ↔ ((Fits (layoutRules accepts) (entriesOf layout 1) (x .tag) (entries c d (suc n)) gs s)
+        × (Leaves (layoutRules accepts) layout (x .tag)))
 group-exact s message accepts layout tag left fields x rest reads =
     (λ e. group-fits (layoutRules accepts) message x rest _ _ s (outermost tag layout) left [] fields reads e, λ f. layout-group-read message accepts s layout tag left fields x rest (f .0) (f .1) reads)

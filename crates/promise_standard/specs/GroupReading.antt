@@ -87,7 +87,9 @@ module _ {L : Type 0} (rules : Rules L) (message : List ℕ) where
         ∙ more group number start (done ++ (r ∷ [])) over (fresh-field start depth number t ts done f same fresh) left below later x rest tag reads
         ∙ ap (λ (l : List Record). taking rules listStore left below l x rest) (append-assoc done (r ∷ []) (recordsAs (numbered depth number s) later))
 
-    reads-user : (level : L) (depth last next t : ℕ) (v : List ℕ) {ts : List ℕ} {fs : List Told} (may : Here t) (single : NoCount T t) (s : Stands T Here (members ts) fs) → Joins rules level t → Reads (membersOf level depth last) next _ fs s → Reads (membersOf level depth last) next _ (told t v ∷ fs) (Stands.field {t = t} {v = v} may single s)
+    reads-user : (level : L) (depth last next t : ℕ) (v : List ℕ) {ts : List ℕ} {fs : List Told} (may : Here t) (single : NoCount T t) (s : Stands T Here
+        (members ts) fs) → Joins rules level t → Reads (membersOf level depth last) next _ fs s → Reads (membersOf level depth last) next _ (told t v
+        ∷ fs) (Stands.field {t = t} {v = v} may single s)
     unfolding numbered recordsAs
     reads-user level depth last next t v {ts = ts} {fs = fs} may single s joins more group number start done over fresh left below _ x rest tag (one-field {f = f} {rest = later} same value reads) =
         let r : Record = entryRecord depth number f in
@@ -97,7 +99,9 @@ module _ {L : Type 0} (rules : Rules L) (message : List ℕ) where
         ∙ more group number start (done ++ (r ∷ [])) over (fresh-field start depth number t ts done f same fresh) left below later x rest tag reads
         ∙ ap (λ (l : List Record). taking rules listStore left below l x rest) (append-assoc done (r ∷ []) (recordsAs (numbered depth number s) later))
 
-    reads-nested : (level inner : L) (depth last next position t : ℕ) {d n : ℕ} {count : List ℕ} {ts : List ℕ} {gs fs : List Told} (may : Here t) (opening : T .Group t d) (i : Int count (suc n)) (g : Stands T Here (entries t d (suc n)) gs) (s : Stands T Here (members ts) fs) → Rises rules level last position t → rules .group level t ≡ opened inner → depth < 4
+    reads-nested : (level inner : L) (depth last next position t : ℕ) {d n : ℕ} {count : List ℕ} {ts : List ℕ} {gs fs : List Told} (may : Here t)
+        (opening : T .Group t d) (i : Int count (suc n)) (g : Stands T Here (entries t d (suc n)) gs) (s : Stands T Here (members ts) fs) →
+        Rises rules level last position t → rules .group level t ≡ opened inner → depth < 4
         → Leaves rules inner (tagBehind next fs) → 1 ≤ length gs → Reads (entriesOf inner (depth + 1)) (tagBehind next fs) _ gs g → Reads (membersOf level depth position) next _ fs s → Reads (membersOf level depth last) next _ (told t count ∷ (gs ++ fs)) (Stands.group {t = t} may opening i g s)
     unfolding numbered recordsAs
     reads-nested level inner depth last next position t {ts = ts} {gs = gs} {fs = fs} may opening i g s rises opens-inner deep leaves some inside more group number start done over fresh left below _ x rest tag (one-field {f = f} {rest = later} same value reads) =
@@ -107,7 +111,10 @@ module _ {L : Type 0} (rules : Rules L) (message : List ℕ) where
         let size = length-append gs fs in
         walk-next rules done f later _ _ (length gs + suc (length fs + left)) (omega arith)
         ∙ entry-counts rules done f later below _ _ _ inner position (rw same (kind-count rules level inner depth last position t rises opens-inner deep))
-        ∙ inside (f .tag) 0 (done ++ (r ∷ [])) leaves (omega arith) (length fs + left) (entry (record { level = level; tag = group; depth = depth }) (record { number = number; last = position; start = start }) ∷ below) later (cut .next) (cut .rest) (cut .tag-is ∙ ap (λ (n : ℕ). tagBehind n fs) tag) (cut .reads-first)
+        ∙ inside (f .tag) 0 (done ++ (r
+            ∷ [])) leaves (omega arith) (length fs + left) (entry (record { level = level; tag = group; depth = depth })
+            (record { number = number; last = position; start = start }) ∷ below) later (cut .next) (cut .rest) (cut .tag-is
+            ∙ ap (λ (n : ℕ). tagBehind n fs) tag) (cut .reads-first)
         ∙ sym (walk-next rules ((done ++ (r ∷ [])) ++ inner-records) (cut .next) (cut .rest) (entry (record { level = level; tag = group; depth = depth }) (record { number = number; last = position; start = start }) ∷ below) (length fs + suc left) (length fs + left) (omega arith))
         ∙ more group number start ((done ++ (r ∷ [])) ++ inner-records) over (fresh-nested start depth ts (done ++ (r ∷ [])) g later (fresh-field start depth number t ts done f same fresh)) left below (field (cut .next) (cut .rest)) x rest tag (cut .reads-second)
         ∙ ap (λ (l : List Record). taking rules listStore left below l x rest)
@@ -130,7 +137,11 @@ module _ {L : Type 0} (rules : Rules L) (message : List ℕ) where
         let size = length-append fs gs in
         walk-next rules done f later _ _ (length fs + suc (length gs + left)) (omega arith)
         ∙ run-opens rules done f later below _ _ number (rw same o)
-        ∙ first group (number + 1) (length done) (done ++ (r ∷ [])) (over-entry level depth c d n next o leaves g) (fresh-field (length done) depth (number + 1) d ts done f same (fresh-entry depth (d ∷ ts) done (distinct-behind placed (d ∷ ts) (once .distinct)))) (length gs + left) (run (record { level = level; tag = group; depth = depth }) (number + 1) ∷ below) later (cut .next) (cut .rest) (cut .tag-is ∙ ap (λ (n : ℕ). tagBehind n gs) tag) (cut .reads-first)
+        ∙ first group (number + 1) (length done) (done ++ (r
+            ∷ [])) (over-entry level depth c d n next o leaves g) (fresh-field (length done) depth (number + 1) d ts done f same (fresh-entry depth (d
+            ∷ ts) done (distinct-behind placed (d
+            ∷ ts) (once .distinct)))) (length gs + left) (run (record { level = level; tag = group; depth = depth }) (number + 1)
+            ∷ below) later (cut .next) (cut .rest) (cut .tag-is ∙ ap (λ (n : ℕ). tagBehind n gs) tag) (cut .reads-first)
         ∙ sym (walk-next rules ((done ++ (r ∷ [])) ++ records) (cut .next) (cut .rest) (run (record { level = level; tag = group; depth = depth }) (number + 1) ∷ below) (length gs + suc left) (length gs + left) (omega arith))
         ∙ more group (number + 1) ((done ++ (r ∷ [])) ++ records) leaves (omega arith) left below (field (cut .next) (cut .rest)) x rest tag (cut .reads-second)
         ∙ ap (λ (l : List Record). taking rules listStore left below l x rest)
@@ -157,7 +168,9 @@ module _ {L : Type 0} (rules : Rules L) (message : List ℕ) where
         ∙ none-takes rules (done ++ recordsAs (numbered (group .depth) 0 s) fields) x rest left
 
 -- the same for layouts, from the first level on
-pub layout-group-read : {T : Tables} {Here : ℕ → Type 0} {c d n : ℕ} {gs : List Told} (message : List ℕ) (accepts : ℕ → Bool) (s : Stands T Here (entries c d (suc n)) gs) (layout : Layout) (tag left : ℕ) (fields : Fields) (x : Field) (rest : Fields) → Fits (layoutRules accepts) (entriesOf layout 1) (x .tag) (entries c d (suc n)) gs s → Leaves (layoutRules accepts) layout (x .tag)
+pub layout-group-read : {T : Tables} {Here : ℕ → Type 0} {c d n : ℕ} {gs : List Told} (message : List ℕ) (accepts : ℕ →
+    Bool) (s : Stands T Here (entries c d (suc n)) gs) (layout : Layout) (tag left : ℕ) (fields : Fields) (x : Field) (rest : Fields) →
+    Fits (layoutRules accepts) (entriesOf layout 1) (x .tag) (entries c d (suc n)) gs s → Leaves (layoutRules accepts) layout (x .tag)
     → ReadsAs message fields gs (field x rest) → walk (layoutRules accepts) listStore (length gs + suc left) (run (outermost tag layout) 0 ∷ []) [] fields
     ≡ ended x rest left (recordsAs (numbered 1 0 s) fields)
 layout-group-read message accepts s layout tag left fields x rest fits leaves reads =

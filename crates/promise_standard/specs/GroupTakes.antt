@@ -90,7 +90,10 @@ module _ {L : Type 0} (rules : Rules L) where
   grows-move room done f later x rest left rs on (joinsAt stack at numbers) e =
       by-join (joined-either at (entryRecord (numbers .depth) (numbers .number) f) done) (on stack _ e)
     where
-      by-join : (joinedList at (entryRecord (numbers .depth) (numbers .number) f) done ≡ done ++ (entryRecord (numbers .depth) (numbers .number) f ∷ [])) ⊎ (length (joinedList at (entryRecord (numbers .depth) (numbers .number) f) done) ≡ length done) → length rs + suc left ≤ length (joinedList at (entryRecord (numbers .depth) (numbers .number) f) done) + room → length rs + suc left ≤ length done + suc room
+      by-join : (joinedList at (entryRecord (numbers .depth) (numbers .number) f) done ≡ done ++ (entryRecord (numbers .depth) (numbers .number) f
+          ∷ [])) ⊎ (length (joinedList at (entryRecord (numbers .depth) (numbers .number) f) done) ≡ length done) →
+          length rs + suc left ≤ length (joinedList at (entryRecord (numbers .depth) (numbers .number) f) done) + room →
+          length rs + suc left ≤ length done + suc room
       by-join (inl q) h = omega (arith, ap length q, length-append done (entryRecord (numbers .depth) (numbers .number) f ∷ []))
       by-join (inr q) h = omega arith
   grows-move room done f later x rest left rs on (disorders group) e = let z : _≡_ {A = ℕ} 0 1 = cc in absurd (omega arith)
@@ -114,7 +117,9 @@ module _ {L : Type 0} (rules : Rules L) where
   takes-one frames stack done rs f later x rest numbers d t =
       record { numbers = (numbers .depth, numbers .number) ∷ t .numbers; taken = takes (length done) d (t .taken); records = t .records ∙ append-assoc done (entryRecord (numbers .depth) (numbers .number) f ∷ []) (recordsAs (t .numbers) later) }
 
-  takes-move : (room : ℕ) (frames : List (Frame L)) (done : List Record) (f : Field) (later : Fields) (x : Field) (rest : Fields) (left : ℕ) (rs : List Record) → length rs + suc left ≡ length done + suc room → ((stack : List (Frame L)) (done₁ : List Record) → length rs + suc left ≡ length done₁ + room → walk rules listStore room stack done₁ later ≡ ended x rest left rs → Taken stack done₁ rs later x rest) →
+  takes-move : (room : ℕ) (frames : List (Frame L)) (done : List Record) (f : Field) (later : Fields) (x : Field) (rest : Fields) (left : ℕ)
+      (rs : List Record) → length rs + suc left ≡ length done + suc room → ((stack : List (Frame L)) (done₁ : List Record) → length rs + suc left
+      ≡ length done₁ + room → walk rules listStore room stack done₁ later ≡ ended x rest left rs → Taken stack done₁ rs later x rest) →
       (m : Move L) → decide rules (length done) frames (f .tag) ≡ m → moved listStore room done f later (λ stack s. walk rules listStore room stack s later) m ≡ ended x rest left rs → Taken frames done rs (field f later) x rest
   unfolding moved listStore recordsAs given
   takes-move room frames done f later x rest left rs whole on (adds stack numbers) d e =
@@ -135,7 +140,8 @@ module _ {L : Type 0} (rules : Rules L) where
       record { numbers = []; taken = rw (field-same, rest-same) (over (length done) left-there); records = sym records-same ∙ sym (append-nil done) }
 
   -- where there are as many records more as fields were read, each of them was taken
-  pub walk-takes : (room : ℕ) (frames : List (Frame L)) (done : List Record) (fields : Fields) (x : Field) (rest : Fields) (left : ℕ) (rs : List Record) → length rs + suc left ≡ length done + room → walk rules listStore room frames done fields ≡ ended x rest left rs → Taken frames done rs fields x rest
+  pub walk-takes : (room : ℕ) (frames : List (Frame L)) (done : List Record) (fields : Fields) (x : Field) (rest : Fields) (left : ℕ) (rs : List Record) →
+      length rs + suc left ≡ length done + room → walk rules listStore room frames done fields ≡ ended x rest left rs → Taken frames done rs fields x rest
   unfolding walk listStore
   walk-takes room frames done (unreadable cause place) x rest left rs whole e = let z : _≡_ {A = ℕ} 0 1 = cc in absurd (omega arith)
   walk-takes zero frames done (field f later) x rest left rs whole e = let z : _≡_ {A = ℕ} 0 1 = cc in absurd (omega arith)
@@ -143,7 +149,9 @@ module _ {L : Type 0} (rules : Rules L) where
       takes-move room frames done f later x rest left rs whole (λ stack done₁ whole₁ e₁. walk-takes room stack done₁ later x rest left rs whole₁ e₁) (decide rules (length done) frames (f .tag)) refl e
 
   -- the records say how many were taken, and each depth and number
-  pub same-numbers : {x : Field} {rest : Fields} {frames : List (Frame L)} {ms : List (ℕ × ℕ)} {fields : Fields} (message : List ℕ) (gs : List Told) (last : Fields) (ns : List (ℕ × ℕ)) → Takes rules x rest frames ms fields → ReadsAs message fields gs last → length ns ≡ length gs → recordsAs ms fields ≡ recordsAs ns fields → ms ≡ ns
+  pub same-numbers : {x : Field} {rest : Fields} {frames : List (Frame L)} {ms : List (ℕ
+      × ℕ)} {fields : Fields} (message : List ℕ) (gs : List Told) (last : Fields) (ns : List (ℕ × ℕ)) → Takes rules x rest frames ms fields →
+      ReadsAs message fields gs last → length ns ≡ length gs → recordsAs ms fields ≡ recordsAs ns fields → ms ≡ ns
   unfolding recordsAs entryRecord
   same-numbers message _ last [] (over here e) r s q = refl
   same-numbers message _ last (n ∷ ns) (over here e) no-field s q = absurd (omega arith)

@@ -60,7 +60,10 @@ abbrev run-calls : ℕ → read-run-lts.Claims
 run-calls t = (next-field-reads.Asked, next-field-reads.Learnt, opens-reads.Asked, opens-reads.Learnt, read-entry-below t, read-entry.Post)
 
 abbrev read-entry-Inv-loop : read-entry-lts.InvT-loop
-read-entry-Inv-loop message config table index group number words₀ start reading₀ last₀ words reading last = (length words ≡ length words₀) × ((f : Field) (progress : Progress) → reading ≡ At f progress → FitsAt message f progress) × (entryLeft message config table (tagAt index) group (record { number = number; last = last₀; start = start }) reading₀ words₀ ≡ entryLeft message config table (tagAt index) group (record { number = number; last = last; start = start }) reading words)
+read-entry-Inv-loop message config table index group number words₀ start reading₀ last₀ words reading last = (length words ≡ length words₀)
+    × ((f : Field) (progress : Progress) → reading ≡ At f progress → FitsAt message f progress)
+    × (entryLeft message config table (tagAt index) group (record { number = number; last = last₀; start = start }) reading₀ words₀
+    ≡ entryLeft message config table (tagAt index) group (record { number = number; last = last; start = start }) reading words)
 
 abbrev read-entry-μ-loop : read-entry-lts.MeasureT-loop
 read-entry-μ-loop message config table index group number words₀ start reading₀ last₀ words reading last = roomOf reading
@@ -138,7 +141,10 @@ read-entry-loop-again t c = let k = c .before .before .before .before .before .b
     let added = c .before .before .before .add2 in (
       added .kept .0 ∙ i .0,
       after-plain t c .fits,
-      i .2 ∙ turn-plain _ _ _ _ _ _ _ _ _ _ (entry-stands t k) _ _ _ (c .before .before .before .before .before .before .before .before .kind-of .ensures) _ (c .before .before .before .before .before .before .before .before .before .record-of2 .ensures) _ _ _ (added .ensures .0) (added .ensures .1) _ (c .before .before .before .before .before .before .position .given .1) (c .next-field2 .ensures),
+      i .2 ∙ turn-plain _ _ _ _ _ _ _ _ _ _ (entry-stands t k) _ _ _
+          (c .before .before .before .before .before .before .before .before .kind-of .ensures) _
+          (c .before .before .before .before .before .before .before .before .before .record-of2 .ensures) _ _ _ (added .ensures .0) (added .ensures .1) _
+          (c .before .before .before .before .before .before .position .given .1) (c .next-field2 .ensures),
     )
 
 read-entry-add-requires-3 : (t : ℕ) → read-entry-lts.Need-add-requires-3 (entry-calls t) (read-entry-at t) read-entry.Post read-entry-Inv-loop read-entry-μ-loop
@@ -149,7 +155,8 @@ read-entry-add-t33 t c = omega (arith, count-below _ _ _ _ _ _ _ _ _ (c .before 
 
 read-entry-read-run-requires : (t : ℕ) → read-entry-lts.Need-read-run-requires (entry-calls t) (read-entry-at t) read-entry.Post read-entry-Inv-loop read-entry-μ-loop
 read-entry-read-run-requires t c κs = let k = c .before .before .before .before .before .before .before .before .before .before .before .before in (
-  omega (arith, count-below _ _ _ _ _ _ _ _ _ (c .before .before .before .before .before .before .before .before .before .kind-of .ensures) (c .before .before .before .before .before .before .before .level .given .1), entry-loop t k .before .before .before .before .before .before .before .before .before .before .before .pre .0),
+  omega (arith, count-below _ _ _ _ _ _ _ _ _ (c .before .before .before .before .before .before .before .before .before .kind-of .ensures)
+      (c .before .before .before .before .before .before .before .level .given .1), entry-loop t k .before .before .before .before .before .before .before .before .before .before .before .pre .0),
   (stored-fits _ _ _ _ 1 (omega arith) (entry-fits t k) (c .before .before .before .before .add3 .ensures .0), entry-index t k),
 )
 
@@ -163,7 +170,11 @@ read-entry-loop-again-2 t c = let k = c .before .before .before .before .before 
     let ran = c .before .before .read-run in (
       ran .kept .1 .1 .1 .1 .1 .1 .0 ∙ added .kept .0 ∙ i .0,
       after-count t (c .before .before) .fits,
-      i .2 ∙ turn-count _ _ _ _ _ _ _ _ _ _ (entry-stands t k) _ _ _ (c .before .before .before .before .before .before .before .before .before .before .before .before .kind-of .ensures) _ (c .before .before .before .before .before .before .before .before .before .before .before .before .before .record-of2 .ensures) _ _ _ (added .ensures .0) (added .ensures .1) _ _ (c .before .before .before .before .before .before .before .before .before .before .level .given .1) _ (ran .ensures),
+      i .2 ∙ turn-count _ _ _ _ _ _ _ _ _ _ (entry-stands t k) _ _ _
+          (c .before .before .before .before .before .before .before .before .before .before .before .before .kind-of .ensures) _
+          (c .before .before .before .before .before .before .before .before .before .before .before .before .before .record-of2 .ensures) _ _ _
+          (added .ensures .0) (added .ensures .1) _ _
+          (c .before .before .before .before .before .before .before .before .before .before .level .given .1) _ (ran .ensures),
     )
 
 read-entry-join-requires : (t : ℕ) → read-entry-lts.Need-join-requires (entry-calls t) (read-entry-at t) read-entry.Post read-entry-Inv-loop read-entry-μ-loop
@@ -178,7 +189,9 @@ read-entry-loop-again-3 t c = let k = c .before .before .before .before .before 
     let joined = c .before .before .before .join in (
       joined .kept .0 ∙ i .0,
       after-user t c .fits,
-      i .2 ∙ turn-joins _ _ _ _ _ _ _ _ _ _ (entry-stands t k) _ _ _ (c .before .before .before .before .before .before .before .kind-of .ensures) _ (c .before .before .before .before .before .before .before .before .record-of2 .ensures) _ _ _ (c .before .before .before .before .before .enum-told2 .given .1) (joined .ensures .0) (joined .ensures .1) (c .next-field3 .ensures),
+      i .2 ∙ turn-joins _ _ _ _ _ _ _ _ _ _ (entry-stands t k) _ _ _ (c .before .before .before .before .before .before .before .kind-of .ensures) _
+          (c .before .before .before .before .before .before .before .before .record-of2 .ensures) _ _ _
+          (c .before .before .before .before .before .enum-told2 .given .1) (joined .ensures .0) (joined .ensures .1) (c .next-field3 .ensures),
     )
 
 read-entry-returns-2 : (t : ℕ) → read-entry-lts.Need-returns-2 (entry-calls t) (read-entry-at t) read-entry.Post read-entry-Inv-loop read-entry-μ-loop
@@ -190,7 +203,9 @@ read-entry-returns-3 t c = let k = c .before .before .before .before .before in
     left-ends _ _ _ _ _ _ _ _ _ _ (entry-stands t k) _ _ _ (c .before .before .kind-of .ensures) (c .enum-told4 .given .1) ∙ sym (entry-whole t (entry-loop t k))
 
 abbrev read-run-Inv-loop : read-run-lts.InvT-loop
-read-run-Inv-loop message config table index group words₀ reading₀ number₀ words reading number = (length words ≡ length words₀) × (number + roomOf reading ≤ roomOf reading₀) × ((f : Field) (progress : Progress) → reading ≡ At f progress → FitsAt message f progress) × (runLeft message config table (tagAt index) group number₀ reading₀ words₀ ≡ runLeft message config table (tagAt index) group number reading words)
+read-run-Inv-loop message config table index group words₀ reading₀ number₀ words reading number = (length words ≡ length words₀)
+    × (number + roomOf reading ≤ roomOf reading₀) × ((f : Field) (progress : Progress) → reading ≡ At f progress → FitsAt message f progress)
+    × (runLeft message config table (tagAt index) group number₀ reading₀ words₀ ≡ runLeft message config table (tagAt index) group number reading words)
 
 abbrev read-run-μ-loop : read-run-lts.MeasureT-loop
 read-run-μ-loop message config table index group words₀ reading₀ number₀ words reading number = roomOf reading
