@@ -202,7 +202,9 @@ fn read_group(
     requires { ⌜ (length (now message) < 2 ^ 32) × (Inside (now message) count) × (from ≤ progress .records) × (progress .records + progress .room < length (now words) / stride) × (length (now words) < 2 ^ 32) ⌝ }
     requires { ⌜ length (now index) ≡ indexWords ⌝ }
     requires { ⌜ Covers (now seen) (partOf from (progress .records) (now words)) ⌝ }
-    ensures { λ r. ⌜ partTold (config .mode) (now (message .entry)) from r (now (words .exit)) ≡ withRun (partRecord 2 count) (partOf from (progress .records) (now (words .entry))) (runFrom (tableRules config (now (table .entry)) (tagAt (now (index .entry)))) (tableDemands (now (table .entry))) inner (count .tag) (fieldsFrom (config .mode) (now (message .entry)) (count .next)) (progress .room)) ⌝ }
+    ensures { λ r. ⌜ partTold (config .mode) (now (message .entry)) from r (now (words .exit))
+        ≡ withRun (partRecord 2 count) (partOf from (progress .records) (now (words .entry)))
+        (runFrom (tableRules config (now (table .entry)) (tagAt (now (index .entry)))) (tableDemands (now (table .entry))) inner (count .tag) (fieldsFrom (config .mode) (now (message .entry)) (count .next)) (progress .room)) ⌝ }
     ensures { λ r. ⌜ Stays (now (message .entry)) (now (words .entry)) (now (words .exit)) from (progress .room) r ⌝ }
     ensures { λ _. ⌜ now (seen .exit) ≡ noted (count .tag) (now (seen .entry)) ⌝ }
 {
@@ -268,7 +270,9 @@ fn read_on(
     requires { ⌜ (length (now message) < 2 ^ 32) × (Inside (now message) first) × (from ≤ progress .records) × (progress .records + progress .room < length (now words) / stride) × (length (now words) < 2 ^ 32) ⌝ }
     requires { ⌜ length (now index) ≡ indexWords ⌝ }
     requires { ⌜ Covers (now seen) (partOf from (progress .records) (now words)) ⌝ }
-    ensures { λ r. ⌜ ((trailers : List ℕ) → mustFollow trailers (partTold (config .mode) (now (message .entry)) from r (now (words .exit))) ≡ bodyFrom (bodyOf (tableRules config (now (table .entry)) (tagAt (now (index .entry)))) (tableDemands (now (table .entry))) trailers level) (field first (fieldsFrom (config .mode) (now (message .entry)) (first .next))) (suc (progress .room)) (partOf from (progress .records) (now (words .entry)))) ⌝ }
+    ensures { λ r. ⌜ ((trailers : List ℕ) → mustFollow trailers (partTold (config .mode) (now (message .entry)) from r (now (words .exit)))
+        ≡ bodyFrom (bodyOf (tableRules config (now (table .entry)) (tagAt (now (index .entry)))) (tableDemands (now (table .entry))) trailers level)
+        (field first (fieldsFrom (config .mode) (now (message .entry)) (first .next))) (suc (progress .room)) (partOf from (progress .records) (now (words .entry)))) ⌝ }
     ensures { λ r. ⌜ Stays (now (message .entry)) (now (words .entry)) (now (words .exit)) from (suc (progress .room)) r ⌝ }
 {
     let mut reading = PartRead::At(first, progress);
@@ -315,7 +319,9 @@ pub fn read_body(
 ) -> PartRead
     requires { ⌜ (length (now message) < 2 ^ 32) × (Inside (now message) first) × (from ≤ progress .records) × (progress .records + progress .room < length (now words) / stride) × (length (now words) < 2 ^ 32) ⌝ }
     requires { ⌜ length (now index) ≡ indexWords ⌝ }
-    ensures { λ r. ⌜ ((trailers : List ℕ) → mustFollow trailers (partTold (config .mode) (now (message .entry)) from r (now (words .exit))) ≡ bodyFrom (bodyOf (tableRules config (now (table .entry)) (tagAt (now (index .entry)))) (tableDemands (now (table .entry))) trailers level) (field first (fieldsFrom (config .mode) (now (message .entry)) (first .next))) (suc (progress .room)) (partOf from (progress .records) (now (words .entry)))) ⌝ }
+    ensures { λ r. ⌜ ((trailers : List ℕ) → mustFollow trailers (partTold (config .mode) (now (message .entry)) from r (now (words .exit)))
+        ≡ bodyFrom (bodyOf (tableRules config (now (table .entry)) (tagAt (now (index .entry)))) (tableDemands (now (table .entry))) trailers level)
+        (field first (fieldsFrom (config .mode) (now (message .entry)) (first .next))) (suc (progress .room)) (partOf from (progress .records) (now (words .entry)))) ⌝ }
     ensures { λ r. ⌜ Stays (now (message .entry)) (now (words .entry)) (now (words .exit)) from (suc (progress .room)) r ⌝ }
 {
     // Which tags a body holds that was begun already isn't known: it may be any.

@@ -70,10 +70,19 @@ module _ (after : List Record) (tail : List ℕ) (room : ℕ) (m : Memory) (done
   add-holds r [] whole same place count enough = absurd (omega arith)
   add-holds r (x ∷ slack) whole same place count enough =
       let size = length-append done (r ∷ []) in
-      record { lays = record { slack = slack; whole = records-on (inserted (m .records) (m .place) r) (m .words)
-          ∙ ap (inserted (m .records) (m .place) r) whole ∙ inserted-parts done after x r slack (m .records) (m .place) place count
-          ∙ sym (append-assoc done (r ∷ []) (after ++ slack)); same = leftover-on (inserted (m .records) (m .place) r) (m .words)
-          ∙ same }; place = omega arith; count = omega arith; enough = omega arith }
+      record {
+        lays = record {
+          slack = slack;
+          whole = records-on (inserted (m .records) (m .place) r) (m .words)
+              ∙ ap (inserted (m .records) (m .place) r) whole ∙ inserted-parts done after x r slack (m .records) (m .place) place count
+              ∙ sym (append-assoc done (r ∷ []) (after ++ slack));
+          same = leftover-on (inserted (m .records) (m .place) r) (m .words)
+              ∙ same;
+        };
+        place = omega arith;
+        count = omega arith;
+        enough = omega arith;
+      }
 
   holds-add : (r : Record) → Holds after tail (suc room) m done → Holds after tail room (addedWords r m) (done ++ (r ∷ []))
   holds-add r h = add-holds r (h .lays .slack) (h .lays .whole) (h .lays .same) (h .place) (h .count) (h .enough)

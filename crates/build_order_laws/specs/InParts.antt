@@ -51,38 +51,92 @@ module _ (dictionary : Dictionary) (config : Config) (message : List ℕ) where
     pub whole-trailer : List Record
     pub header-read : headerOf (headerTags dictionary) config message verified ≡ ended f rest room header
     pub chosen : layoutOf dictionary (valueAt message (msgTypeRecord header)) ≡ laidOut layout
-    pub body-read : bodyFrom (bodyOf (layoutRules (accepted config (knows dictionary))) layoutDemands (trailerTags dictionary) layout) (field f rest) (suc room) [] ≡ ended g more room₂ body
+    pub body-read : bodyFrom (bodyOf (layoutRules (accepted config (knows dictionary))) layoutDemands (trailerTags dictionary) layout) (field f rest)
+        (suc room) [] ≡ ended g more room₂ body
     pub trailer-read : trailerFrom (field g more) (suc room₂) (partRecord 3 (verified .checksum) ∷ []) ≡ trailerAt (outcome .stop) whole-trailer
     pub records : outcome .records ≡ header ++ (body ++ whole-trailer)
 
-  module _ (v : Verified) (sound : integrityOf (config .mode) message ≡ Sound v) (f : Field) (rest : Fields) (room : ℕ) (h : List Record) (header : headerOf (headerTags dictionary) config message v ≡ ended f rest room h) where
+  module _ (v : Verified) (sound : integrityOf (config .mode) message ≡ Sound v) (f : Field) (rest : Fields) (room : ℕ) (h : List Record)
+      (header : headerOf (headerTags dictionary) config message v ≡ ended f rest room h) where
     module _ (layout : Layout) (chosen : layoutOf dictionary (valueAt message (msgTypeRecord h)) ≡ laidOut layout) where
-      trailer-parts : (g : Field) (more : Fields) (room₂ : ℕ) (b : List Record) → bodyFrom (bodyOf (layoutRules (accepted config (knows dictionary))) layoutDemands (trailerTags dictionary) layout) (field f rest) (suc room) [] ≡ ended g more room₂ b
-          → (t : Trailer) → trailerFrom (field g more) (suc room₂) (partRecord 3 (v .checksum) ∷ []) ≡ t → afterTrailer h b t .answer ≡ Valid → InParts (afterTrailer h b t)
+      trailer-parts : (g : Field) (more : Fields) (room₂ : ℕ) (b : List Record)
+          → bodyFrom (bodyOf (layoutRules (accepted config (knows dictionary))) layoutDemands (trailerTags dictionary) layout) (field f rest) (suc room) []
+          ≡ ended g more room₂ b
+          → (t : Trailer) → trailerFrom (field g more) (suc room₂) (partRecord 3 (v .checksum) ∷ []) ≡ t → afterTrailer h b t .answer ≡ Valid
+          → InParts (afterTrailer h b t)
       unfolding afterTrailer trailerAt
       trailer-parts g more room₂ b e (stopped s ts) q a =
-          record { verified = v; sound = sound; layout = layout; f = f; rest = rest; room = room; header = h; g = g; more = more; room₂ = room₂; body = b; whole-trailer = ts; header-read = header; chosen = chosen; body-read = e; trailer-read = q; records = refl }
+          record {
+            verified = v;
+            sound = sound;
+            layout = layout;
+            f = f;
+            rest = rest;
+            room = room;
+            header = h;
+            g = g;
+            more = more;
+            room₂ = room₂;
+            body = b;
+            whole-trailer = ts;
+            header-read = header;
+            chosen = chosen;
+            body-read = e;
+            trailer-read = q;
+            records = refl;
+          }
       trailer-parts g more room₂ b e (unstopped ts) q a =
-          record { verified = v; sound = sound; layout = layout; f = f; rest = rest; room = room; header = h; g = g; more = more; room₂ = room₂; body = b; whole-trailer = ts; header-read = header; chosen = chosen; body-read = e; trailer-read = q; records = refl }
+          record {
+            verified = v;
+            sound = sound;
+            layout = layout;
+            f = f;
+            rest = rest;
+            room = room;
+            header = h;
+            g = g;
+            more = more;
+            room₂ = room₂;
+            body = b;
+            whole-trailer = ts;
+            header-read = header;
+            chosen = chosen;
+            body-read = e;
+            trailer-read = q;
+            records = refl;
+          }
       trailer-parts g more room₂ b e crowded q a = let z : _≡_ {A = ℕ} 0 1 = unfold refusal in cc in absurd (omega arith)
 
-      body-parts : (r : Reading) → bodyFrom (bodyOf (layoutRules (accepted config (knows dictionary))) layoutDemands (trailerTags dictionary) layout) (field f rest) (suc room) [] ≡ r → afterBody h (v .checksum) r .answer ≡ Valid → InParts (afterBody h (v .checksum) r)
+      body-parts : (r : Reading)
+          → bodyFrom (bodyOf (layoutRules (accepted config (knows dictionary))) layoutDemands (trailerTags dictionary) layout) (field f rest) (suc room) []
+          ≡ r
+          → afterBody h (v .checksum) r .answer ≡ Valid → InParts (afterBody h (v .checksum) r)
       unfolding afterBody
-      body-parts (refused answer) e a = absurd (body-never (layoutRules (accepted config (knows dictionary))) layoutDemands (trailerTags dictionary) layout (suc (suc room)) (field f rest) (suc room) [] (unfold bodyFrom in (e ∙ ap refused (unfold refusal in a))))
+      body-parts (refused answer) e a =
+          absurd (body-never (layoutRules (accepted config (knows dictionary))) layoutDemands (trailerTags dictionary) layout (suc (suc room)) (field f rest)
+          (suc room) [] (unfold bodyFrom in (e ∙ ap refused (unfold refusal in a))))
       body-parts (ended g more room₂ b) e a = trailer-parts g more room₂ b e (trailerFrom (field g more) (suc room₂) (partRecord 3 (v .checksum) ∷ [])) refl a
 
-    type-parts : (choice : Choice) → layoutOf dictionary (valueAt message (msgTypeRecord h)) ≡ choice → afterType dictionary config f rest room h (v .checksum) choice .answer ≡ Valid → InParts (afterType dictionary config f rest room h (v .checksum) choice)
+    type-parts : (choice : Choice) → layoutOf dictionary (valueAt message (msgTypeRecord h)) ≡ choice
+        → afterType dictionary config f rest room h (v .checksum) choice .answer ≡ Valid
+        → InParts (afterType dictionary config f rest room h (v .checksum) choice)
     unfolding afterType
     type-parts noMessage c a = let z : _≡_ {A = ℕ} 0 1 = unfold refusal in cc in absurd (omega arith)
-    type-parts (laidOut layout) c a = body-parts layout c (bodyFrom (bodyOf (layoutRules (accepted config (knows dictionary))) layoutDemands (trailerTags dictionary) layout) (field f rest) (suc room) []) refl a
+    type-parts (laidOut layout) c a =
+        body-parts layout c (bodyFrom (bodyOf (layoutRules (accepted config (knows dictionary))) layoutDemands (trailerTags dictionary) layout) (field f rest)
+        (suc room) []) refl a
 
   header-parts : (v : Verified) → integrityOf (config .mode) message ≡ Sound v → (r : Reading) → headerOf (headerTags dictionary) config message v ≡ r
-      → afterHeader dictionary config message (withChecksum (v .checksum) r) .answer ≡ Valid → InParts (afterHeader dictionary config message (withChecksum (v .checksum) r))
+      → afterHeader dictionary config message (withChecksum (v .checksum) r) .answer ≡ Valid
+      → InParts (afterHeader dictionary config message (withChecksum (v .checksum) r))
   unfolding afterHeader withChecksum
-  header-parts v sound (refused answer) e a = absurd (header-never (headerTags dictionary) (fieldsFrom (config .mode) message (v .«msg_type» .next)) 1021 (verifiedRecords v) (unfold headerOf in (e ∙ ap refused (unfold refusal in a))))
+  header-parts v sound (refused answer) e a =
+      absurd (header-never (headerTags dictionary) (fieldsFrom (config .mode) message (v .«msg_type» .next)) 1021 (verifiedRecords v)
+      (unfold headerOf in (e ∙ ap refused (unfold refusal in a))))
   header-parts v sound (ended f rest room h) e a = type-parts v sound f rest room h e (layoutOf dictionary (valueAt message (msgTypeRecord h))) refl a
 
-  integrity-parts : (i : Integrity) → integrityOf (config .mode) message ≡ i → afterHeader dictionary config message (startedBy (headerTags dictionary) config message i) .answer ≡ Valid
+  integrity-parts : (i : Integrity) → integrityOf (config .mode) message ≡ i
+      → afterHeader dictionary config message (startedBy (headerTags dictionary) config message i) .answer ≡ Valid
       → InParts (afterHeader dictionary config message (startedBy (headerTags dictionary) config message i))
   unfolding startedBy
   integrity-parts (Garbled reason) e a = let z : _≡_ {A = ℕ} 0 1 = unfold afterHeader refusal in cc in absurd (omega arith)
@@ -93,8 +147,13 @@ module _ (dictionary : Dictionary) (config : Config) (message : List ℕ) where
   in-parts a = integrity-parts (integrityOf (config .mode) message) refl a
 
 -- the fields that were verified are the first three of the message
-pub verified-stores : (mode : Mode) (message : List ℕ) (v : Verified) → VerifiedRead mode message v → Stores 1 (fieldsFrom mode message (startAt 0)) 1024 [] (fieldsFrom mode message (v .«msg_type» .next)) 1021 (verifiedRecords v)
+pub verified-stores : (mode : Mode) (message : List ℕ) (v : Verified) → VerifiedRead mode message v
+    → Stores 1 (fieldsFrom mode message (startAt 0)) 1024 [] (fieldsFrom mode message (v .«msg_type» .next)) 1021 (verifiedRecords v)
 unfolding verifiedRecords
 verified-stores mode message v w =
-    rw (fields-field mode message (startAt 0) (v .«begin_string») (w .begins), fields-field mode message (v .«begin_string» .next) (v .«body_length») (w .counts), fields-field mode message (v .«body_length» .next) (v .«msg_type») (w .types))
+    rw (
+      fields-field mode message (startAt 0) (v .«begin_string») (w .begins),
+      fields-field mode message (v .«begin_string» .next) (v .«body_length») (w .counts),
+      fields-field mode message (v .«body_length» .next) (v .«msg_type») (w .types),
+    )
     (stores-then (stores-then (stores-field {room = 1023}) (stores-field {room = 1022})) (stores-field {room = 1021}))

@@ -37,7 +37,9 @@ module _ (dictionary : Dictionary) (config : Config) (message : List ℕ) where
     inHeader = twiceInHeader (headerTags dictionary) (fieldsFrom (config .mode) message (p .verified .«msg_type» .next)) (verifiedRecords (p .verified))
 
     abbrev inBody : Bool
-    inBody = twiceInBody (layoutRules (accepted config (knows dictionary))) layoutDemands (trailerTags dictionary) (p .layout) (field (p .f) (p .rest)) (suc (p .room)) []
+    inBody =
+        twiceInBody (layoutRules (accepted config (knows dictionary))) layoutDemands (trailerTags dictionary) (p .layout) (field (p .f) (p .rest))
+        (suc (p .room)) []
 
     abbrev inTrailer : Bool
     inTrailer = twiceInTrailer (field (p .g) (p .more)) (partRecord 3 (p .verified .checksum) ∷ [])
@@ -47,21 +49,31 @@ module _ (dictionary : Dictionary) (config : Config) (message : List ℕ) where
     unfolding storedTwice twiceFromHeader twiceFromBody twiceBehind
     twice-in-parts = rw (p .sound, p .header-read, p .chosen, p .body-read) refl
 
-    parts-tell : Sizes dictionary config message outcome p → Tells (pick inHeader true (pick inBody true inTrailer)) (fieldsCounted (config .mode) message (outcome .stop)) (length (outcome .records))
+    parts-tell : Sizes dictionary config message outcome p
+        → Tells (pick inHeader true (pick inBody true inTrailer)) (fieldsCounted (config .mode) message (outcome .stop)) (length (outcome .records))
     parts-tell s =
         let v = p .verified in
         let three = three-verified v (verified-tags (config .mode) message v (p .sound)) in
-        let h = header-tells (headerTags dictionary) (fieldsFrom (config .mode) message (v .«msg_type» .next)) 1021 (verifiedRecords v) (p .f) (p .rest) (p .room) (p .header) (unfold headerOf in p .header-read) in
-        let b = body-tells (layoutRules (accepted config (knows dictionary))) layoutDemands (trailerTags dictionary) (p .layout) (field (p .f) (p .rest)) (suc (p .room)) [] (p .g) (p .more) (p .room₂) (p .body) (p .body-read) in
-        let t = trailer-tells (field (p .g) (p .more)) (suc (p .room₂)) (partRecord 3 (v .checksum) ∷ []) (outcome .stop) (p .whole-trailer) (p .trailer-read) in
+        let h =
+        header-tells (headerTags dictionary) (fieldsFrom (config .mode) message (v .«msg_type» .next)) 1021 (verifiedRecords v) (p .f) (p .rest) (p .room)
+        (p .header) (unfold headerOf in p .header-read) in
+        let b =
+        body-tells (layoutRules (accepted config (knows dictionary))) layoutDemands (trailerTags dictionary) (p .layout) (field (p .f) (p .rest))
+        (suc (p .room)) [] (p .g) (p .more) (p .room₂) (p .body) (p .body-read) in
+        let t =
+        trailer-tells (field (p .g) (p .more)) (suc (p .room₂)) (partRecord 3 (v .checksum) ∷ []) (outcome .stop) (p .whole-trailer) (p .trailer-read) in
         let in-trailer = trailerFields (field (p .g) (p .more)) in
-        let x : Tells inHeader (fieldsCounted (config .mode) message (outcome .stop)) (length (p .header) + (s .of-body .read + suc in-trailer)) = tells-as inHeader (omega (arith, three, s .counted, s .of-header .room-is, s .of-trailer .counted)) h in
-        let y : Tells inBody (length (p .header) + (s .of-body .read + suc in-trailer)) (length (p .header) + (length (p .body) + suc in-trailer)) = tells-as inBody (omega (arith, s .of-body .room-is)) b in
-        let z : Tells inTrailer (length (p .header) + (length (p .body) + suc in-trailer)) (length (outcome .records)) = tells-as inTrailer (omega (arith, s .size)) t in
+        let x : Tells inHeader (fieldsCounted (config .mode) message (outcome .stop)) (length (p .header) + (s .of-body .read + suc in-trailer)) =
+        tells-as inHeader (omega (arith, three, s .counted, s .of-header .room-is, s .of-trailer .counted)) h in
+        let y : Tells inBody (length (p .header) + (s .of-body .read + suc in-trailer)) (length (p .header) + (length (p .body) + suc in-trailer)) =
+        tells-as inBody (omega (arith, s .of-body .room-is)) b in
+        let z : Tells inTrailer (length (p .header) + (length (p .body) + suc in-trailer)) (length (outcome .records)) =
+        tells-as inTrailer (omega (arith, s .size)) t in
         tells-then inHeader (pick inBody true inTrailer) x (tells-then inBody inTrailer y z)
 
   message-tells : messageRead dictionary config message .answer ≡ Valid
-      → Tells (storedTwice dictionary config message) (fieldsCounted (config .mode) message (messageRead dictionary config message .stop)) (length (messageRead dictionary config message .records))
+      → Tells (storedTwice dictionary config message) (fieldsCounted (config .mode) message (messageRead dictionary config message .stop))
+      (length (messageRead dictionary config message .records))
   message-tells a =
       let p = in-parts dictionary config message a in
       rw (twice-in-parts _ p) (parts-tell _ p (sizes dictionary config message _ p))

@@ -37,7 +37,10 @@ unfolding removed pulled recordAt
 removals = refl
 
 -- P5, `38=600|58=x|38=800|`: "38 is 800 and stands first"
-stores : map tags (stored (body 38 40) (body 38 10 ∷ body 58 20 ∷ []) ∷ stored (body 44 40) (body 38 10 ∷ body 58 20 ∷ []) ∷ storedBetween 3 0 2 (body 38 40) order ∷ storedBetween 3 0 2 (body 44 40) order ∷ storedBetween 3 0 3 (body 44 40) order ∷ []) ≡ ((38, 40) ∷ (58, 20) ∷ []) ∷ ((38, 10) ∷ (58, 20) ∷ (44, 40) ∷ []) ∷ ((38, 40) ∷ (58, 20) ∷ (44, 30) ∷ (0, 0) ∷ []) ∷ ((38, 10) ∷ (58, 20) ∷ (44, 40) ∷ (44, 30) ∷ []) ∷ ((38, 10) ∷ (58, 20) ∷ (44, 40) ∷ (0, 0) ∷ []) ∷ []
+stores : map tags (stored (body 38 40) (body 38 10 ∷ body 58 20 ∷ []) ∷ stored (body 44 40) (body 38 10 ∷ body 58 20 ∷ [])
+    ∷ storedBetween 3 0 2 (body 38 40) order ∷ storedBetween 3 0 2 (body 44 40) order ∷ storedBetween 3 0 3 (body 44 40) order ∷ []) ≡ ((38, 40) ∷ (58, 20)
+    ∷ []) ∷ ((38, 10) ∷ (58, 20) ∷ (44, 40) ∷ []) ∷ ((38, 40) ∷ (58, 20) ∷ (44, 30) ∷ (0, 0) ∷ []) ∷ ((38, 10) ∷ (58, 20) ∷ (44, 40) ∷ (44, 30) ∷ [])
+    ∷ ((38, 10) ∷ (58, 20) ∷ (44, 40) ∷ (0, 0) ∷ []) ∷ []
 unfolding stored storedBetween storedAt heldFrom between replaced inserted pushed
 stores = refl
 

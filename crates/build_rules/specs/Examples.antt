@@ -129,5 +129,11 @@ rows-read rows = map (λ (row : Row). answered (messageRead dictionary (validati
 
 -- THE TABLE, the crowds, and an order without 38 by that other dictionary
 pub all-read : rows-read table × rows-read crowds × (numberOf (messageRead marked (validating true) (order "58=x|") .answer) ≡ 0)
-unfolding times messageRead numberOf startOf startedBy headerOf verifiedRecords withChecksum headerFrom afterHeader afterType afterBody afterTrailer refusal shownWith msgTypeRecord valueAt trailerFrom partRecord valuesOf bodyFrom bodyWithin takes withRun nextFrom andThen storedRun behindRun bodyOf runFrom ranAs checked bodyKind placedKind groupKind answerOf numberOfReason integrityOf begun counted summed typed lengthIs lengthAgrees sumIs sumAgrees sumOf checksumOf checksumDigits decimalWithin layoutThen positionFrom firstOf positionIn groupSince groupOf delimiterOf requiredTags holdsTag knows plainFields headerTags trailerTags flattened sameBytes messageOf layoutOf stored isDelimiter counting opens declared entryKind inEntry decide entryRecord moved walk accepted openedAs layoutRules joinedList listStore orElse has fieldsLack before shallow runLacks nestedLack entriesLack opensEntry entryLack runLack layoutDemands reading-fields
+unfolding times messageRead numberOf startOf startedBy headerOf verifiedRecords withChecksum headerFrom afterHeader afterType afterBody afterTrailer refusal
+    shownWith msgTypeRecord valueAt trailerFrom partRecord valuesOf bodyFrom bodyWithin takes withRun nextFrom andThen storedRun behindRun bodyOf runFrom
+    ranAs checked bodyKind placedKind groupKind answerOf numberOfReason integrityOf begun counted summed typed lengthIs lengthAgrees sumIs sumAgrees sumOf
+    checksumOf checksumDigits decimalWithin layoutThen positionFrom firstOf positionIn groupSince groupOf delimiterOf requiredTags holdsTag knows
+    plainFields headerTags trailerTags flattened sameBytes messageOf layoutOf stored isDelimiter counting opens declared entryKind inEntry decide
+    entryRecord moved walk accepted openedAs layoutRules joinedList listStore orElse has fieldsLack before shallow runLacks nestedLack entriesLack
+    opensEntry entryLack runLack layoutDemands reading-fields
 all-read = (refl, refl, refl)

@@ -36,7 +36,9 @@ laterTests (b ∷ bs) = bs
 
 -- the same dictionary in bytes
 means : dictionaryOf examples ≡ dictionary
-unfolding dictionaryOf meaningOf tagsFrom tagIn messagesFrom messageIn msgTypeBytes bytesWithin definedAfter definedBy expanded nodesOf declarationsOf declarationsIn sizeOf bodyOf noItems itemBefore recordsFrom recordsWithin recordsThen recordAt recordFrom withKind withBody bodyBytes recordBodyLength knownTag opensComponent opensMessage fieldBody componentBody groupBody tagBytes withMark zeroFilled lowFirst
+unfolding dictionaryOf meaningOf tagsFrom tagIn messagesFrom messageIn msgTypeBytes bytesWithin definedAfter definedBy expanded nodesOf declarationsOf
+    declarationsIn sizeOf bodyOf noItems itemBefore recordsFrom recordsWithin recordsThen recordAt recordFrom withKind withBody bodyBytes recordBodyLength
+    knownTag opensComponent opensMessage fieldBody componentBody groupBody tagBytes withMark zeroFilled lowFirst
 means = refl
 
 all-short : map (λ (row : Row). leb (length (row .1)) 8192) table ≡ map (λ (row : Row). true) table

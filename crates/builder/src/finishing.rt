@@ -47,7 +47,10 @@ fn read_by_table(
     words: &mut [u32],
 ) -> PartRead
     requires { ⌜ (length (now message) < 2 ^ 32) × (length (now words) ≡ recordWords) × HeaderEnds (now message) (now words) headed × (length (now index) ≡ indexWords) ⌝ }
-    ensures { λ r. ⌜ ((trailers : List ℕ) → bodyTold (config .mode) (now (message .entry)) headed r (now (words .exit)) trailers ≡ afterLevel trailers (headed .stop) (fieldsFrom (config .mode) (now (message .entry)) (headed .stop .next)) (headed .progress .room) (partOf 0 (headed .progress .records) (now (words .entry))) (headed .checksum) (tableRules config (now (table .entry)) (tagAt (now (index .entry)))) (tableDemands (now (table .entry))) 0) ⌝ }
+    ensures { λ r. ⌜ ((trailers : List ℕ) → bodyTold (config .mode) (now (message .entry)) headed r (now (words .exit)) trailers
+        ≡ afterLevel trailers (headed .stop) (fieldsFrom (config .mode) (now (message .entry)) (headed .stop .next)) (headed .progress .room)
+        (partOf 0 (headed .progress .records) (now (words .entry))) (headed .checksum) (tableRules config (now (table .entry)) (tagAt (now (index .entry))))
+        (tableDemands (now (table .entry))) 0) ⌝ }
     ensures { λ r. ⌜ Stays (now (message .entry)) (now (words .entry)) (now (words .exit)) (headed .progress .records) (suc (headed .progress .room)) r ⌝ }
 {
     let begun = headed.progress;
@@ -94,7 +97,10 @@ fn read_laid(
     words: &mut [u32],
 ) -> PartRead
     requires { ⌜ (length (now message) < 2 ^ 32) × (length (now words) ≡ recordWords) × HeaderEnds (now message) (now words) headed × (length (now index) ≡ indexWords) × («msg_type» ≡ msgTypeRecord (partOf 0 (headed .progress .records) (now words))) ⌝ }
-    ensures { λ r. ⌜ ((trailers : List ℕ) → bodyTold (config .mode) (now (message .entry)) headed r (now (words .exit)) trailers ≡ afterTable trailers (headed .stop) (fieldsFrom (config .mode) (now (message .entry)) (headed .stop .next)) (headed .progress .room) (partOf 0 (headed .progress .records) (now (words .entry))) (headed .checksum) (now (dictionary .entry)) (now (index .entry)) config (placedTable (now (dictionary .entry)) (now (index .entry)) (At opening) (replicate 4096 0))) ⌝ }
+    ensures { λ r. ⌜ ((trailers : List ℕ) → bodyTold (config .mode) (now (message .entry)) headed r (now (words .exit)) trailers
+        ≡ afterTable trailers (headed .stop) (fieldsFrom (config .mode) (now (message .entry)) (headed .stop .next)) (headed .progress .room)
+        (partOf 0 (headed .progress .records) (now (words .entry))) (headed .checksum) (now (dictionary .entry)) (now (index .entry)) config
+        (placedTable (now (dictionary .entry)) (now (index .entry)) (At opening) (replicate 4096 0))) ⌝ }
     ensures { λ r. ⌜ Stays (now (message .entry)) (now (words .entry)) (now (words .exit)) (headed .progress .records) (suc (headed .progress .room)) r ⌝ }
 {
     let mut table = [0u16; dictionary_directory::TABLE_WORDS];

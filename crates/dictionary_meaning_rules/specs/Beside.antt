@@ -240,8 +240,8 @@ module _ (defined : List Defined) {o : Open} {level : Items} {g : OpenGroup} {gr
       let none : flat defined level ≡ end = items-none (flat defined level) (omega arith) in
       let n : length groups + 1 ≡ suc (length groups) = omega arith in
       let here : flat defined (continued (g .before) (groupThen (g .tag) (g .required) level closed))
-          ≡ followedBy (flat defined (g .before)) (group (g .tag) (g .required) end end) = flat-around defined (g .before) level (g .tag) (g .required)
-          ∙ ap (λ (l : Layout). followedBy (flat defined (g .before)) (group (g .tag) (g .required) l end)) none in
+      ≡ followedBy (flat defined (g .before)) (group (g .tag) (g .required) end end) = flat-around defined (g .before) level (g .tag) (g .required)
+      ∙ ap (λ (l : Layout). followedBy (flat defined (g .before)) (group (g .tag) (g .required) l end)) none in
       rw (inside .tag) (rw n at (innermost-wrapped defined groups (g .tag) end 1 (continued (g .before) (groupThen (g .tag) (g .required) level closed)) (rw here (innermost-here (flat defined (g .before)) (g .required)))))
 
   -- else it is not, and it is an item of the level around it

@@ -175,8 +175,8 @@ module _ (names : Names) (layouts : Records → List Layout) (place : ℕ) where
             (λ h. picked (Inside o) (ComponentItem required number) (ltb 1024 (o .items + d .items)) _ _
             (λ k. refuses (holds-too-many (over OverThousand (omega (arith, ltb-true 1024 (o .items + d .items) k, component-whole defined c number required, m .count), component-shallow defined c number required (omega (arith, ltb-false 4 (depthOf (o .groups) + d .depth) h, m .deep))))))
             (λ k. goes (within measured bounded next (counted-component defined c number required (d .items) (d .depth) (heldWith (o .held) d) (m .count)
-                (m .deep) (m .filled) (ltb-false 4 (depthOf (o .groups) + d .depth) h) (ltb-false 1024 (o .items + d .items) k)))
-                (unfold thingsOf openAfter grown in refl)))
+            (m .deep) (m .filled) (ltb-false 4 (depthOf (o .groups) + d .depth) h) (ltb-false 1024 (o .items + d .items) k)))
+            (unfold thingsOf openAfter grown in refl)))
 
     inside-group : (tag : ℕ) (required : Bool) → Stepped (Inside o) names layouts place (OpensGroup tag required) (stepOf (looksIn names) (Inside o) place (OpensGroup tag required))
     unfolding stepOf onGroup inside knownBefore notTooDeep notTooMany looksIn named grown

@@ -25,7 +25,8 @@ use Rattle.encode_rewriting_laws.specs.Written.{written, rewritten}
 use Rattle.encode_rewriting_laws.specs.EncodedText.{written-append, text-written}
 
 -- a message that stands for the records of a build: 8, 9 and 35 first in the header, 10 first in the trailer, no groups in either
-pub record Built (bytes : List ℕ) (m : Message) (begin size type : Record) (others ofBody : List Record) (check : Record) (ofTrailer : List Record) : Type 0 where
+pub record Built (bytes : List ℕ) (m : Message) (begin size type : Record) (others ofBody : List Record) (check : Record)
+    (ofTrailer : List Record) : Type 0 where
   pub header : Stands bytes 1 0 0 0 0 (m .header) (begin ∷ size ∷ type ∷ others)
   pub body : Stands bytes 2 0 0 0 0 (m .body) ofBody
   pub trailer : Stands bytes 3 0 0 0 0 (m .trailer) (check ∷ ofTrailer)
@@ -43,12 +44,14 @@ record Begins (bytes : List ℕ) (part tag : ℕ) (map : Map) (r : Record) (rs :
   is : map ≡ field tag (valueAt bytes r) rest
   stand : Stands bytes part 0 0 (r .tag) 0 rest rs
 
-begins-with : {bytes : List ℕ} {part start entries : ℕ} {map : Map} {r : Record} {rs : List Record} (tag : ℕ) → Stands bytes part 0 0 start entries map (r ∷ rs) → Own 0 0 r → r .tag ≡ tag → Begins bytes part tag map r rs
+begins-with : {bytes : List ℕ} {part start entries : ℕ} {map : Map} {r : Record} {rs : List Record} (tag : ℕ)
+    → Stands bytes part 0 0 start entries map (r ∷ rs) → Own 0 0 r → r .tag ≡ tag → Begins bytes part tag map r rs
 begins-with {bytes} tag (stands-own {rest = rest} r o more) a e = record { rest = rest; is = ap (λ (t : ℕ). field t (valueAt bytes r) rest) e; stand = more }
 begins-with tag (stands-entry r o inner more) a e = absurd (omega (arith, o .deep, a .deep))
 
 -- behind a field of a map without runs nothing is part of the field's run
-past-alone : {bytes : List ℕ} {part start entries : ℕ} {map : Map} {rs : List Record} (tag : ℕ) → Stands bytes part 0 0 start entries map rs → All (Own 0 0) rs → pastLeading tag map ≡ map
+past-alone : {bytes : List ℕ} {part start entries : ℕ} {map : Map} {rs : List Record} (tag : ℕ) → Stands bytes part 0 0 start entries map rs
+    → All (Own 0 0) rs → pastLeading tag map ≡ map
 unfolding pastLeading
 past-alone tag stands-none a = refl
 past-alone tag (stands-own r o more) a = refl
@@ -80,7 +83,8 @@ under-rest separator (entry s d own rest) a b c =
     rw (is-rest s (x .0) (y .0) (z .0), under-rest separator rest (x .1) (y .1) (z .1))
 
 -- the header: "write the header's 8, 9, 35, then the rest in map order" changes no order where they stand first
-module _ (separator : ℕ) (a b c : List ℕ) (rest : Map) (formed : isFormed (field 8 a (field 9 b (field 35 c rest))) ≡ true) (alone : pastLeading 35 rest ≡ rest) where
+module _ (separator : ℕ) (a b c : List ℕ) (rest : Map) (formed : isFormed (field 8 a (field 9 b (field 35 c rest))) ≡ true)
+    (alone : pastLeading 35 rest ≡ rest) where
   none-again : (stands 8 rest ≡ false) × (stands 9 rest ≡ false) × (stands 35 rest ≡ false)
   none-again =
       let eight = field-formed 8 a (field 9 b (field 35 c rest)) formed in
@@ -89,15 +93,23 @@ module _ (separator : ℕ) (a b c : List ℕ) (rest : Map) (formed : isFormed (f
       let behind : stands 8 rest ≡ false = unfold stands in (behind-field 8 9 b (field 35 c rest) (eight .once) .1) in
       (behind, behind-field 9 35 c rest (nine .once) .1, rw alone at (type .once))
 
-  header-measured : (n : List ℕ) → headerText separator (stored 9 n (field 8 a (field 9 b (field 35 c rest)))) ≡ fieldBytes separator (decimal 8) a ++ (fieldBytes separator (decimal 9) n ++ (fieldBytes separator (decimal 35) c ++ text separator rest))
+  header-measured : (n : List ℕ)
+      → headerText separator (stored 9 n (field 8 a (field 9 b (field 35 c rest)))) ≡ fieldBytes separator (decimal 8) a
+      ++ (fieldBytes separator (decimal 9) n ++ (fieldBytes separator (decimal 35) c ++ text separator rest))
   unfolding headerText stored holds replaced textUnder isRest isFirst
   header-measured n =
       let none = none-again in
-      rw (under-absent separator 8 rest (none .0), under-absent separator 9 rest (none .1), under-absent separator 35 rest (none .2), under-rest separator rest (none .0) (none .1) (none .2))
+      rw (
+        under-absent separator 8 rest (none .0),
+        under-absent separator 9 rest (none .1),
+        under-absent separator 35 rest (none .2),
+        under-rest separator rest (none .0) (none .1) (none .2),
+      )
       (simp (append-assoc, append-nil))
 
 -- what a built message is made of: its header and its trailer as maps
-pub record BuiltMaps (bytes : List ℕ) (m : Message) (begin size type : Record) (others ofBody : List Record) (check : Record) (ofTrailer : List Record) : Type 0 where
+pub record BuiltMaps (bytes : List ℕ) (m : Message) (begin size type : Record) (others ofBody : List Record) (check : Record)
+    (ofTrailer : List Record) : Type 0 where
   pub rest : Map
   pub header-is : m .header ≡ field 8 (valueAt bytes begin) (field 9 (valueAt bytes size) (field 35 (valueAt bytes type) rest))
   pub rest-stands : Stands bytes 1 0 0 (type .tag) 0 rest others
@@ -106,7 +118,8 @@ pub record BuiltMaps (bytes : List ℕ) (m : Message) (begin size type : Record)
   pub trailer-is : m .trailer ≡ field 10 (valueAt bytes check) tail
   pub tail-stands : Stands bytes 3 0 0 (check .tag) 0 tail ofTrailer
 
-pub built-maps : {bytes : List ℕ} {m : Message} {begin size type : Record} {others ofBody : List Record} {check : Record} {ofTrailer : List Record} → Built bytes m begin size type others ofBody check ofTrailer → BuiltMaps bytes m begin size type others ofBody check ofTrailer
+pub built-maps : {bytes : List ℕ} {m : Message} {begin size type : Record} {others ofBody : List Record} {check : Record} {ofTrailer : List Record}
+    → Built bytes m begin size type others ofBody check ofTrailer → BuiltMaps bytes m begin size type others ofBody check ofTrailer
 built-maps {bytes} {begin = begin} {size = size} b =
     let o = b .header-own in
     let one = begins-with 8 (b .header) (all-first o) (b .begins) in
@@ -125,13 +138,16 @@ built-maps {bytes} {begin = begin} {size = size} b =
 
 module _ (separator : ℕ) (bytes : List ℕ) (type : Record) (types : type .tag ≡ 35) (others ofBody ofTrailer : List Record) (rest body tail : Map) where
   -- all that is counted, in the order of the records
-  counted-written : text separator rest ≡ written separator bytes others → text separator body ≡ written separator bytes ofBody → text separator tail ≡ written separator bytes ofTrailer
-      → fieldBytes separator (decimal 35) (valueAt bytes type) ++ (text separator rest ++ (text separator body ++ text separator tail)) ≡ written separator bytes (type ∷ (others ++ (ofBody ++ ofTrailer)))
+  counted-written : text separator rest ≡ written separator bytes others → text separator body ≡ written separator bytes ofBody
+      → text separator tail ≡ written separator bytes ofTrailer
+      → fieldBytes separator (decimal 35) (valueAt bytes type) ++ (text separator rest ++ (text separator body ++ text separator tail))
+      ≡ written separator bytes (type ∷ (others ++ (ofBody ++ ofTrailer)))
   unfolding written
   counted-written r b t =
       rw (r, b, t, ← types, written-append separator bytes others (ofBody ++ ofTrailer), written-append separator bytes ofBody ofTrailer)
 
-module _ (separator : ℕ) (m : Message) (a b c e : List ℕ) (rest tail : Map) (header : m .header ≡ field 8 a (field 9 b (field 35 c rest))) (trailer : m .trailer ≡ field 10 e tail) where
+module _ (separator : ℕ) (m : Message) (a b c e : List ℕ) (rest tail : Map) (header : m .header ≡ field 8 a (field 9 b (field 35 c rest)))
+    (trailer : m .trailer ≡ field 10 e tail) where
   abbrev counted : List ℕ
   counted = fieldBytes separator (decimal 35) c ++ (text separator rest ++ (text separator (m .body) ++ text separator tail))
 
@@ -152,24 +168,36 @@ module _ (separator : ℕ) (m : Message) (a b c e : List ℕ) (rest tail : Map) 
       ))
 
   text-measured : isFormed (m .header) ≡ true → pastLeading 35 rest ≡ rest
-      → messageText separator (measured (dropped m)) ≡ fieldBytes separator (decimal 8) a ++ (fieldBytes separator (decimal 9) (decimal (length counted)) ++ counted)
+      → messageText separator (measured (dropped m)) ≡ fieldBytes separator (decimal 8) a
+      ++ (fieldBytes separator (decimal 9) (decimal (length counted)) ++ counted)
   unfolding messageText measured dropped withoutField
   text-measured formed alone =
       let n = decimal (length counted) in
-      let h : headerText separator (stored 9 n (m .header)) ≡ fieldBytes separator (decimal 8) a ++ (fieldBytes separator (decimal 9) n ++ (fieldBytes separator (decimal 35) c ++ text separator rest)) = rw header (header-measured separator a b c rest (rw header at formed) alone n) in
+      let h : headerText separator (stored 9 n (m .header)) ≡ fieldBytes separator (decimal 8) a
+      ++ (fieldBytes separator (decimal 9) n ++ (fieldBytes separator (decimal 35) c ++ text separator rest)) =
+      rw header (header-measured separator a b c rest (rw header at formed) alone n) in
       let t : text separator (withoutField 10 (m .trailer)) ≡ text separator tail = rw trailer in
-      let l : bodyLength (record { header = m .header; body = m .body; trailer = withoutField 10 (m .trailer) }) ≡ length counted = unfold dropped in length-counted in
+      let l : bodyLength (record { header = m .header; body = m .body; trailer = withoutField 10 (m .trailer) }) ≡ length counted = unfold dropped in
+      length-counted in
       rw (l, h, t) (simp append-assoc)
 
 -- "write the header's 8, 9, 35, then the rest in map order, body, trailer": the records but the old 9 and 10
-pub encoding-rewritten : (separator : ℕ) {bytes : List ℕ} {m : Message} {begin size type : Record} {others ofBody : List Record} {check : Record} {ofTrailer : List Record} → Built bytes m begin size type others ofBody check ofTrailer
+pub encoding-rewritten : (separator : ℕ) {bytes : List ℕ} {m : Message} {begin size type : Record} {others ofBody : List Record} {check : Record}
+    {ofTrailer : List Record}
+    → Built bytes m begin size type others ofBody check ofTrailer
     → encoding separator m ≡ rewritten separator bytes begin (type ∷ (others ++ (ofBody ++ ofTrailer)))
 unfolding encoding rewritten
 encoding-rewritten separator {bytes} {m} {begin} {size} {type} {others} {ofBody} {check} {ofTrailer} built =
     let d = built-maps built in
-    let c = counted-written separator bytes type (built .types) others ofBody ofTrailer (d .rest) (m .body) (d .tail) (text-written separator (d .rest-stands)) (text-written separator (built .body)) (text-written separator (d .tail-stands)) in
-    let all = text-measured separator m (valueAt bytes begin) (valueAt bytes size) (valueAt bytes type) (valueAt bytes check) (d .rest) (d .tail) (d .header-is) (d .trailer-is) (built .within .formed .header) (d .alone) in
+    let c =
+    counted-written separator bytes type (built .types) others ofBody ofTrailer (d .rest) (m .body) (d .tail) (text-written separator (d .rest-stands))
+    (text-written separator (built .body)) (text-written separator (d .tail-stands)) in
+    let all =
+    text-measured separator m (valueAt bytes begin) (valueAt bytes size) (valueAt bytes type) (valueAt bytes check) (d .rest) (d .tail) (d .header-is)
+    (d .trailer-is) (built .within .formed .header) (d .alone) in
     ap (summed separator)
     (all
     ∙ ap (λ (s : List ℕ). fieldBytes separator (decimal 8) (valueAt bytes begin) ++ (fieldBytes separator (decimal 9) (decimal (length s)) ++ s)) c
-    ∙ ap (λ (t : ℕ). fieldBytes separator (decimal t) (valueAt bytes begin) ++ (fieldBytes separator (decimal 9) (decimal (length (written separator bytes (type ∷ (others ++ (ofBody ++ ofTrailer)))))) ++ written separator bytes (type ∷ (others ++ (ofBody ++ ofTrailer))))) (sym (built .begins)))
+    ∙ ap (λ (t : ℕ). fieldBytes separator (decimal t) (valueAt bytes begin)
+    ++ (fieldBytes separator (decimal 9) (decimal (length (written separator bytes (type ∷ (others ++ (ofBody ++ ofTrailer))))))
+    ++ written separator bytes (type ∷ (others ++ (ofBody ++ ofTrailer))))) (sym (built .begins)))

@@ -23,7 +23,8 @@ pub record InPart (part : ℕ) (r : Record) : Type 0 where
 record Outside (part : ℕ) (r : Record) : Type 0 where
   not-of : r .part ≡ part → ⊥
 
-stands-in : {bytes : List ℕ} {part depth number start entries : ℕ} {map : Map} {rs : List Record} → Stands bytes part depth number start entries map rs → All (InPart part) rs
+stands-in : {bytes : List ℕ} {part depth number start entries : ℕ} {map : Map} {rs : List Record} → Stands bytes part depth number start entries map rs
+    → All (InPart part) rs
 stands-in stands-none = all-none
 stands-in (stands-own r o more) = all-more (record { of = o .of }) (stands-in more)
 stands-in (stands-entry r o inner more) = all-more (record { of = o .of }) (all-append _ (stands-in inner) (stands-in more))
@@ -40,7 +41,8 @@ record Same (a b c d : List Record) : Type 0 where
   first : a ≡ c
   second : b ≡ d
 
-one-way : (part : ℕ) (a b c d : List Record) → All (InPart part) a → All (Outside part) b → All (InPart part) c → All (Outside part) d → a ++ b ≡ c ++ d → Same a b c d
+one-way : (part : ℕ) (a b c d : List Record) → All (InPart part) a → All (Outside part) b → All (InPart part) c → All (Outside part) d → a ++ b ≡ c ++ d
+    → Same a b c d
 one-way part [] b [] d all-none p all-none q e = record { first = refl; second = e }
 one-way part [] b (x ∷ c) d all-none p (all-more i j) q e = let r : All (Outside part) (x ∷ (c ++ d)) = rw e at p in absurd (all-first r .not-of (i .of))
 one-way part (x ∷ a) b [] d (all-more i j) p all-none q e = let r : All (Outside part) (x ∷ (a ++ b)) = rw (← e) at q in absurd (all-first r .not-of (i .of))
@@ -52,7 +54,8 @@ one-way part (x ∷ a) b (y ∷ c) d (all-more i j) p (all-more k l) q e =
     record { first = cc; second = s .second }
 
 -- the records that stand for a message, as they were read
-module _ {bytes : List ℕ} {m : Message} {rs header body trailer : List Record} (stand : StandFor bytes m rs) (all : rs ≡ header ++ (body ++ trailer)) (h : All (InPart 1) header) (b : All (InPart 2) body) (t : All (InPart 3) trailer) where
+module _ {bytes : List ℕ} {m : Message} {rs header body trailer : List Record} (stand : StandFor bytes m rs) (all : rs ≡ header ++ (body ++ trailer))
+    (h : All (InPart 1) header) (b : All (InPart 2) body) (t : All (InPart 3) trailer) where
   pub record Parted : Type 0 where
     pub header-stands : Stands bytes 1 0 0 0 0 (m .header) header
     pub body-stands : Stands bytes 2 0 0 0 0 (m .body) body
@@ -62,7 +65,10 @@ module _ {bytes : List ℕ} {m : Message} {rs header body trailer : List Record}
   stands-parted =
       let q = stands-in (stand .body) in
       let r = stands-in (stand .trailer) in
-      let one = one-way 1 (stand .ofHeader) (stand .ofBody ++ stand .ofTrailer) header (body ++ trailer) (stands-in (stand .header)) (all-append _ (others 2 q (λ e. omega arith)) (others 3 r (λ e. omega arith))) h (all-append _ (others 2 b (λ e. omega arith)) (others 3 t (λ e. omega arith))) (sym (stand .all) ∙ all) in
+      let one =
+      one-way 1 (stand .ofHeader) (stand .ofBody ++ stand .ofTrailer) header (body ++ trailer) (stands-in (stand .header))
+      (all-append _ (others 2 q (λ e. omega arith)) (others 3 r (λ e. omega arith))) h
+      (all-append _ (others 2 b (λ e. omega arith)) (others 3 t (λ e. omega arith))) (sym (stand .all) ∙ all) in
       let two = one-way 2 (stand .ofBody) (stand .ofTrailer) body trailer q (others 3 r (λ e. omega arith)) b (others 3 t (λ e. omega arith)) (one .second) in
       record {
         header-stands = rw (one .first) at (stand .header);
@@ -71,7 +77,8 @@ module _ {bytes : List ℕ} {m : Message} {rs header body trailer : List Record}
       }
 
 -- a message that take-over made of the records of a build
-pub read-built : {bytes : List ℕ} {m : Message} {rs : List Record} {begin size type : Record} {others ofBody : List Record} {check : Record} {ofTrailer : List Record} {one two three last : Fields}
+pub read-built : {bytes : List ℕ} {m : Message} {rs : List Record} {begin size type : Record} {others ofBody : List Record} {check : Record}
+    {ofTrailer : List Record} {one two three last : Fields}
     → StandFor bytes m rs → Within m → rs ≡ (begin ∷ size ∷ type ∷ others) ++ (ofBody ++ (check ∷ ofTrailer))
     → begin .tag ≡ 8 → size .tag ≡ 9 → type .tag ≡ 35 → check .tag ≡ 10 → check .part ≡ 3
     → Follows 1 one (begin ∷ size ∷ type ∷ others) two → Follows 2 two ofBody three → Follows 3 three ofTrailer last

@@ -63,7 +63,8 @@ ten-text (x ∷ y ∷ []) d few =
     cc
 ten-text (x ∷ y ∷ z ∷ text) d few = absurd (omega (arith, few))
 
-three-bytes : (v rest : List ℕ) → length v ≡ 3 → isDigit (getD (v ++ rest) 0 0) ≡ true → isDigit (getD (v ++ rest) 1 0) ≡ true → isDigit (getD (v ++ rest) 2 0) ≡ true → allDigits v ≡ true
+three-bytes : (v rest : List ℕ) → length v ≡ 3 → isDigit (getD (v ++ rest) 0 0) ≡ true → isDigit (getD (v ++ rest) 1 0) ≡ true
+    → isDigit (getD (v ++ rest) 2 0) ≡ true → allDigits v ≡ true
 unfolding allDigits
 three-bytes [] rest three a b c = absurd (omega (arith, three))
 three-bytes (x ∷ []) rest three a b c = absurd (omega (arith, three))
@@ -78,7 +79,8 @@ all-three true false c e = let z : _≡_ {A = ℕ} 0 1 = cc in absurd (omega ari
 all-three false b c e = let z : _≡_ {A = ℕ} 0 1 = cc in absurd (omega arith)
 
 -- "three digits", of a field whose value stands before other bytes
-three-digits : (message : List ℕ) (f : Field) (value rest : List ℕ) → drop (f .place) message ≡ value ++ rest → length value ≡ f .length → threeDigits message f ≡ true → (length value ≡ 3) × (allDigits value ≡ true)
+three-digits : (message : List ℕ) (f : Field) (value rest : List ℕ) → drop (f .place) message ≡ value ++ rest → length value ≡ f .length
+    → threeDigits message f ≡ true → (length value ≡ 3) × (allDigits value ≡ true)
 unfolding threeDigits
 three-digits message f value rest stands size three = by-size (eqb (f .length) 3) refl three
   where
@@ -88,11 +90,18 @@ three-digits message f value rest stands size three = by-size (eqb (f .length) 3
     digit : (place i : ℕ) → place ≡ f .place + i → isDigit (getD message place 0) ≡ true → isDigit (getD (value ++ rest) i 0) ≡ true
     digit place i at is = ap isDigit (sym (byte place i at)) ∙ is
 
-    by-size : (b : Bool) → eqb (f .length) 3 ≡ b → pick b (pick (isDigit (getD message (f .place) 0)) (pick (isDigit (getD message (suc (f .place)) 0)) (isDigit (getD message (suc (suc (f .place))) 0)) false) false) false ≡ true → (length value ≡ 3) × (allDigits value ≡ true)
+    by-size : (b : Bool) → eqb (f .length) 3 ≡ b
+        → pick b (pick (isDigit (getD message (f .place) 0))
+        (pick (isDigit (getD message (suc (f .place)) 0)) (isDigit (getD message (suc (suc (f .place))) 0)) false) false) false ≡ true
+        → (length value ≡ 3) × (allDigits value ≡ true)
     by-size true is e =
-        let all = all-three (isDigit (getD message (f .place) 0)) (isDigit (getD message (suc (f .place)) 0)) (isDigit (getD message (suc (suc (f .place))) 0)) e in
-        let three : length value ≡ 3 = size ∙ eqb-true (f .length) 3 is in
-        (three, three-bytes value rest three (digit (f .place) 0 (omega arith) (all .0)) (digit (suc (f .place)) 1 (omega arith) (all .1)) (digit (suc (suc (f .place))) 2 (omega arith) (all .2)))
+        let all =
+        all-three (isDigit (getD message (f .place) 0)) (isDigit (getD message (suc (f .place)) 0)) (isDigit (getD message (suc (suc (f .place))) 0)) e in
+        let three : length value ≡ 3 = size ∙ eqb-true (f .length) 3 is in (
+          three,
+          three-bytes value rest three (digit (f .place) 0 (omega arith) (all .0)) (digit (suc (f .place)) 1 (omega arith) (all .1))
+              (digit (suc (suc (f .place))) 2 (omega arith) (all .2)),
+        )
     by-size false is e = let z : _≡_ {A = ℕ} 0 1 = cc in absurd (omega arith)
 
 no-bytes : (s : List ℕ) → length s ≡ 0 → s ≡ []
@@ -101,9 +110,11 @@ no-bytes (x ∷ s) e = absurd (omega (arith, e))
 
 -- three digits are compared
 three-reads : (s : List ℕ) → length s ≡ 3 → allDigits s ≡ true → checksumOf s ≡ Worth (worth 0 s)
-three-reads s three digits = checksum-three s three ∙ number-good s (worth 0 s) (λ e. omega (arith, e, three)) digits refl (three-worth s (worth 0 s) three digits refl .small)
+three-reads s three digits =
+    checksum-three s three ∙ number-good s (worth 0 s) (λ e. omega (arith, e, three)) digits refl (three-worth s (worth 0 s) three digits refl .small)
 
-module _ (mode : Mode) (message : List ℕ) (f : Field) (long : 7 ≤ length message) (read : fieldAt mode message (startAt (length message - 7)) ≡ Read f) (ten : f .tag ≡ 10) (right : sumAgrees message f ≡ true)
+module _ (mode : Mode) (message : List ℕ) (f : Field) (long : 7 ≤ length message) (read : fieldAt mode message (startAt (length message - 7)) ≡ Read f)
+    (ten : f .tag ≡ 10) (right : sumAgrees message f ≡ true)
     (three : threeDigits message f ≡ true) where
   -- the value is the sum's digits
   sum-value : valueOf message f ≡ sumDigits (take (length message - 7) message)
@@ -111,7 +122,8 @@ module _ (mode : Mode) (message : List ℕ) (f : Field) (long : 7 ≤ length mes
   sum-value =
       let value = valueOf message f in
       let digits = three-digits message f value _ (value-stands mode message _ f read) (value-size mode message _ f read) three in
-      let same : worth 0 value ≡ sumOf (take (f .first) message) % 256 = eqb-true _ _ (sym (sum-is message f (worth 0 value) (three-reads value (digits .0) (digits .1))) ∙ right) in
+      let same : worth 0 value ≡ sumOf (take (f .first) message) % 256 =
+      eqb-true _ _ (sym (sum-is message f (worth 0 value) (three-reads value (digits .0) (digits .1))) ∙ right) in
       let first : f .first ≡ length message - 7 = step-lies mode message _ f read .starts in
       three-worth value (worth 0 value) (digits .0) (digits .1) refl .digits ∙ ap checksumDigits (same ∙ ap (λ (n : ℕ). sumOf (take n message) % 256) first)
 
@@ -121,7 +133,14 @@ module _ (mode : Mode) (message : List ℕ) (f : Field) (long : 7 ≤ length mes
       let digits = three-digits message f (valueOf message f) _ (value-stands mode message _ f read) (value-size mode message _ f read) three in
       let value = value-is mode message (startAt (length message - 7)) f read in
       let size : 7 ≡ length (w .text) + 1 + length (w .value) + 1 + length (w .rest) =
-      omega (arith, long, length-drop (length message - 7) message, ap length (w .whole), length-append (fieldBytes (mode .separator) (w .text) (w .value)) (w .rest), bytes-size (mode .separator) (w .text) (w .value)) in
+      omega (
+        arith,
+        long,
+        length-drop (length message - 7) message,
+        ap length (w .whole),
+        length-append (fieldBytes (mode .separator) (w .text) (w .value)) (w .rest),
+        bytes-size (mode .separator) (w .text) (w .value),
+      ) in
       let text : Digits (w .text) 10 = tag-text (w .text) 10 (w .is-tag ∙ ap Worth ten) .digits in
       let text-is : w .text ≡ 49 ∷ 48 ∷ [] = ten-text (w .text) text (omega (arith, size, digits .0, ap length value)) in
       let none : w .rest ≡ [] = no-bytes (w .rest) (omega (arith, size, digits .0, ap length value, ap length text-is)) in

@@ -27,7 +27,8 @@ use Rattle.encode_rules.specs.Encoding.{summed, sumDigits}
 use Rattle.field_rules.specs.Separator.{isRefusedSeparator}
 use Rattle.encode_rewriting_laws.specs.Copied.{onto, Copied, CopiedAt, copied-read}
 use Rattle.field_rules.specs.SpelledLaws.{digits-absent}
-use Rattle.encode_rewriting_laws.specs.ReadSound.{tagged, placed, framed, framedFields, Unseparated, framed-sound, framed-start, framed-end, framed-begin, framed-type, framed-size, placed-tag, placed-first}
+use Rattle.encode_rewriting_laws.specs.ReadSound.{tagged, placed, framed, framedFields, Unseparated, framed-sound, framed-start, framed-end}
+use Rattle.encode_rewriting_laws.specs.ReadSound.{framed-begin, framed-type, framed-size, placed-tag, placed-first}
 use Rattle.encode_rewriting_laws.specs.ReadWritten.{Writable}
 use Rattle.encode_rewriting_laws.specs.Written.{written, rewritten}
 
@@ -68,7 +69,8 @@ pub record ReadsLike (mode : Mode) (bytes copy : List ℕ) (begin type : Record)
   pub fields : List Field
   pub copied : Copied bytes copy others fields
   pub end : Fields
-  pub reads : fieldsFrom mode copy (startAt 0) ≡ field (verified .«begin_string») (field (verified .«body_length») (field (verified .«msg_type») (onto fields (field (verified .checksum) end))))
+  pub reads : fieldsFrom mode copy (startAt 0)
+      ≡ field (verified .«begin_string») (field (verified .«body_length») (field (verified .«msg_type») (onto fields (field (verified .checksum) end))))
 
 -- the text that is summed ends with 10
 summed-text : (mode : Mode) (before : List ℕ) → summed (mode .separator) before ≡ before ++ (tagged (mode .separator) 10 (sumDigits before) ++ [])
@@ -76,18 +78,25 @@ unfolding summed tagged decimal decimalWithin
 summed-text mode before = ap (λ (l : List ℕ). before ++ l) (sym (append-nil _))
 
 rewritten-text : (mode : Mode) (bytes : List ℕ) (begin type : Record) (others : List Record) → begin .tag ≡ 8 → type .tag ≡ 35
-    → rewritten (mode .separator) bytes begin (type ∷ others) ≡ summed (mode .separator) (framed (mode .separator) (valueAt bytes begin) (decimal (length (tagged (mode .separator) 35 (valueAt bytes type) ++ written (mode .separator) bytes others))) (tagged (mode .separator) 35 (valueAt bytes type) ++ written (mode .separator) bytes others))
+    → rewritten (mode .separator) bytes begin (type ∷ others)
+    ≡ summed (mode .separator) (framed (mode .separator) (valueAt bytes begin)
+    (decimal (length (tagged (mode .separator) 35 (valueAt bytes type) ++ written (mode .separator) bytes others)))
+    (tagged (mode .separator) 35 (valueAt bytes type) ++ written (mode .separator) bytes others))
 unfolding rewritten written framed tagged
 rewritten-text mode bytes begin type others eight thirty-five = rw (eight, thirty-five)
 
 -- reading behind 35: a field for each further record, and 10
-others-read : (mode : Mode) (bytes copy b n t s : List ℕ) (others : List Record) → All (Writable (mode .separator) bytes) others → copy ≡ framed (mode .separator) b n (tagged (mode .separator) 35 t ++ written (mode .separator) bytes others) ++ (tagged (mode .separator) 10 s ++ [])
+others-read : (mode : Mode) (bytes copy b n t s : List ℕ) (others : List Record) → All (Writable (mode .separator) bytes) others
+    → copy ≡ framed (mode .separator) b n (tagged (mode .separator) 35 t ++ written (mode .separator) bytes others) ++ (tagged (mode .separator) 10 s ++ [])
     → CopiedAt mode bytes copy (length ((tagged (mode .separator) 8 b ++ tagged (mode .separator) 9 n) ++ tagged (mode .separator) 35 t)) others
 unfolding framed
 others-read mode bytes copy b n t s others writable whole =
-    copied-read mode bytes others writable copy ((tagged (mode .separator) 8 b ++ tagged (mode .separator) 9 n) ++ tagged (mode .separator) 35 t) (tagged (mode .separator) 10 s ++ []) (whole ∙ simp append-assoc)
+    copied-read mode bytes others writable copy ((tagged (mode .separator) 8 b ++ tagged (mode .separator) 9 n) ++ tagged (mode .separator) 35 t)
+    (tagged (mode .separator) 10 s ++ []) (whole ∙ simp append-assoc)
 
-others-end : (separator : ℕ) (b n t rest : List ℕ) → length ((tagged separator 8 b ++ tagged separator 9 n) ++ tagged separator 35 t) + length rest ≡ length (framed separator b n (tagged separator 35 t ++ rest))
+others-end : (separator : ℕ) (b n t rest : List ℕ)
+    → length ((tagged separator 8 b ++ tagged separator 9 n) ++ tagged separator 35 t) + length rest
+    ≡ length (framed separator b n (tagged separator 35 t ++ rest))
 unfolding framed
 others-end separator b n t rest = simp length-append (omega arith)
 
@@ -96,11 +105,16 @@ unfolding framed
 counted-fits separator b n counted = simp length-append (omega arith)
 
 module _ (mode : Mode) (bytes copy n s : List ℕ) (begin type : Record) (others : List Record) (writable : All (Writable (mode .separator) bytes) others)
-    (whole : copy ≡ framed (mode .separator) (valueAt bytes begin) n (tagged (mode .separator) 35 (valueAt bytes type) ++ written (mode .separator) bytes others) ++ (tagged (mode .separator) 10 s ++ []))
+    (whole : copy ≡ framed (mode .separator) (valueAt bytes begin) n (tagged (mode .separator) 35 (valueAt bytes type)
+    ++ written (mode .separator) bytes others) ++ (tagged (mode .separator) 10 s ++ []))
     (apart : Unseparated (mode .separator) (valueAt bytes begin) n (valueAt bytes type) s) (three : length s ≡ 3)
     (right-length : numberIn n ≡ Worth (length (tagged (mode .separator) 35 (valueAt bytes type) ++ written (mode .separator) bytes others)))
-    (right-sum : checksumOf s ≡ Worth (sumOf (framed (mode .separator) (valueAt bytes begin) n (tagged (mode .separator) 35 (valueAt bytes type) ++ written (mode .separator) bytes others)) % 256)) where
-  framed-like : CopiedAt mode bytes copy (length ((tagged (mode .separator) 8 (valueAt bytes begin) ++ tagged (mode .separator) 9 n) ++ tagged (mode .separator) 35 (valueAt bytes type))) others → ReadsLike mode bytes copy begin type others
+    (right-sum : checksumOf s ≡ Worth
+    (sumOf (framed (mode .separator) (valueAt bytes begin) n (tagged (mode .separator) 35 (valueAt bytes type) ++ written (mode .separator) bytes others))
+    % 256)) where
+  framed-like : CopiedAt mode bytes copy
+      (length ((tagged (mode .separator) 8 (valueAt bytes begin) ++ tagged (mode .separator) 9 n) ++ tagged (mode .separator) 35 (valueAt bytes type))) others
+      → ReadsLike mode bytes copy begin type others
   unfolding framedFields
   framed-like later =
       let rest = written (mode .separator) bytes others in
@@ -122,15 +136,19 @@ module _ (mode : Mode) (bytes copy n s : List ℕ) (begin type : Record) (others
         end = fieldsFrom mode copy (startAt (length (framed (mode .separator) b n (tagged (mode .separator) 35 t ++ rest) ++ tagged (mode .separator) 10 s)));
         reads =
             framed-start mode copy b n t rest s whole apart
-            ∙ ap (λ (fs : Fields). field (placed 0 8 b) (field (placed (length (tagged (mode .separator) 8 b)) 9 n) (field (placed (length (tagged (mode .separator) 8 b ++ tagged (mode .separator) 9 n)) 35 t) fs)))
+            ∙ ap (λ (fs : Fields). field (placed 0 8 b)
+            (field (placed (length (tagged (mode .separator) 8 b)) 9 n)
+            (field (placed (length (tagged (mode .separator) 8 b ++ tagged (mode .separator) 9 n)) 35 t) fs)))
             (later .reads
             ∙ ap (λ (n : ℕ). onto (later .fields) (fieldsFrom mode copy (startAt n))) (others-end (mode .separator) b n t rest)
             ∙ ap (onto (later .fields)) (framed-end mode copy b n t rest s whole apart));
       }
 
 -- the encoding of records is sound, and reads like them
-pub rewritten-sound : (mode : Mode) → isDigit (mode .separator) ≡ false → (bytes : List ℕ) (begin type : Record) (others : List Record) → begin .tag ≡ 8 → type .tag ≡ 35
-    → Writable (mode .separator) bytes begin → Writable (mode .separator) bytes type → All (Writable (mode .separator) bytes) others → length (rewritten (mode .separator) bytes begin (type ∷ others)) ≤ 8192
+pub rewritten-sound : (mode : Mode) → isDigit (mode .separator) ≡ false → (bytes : List ℕ) (begin type : Record) (others : List Record) → begin .tag ≡ 8
+    → type .tag ≡ 35
+    → Writable (mode .separator) bytes begin → Writable (mode .separator) bytes type → All (Writable (mode .separator) bytes) others
+    → length (rewritten (mode .separator) bytes begin (type ∷ others)) ≤ 8192
     → ReadsLike mode bytes (rewritten (mode .separator) bytes begin (type ∷ others)) begin type others
 rewritten-sound mode other bytes begin type others eight thirty-five begins types writable small =
     let b = valueAt bytes begin in
@@ -146,7 +164,10 @@ rewritten-sound mode other bytes begin type others eight thirty-five begins type
       type = types .no-separator;
       sum = digits-absent (mode .separator) other (sumDigits before) (sum-some before);
     } in
-    let size = framed-size mode (rewritten (mode .separator) bytes begin (type ∷ others)) b n t (written (mode .separator) bytes others) (sumDigits before) whole apart (sum-three before) in
+    let size =
+    framed-size mode (rewritten (mode .separator) bytes begin (type ∷ others)) b n t (written (mode .separator) bytes others) (sumDigits before) whole apart
+    (sum-three before) in
     let few : length counted ≤ 4294967295 = omega (arith, size, small, counted-fits (mode .separator) b n counted) in
-    framed-like mode bytes _ n (sumDigits before) begin type others writable whole apart (sum-three before) (number-reads (length counted) few) (sum-reads before)
+    framed-like mode bytes _ n (sumDigits before) begin type others writable whole apart (sum-three before) (number-reads (length counted) few)
+    (sum-reads before)
     (others-read mode bytes _ b n t (sumDigits before) others writable whole)

@@ -36,7 +36,8 @@ unfoldable pub placed : ℕ → ℕ → List ℕ → Field
 placed at tag value = spelt at tag (decimal tag) value
 
 -- the text of a field behind other bytes: it is read with its value, and reading goes on behind it
-module _ (mode : Mode) (tag : ℕ) (copy pre value post : List ℕ) (whole : copy ≡ pre ++ (tagged (mode .separator) tag value ++ post)) (least : 1 ≤ tag) (most : tag ≤ 4294967295) (ends : Absent (mode .separator) value) where
+module _ (mode : Mode) (tag : ℕ) (copy pre value post : List ℕ) (whole : copy ≡ pre ++ (tagged (mode .separator) tag value ++ post)) (least : 1 ≤ tag)
+    (most : tag ≤ 4294967295) (ends : Absent (mode .separator) value) where
   pub placed-read : fieldAt mode copy (startAt (length pre)) ≡ Read (placed (length pre) tag value)
   unfolding tagged placed
   placed-read = text-read mode tag copy pre (decimal tag) value post whole (decimal-reads tag least most) (decimal-digits tag) ends
@@ -45,7 +46,8 @@ module _ (mode : Mode) (tag : ℕ) (copy pre value post : List ℕ) (whole : cop
   unfolding tagged placed
   placed-value = text-value mode tag copy pre (decimal tag) value post whole (decimal-reads tag least most) (decimal-digits tag) ends
 
-  pub placed-fields : fieldsFrom mode copy (startAt (length pre)) ≡ field (placed (length pre) tag value) (fieldsFrom mode copy (startAt (length (pre ++ tagged (mode .separator) tag value))))
+  pub placed-fields : fieldsFrom mode copy (startAt (length pre))
+      ≡ field (placed (length pre) tag value) (fieldsFrom mode copy (startAt (length (pre ++ tagged (mode .separator) tag value))))
   unfolding tagged placed
   placed-fields = text-fields mode tag copy pre (decimal tag) value post whole (decimal-reads tag least most) (decimal-digits tag) ends
 
@@ -61,7 +63,8 @@ placed-first at tag value = refl
 pub placed-next : (separator tag : ℕ) (pre value : List ℕ) → placed (length pre) tag value .next ≡ startAt (length (pre ++ tagged separator tag value))
 unfolding placed tagged
 placed-next separator tag pre value =
-    let n : length pre + (length (decimal tag) + 1) + length value + 1 ≡ length (pre ++ fieldBytes separator (decimal tag) value) = omega (arith, length-append pre (fieldBytes separator (decimal tag) value), bytes-size separator (decimal tag) value) in
+    let n : length pre + (length (decimal tag) + 1) + length value + 1 ≡ length (pre ++ fieldBytes separator (decimal tag) value) =
+    omega (arith, length-append pre (fieldBytes separator (decimal tag) value), bytes-size separator (decimal tag) value) in
     ap (λ (n : ℕ). startAt n) n
 
 -- all that the sum is made of
@@ -85,15 +88,19 @@ pub record Unseparated (separator : ℕ) (b n t s : List ℕ) : Type 0 where
   pub type : Absent separator t
   pub sum : Absent separator s
 
-module _ (mode : Mode) (copy b n t rest s : List ℕ) (whole : copy ≡ framed (mode .separator) b n (tagged (mode .separator) 35 t ++ rest) ++ (tagged (mode .separator) 10 s ++ [])) (apart : Unseparated (mode .separator) b n t s) where
-  begins-whole : copy ≡ [] ++ (tagged (mode .separator) 8 b ++ (tagged (mode .separator) 9 n ++ (tagged (mode .separator) 35 t ++ (rest ++ (tagged (mode .separator) 10 s ++ [])))))
+module _ (mode : Mode) (copy b n t rest s : List ℕ) (whole : copy ≡ framed (mode .separator) b n (tagged (mode .separator) 35 t ++ rest)
+    ++ (tagged (mode .separator) 10 s ++ [])) (apart : Unseparated (mode .separator) b n t s) where
+  begins-whole : copy ≡ [] ++ (tagged (mode .separator) 8 b
+      ++ (tagged (mode .separator) 9 n ++ (tagged (mode .separator) 35 t ++ (rest ++ (tagged (mode .separator) 10 s ++ [])))))
   unfolding framed
   begins-whole = whole ∙ simp append-assoc
 
-  counts-whole : copy ≡ tagged (mode .separator) 8 b ++ (tagged (mode .separator) 9 n ++ (tagged (mode .separator) 35 t ++ (rest ++ (tagged (mode .separator) 10 s ++ []))))
+  counts-whole : copy ≡ tagged (mode .separator) 8 b
+      ++ (tagged (mode .separator) 9 n ++ (tagged (mode .separator) 35 t ++ (rest ++ (tagged (mode .separator) 10 s ++ []))))
   counts-whole = begins-whole
 
-  types-whole : copy ≡ (tagged (mode .separator) 8 b ++ tagged (mode .separator) 9 n) ++ (tagged (mode .separator) 35 t ++ (rest ++ (tagged (mode .separator) 10 s ++ [])))
+  types-whole : copy ≡ (tagged (mode .separator) 8 b ++ tagged (mode .separator) 9 n)
+      ++ (tagged (mode .separator) 35 t ++ (rest ++ (tagged (mode .separator) 10 s ++ [])))
   types-whole = begins-whole ∙ sym (append-assoc (tagged (mode .separator) 8 b) (tagged (mode .separator) 9 n) _)
 
   begins-read : fieldAt mode copy (startAt 0) ≡ Read (placed 0 8 b)
@@ -108,15 +115,19 @@ module _ (mode : Mode) (copy b n t rest s : List ℕ) (whole : copy ≡ framed (
   counts-read : fieldAt mode copy (placed 0 8 b .next) ≡ Read (placed (length (tagged (mode .separator) 8 b)) 9 n)
   counts-read = rw begin-next (placed-read mode 9 copy (tagged (mode .separator) 8 b) n _ counts-whole (omega arith) (omega arith) (apart .count))
 
-  types-read : fieldAt mode copy (placed (length (tagged (mode .separator) 8 b)) 9 n .next) ≡ Read (placed (length (tagged (mode .separator) 8 b ++ tagged (mode .separator) 9 n)) 35 t)
-  types-read = rw count-next (placed-read mode 35 copy (tagged (mode .separator) 8 b ++ tagged (mode .separator) 9 n) t _ types-whole (omega arith) (omega arith) (apart .type))
+  types-read : fieldAt mode copy (placed (length (tagged (mode .separator) 8 b)) 9 n .next)
+      ≡ Read (placed (length (tagged (mode .separator) 8 b ++ tagged (mode .separator) 9 n)) 35 t)
+  types-read =
+      rw count-next (placed-read mode 35 copy (tagged (mode .separator) 8 b ++ tagged (mode .separator) 9 n) t _ types-whole (omega arith) (omega arith)
+      (apart .type))
 
   -- with the values that were written
   pub framed-begin : valueOf copy (placed 0 8 b) ≡ b
   framed-begin = placed-value mode 8 copy [] b _ begins-whole (omega arith) (omega arith) (apart .begin)
 
   pub framed-type : valueOf copy (placed (length (tagged (mode .separator) 8 b ++ tagged (mode .separator) 9 n)) 35 t) ≡ t
-  framed-type = placed-value mode 35 copy (tagged (mode .separator) 8 b ++ tagged (mode .separator) 9 n) t _ types-whole (omega arith) (omega arith) (apart .type)
+  framed-type =
+      placed-value mode 35 copy (tagged (mode .separator) 8 b ++ tagged (mode .separator) 9 n) t _ types-whole (omega arith) (omega arith) (apart .type)
 
   module _ (three : length s ≡ 3) where
     ten-size : length (tagged (mode .separator) 10 s) ≡ 7
@@ -124,21 +135,37 @@ module _ (mode : Mode) (copy b n t rest s : List ℕ) (whole : copy ≡ framed (
     ten-size = omega (arith, bytes-size (mode .separator) (decimal 10) s, three)
 
     pub framed-size : length copy ≡ length (framed (mode .separator) b n (tagged (mode .separator) 35 t ++ rest)) + 7
-    framed-size = omega (arith, ap length whole, length-append (framed (mode .separator) b n (tagged (mode .separator) 35 t ++ rest)) (tagged (mode .separator) 10 s ++ []), ap length (append-nil (tagged (mode .separator) 10 s)), ten-size)
+    framed-size =
+        omega (
+          arith,
+          ap length whole,
+          length-append (framed (mode .separator) b n (tagged (mode .separator) 35 t ++ rest)) (tagged (mode .separator) 10 s ++ []),
+          ap length (append-nil (tagged (mode .separator) 10 s)),
+          ten-size,
+        )
 
-    sums-read : fieldAt mode copy (startAt (length copy - 7)) ≡ Read (placed (length (framed (mode .separator) b n (tagged (mode .separator) 35 t ++ rest))) 10 s)
+    sums-read : fieldAt mode copy (startAt (length copy - 7))
+        ≡ Read (placed (length (framed (mode .separator) b n (tagged (mode .separator) 35 t ++ rest))) 10 s)
     sums-read =
         let at : length copy - 7 ≡ length (framed (mode .separator) b n (tagged (mode .separator) 35 t ++ rest)) = omega (arith, framed-size) in
-        rw at (placed-read mode 10 copy (framed (mode .separator) b n (tagged (mode .separator) 35 t ++ rest)) s [] whole (omega arith) (omega arith) (apart .sum))
+        rw at (placed-read mode 10 copy (framed (mode .separator) b n (tagged (mode .separator) 35 t ++ rest)) s [] whole (omega arith) (omega arith)
+        (apart .sum))
 
-    module _ (right-length : numberIn n ≡ Worth (length (tagged (mode .separator) 35 t ++ rest))) (right-sum : checksumOf s ≡ Worth (sumOf (framed (mode .separator) b n (tagged (mode .separator) 35 t ++ rest)) % 256)) where
+    module _ (right-length : numberIn n ≡ Worth (length (tagged (mode .separator) 35 t ++ rest)))
+        (right-sum : checksumOf s ≡ Worth (sumOf (framed (mode .separator) b n (tagged (mode .separator) 35 t ++ rest)) % 256)) where
       length-agrees : lengthAgrees copy (placed (length (tagged (mode .separator) 8 b)) 9 n) ≡ true
       unfolding framed
       length-agrees =
           let value = placed-value mode 9 copy (tagged (mode .separator) 8 b) n _ counts-whole (omega arith) (omega arith) (apart .count) in
           let next = ap (λ (c : Cursor). c .at) count-next in
           let right : length copy ≡ placed (length (tagged (mode .separator) 8 b)) 9 n .next .at + length (tagged (mode .separator) 35 t ++ rest) + 7 =
-          omega (arith, framed-size, next, ap length (append-assoc (tagged (mode .separator) 8 b) (tagged (mode .separator) 9 n) (tagged (mode .separator) 35 t ++ rest)), length-append (tagged (mode .separator) 8 b ++ tagged (mode .separator) 9 n) (tagged (mode .separator) 35 t ++ rest)) in
+          omega (
+            arith,
+            framed-size,
+            next,
+            ap length (append-assoc (tagged (mode .separator) 8 b) (tagged (mode .separator) 9 n) (tagged (mode .separator) 35 t ++ rest)),
+            length-append (tagged (mode .separator) 8 b ++ tagged (mode .separator) 9 n) (tagged (mode .separator) 35 t ++ rest),
+          ) in
           length-is copy (placed (length (tagged (mode .separator) 8 b)) 9 n) _ (ap numberIn value ∙ right-length)
           ∙ eq-eqb _ _ right
 
@@ -147,7 +174,8 @@ module _ (mode : Mode) (copy b n t rest s : List ℕ) (whole : copy ≡ framed (
           let before = framed (mode .separator) b n (tagged (mode .separator) 35 t ++ rest) in
           let value = placed-value mode 10 copy before s [] whole (omega arith) (omega arith) (apart .sum) in
           let front : take (placed (length before) 10 s .first) copy ≡ before =
-          ap (λ (n : ℕ). take n copy) (placed-first (length before) 10 s) ∙ ap (λ (l : List ℕ). take (length before) l) whole ∙ take-append-seam before (tagged (mode .separator) 10 s ++ []) in
+          ap (λ (n : ℕ). take n copy) (placed-first (length before) 10 s) ∙ ap (λ (l : List ℕ). take (length before) l) whole
+          ∙ take-append-seam before (tagged (mode .separator) 10 s ++ []) in
           sum-is copy (placed (length before) 10 s) _ (ap checksumOf value ∙ right-sum)
           ∙ eq-eqb _ _ (ap (λ (l : List ℕ). sumOf l % 256) (sym front))
 
@@ -160,7 +188,10 @@ module _ (mode : Mode) (copy b n t rest s : List ℕ) (whole : copy ≡ framed (
           ∙ typed-on _ (placed 0 8 b) (placed (length (tagged (mode .separator) 8 b)) 9 n) _ _ types-read (placed-tag _ 35 t)
 
   -- the first three are read one behind the other
-  pub framed-start : fieldsFrom mode copy (startAt 0) ≡ field (placed 0 8 b) (field (placed (length (tagged (mode .separator) 8 b)) 9 n) (field (placed (length (tagged (mode .separator) 8 b ++ tagged (mode .separator) 9 n)) 35 t) (fieldsFrom mode copy (startAt (length ((tagged (mode .separator) 8 b ++ tagged (mode .separator) 9 n) ++ tagged (mode .separator) 35 t))))))
+  pub framed-start : fieldsFrom mode copy (startAt 0)
+      ≡ field (placed 0 8 b) (field (placed (length (tagged (mode .separator) 8 b)) 9 n)
+      (field (placed (length (tagged (mode .separator) 8 b ++ tagged (mode .separator) 9 n)) 35 t)
+      (fieldsFrom mode copy (startAt (length ((tagged (mode .separator) 8 b ++ tagged (mode .separator) 9 n) ++ tagged (mode .separator) 35 t))))))
   framed-start =
       placed-fields mode 8 copy [] b _ begins-whole (omega arith) (omega arith) (apart .begin)
       ∙ ap (λ (fs : Fields). field (placed 0 8 b) fs)
@@ -169,5 +200,8 @@ module _ (mode : Mode) (copy b n t rest s : List ℕ) (whole : copy ≡ framed (
       (placed-fields mode 35 copy (tagged (mode .separator) 8 b ++ tagged (mode .separator) 9 n) t _ types-whole (omega arith) (omega arith) (apart .type)))
 
   -- and the last behind all that the sum is made of
-  pub framed-end : fieldsFrom mode copy (startAt (length (framed (mode .separator) b n (tagged (mode .separator) 35 t ++ rest)))) ≡ field (placed (length (framed (mode .separator) b n (tagged (mode .separator) 35 t ++ rest))) 10 s) (fieldsFrom mode copy (startAt (length (framed (mode .separator) b n (tagged (mode .separator) 35 t ++ rest) ++ tagged (mode .separator) 10 s))))
-  framed-end = placed-fields mode 10 copy (framed (mode .separator) b n (tagged (mode .separator) 35 t ++ rest)) s [] whole (omega arith) (omega arith) (apart .sum)
+  pub framed-end : fieldsFrom mode copy (startAt (length (framed (mode .separator) b n (tagged (mode .separator) 35 t ++ rest))))
+      ≡ field (placed (length (framed (mode .separator) b n (tagged (mode .separator) 35 t ++ rest))) 10 s)
+      (fieldsFrom mode copy (startAt (length (framed (mode .separator) b n (tagged (mode .separator) 35 t ++ rest) ++ tagged (mode .separator) 10 s))))
+  framed-end =
+      placed-fields mode 10 copy (framed (mode .separator) b n (tagged (mode .separator) 35 t ++ rest)) s [] whole (omega arith) (omega arith) (apart .sum)

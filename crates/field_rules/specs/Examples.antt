@@ -82,7 +82,10 @@ abbrev one : ℕ → ℕ → ℕ → ℕ → ℕ → FieldRead
 one at tag place n next = Read (record { first = at; tag = tag; place = place; length = n; next = startAt next })
 
 -- the field at the start: the tag limits, zero, no digits, no separator, leading zeros, an empty value; the reasons in their order
-fields : Holds (λ s. fieldAt (separatedBy 1) s (startAt 0)) (("4294967295=x|", one 0 4294967295 11 1 13) ∷ ("4294967296=x|", Unreadable BadTag 0) ∷ ("0=x|", Unreadable BadTag 0) ∷ ("=x|", Unreadable BadTag 0) ∷ ("1a=x|", Unreadable BadTag 0) ∷ ("1a=x", Unreadable NoSeparator 0) ∷ ("1=x", Unreadable NoSeparator 0) ∷ ("1", Unreadable NoEquals 0) ∷ ("", Unreadable NoEquals 0) ∷ ("0035=x|", one 0 35 5 1 7) ∷ ("58=|", one 0 58 3 0 4) ∷ ("58=a=b|", one 0 58 3 3 7) ∷ ("5|8=x|", Unreadable BadTag 0) ∷ [])
+fields : Holds (λ s. fieldAt (separatedBy 1) s (startAt 0)) (("4294967295=x|", one 0 4294967295 11 1 13) ∷ ("4294967296=x|", Unreadable BadTag 0)
+    ∷ ("0=x|", Unreadable BadTag 0) ∷ ("=x|", Unreadable BadTag 0) ∷ ("1a=x|", Unreadable BadTag 0) ∷ ("1a=x", Unreadable NoSeparator 0)
+    ∷ ("1=x", Unreadable NoSeparator 0) ∷ ("1", Unreadable NoEquals 0) ∷ ("", Unreadable NoEquals 0) ∷ ("0035=x|", one 0 35 5 1 7)
+    ∷ ("58=|", one 0 58 3 0 4) ∷ ("58=a=b|", one 0 58 3 3 7) ∷ ("5|8=x|", Unreadable BadTag 0) ∷ [])
 unfolding reading-fields
 fields = refl
 

@@ -27,7 +27,10 @@ unfolding nominal digitOf
 numbers = refl
 
 -- P1, what has arrived of it, the limit, numbers that wrap, a sum that passes 2^64, and texts that no message has
-announced : Holds announcedIn (("8=FIX.4.4|9=5|35=0|10=163|", Ends 26) ∷ ("8=FIX.4.4|9=5|", Ends 26) ∷ ("8=FIX.4.4|9=5", Unknown) ∷ ("8=FIX.4.4|9", Unknown) ∷ ("8=FIX.4.4", Unknown) ∷ ("8", Unknown) ∷ ("", Unknown) ∷ ("8=|9=8175|", Ends 8192) ∷ ("8=|9=8176|", Over) ∷ ("8=|9=|", Ends 13) ∷ ("8=|9=/|", Ends 269) ∷ ("8=|9=18446744073709551621|", Ends 38) ∷ ("8=|9=18446744073709551615|", Over) ∷ ("=|=5|", Ends 17) ∷ ("8|=a|9|=1|", Ends 18) ∷ [])
+announced : Holds announcedIn (("8=FIX.4.4|9=5|35=0|10=163|", Ends 26) ∷ ("8=FIX.4.4|9=5|", Ends 26) ∷ ("8=FIX.4.4|9=5", Unknown)
+    ∷ ("8=FIX.4.4|9", Unknown) ∷ ("8=FIX.4.4", Unknown) ∷ ("8", Unknown) ∷ ("", Unknown) ∷ ("8=|9=8175|", Ends 8192) ∷ ("8=|9=8176|", Over)
+    ∷ ("8=|9=|", Ends 13) ∷ ("8=|9=/|", Ends 269) ∷ ("8=|9=18446744073709551621|", Ends 38) ∷ ("8=|9=18446744073709551615|", Over) ∷ ("=|=5|", Ends 17)
+    ∷ ("8|=a|9|=1|", Ends 18) ∷ [])
 unfolding announcedIn withFirst withSecond valueFrom withEquals withSeparator findFrom findIn limited messageEnd nominal digitOf
 announced = refl
 
@@ -46,7 +49,11 @@ abbrev zeros : ℕ → List ℕ
 zeros n = replicate n 0
 
 -- a chunk: one that fills the store and one byte more; the orders 27, 26, 20, 25
-chunks : map (λ (row : State × (List ℕ × ℕ)). answered (pushAnswer (row .0) (row .1 .0) (zeros (row .1 .1)))) ((fresh, (store "", 16384)) ∷ (fresh, (store "", 16385)) ∷ (state 16383 false false, (store "", 1)) ∷ (state 16383 false false, (store "", 2)) ∷ (state 16384 false false, (store "", 0)) ∷ (state 9000 true true, (store "", 9000)) ∷ (state 9000 false true, (store "", 9000)) ∷ (state 16385 true true, (store "", 0)) ∷ (fresh, (zeros 16383, 0)) ∷ (fresh, (zeros 16385, 0)) ∷ []) ≡ (0, 0) ∷ (25, 0) ∷ (0, 0) ∷ (25, 0) ∷ (0, 0) ∷ (26, 0) ∷ (20, 0) ∷ (27, 0) ∷ (27, 0) ∷ (27, 0) ∷ []
+chunks : map (λ (row : State × (List ℕ × ℕ)). answered (pushAnswer (row .0) (row .1 .0) (zeros (row .1 .1)))) ((fresh, (store "", 16384))
+    ∷ (fresh, (store "", 16385)) ∷ (state 16383 false false, (store "", 1)) ∷ (state 16383 false false, (store "", 2))
+    ∷ (state 16384 false false, (store "", 0)) ∷ (state 9000 true true, (store "", 9000)) ∷ (state 9000 false true, (store "", 9000))
+    ∷ (state 16385 true true, (store "", 0)) ∷ (fresh, (zeros 16383, 0)) ∷ (fresh, (zeros 16385, 0)) ∷ []) ≡ (0, 0) ∷ (25, 0) ∷ (0, 0) ∷ (25, 0) ∷ (0, 0)
+    ∷ (26, 0) ∷ (20, 0) ∷ (27, 0) ∷ (27, 0) ∷ (27, 0) ∷ []
 unfolding numberOfParser lengthReturned fresh pushAnswer unusable
 chunks = refl
 
@@ -56,7 +63,12 @@ unfolding numberOfParser lengthReturned fresh onlyMark endAnswer unusable
 ends = refl
 
 -- a take: P1 whole and short of a byte, after the end, two bytes behind it; 20 before its bytes are there; the orders 27, 23, 20
-takes : map (λ (row : State × (String × ℕ)). answered (takeAnswer (row .0) (store (row .1 .0)) (zeros (row .1 .1)))) ((state 26 false false, ("8=FIX.4.4|9=5|35=0|10=163|", 8192)) ∷ (state 25 false false, ("8=FIX.4.4|9=5|35=0|10=163|", 8192)) ∷ (state 26 true false, ("8=FIX.4.4|9=5|35=0|10=163|", 8192)) ∷ (state 28 false false, ("8=FIX.4.4|9=5|35=0|10=163|8=", 9000)) ∷ (state 10 false false, ("8=|9=8176|", 8192)) ∷ (state 10 false false, ("8=|9=8175|", 8192)) ∷ (fresh, ("", 8192)) ∷ (fresh, ("", 8191)) ∷ (onlyMark, ("", 8191)) ∷ (onlyMark, ("", 8192)) ∷ (state 16385 true true, ("", 0)) ∷ []) ≡ (0, 26) ∷ (0, 0) ∷ (0, 26) ∷ (0, 26) ∷ (20, 0) ∷ (0, 0) ∷ (0, 0) ∷ (23, 0) ∷ (23, 0) ∷ (20, 0) ∷ (27, 0) ∷ []
+takes : map (λ (row : State × (String
+    × ℕ)). answered (takeAnswer (row .0) (store (row .1 .0)) (zeros (row .1 .1)))) ((state 26 false false, ("8=FIX.4.4|9=5|35=0|10=163|", 8192))
+    ∷ (state 25 false false, ("8=FIX.4.4|9=5|35=0|10=163|", 8192)) ∷ (state 26 true false, ("8=FIX.4.4|9=5|35=0|10=163|", 8192))
+    ∷ (state 28 false false, ("8=FIX.4.4|9=5|35=0|10=163|8=", 9000)) ∷ (state 10 false false, ("8=|9=8176|", 8192))
+    ∷ (state 10 false false, ("8=|9=8175|", 8192)) ∷ (fresh, ("", 8192)) ∷ (fresh, ("", 8191)) ∷ (onlyMark, ("", 8191)) ∷ (onlyMark, ("", 8192))
+    ∷ (state 16385 true true, ("", 0)) ∷ []) ≡ (0, 26) ∷ (0, 0) ∷ (0, 26) ∷ (0, 26) ∷ (20, 0) ∷ (0, 0) ∷ (0, 0) ∷ (23, 0) ∷ (23, 0) ∷ (20, 0) ∷ (27, 0) ∷ []
 unfolding numberOfParser lengthReturned fresh onlyMark takeAnswer unusable readyAnswer readyOf held announcedIn withFirst withSecond valueFrom withEquals withSeparator findFrom findIn limited messageEnd nominal digitOf
 takes = refl
 

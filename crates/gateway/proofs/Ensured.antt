@@ -16,6 +16,10 @@ use denote.Triple.Clauses.{AtExit, Ended, Clauses}
 pub record Ensures (T : Ended) (contract : (M : Type 1) (𝓤 : URA M) (H : Heap 𝓤) → Atoms 𝓤 → (Memory → SProp 𝓤) → (Routine → Fun 𝓤) → Clauses 𝓤 T)
     (Record : (κs : Lfts (T .signature .lifetimes)) → Args (T .signature) κs → Res (T .signature) κs → AtExit T κs → Type 0) : Type 2 where
   pub Said : (κs : Lfts (T .signature .lifetimes)) → Args (T .signature) κs → Res (T .signature) κs → AtExit T κs → Type 0
-  pub states : (M : Type 1) (𝓤 : URA M) (H : Heap 𝓤) (A : Atoms 𝓤) (mem : Memory → SProp 𝓤) (run : Routine → Fun 𝓤) (κs : Lfts (T .signature .lifetimes)) (a : Args (T .signature) κs) (g : contract M 𝓤 H A mem run κs a .ghost) (x : Res (T .signature) κs) (left : AtExit T κs) → contract M 𝓤 H A mem run κs a .ensures g x left ≡ fact 𝓤 (Said κs a x left)
-  pub gives : (κs : Lfts (T .signature .lifetimes)) (a : Args (T .signature) κs) (x : Res (T .signature) κs) (left : AtExit T κs) → Said κs a x left → Record κs a x left
-  pub back : (κs : Lfts (T .signature .lifetimes)) (a : Args (T .signature) κs) (x : Res (T .signature) κs) (left : AtExit T κs) → Record κs a x left → Said κs a x left
+  pub states : (M : Type 1) (𝓤 : URA M) (H : Heap 𝓤) (A : Atoms 𝓤) (mem : Memory → SProp 𝓤) (run : Routine → Fun 𝓤) (κs : Lfts (T .signature .lifetimes))
+      (a : Args (T .signature) κs) (g : contract M 𝓤 H A mem run κs a .ghost) (x : Res (T .signature) κs) (left : AtExit T κs)
+      → contract M 𝓤 H A mem run κs a .ensures g x left ≡ fact 𝓤 (Said κs a x left)
+  pub gives : (κs : Lfts (T .signature .lifetimes)) (a : Args (T .signature) κs) (x : Res (T .signature) κs) (left : AtExit T κs) → Said κs a x left
+      → Record κs a x left
+  pub back : (κs : Lfts (T .signature .lifetimes)) (a : Args (T .signature) κs) (x : Res (T .signature) κs) (left : AtExit T κs) → Record κs a x left
+      → Said κs a x left

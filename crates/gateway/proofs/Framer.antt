@@ -4,7 +4,8 @@ use mathlib.Core.Path.{_≡_}
 use mathlib.Core.List.{List, [], _∷_, map}
 use lib.ListN.{length}
 use Prim.Native.Nat.{ℕ}
-use mir.Syntax.{Sym, Lifetime, named, Mutability, mut, Ty, tyInt, tyRef, tyArray, w8, w32, place, deref, field as part, copy, rvOpd, addrOf, aggregate, Name, Body, seq, assign, call, return, Local, local, valueLocal}
+use mir.Syntax.{Sym, Lifetime, named, Mutability, mut, Ty, tyInt, tyRef, tyArray, w8, w32, place, deref, field as part, copy, rvOpd, addrOf, aggregate, Name}
+use mir.Syntax.{Body, seq, assign, call, return, Local, local, valueLocal}
 use mir.Val.{Val, vptr}
 use denote.RattleType.{RattleType, Denots}
 use denote.Memory.{pointee}
@@ -31,7 +32,8 @@ pub record Framer : Type 2 where
   pub Reply : Type 0
   pub state : Reply → State .D
   pub number : Reply → ℕ
-  pub one : (x y : Reply) → _≡_ {A = Denots (rows (field State ∷ u32-field ∷ []))} (State .to (state x), (number x, tt)) (State .to (state y), (number y, tt)) → x ≡ y
+  pub one : (x y : Reply) → _≡_ {A = Denots (rows (field State ∷ u32-field ∷ []))} (State .to (state x), (number x, tt)) (State .to (state y), (number y, tt))
+      → x ≡ y
 
 -- the words of an answer, and the machine values of what is lent: of bytes, and of those words
 abbrev pub Four : RattleType
@@ -56,7 +58,14 @@ module _ (F : Framer) where
 
   -- the reply
   abbrev pub reply : Declared
-  reply = record { name = F .symbol; args = []; parts = field (F .State) ∷ u32-field ∷ []; D = F .Reply; to = λ r. (F .State .to (F .state r), (F .number r, tt)); to-one = F .one }
+  reply = record {
+    name = F .symbol;
+    args = [];
+    parts = field (F .State) ∷ u32-field ∷ [];
+    D = F .Reply;
+    to = λ r. (F .State .to (F .state r), (F .number r, tt));
+    to-one = F .one;
+  }
 
   abbrev pub reply-laws : LL.Laws reply
   reply-laws = (LL.field-laws (F .State) (F .laws) (F .lowers), (LL.u32-laws, tt))
@@ -86,11 +95,16 @@ reads F i = seq (assign (place i []) (rvOpd (copy (place 1 (deref (StTy F) ∷ [
 
 -- the slice i lent on as the local k, by way of the pointer j; the words i lent on as the local j
 abbrev pub lends-on : ℕ → ℕ → ℕ → Body → Body
-lends-on i j k next = seq (assign (place j []) (addrOf (place i (part 0 ∷ deref (tyInt w8) ∷ [])))) (seq (assign (place k []) (aggregate (copy (place j []) ∷ copy (place i (part 1 ∷ [])) ∷ []))) next)
+lends-on i j k next =
+    seq (assign (place j []) (addrOf (place i (part 0 ∷ deref (tyInt w8) ∷ []))))
+    (seq (assign (place k []) (aggregate (copy (place j []) ∷ copy (place i (part 1 ∷ [])) ∷ []))) next)
 
 abbrev pub lends-words : ℕ → ℕ → Body → Body
 lends-words i j = seq (assign (place j []) (addrOf (place i (deref (tyArray (tyInt w32) 4) ∷ []))))
 
 -- the core's reply comes to the local i; its state is stored in the lent one's place, and its number is returned
 abbrev pub replies : Framer → Name → List ℕ → ℕ → Body
-replies F key args i = seq (call key (map (λ (j : ℕ). copy (place j [])) args) (place i [])) (seq (assign (place 1 (deref (StTy F) ∷ [])) (rvOpd (copy (place i (part 0 ∷ []))))) (seq (assign (place 0 []) (rvOpd (copy (place i (part 1 ∷ []))))) return))
+replies F key args i =
+    seq (call key (map (λ (j : ℕ). copy (place j [])) args) (place i []))
+    (seq (assign (place 1 (deref (StTy F) ∷ [])) (rvOpd (copy (place i (part 0 ∷ [])))))
+    (seq (assign (place 0 []) (rvOpd (copy (place i (part 1 ∷ []))))) return))

@@ -76,7 +76,8 @@ gateway-most-message-bytes κs a x y left other p q = same p q
 pub gateway-store-bytes : NoFreedom 0 in-store-bytes.ps in-store-bytes.r of-store-bytes.Post (λ κs x y left other. x ≡ y)
 gateway-store-bytes κs a x y left other p q = same p q
 
-pub gateway-most-dictionary-bytes : NoFreedom 0 in-most-dictionary-bytes.ps in-most-dictionary-bytes.r of-most-dictionary-bytes.Post (λ κs x y left other. x ≡ y)
+pub gateway-most-dictionary-bytes : NoFreedom 0 in-most-dictionary-bytes.ps in-most-dictionary-bytes.r of-most-dictionary-bytes.Post
+    (λ κs x y left other. x ≡ y)
 gateway-most-dictionary-bytes κs a x y left other p q = same p q
 
 pub gateway-message-words : NoFreedom 0 in-message-words.ps in-message-words.r of-message-words.Post (λ κs x y left other. x ≡ y)
@@ -88,85 +89,182 @@ gateway-check κs a x y left other p q = (same (p .0) (q .0), same (p .1) (q .1)
 pub gateway-prepared-words : NoFreedom 0 in-prepared-words.ps in-prepared-words.r of-prepared-words.Post (λ κs x y left other. x ≡ y)
 gateway-prepared-words κs a x y left other p q = same p q
 
-pub gateway-prepare : NoFreedom 4 in-prepare.ps in-prepare.r of-prepare.Post (λ κs x y left other. (x ≡ y) × (now (left .1 .0) ≡ now (other .1 .0)) × (now (left .1 .1 .0) ≡ now (other .1 .1 .0)) × (now (left .1 .1 .1 .0) ≡ now (other .1 .1 .1 .0)))
+pub gateway-prepare : NoFreedom 4 in-prepare.ps in-prepare.r of-prepare.Post
+    (λ κs x y left other. (x ≡ y) × (now (left .1 .0) ≡ now (other .1 .0)) × (now (left .1 .1 .0) ≡ now (other .1 .1 .0))
+    × (now (left .1 .1 .1 .0) ≡ now (other .1 .1 .1 .0)))
 gateway-prepare κs a x y left other p q = (same (p .0) (q .0), same (p .1 .0) (q .1 .0), same (p .1 .1 .0) (q .1 .1 .0), same (p .1 .1 .1) (q .1 .1 .1))
 
-pub gateway-find-part : NoFreedom 3 in-find-part.ps in-find-part.r of-find-part.Post (λ κs x y left other. (x ≡ y) × (now (left .1 .1 .1 .0) ≡ now (other .1 .1 .1 .0)))
+pub gateway-find-part : NoFreedom 3 in-find-part.ps in-find-part.r of-find-part.Post
+    (λ κs x y left other. (x ≡ y) × (now (left .1 .1 .1 .0) ≡ now (other .1 .1 .1 .0)))
 gateway-find-part κs a x y left other p q = (same (p .0) (q .0), same (p .1) (q .1))
 
-pub gateway-find-field : NoFreedom 3 in-find-field.ps in-find-field.r of-find-field.Post (λ κs x y left other. (x ≡ y) × (now (left .1 .1 .1 .1 .0) ≡ now (other .1 .1 .1 .1 .0)))
+pub gateway-find-field : NoFreedom 3 in-find-field.ps in-find-field.r of-find-field.Post
+    (λ κs x y left other. (x ≡ y) × (now (left .1 .1 .1 .1 .0) ≡ now (other .1 .1 .1 .1 .0)))
 gateway-find-field κs a x y left other p q = (same (p .0) (q .0), same (p .1) (q .1))
 
-pub gateway-find-entry : NoFreedom 3 in-find-entry.ps in-find-entry.r of-find-entry.Post (λ κs x y left other. (x ≡ y) × (now (left .1 .1 .1 .1 .1 .0) ≡ now (other .1 .1 .1 .1 .1 .0)))
+pub gateway-find-entry : NoFreedom 3 in-find-entry.ps in-find-entry.r of-find-entry.Post
+    (λ κs x y left other. (x ≡ y) × (now (left .1 .1 .1 .1 .1 .0) ≡ now (other .1 .1 .1 .1 .1 .0)))
 gateway-find-entry κs a x y left other p q = (same (p .0) (q .0), same (p .1) (q .1))
 
-pub gateway-empty : NoFreedom 3 in-empty.ps in-empty.r of-empty.Post (λ κs x y left other. (x ≡ y) × (now (left .0) ≡ now (other .0)) × (now (left .1 .0) ≡ now (other .1 .0)) × (now (left .1 .1 .0) ≡ now (other .1 .1 .0)))
+pub gateway-empty : NoFreedom 3 in-empty.ps in-empty.r of-empty.Post
+    (λ κs x y left other. (x ≡ y) × (now (left .0) ≡ now (other .0)) × (now (left .1 .0) ≡ now (other .1 .0)) × (now (left .1 .1 .0) ≡ now (other .1 .1 .0)))
 gateway-empty κs a x y left other p q = (same (p .0) (q .0), same (p .1 .0) (q .1 .0), same (p .1 .1 .0) (q .1 .1 .0), same (p .1 .1 .1) (q .1 .1 .1))
 
-pub gateway-new : NoFreedom 5 in-new.ps in-new.r of-new.Post (λ κs x y left other. (x ≡ y) × (now (left .0) ≡ now (other .0)) × (now (left .1 .0) ≡ now (other .1 .0)) × (now (left .1 .1 .1 .1 .0) ≡ now (other .1 .1 .1 .1 .0)))
+pub gateway-new : NoFreedom 5 in-new.ps in-new.r of-new.Post (λ κs x y left other. (x ≡ y) × (now (left .0) ≡ now (other .0))
+    × (now (left .1 .0) ≡ now (other .1 .0)) × (now (left .1 .1 .1 .1 .0) ≡ now (other .1 .1 .1 .1 .0)))
 gateway-new κs a x y left other p q = (same (p .0) (q .0), same (p .1 .0) (q .1 .0), same (p .1 .1 .0) (q .1 .1 .0), same (p .1 .1 .1) (q .1 .1 .1))
 
-pub gateway-store : NoFreedom 4 in-store.ps in-store.r of-store.Post (λ κs x y left other. (x ≡ y) × (now (left .0) ≡ now (other .0)) × (now (left .1 .0) ≡ now (other .1 .0)) × (now (left .1 .1 .1 .1 .1 .0) ≡ now (other .1 .1 .1 .1 .1 .0)))
+pub gateway-store : NoFreedom 4 in-store.ps in-store.r of-store.Post
+    (λ κs x y left other. (x ≡ y) × (now (left .0) ≡ now (other .0)) × (now (left .1 .0) ≡ now (other .1 .0))
+    × (now (left .1 .1 .1 .1 .1 .0) ≡ now (other .1 .1 .1 .1 .1 .0)))
 gateway-store κs a x y left other p q = (same (p .0) (q .0), same (p .1 .0) (q .1 .0), same (p .1 .1 .0) (q .1 .1 .0), same (p .1 .1 .1) (q .1 .1 .1))
 
-pub gateway-remove : NoFreedom 3 in-remove.ps in-remove.r of-remove.Post (λ κs x y left other. (x ≡ y) × (now (left .0) ≡ now (other .0)) × (now (left .1 .0) ≡ now (other .1 .0)) × (now (left .1 .1 .1 .1 .0) ≡ now (other .1 .1 .1 .1 .0)))
+pub gateway-remove : NoFreedom 3 in-remove.ps in-remove.r of-remove.Post
+    (λ κs x y left other. (x ≡ y) × (now (left .0) ≡ now (other .0)) × (now (left .1 .0) ≡ now (other .1 .0))
+    × (now (left .1 .1 .1 .1 .0) ≡ now (other .1 .1 .1 .1 .0)))
 gateway-remove κs a x y left other p q = (same (p .0) (q .0), same (p .1 .0) (q .1 .0), same (p .1 .1 .0) (q .1 .1 .0), same (p .1 .1 .1) (q .1 .1 .1))
 
-pub gateway-draft : NoFreedom 3 in-draft.ps in-draft.r of-draft.Post (λ κs x y left other. (x ≡ y) × (now (left .0) ≡ now (other .0)) × (now (left .1 .0) ≡ now (other .1 .0)) × (now (left .1 .1 .0) ≡ now (other .1 .1 .0)))
+pub gateway-draft : NoFreedom 3 in-draft.ps in-draft.r of-draft.Post
+    (λ κs x y left other. (x ≡ y) × (now (left .0) ≡ now (other .0)) × (now (left .1 .0) ≡ now (other .1 .0)) × (now (left .1 .1 .0) ≡ now (other .1 .1 .0)))
 gateway-draft κs a x y left other p q = (same (p .0) (q .0), same (p .1 .0) (q .1 .0), same (p .1 .1 .0) (q .1 .1 .0), same (p .1 .1 .1) (q .1 .1 .1))
 
-pub gateway-add-entry : NoFreedom 3 in-add-entry.ps in-add-entry.r of-add-entry.Post (λ κs x y left other. (x ≡ y) × (now (left .0) ≡ now (other .0)) × (now (left .1 .0) ≡ now (other .1 .0)) × (now (left .1 .1 .1 .1 .0) ≡ now (other .1 .1 .1 .1 .0)))
+pub gateway-add-entry : NoFreedom 3 in-add-entry.ps in-add-entry.r of-add-entry.Post
+    (λ κs x y left other. (x ≡ y) × (now (left .0) ≡ now (other .0)) × (now (left .1 .0) ≡ now (other .1 .0))
+    × (now (left .1 .1 .1 .1 .0) ≡ now (other .1 .1 .1 .1 .0)))
 gateway-add-entry κs a x y left other p q = (same (p .0) (q .0), same (p .1 .0) (q .1 .0), same (p .1 .1 .0) (q .1 .1 .0), same (p .1 .1 .1) (q .1 .1 .1))
 
-pub gateway-store-last : NoFreedom 4 in-store-last.ps in-store-last.r of-store-last.Post (λ κs x y left other. (x ≡ y) × (now (left .0) ≡ now (other .0)) × (now (left .1 .0) ≡ now (other .1 .0)) × (now (left .1 .1 .1 .1 .0) ≡ now (other .1 .1 .1 .1 .0)))
+pub gateway-store-last : NoFreedom 4 in-store-last.ps in-store-last.r of-store-last.Post
+    (λ κs x y left other. (x ≡ y) × (now (left .0) ≡ now (other .0)) × (now (left .1 .0) ≡ now (other .1 .0))
+    × (now (left .1 .1 .1 .1 .0) ≡ now (other .1 .1 .1 .1 .0)))
 gateway-store-last κs a x y left other p q = (same (p .0) (q .0), same (p .1 .0) (q .1 .0), same (p .1 .1 .0) (q .1 .1 .0), same (p .1 .1 .1) (q .1 .1 .1))
 
-pub gateway-hang-last : NoFreedom 5 in-hang-last.ps in-hang-last.r of-hang-last.Post (λ κs x y left other. (x ≡ y) × (now (left .0) ≡ now (other .0)) × (now (left .1 .0) ≡ now (other .1 .0)) × (now (left .1 .1 .1 .1 .0) ≡ now (other .1 .1 .1 .1 .0)))
+pub gateway-hang-last : NoFreedom 5 in-hang-last.ps in-hang-last.r of-hang-last.Post
+    (λ κs x y left other. (x ≡ y) × (now (left .0) ≡ now (other .0)) × (now (left .1 .0) ≡ now (other .1 .0))
+    × (now (left .1 .1 .1 .1 .0) ≡ now (other .1 .1 .1 .1 .0)))
 gateway-hang-last κs a x y left other p q = (same (p .0) (q .0), same (p .1 .0) (q .1 .0), same (p .1 .1 .0) (q .1 .1 .0), same (p .1 .1 .1) (q .1 .1 .1))
 
-pub gateway-hang : NoFreedom 5 in-hang.ps in-hang.r of-hang.Post (λ κs x y left other. (x ≡ y) × (now (left .0) ≡ now (other .0)) × (now (left .1 .0) ≡ now (other .1 .0)) × (now (left .1 .1 .1 .1 .1 .0) ≡ now (other .1 .1 .1 .1 .1 .0)))
+pub gateway-hang : NoFreedom 5 in-hang.ps in-hang.r of-hang.Post (λ κs x y left other. (x ≡ y) × (now (left .0) ≡ now (other .0))
+    × (now (left .1 .0) ≡ now (other .1 .0)) × (now (left .1 .1 .1 .1 .1 .0) ≡ now (other .1 .1 .1 .1 .1 .0)))
 gateway-hang κs a x y left other p q = (same (p .0) (q .0), same (p .1 .0) (q .1 .0), same (p .1 .1 .0) (q .1 .1 .0), same (p .1 .1 .1) (q .1 .1 .1))
 
-pub gateway-encode : NoFreedom 4 in-encode.ps in-encode.r of-encode.Post (λ κs x y left other. (x ≡ y) × (now (left .0) ≡ now (other .0)) × (now (left .1 .0) ≡ now (other .1 .0)) × (now (left .1 .1 .0) ≡ now (other .1 .1 .0)) × (now (left .1 .1 .1 .1 .0) ≡ now (other .1 .1 .1 .1 .0)))
-gateway-encode κs a x y left other p q = (same (p .0) (q .0), same (p .1 .0) (q .1 .0), same (p .1 .1 .0) (q .1 .1 .0), same (p .1 .1 .1 .0) (q .1 .1 .1 .0), same (p .1 .1 .1 .1) (q .1 .1 .1 .1))
+pub gateway-encode : NoFreedom 4 in-encode.ps in-encode.r of-encode.Post
+    (λ κs x y left other. (x ≡ y) × (now (left .0) ≡ now (other .0)) × (now (left .1 .0) ≡ now (other .1 .0)) × (now (left .1 .1 .0) ≡ now (other .1 .1 .0))
+    × (now (left .1 .1 .1 .1 .0) ≡ now (other .1 .1 .1 .1 .0)))
+gateway-encode κs a x y left other p q =
+    (same (p .0) (q .0), same (p .1 .0) (q .1 .0), same (p .1 .1 .0) (q .1 .1 .0), same (p .1 .1 .1 .0) (q .1 .1 .1 .0), same (p .1 .1 .1 .1) (q .1 .1 .1 .1))
 
 -- An export over lent records or a lent state is walked by hand, and the prover reads no contract of it. So here is the generated clause itself: in
 -- every model it states one plain fact of the values, found by unification and so never said twice, and that fact leaves no freedom.
 pub record Walked (T : Ended) (contract : (M : Type 1) (𝓤 : URA M) (H : Heap 𝓤) → Atoms 𝓤 → (Memory → SProp 𝓤) → (Routine → Fun 𝓤) → Clauses 𝓤 T)
     (Same : (κs : Lfts (T .signature .lifetimes)) → Res (T .signature) κs → Res (T .signature) κs → AtExit T κs → AtExit T κs → Type 0) : Type 2 where
   pub Said : (κs : Lfts (T .signature .lifetimes)) → Args (T .signature) κs → Res (T .signature) κs → AtExit T κs → Type 0
-  pub states : (M : Type 1) (𝓤 : URA M) (H : Heap 𝓤) (A : Atoms 𝓤) (mem : Memory → SProp 𝓤) (run : Routine → Fun 𝓤) (κs : Lfts (T .signature .lifetimes)) (a : Args (T .signature) κs) (g : contract M 𝓤 H A mem run κs a .ghost) (x : Res (T .signature) κs) (left : AtExit T κs) → contract M 𝓤 H A mem run κs a .ensures g x left ≡ fact 𝓤 (Said κs a x left)
-  pub fixes : (κs : Lfts (T .signature .lifetimes)) (a : Args (T .signature) κs) (x y : Res (T .signature) κs) (left other : AtExit T κs) → Said κs a x left → Said κs a y other → Same κs x y left other
+  pub states : (M : Type 1) (𝓤 : URA M) (H : Heap 𝓤) (A : Atoms 𝓤) (mem : Memory → SProp 𝓤) (run : Routine → Fun 𝓤) (κs : Lfts (T .signature .lifetimes))
+      (a : Args (T .signature) κs) (g : contract M 𝓤 H A mem run κs a .ghost) (x : Res (T .signature) κs) (left : AtExit T κs)
+      → contract M 𝓤 H A mem run κs a .ensures g x left ≡ fact 𝓤 (Said κs a x left)
+  pub fixes : (κs : Lfts (T .signature .lifetimes)) (a : Args (T .signature) κs) (x y : Res (T .signature) κs) (left other : AtExit T κs) → Said κs a x left
+      → Said κs a y other → Same κs x y left other
 
-pub gateway-build : Walked of-build.ended (λ M. of-build.clauses) (λ κs x y left other. (x ≡ y) × (now (left .1 .1 .1 .1 .0) ≡ now (other .1 .1 .1 .1 .0)) × (now (left .1 .1 .1 .1 .1 .0) ≡ now (other .1 .1 .1 .1 .1 .0)))
-gateway-build = record { Said = _; states = λ M 𝓤 H A mem run κs a g x left. refl; fixes = λ κs a x y left other p q. (same (p .0) (q .0), same (p .1) (q .1), same (p .2) (q .2)) }
+pub gateway-build : Walked of-build.ended (λ M. of-build.clauses) (λ κs x y left other. (x ≡ y) × (now (left .1 .1 .1 .1 .0) ≡ now (other .1 .1 .1 .1 .0))
+    × (now (left .1 .1 .1 .1 .1 .0) ≡ now (other .1 .1 .1 .1 .1 .0)))
+gateway-build =
+    record {
+      Said = _;
+      states = λ M 𝓤 H A mem run κs a g x left. refl;
+      fixes = λ κs a x y left other p q. (same (p .0) (q .0), same (p .1) (q .1), same (p .2) (q .2));
+    }
 
-pub gateway-build-prepared : Walked of-build-prepared.ended (λ M. of-build-prepared.clauses) (λ κs x y left other. (x ≡ y) × (now (left .1 .1 .1 .1 .1 .0) ≡ now (other .1 .1 .1 .1 .1 .0)) × (now (left .1 .1 .1 .1 .1 .1 .0) ≡ now (other .1 .1 .1 .1 .1 .1 .0)))
-gateway-build-prepared = record { Said = _; states = λ M 𝓤 H A mem run κs a g x left. refl; fixes = λ κs a x y left other p q. (same (p .0) (q .0), same (p .1) (q .1), same (p .2) (q .2)) }
+pub gateway-build-prepared : Walked of-build-prepared.ended (λ M. of-build-prepared.clauses)
+    (λ κs x y left other. (x ≡ y) × (now (left .1 .1 .1 .1 .1 .0) ≡ now (other .1 .1 .1 .1 .1 .0))
+    × (now (left .1 .1 .1 .1 .1 .1 .0) ≡ now (other .1 .1 .1 .1 .1 .1 .0)))
+gateway-build-prepared =
+    record {
+      Said = _;
+      states = λ M 𝓤 H A mem run κs a g x left. refl;
+      fixes = λ κs a x y left other p q. (same (p .0) (q .0), same (p .1) (q .1), same (p .2) (q .2));
+    }
 
-pub gateway-take-over : Walked of-take-over.ended (λ M. of-take-over.clauses) (λ κs x y left other. (x ≡ y) × (now (left .1 .1 .1 .0) ≡ now (other .1 .1 .1 .0)) × (now (left .1 .1 .1 .1 .0) ≡ now (other .1 .1 .1 .1 .0)) × (now (left .1 .1 .1 .1 .1 .0) ≡ now (other .1 .1 .1 .1 .1 .0)))
-gateway-take-over = record { Said = _; states = λ M 𝓤 H A mem run κs a g x left. refl; fixes = λ κs a x y left other p q. (same (p .0) (q .0), same (p .1) (q .1), same (p .2) (q .2), same (p .3) (q .3)) }
+pub gateway-take-over : Walked of-take-over.ended (λ M. of-take-over.clauses)
+    (λ κs x y left other. (x ≡ y) × (now (left .1 .1 .1 .0) ≡ now (other .1 .1 .1 .0)) × (now (left .1 .1 .1 .1 .0) ≡ now (other .1 .1 .1 .1 .0))
+    × (now (left .1 .1 .1 .1 .1 .0) ≡ now (other .1 .1 .1 .1 .1 .0)))
+gateway-take-over =
+    record {
+      Said = _;
+      states = λ M 𝓤 H A mem run κs a g x left. refl;
+      fixes = λ κs a x y left other p q. (same (p .0) (q .0), same (p .1) (q .1), same (p .2) (q .2), same (p .3) (q .3));
+    }
 
-pub gateway-ported-push : Walked of-ported-push.ended (λ M. of-ported-push.clauses) (λ κs x y left other. (x ≡ y) × (now (left .0) ≡ now (other .0)) × (now (left .1 .0) ≡ now (other .1 .0)) × (now (left .1 .1 .1 .0) ≡ now (other .1 .1 .1 .0)))
-gateway-ported-push = record { Said = _; states = λ M 𝓤 H A mem run κs a g x left. refl; fixes = λ κs a x y left other p q. (same (p .0) (q .0), same (p .1) (q .1), same (p .2) (q .2), same (p .3) (q .3)) }
+pub gateway-ported-push : Walked of-ported-push.ended (λ M. of-ported-push.clauses)
+    (λ κs x y left other. (x ≡ y) × (now (left .0) ≡ now (other .0)) × (now (left .1 .0) ≡ now (other .1 .0))
+    × (now (left .1 .1 .1 .0) ≡ now (other .1 .1 .1 .0)))
+gateway-ported-push =
+    record {
+      Said = _;
+      states = λ M 𝓤 H A mem run κs a g x left. refl;
+      fixes = λ κs a x y left other p q. (same (p .0) (q .0), same (p .1) (q .1), same (p .2) (q .2), same (p .3) (q .3));
+    }
 
-pub gateway-ported-end : Walked of-ported-end.ended (λ M. of-ported-end.clauses) (λ κs x y left other. (x ≡ y) × (now (left .0) ≡ now (other .0)) × (now (left .1 .1 .0) ≡ now (other .1 .1 .0)))
-gateway-ported-end = record { Said = _; states = λ M 𝓤 H A mem run κs a g x left. refl; fixes = λ κs a x y left other p q. (same (p .0) (q .0), same (p .1) (q .1), same (p .2) (q .2)) }
+pub gateway-ported-end : Walked of-ported-end.ended (λ M. of-ported-end.clauses)
+    (λ κs x y left other. (x ≡ y) × (now (left .0) ≡ now (other .0)) × (now (left .1 .1 .0) ≡ now (other .1 .1 .0)))
+gateway-ported-end =
+    record {
+      Said = _;
+      states = λ M 𝓤 H A mem run κs a g x left. refl;
+      fixes = λ κs a x y left other p q. (same (p .0) (q .0), same (p .1) (q .1), same (p .2) (q .2));
+    }
 
-pub gateway-ported-take : Walked of-ported-take.ended (λ M. of-ported-take.clauses) (λ κs x y left other. (x ≡ y) × (now (left .0) ≡ now (other .0)) × (now (left .1 .0) ≡ now (other .1 .0)) × (now (left .1 .1 .0) ≡ now (other .1 .1 .0)) × (now (left .1 .1 .1 .0) ≡ now (other .1 .1 .1 .0)))
-gateway-ported-take = record { Said = _; states = λ M 𝓤 H A mem run κs a g x left. refl; fixes = λ κs a x y left other p q. (same (p .0) (q .0), same (p .1) (q .1), same (p .2) (q .2), same (p .3) (q .3), same (p .4) (q .4)) }
+pub gateway-ported-take : Walked of-ported-take.ended (λ M. of-ported-take.clauses)
+    (λ κs x y left other. (x ≡ y) × (now (left .0) ≡ now (other .0)) × (now (left .1 .0) ≡ now (other .1 .0)) × (now (left .1 .1 .0) ≡ now (other .1 .1 .0))
+    × (now (left .1 .1 .1 .0) ≡ now (other .1 .1 .1 .0)))
+gateway-ported-take =
+    record {
+      Said = _;
+      states = λ M 𝓤 H A mem run κs a g x left. refl;
+      fixes = λ κs a x y left other p q. (same (p .0) (q .0), same (p .1) (q .1), same (p .2) (q .2), same (p .3) (q .3), same (p .4) (q .4));
+    }
 
-pub gateway-ported-reset : Walked of-ported-reset.ended (λ M. of-ported-reset.clauses) (λ κs x y left other. (x ≡ y) × (now (left .0) ≡ now (other .0)) × (now (left .1 .0) ≡ now (other .1 .0)))
-gateway-ported-reset = record { Said = _; states = λ M 𝓤 H A mem run κs a g x left. refl; fixes = λ κs a x y left other p q. (same (p .0) (q .0), same (p .1) (q .1), same (p .2) (q .2)) }
+pub gateway-ported-reset : Walked of-ported-reset.ended (λ M. of-ported-reset.clauses)
+    (λ κs x y left other. (x ≡ y) × (now (left .0) ≡ now (other .0)) × (now (left .1 .0) ≡ now (other .1 .0)))
+gateway-ported-reset =
+    record {
+      Said = _;
+      states = λ M 𝓤 H A mem run κs a g x left. refl;
+      fixes = λ κs a x y left other p q. (same (p .0) (q .0), same (p .1) (q .1), same (p .2) (q .2));
+    }
 
-pub gateway-hunter-push : Walked of-hunter-push.ended (λ M. of-hunter-push.clauses) (λ κs x y left other. (x ≡ y) × (now (left .0) ≡ now (other .0)) × (now (left .1 .0) ≡ now (other .1 .0)) × (now (left .1 .1 .1 .0) ≡ now (other .1 .1 .1 .0)))
-gateway-hunter-push = record { Said = _; states = λ M 𝓤 H A mem run κs a g x left. refl; fixes = λ κs a x y left other p q. (same (p .0) (q .0), same (p .1) (q .1), same (p .2) (q .2), same (p .3) (q .3)) }
+pub gateway-hunter-push : Walked of-hunter-push.ended (λ M. of-hunter-push.clauses)
+    (λ κs x y left other. (x ≡ y) × (now (left .0) ≡ now (other .0)) × (now (left .1 .0) ≡ now (other .1 .0))
+    × (now (left .1 .1 .1 .0) ≡ now (other .1 .1 .1 .0)))
+gateway-hunter-push =
+    record {
+      Said = _;
+      states = λ M 𝓤 H A mem run κs a g x left. refl;
+      fixes = λ κs a x y left other p q. (same (p .0) (q .0), same (p .1) (q .1), same (p .2) (q .2), same (p .3) (q .3));
+    }
 
-pub gateway-hunter-end : Walked of-hunter-end.ended (λ M. of-hunter-end.clauses) (λ κs x y left other. (x ≡ y) × (now (left .0) ≡ now (other .0)) × (now (left .1 .1 .0) ≡ now (other .1 .1 .0)))
-gateway-hunter-end = record { Said = _; states = λ M 𝓤 H A mem run κs a g x left. refl; fixes = λ κs a x y left other p q. (same (p .0) (q .0), same (p .1) (q .1), same (p .2) (q .2)) }
+pub gateway-hunter-end : Walked of-hunter-end.ended (λ M. of-hunter-end.clauses)
+    (λ κs x y left other. (x ≡ y) × (now (left .0) ≡ now (other .0)) × (now (left .1 .1 .0) ≡ now (other .1 .1 .0)))
+gateway-hunter-end =
+    record {
+      Said = _;
+      states = λ M 𝓤 H A mem run κs a g x left. refl;
+      fixes = λ κs a x y left other p q. (same (p .0) (q .0), same (p .1) (q .1), same (p .2) (q .2));
+    }
 
-pub gateway-hunter-take : Walked of-hunter-take.ended (λ M. of-hunter-take.clauses) (λ κs x y left other. (x ≡ y) × (now (left .0) ≡ now (other .0)) × (now (left .1 .0) ≡ now (other .1 .0)) × (now (left .1 .1 .0) ≡ now (other .1 .1 .0)) × (now (left .1 .1 .1 .0) ≡ now (other .1 .1 .1 .0)))
-gateway-hunter-take = record { Said = _; states = λ M 𝓤 H A mem run κs a g x left. refl; fixes = λ κs a x y left other p q. (same (p .0) (q .0), same (p .1) (q .1), same (p .2) (q .2), same (p .3) (q .3), same (p .4) (q .4)) }
+pub gateway-hunter-take : Walked of-hunter-take.ended (λ M. of-hunter-take.clauses)
+    (λ κs x y left other. (x ≡ y) × (now (left .0) ≡ now (other .0)) × (now (left .1 .0) ≡ now (other .1 .0)) × (now (left .1 .1 .0) ≡ now (other .1 .1 .0))
+    × (now (left .1 .1 .1 .0) ≡ now (other .1 .1 .1 .0)))
+gateway-hunter-take =
+    record {
+      Said = _;
+      states = λ M 𝓤 H A mem run κs a g x left. refl;
+      fixes = λ κs a x y left other p q. (same (p .0) (q .0), same (p .1) (q .1), same (p .2) (q .2), same (p .3) (q .3), same (p .4) (q .4));
+    }
 
-pub gateway-hunter-reset : Walked of-hunter-reset.ended (λ M. of-hunter-reset.clauses) (λ κs x y left other. (x ≡ y) × (now (left .0) ≡ now (other .0)) × (now (left .1 .0) ≡ now (other .1 .0)))
-gateway-hunter-reset = record { Said = _; states = λ M 𝓤 H A mem run κs a g x left. refl; fixes = λ κs a x y left other p q. (same (p .0) (q .0), same (p .1) (q .1), same (p .2) (q .2)) }
+pub gateway-hunter-reset : Walked of-hunter-reset.ended (λ M. of-hunter-reset.clauses)
+    (λ κs x y left other. (x ≡ y) × (now (left .0) ≡ now (other .0)) × (now (left .1 .0) ≡ now (other .1 .0)))
+gateway-hunter-reset =
+    record {
+      Said = _;
+      states = λ M 𝓤 H A mem run κs a g x left. refl;
+      fixes = λ κs a x y left other p q. (same (p .0) (q .0), same (p .1) (q .1), same (p .2) (q .2));
+    }

@@ -31,8 +31,11 @@ pub use contract.Lifetimes.{Lfts, Shares, AllOutlive, toks}
 pub use sound.WpLaws.{FmC, fmOf, WpFn-mono}
 pub use sound.Laws.{Laws}
 pub use sound.Loop.{loop-rule}
-pub use types.Kit.{Given, ‵, raw, _⊛_, ⋆, _$_, _∵_, !, qed, by, move, keep, drop, use1, use2, split, join, rewrite, fsplit, fsplit3, fjoin, fjoin3, feqI, feqL, suffices, frame, done, Item, some, later, anyQ, atRet, use3, pick, fpick, await, Goal, Soaks, Seq, mean, fpack, Step, step, given, learn}
-pub use types.Run.{look, store, init, forget, stop, hop, fld, from, load, of-opd, addr, and-then, no-more, assigns, land, returns, enter, alloc1, alloc0, params1, pass1, pass0, free1, free0, look-raw, lit, unit-lit, bin, assigns-last, stays, leaves-loop, exec, store-raw}
+pub use types.Kit.{Given, ‵, raw, _⊛_, ⋆, _$_, _∵_, !, qed, by, move, keep, drop, use1, use2, split, join, rewrite, fsplit, fsplit3, fjoin, fjoin3, feqI}
+pub use types.Kit.{feqL, suffices, frame, done, Item, some, later, anyQ, atRet, use3, pick, fpick, await, Goal, Soaks, Seq, mean, fpack, Step, step, given}
+pub use types.Kit.{learn}
+pub use types.Run.{look, store, init, forget, stop, hop, fld, from, load, of-opd, addr, and-then, no-more, assigns, land, returns, enter, alloc1, alloc0}
+pub use types.Run.{params1, pass1, pass0, free1, free0, look-raw, lit, unit-lit, bin, assigns-last, stays, leaves-loop, exec, store-raw}
 pub use types.Part.{agg, whole, sub, look-in}
 pub use types.SemTy.{Body}
 pub use types.Share.{arr-parts}
@@ -43,7 +46,8 @@ pub use denote.Memory.{mem, pointee, cellAt, partAt, shares, lone}
 unfoldable pub use denote.Memory.{partOf}
 pub use denote.Builtin.{u8, u16, u32, RefMutOf, SliceRefMutOf, SliceRefOf, usize, unit}
 pub use denote.Ref.{RefT, MutRef, now, ptr-vals, mut-tells, ShrRef, shr-tells, shr-copy, shr-lawful}
-pub use denote.Slice.{MutSlice, ShrSlice, Room, finally, slice-vals, mut-slice-tells, shr-slice-tells, shr-slice-copy, shr-slice-lawful, sliceTy, sliceVal, heres, codedHoleys, at-slice}
+pub use denote.Slice.{MutSlice, ShrSlice, Room, finally, slice-vals, mut-slice-tells, shr-slice-tells, shr-slice-copy, shr-slice-lawful, sliceTy, sliceVal}
+pub use denote.Slice.{heres, codedHoleys, at-slice}
 pub use denote.Signature.{plain, typeAt, typesAt}
 pub use denote.Steps.{heard, nothing, opens, closes, owned, peeks, only}
 pub use denote.Triple.Statement.{Contract, Triple}
@@ -51,7 +55,8 @@ pub use denote.Triple.Call.{calls-at}
 pub use denote.Triple.Clauses.{Ended, Clauses, closing, Lasts, lasts, atExit}
 pub use denote.Triple.Entry.{onEntry, Args, Res, alive}
 pub use denote.Triple.Spec.{tripleOf}
-pub use denote.Triple.Walked.{says, Stays, stay-ref, gave-slice, stay-none-slice, gave-ref, walkOf, goes-ref, goes-gave-slice, goes-none-slice, goes-gave-ref, ends-at, needs, stay-none, goes-none, walked, walk-meets, stay-slice, stay-none-ref, goes-slice, goes-none-ref, AllGo}
+pub use denote.Triple.Walked.{says, Stays, stay-ref, gave-slice, stay-none-slice, gave-ref, walkOf, goes-ref, goes-gave-slice, goes-none-slice, goes-gave-ref}
+pub use denote.Triple.Walked.{ends-at, needs, stay-none, goes-none, walked, walk-meets, stay-slice, stay-none-ref, goes-slice, goes-none-ref, AllGo}
 pub use denote.Exit.{yes}
 pub use denote.Plain.{uint-lawful, uint-makes, uint-vals, uint-tells, nothing-lawful}
 pub use denote.Lend.{lends-ref, ref-back, lends-shr, Held}

@@ -34,7 +34,8 @@ unfolding stored
 stored-longer r [] = omega arith
 stored-longer r (x ∷ rs) = by-tests (eqb (x .depth) (r .depth)) (eqb (x .tag) (r .tag)) (stored-longer r rs)
   where
-    by-tests : (d t : Bool) → length (stored r rs) ≤ length rs + 1 → length (pick d (pick t (r ∷ rs) (x ∷ stored r rs)) (x ∷ stored r rs)) ≤ length (x ∷ rs) + 1
+    by-tests : (d t : Bool) → length (stored r rs) ≤ length rs + 1
+        → length (pick d (pick t (r ∷ rs) (x ∷ stored r rs)) (x ∷ stored r rs)) ≤ length (x ∷ rs) + 1
     by-tests true true h = omega arith
     by-tests true false h = omega arith
     by-tests false t h = omega arith
@@ -44,13 +45,15 @@ unfolding stored total
 stored-larger r [] = omega arith
 stored-larger r (x ∷ rs) = by-tests (eqb (x .depth) (r .depth)) (eqb (x .tag) (r .tag)) (stored-larger r rs)
   where
-    by-tests : (d t : Bool) → total (stored r rs) ≤ total rs + r .length → total (pick d (pick t (r ∷ rs) (x ∷ stored r rs)) (x ∷ stored r rs)) ≤ x .length + total rs + r .length
+    by-tests : (d t : Bool) → total (stored r rs) ≤ total rs + r .length
+        → total (pick d (pick t (r ∷ rs) (x ∷ stored r rs)) (x ∷ stored r rs)) ≤ x .length + total rs + r .length
     by-tests true true h = omega arith
     by-tests true false h = omega arith
     by-tests false t h = omega arith
 
 pub grows-stored : (r : Record) (rs : List Record) → Grows r rs (stored r rs)
-grows-stored r rs = record { tags = λ t a. all-stored _ r t a; places = λ message part p a. all-stored _ r p a; longer = stored-longer r rs; larger = stored-larger r rs }
+grows-stored r rs =
+    record { tags = λ t a. all-stored _ r t a; places = λ message part p a. all-stored _ r p a; longer = stored-longer r rs; larger = stored-larger r rs }
 
 pub grows-last : (r : Record) (rs : List Record) → Grows r rs (rs ++ (r ∷ []))
 grows-last r rs =
@@ -83,7 +86,8 @@ first-fine (each-field p e) = p
 pub rest-fine : {message : List ℕ} {f : Field} {rest : Fields} → Each (Fine message) (field f rest) → Each (Fine message) rest
 rest-fine (each-field p e) = e
 
-pub counts-on : {message : List ℕ} {part most bytes : ℕ} {f : Field} {rest : Fields} {room : ℕ} {rs grown : List Record} (r : Record) → Counts message part most bytes (field f rest) (suc room) rs → Of part f r → Grows r rs grown → Counts message part most bytes rest room grown
+pub counts-on : {message : List ℕ} {part most bytes : ℕ} {f : Field} {rest : Fields} {room : ℕ} {rs grown : List Record} (r : Record)
+    → Counts message part most bytes (field f rest) (suc room) rs → Of part f r → Grows r rs grown → Counts message part most bytes rest room grown
 unfolding budget
 counts-on {message} {part} r c o g =
     let fine = first-fine (c .each) in

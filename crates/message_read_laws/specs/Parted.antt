@@ -45,7 +45,8 @@ pub record Takes (message : List ℕ) (rs : List Record) : Type 0 where
   pub few : length rs ≤ 1024
 
 -- an entry has its first field, so there are as many fields as records
-shapes-count : {bytes : List ℕ} {depth number start entries : ℕ} {m : Map} {rs : List Record} → Shapes bytes depth number start entries m rs → fieldCount m ≡ length rs
+shapes-count : {bytes : List ℕ} {depth number start entries : ℕ} {m : Map} {rs : List Record} → Shapes bytes depth number start entries m rs
+    → fieldCount m ≡ length rs
 unfolding fieldCount holdsAny
 shapes-count no-more = refl
 shapes-count (one-own r o more) = omega (arith, shapes-count more)
@@ -61,7 +62,8 @@ values-small bytes (r ∷ rs) = omega (arith, length-append (valueAt bytes r) (v
 
 module _ (mode : Mode) (message : List ℕ) (v : Verified) (w : VerifiedRead mode message v) where
   -- the fields that were verified
-  verified-reads : Reads message 1 1024 (length message - 9) (fieldsFrom mode message (v .«msg_type» .next)) 1021 (stored (partRecord 1 (v .«msg_type»)) (stored (partRecord 1 (v .«body_length»)) (stored (partRecord 1 (v .«begin_string»)) [])))
+  verified-reads : Reads message 1 1024 (length message - 9) (fieldsFrom mode message (v .«msg_type» .next)) 1021
+      (stored (partRecord 1 (v .«msg_type»)) (stored (partRecord 1 (v .«body_length»)) (stored (partRecord 1 (v .«begin_string»)) [])))
   verified-reads =
       let a = v .«begin_string» in
       let b = v .«body_length» in
@@ -83,21 +85,49 @@ module _ (mode : Mode) (message : List ℕ) (v : Verified) (w : VerifiedRead mod
       let s₁ : total [] ≡ 0 = unfold total in refl in
       let none : EntryBuilt message 0 0 [] = record { map = end; shapes = no-more; formed = unfold isFormed in refl } in
       record {
-        built = build-user message r (build-user message q (build-user message p none (own-field 1 a) (fa .0 .some)) (own-field 1 b) (fb .0 .some)) (own-field 1 c) (fc .0 .some);
+        built =
+            build-user message r (build-user message q (build-user message p none (own-field 1 a) (fa .0 .some)) (own-field 1 b) (fb .0 .some))
+            (own-field 1 c) (fc .0 .some);
         counts = record {
           tagged = g₃ .tags (fc .0) (g₂ .tags (fb .0) (g₁ .tags (fa .0) all-none));
           placed = g₃ .places message 1 (fc .1) (g₂ .places message 1 (fb .1) (g₁ .places message 1 (fa .1) all-none));
           few = omega (arith, g₁ .longer, g₂ .longer, g₃ .longer);
-          small = omega (arith, s₁, g₁ .larger, g₂ .larger, g₃ .larger, of-field 1 a .sized, of-field 1 b .sized, of-field 1 c .sized, la .falls, la .ends, la .value-after, la .within, lb .falls, lb .ends, lb .value-after, lb .within, lc .falls, lc .ends, lc .value-after, lc .within, all-budget mode message (c .next));
+          small =
+              omega (
+                arith,
+                s₁,
+                g₁ .larger,
+                g₂ .larger,
+                g₃ .larger,
+                of-field 1 a .sized,
+                of-field 1 b .sized,
+                of-field 1 c .sized,
+                la .falls,
+                la .ends,
+                la .value-after,
+                la .within,
+                lb .falls,
+                lb .ends,
+                lb .value-after,
+                lb .within,
+                lc .falls,
+                lc .ends,
+                lc .value-after,
+                lc .within,
+                all-budget mode message (c .next),
+              );
           each = all-fine mode message (c .next);
         };
       }
     where
       fine-record : (f : Field) → Fine message f → Tagged (partRecord 1 f) × Placed message 1 (partRecord 1 f)
-      fine-record f fine = let o = of-field 1 f in (record { some = λ z. fine .some (sym (o .tagged) ∙ z) }, record { of = o .of; inside = omega (arith, fine .inside, o .placed, o .sized) })
+      fine-record f fine =
+          let o = of-field 1 f in
+          (record { some = λ z. fine .some (sym (o .tagged) ∙ z) }, record { of = o .of; inside = omega (arith, fine .inside, o .placed, o .sized) })
 
   -- "The verified CheckSum stands first in the trailer"
-  trailer-begins : (f : Field) (rest : Fields) (room most bytes : ℕ) → Counts message 2 most bytes (field f rest) (suc room) [] → Reads message 3 (most + 1) (bytes + v .checksum .length) (field f rest) (suc room) (partRecord 3 (v .checksum) ∷ [])
+  trailer-begins : (f : Field) (rest : Fields) (room most bytes : ℕ) → Counts message 2 most bytes (field f rest) (suc room) []
+      → Reads message 3 (most + 1) (bytes + v .checksum .length) (field f rest) (suc room) (partRecord 3 (v .checksum) ∷ [])
   trailer-begins f rest room most bytes r =
       let k = v .checksum in
       let o = of-field 3 k in
@@ -116,23 +146,36 @@ module _ (mode : Mode) (message : List ℕ) (v : Verified) (w : VerifiedRead mod
 
   -- the CheckSum's value is short: it lies in the last seven bytes
   checksum-short : v .checksum .length ≤ 9
-  checksum-short = let l = step-lies mode message (startAt (length message - 7)) (v .checksum) (w .sums) in omega (arith, l .falls, l .ends, l .value-after, l .within)
+  checksum-short =
+      let l = step-lies mode message (startAt (length message - 7)) (v .checksum) (w .sums) in omega (arith, l .falls, l .ends, l .value-after, l .within)
 
   -- nothing of a part is read yet
-  none-read : (most bytes : ℕ) (f : Field) (rest : Fields) (room : ℕ) → suc room ≤ most → budget (field f rest) ≤ bytes → {part : ℕ} {rs : List Record} {m b : ℕ} → Counts message part m b (field f rest) (suc room) rs → Counts message 2 most bytes (field f rest) (suc room) []
-  none-read most bytes f rest room few small c = record { tagged = all-none; placed = all-none; few = omega arith; small = unfold total in omega arith; each = c .each }
+  none-read : (most bytes : ℕ) (f : Field) (rest : Fields) (room : ℕ) → suc room ≤ most → budget (field f rest) ≤ bytes
+      → {part : ℕ} {rs : List Record} {m b : ℕ} → Counts message part m b (field f rest) (suc room) rs
+      → Counts message 2 most bytes (field f rest) (suc room) []
+  none-read most bytes f rest room few small c =
+      record { tagged = all-none; placed = all-none; few = omega arith; small = unfold total in omega arith; each = c .each }
 
-  module _ {L : Type 0} (rules : Rules L) (first : (level : L) (tag : ℕ) → opens rules level tag ≡ true → rules .position level tag ≡ At 0) (demands : Demands L) (headerTags trailerTags : List ℕ) (level : L) where
+  module _ {L : Type 0} (rules : Rules L) (first : (level : L) (tag : ℕ) → opens rules level tag ≡ true → rules .position level tag ≡ At 0)
+      (demands : Demands L) (headerTags trailerTags : List ℕ) (level : L) where
     pub parts-take : (f g : Field) (rest more : Fields) (room room₂ : ℕ) (h b t : List Record) (trailer : Trailer) → length message ≤ 8192
-        → headerFrom headerTags (fieldsFrom mode message (v .«msg_type» .next)) 1021 (stored (partRecord 1 (v .«msg_type»)) (stored (partRecord 1 (v .«body_length»)) (stored (partRecord 1 (v .«begin_string»)) []))) ≡ ended f rest room h
+        → headerFrom headerTags (fieldsFrom mode message (v .«msg_type» .next)) 1021 (stored (partRecord 1 (v .«msg_type»))
+        (stored (partRecord 1 (v .«body_length»)) (stored (partRecord 1 (v .«begin_string»)) []))) ≡ ended f rest room h
         → bodyFrom (bodyOf rules demands trailerTags level) (field f rest) (suc room) [] ≡ ended g more room₂ b
         → trailerFrom (field g more) (suc room₂) (partRecord 3 (v .checksum) ∷ []) ≡ trailer → Ended trailer t → Takes message (h ++ (b ++ t))
     unfolding bodyFrom
     parts-take f g rest more room room₂ h b t trailer short eh eb et end-of-it =
         let rh = header-reads headerTags _ 1021 _ verified-reads f rest room h eh in
-        let start : Reads message 2 (suc room) (budget (field f rest)) (field f rest) (suc room) [] = record { built = record { map = end; shapes = no-more; formed = unfold isFormed in refl }; counts = none-read (suc room) (budget (field f rest)) f rest room (omega arith) (omega arith) (rh .counts) } in
+        let start : Reads message 2 (suc room) (budget (field f rest)) (field f rest) (suc room) [] =
+        record {
+          built = record { map = end; shapes = no-more; formed = unfold isFormed in refl };
+          counts = none-read (suc room) (budget (field f rest)) f rest room (omega arith) (omega arith) (rh .counts);
+        } in
         let rb = body-reads rules first demands trailerTags level (suc (suc room)) (field f rest) (suc room) [] start g more room₂ b eb in
-        let rt = trailer-reads (field g more) (suc room₂) (partRecord 3 (v .checksum) ∷ []) (trailer-begins g more room₂ (suc room₂) (budget (field g more)) (none-read (suc room₂) (budget (field g more)) g more room₂ (omega arith) (omega arith) (rb .counts))) trailer t et end-of-it in
+        let rt =
+        trailer-reads (field g more) (suc room₂) (partRecord 3 (v .checksum) ∷ [])
+        (trailer-begins g more room₂ (suc room₂) (budget (field g more))
+        (none-read (suc room₂) (budget (field g more)) g more room₂ (omega arith) (omega arith) (rb .counts))) trailer t et end-of-it in
         let m : Message = record { header = rh .built .map; body = rb .built .map; trailer = rt .built .map } in
         let sh = shapes-stand message (rh .built .shapes) (rh .counts .placed) in
         let sb = shapes-stand message (rb .built .shapes) (rb .counts .placed) in
@@ -148,7 +191,16 @@ module _ (mode : Mode) (message : List ℕ) (v : Verified) (w : VerifiedRead mod
           within = record {
             formed = formed;
             small = omega (arith, ap length values, values-small message (h ++ (b ++ t)), fits);
-            few = omega (arith, shapes-count (rh .built .shapes), shapes-count (rb .built .shapes), shapes-count (rt .built .shapes), rh .counts .few, rb .counts .few, rt .few);
+            few =
+                omega (
+                  arith,
+                  shapes-count (rh .built .shapes),
+                  shapes-count (rb .built .shapes),
+                  shapes-count (rt .built .shapes),
+                  rh .counts .few,
+                  rb .counts .few,
+                  rt .few,
+                );
           };
           few = omega (arith, length-append h (b ++ t), length-append b t, rh .counts .few, rb .counts .few, rt .few);
         }

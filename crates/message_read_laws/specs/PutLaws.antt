@@ -67,7 +67,15 @@ run-is-formed s d start some (formed-more {s = t} {d = e} {own = own} {rest = re
     let t-is : t ≡ s = eqb-true t s (a .0) in
     let e-is : e ≡ d = eqb-true e d (b .0) in
     let only : stands s (pastLeading s rest) ≡ false = ap (stands s) (run-only s d rest (b .1)) ∙ (unfold stands in refl) in
-    rw (t-is, e-is) (formed-entry s d own rest (record { some = ne-eqb s 0 start; delimited = ne-eqb d 0 some; once = only; on = run-goes-on s d rest (b .1); own-formed = f; rest-formed = run-is-formed s d start some more (b .1) }))
+    rw (t-is, e-is) (formed-entry s d own rest
+    (record {
+      some = ne-eqb s 0 start;
+      delimited = ne-eqb d 0 some;
+      once = only;
+      on = run-goes-on s d rest (b .1);
+      own-formed = f;
+      rest-formed = run-is-formed s d start some more (b .1);
+    }))
 
 -- what storing makes of maps, in the words of RULES.md, Field maps
 module _ (tag : ℕ) (value : List ℕ) where
@@ -76,7 +84,8 @@ module _ (tag : ℕ) (value : List ℕ) where
   put-held end h = let z : _≡_ {A = ℕ} 0 1 = cc in absurd (omega arith)
   put-held (field t v rest) h = here (eqb t tag) h (put-held rest)
     where
-      here : (b : Bool) → pick b true (holds tag rest) ≡ true → (holds tag rest ≡ true → put tag value rest ≡ replaced tag value rest) → pick b (field t value rest) (field t v (put tag value rest)) ≡ pick b (field t value rest) (field t v (replaced tag value rest))
+      here : (b : Bool) → pick b true (holds tag rest) ≡ true → (holds tag rest ≡ true → put tag value rest ≡ replaced tag value rest)
+          → pick b (field t value rest) (field t v (put tag value rest)) ≡ pick b (field t value rest) (field t v (replaced tag value rest))
       here true h again = refl
       here false h again = ap (field t v) (again h)
   put-held (entry s d own rest) h = ap (entry s d own) (put-held rest h)
@@ -92,8 +101,10 @@ module _ (tag : ℕ) (value : List ℕ) where
   run-held run end h = let z : _≡_ {A = ℕ} 0 1 = cc in absurd (omega arith)
   run-held run (field t v rest) h = here (eqb t tag) refl h (run-held run rest)
     where
-      here : (b : Bool) → eqb t tag ≡ b → pick b true (holds tag rest) ≡ true → (holds tag rest ≡ true → putRun tag value run rest ≡ hungOnCount tag run (replaced tag value rest))
-          → pick b (field t value (joined run (pastLeading tag rest))) (field t v (putRun tag value run rest)) ≡ hungOnCount tag run (pick b (field t value rest) (field t v (replaced tag value rest)))
+      here : (b : Bool) → eqb t tag ≡ b → pick b true (holds tag rest) ≡ true
+          → (holds tag rest ≡ true → putRun tag value run rest ≡ hungOnCount tag run (replaced tag value rest))
+          → pick b (field t value (joined run (pastLeading tag rest))) (field t v (putRun tag value run rest))
+          ≡ hungOnCount tag run (pick b (field t value rest) (field t v (replaced tag value rest)))
       here true e h again = rw e
       here false e h again = rw e (ap (field t v) (again h))
   run-held run (entry s d own rest) h = ap (entry s d own) (run-held run rest h)
@@ -109,22 +120,29 @@ module _ (tag : ℕ) (value : List ℕ) where
   holds-replaced end h = h
   holds-replaced (field t v rest) h = here (eqb t tag) refl h (holds-replaced rest)
     where
-      here : (b : Bool) → eqb t tag ≡ b → pick b true (holds tag rest) ≡ true → (holds tag rest ≡ true → holds tag (replaced tag value rest) ≡ true) → holds tag (pick b (field t value rest) (field t v (replaced tag value rest))) ≡ true
+      here : (b : Bool) → eqb t tag ≡ b → pick b true (holds tag rest) ≡ true → (holds tag rest ≡ true → holds tag (replaced tag value rest) ≡ true)
+          → holds tag (pick b (field t value rest) (field t v (replaced tag value rest))) ≡ true
       here true e h again = rw e
       here false e h again = rw e (again h)
   holds-replaced (entry s d own rest) h = holds-replaced rest h
 
   -- they stay formed
-  formed-new : (m x : Map) → isFormed m ≡ true → isFormed (field tag value x) ≡ true → stands tag m ≡ false → ((u : ℕ) → (eqb tag u ≡ true → ⊥) → stands u x ≡ false) → isFormed (joined m (field tag value x)) ≡ true
+  formed-new : (m x : Map) → isFormed m ≡ true → isFormed (field tag value x) ≡ true → stands tag m ≡ false
+      → ((u : ℕ) → (eqb tag u ≡ true → ⊥) → stands u x ≡ false) → isFormed (joined m (field tag value x)) ≡ true
   formed-new m x f g none other = formed-joined m (field tag value x) f g (λ u s. by-tag u (eqb tag u) refl s)
     where
       by-tag : (u : ℕ) (b : Bool) → eqb tag u ≡ b → stands u m ≡ true → stands u (field tag value x) ≡ false
-      by-tag u true e s = let same : tag ≡ u = eqb-true tag u e in let z : true ≡ false = sym s ∙ ap (λ (w : ℕ). stands w m) (sym same) ∙ none in let y : _≡_ {A = ℕ} 0 1 = cc in absurd (omega arith)
+      by-tag u true e s =
+          let same : tag ≡ u = eqb-true tag u e in
+          let z : true ≡ false = sym s ∙ ap (λ (w : ℕ). stands w m) (sym same) ∙ none in
+          let y : _≡_ {A = ℕ} 0 1 = cc in
+          absurd (omega arith)
       by-tag u false e s = unfold stands in rw e (other u (λ t. let z : true ≡ false = sym t ∙ e in let y : _≡_ {A = ℕ} 0 1 = cc in omega arith))
 
   module _ (some : tag ≡ 0 → ⊥) where
     field-alone : isFormed (field tag value end) ≡ true
-    field-alone = formed-field tag value end (record { some = ne-eqb tag 0 some; once = unfold pastLeading stands in refl; rest-formed = unfold isFormed in refl })
+    field-alone =
+        formed-field tag value end (record { some = ne-eqb tag 0 some; once = unfold pastLeading stands in refl; rest-formed = unfold isFormed in refl })
 
     pub new-formed : (m : Map) → isFormed m ≡ true → stands tag m ≡ false → isFormed (joined m (field tag value end)) ≡ true
     new-formed m f none = formed-new m end f field-alone none (λ u n. unfold stands in refl)
@@ -138,7 +156,13 @@ module _ (tag : ℕ) (value : List ℕ) where
 
     module _ (d : ℕ) (run : Map) (runs : isRun tag d run ≡ true) (g : isFormed run ≡ true) where
       count-formed : isFormed (field tag value run) ≡ true
-      count-formed = formed-field tag value run (record { some = ne-eqb tag 0 some; once = ap (stands tag) (run-only tag d run runs) ∙ (unfold stands in refl); rest-formed = g })
+      count-formed =
+          formed-field tag value run (record {
+            some = ne-eqb tag 0 some;
+            once = ap (stands tag) (run-only tag d run runs)
+                ∙ (unfold stands in refl);
+            rest-formed = g;
+          })
 
       pub new-run-formed : (m : Map) → isFormed m ≡ true → stands tag m ≡ false → isFormed (joined m (field tag value run)) ≡ true
       new-run-formed m f none = formed-new m run f count-formed none (λ u n. run-others tag d u run runs (λ e. n (eq-eqb tag u e)))

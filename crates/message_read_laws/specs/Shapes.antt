@@ -14,7 +14,8 @@ pub data Shapes (bytes : List ℕ) : ℕ → ℕ → ℕ → ℕ → Map → Lis
   no-more : {depth number start entries : ℕ} → Shapes bytes depth number start entries end []
   one-own : {depth number start entries : ℕ} {rest : Map} {rs : List Record} (r : Record) → Own depth number r → Shapes bytes depth number (r .tag) 0 rest rs
       → Shapes bytes depth number start entries (field (r .tag) (valueAt bytes r) rest) (r ∷ rs)
-  one-entry : {depth number start entries : ℕ} {inner rest : Map} {rs ss : List Record} (r : Record) → Own (depth + 1) (entries + 1) r → Shapes bytes (depth + 1) (entries + 1) (r .tag) 0 inner rs → Shapes bytes depth number start (entries + 1) rest ss
+  one-entry : {depth number start entries : ℕ} {inner rest : Map} {rs ss : List Record} (r : Record) → Own (depth + 1) (entries + 1) r
+      → Shapes bytes (depth + 1) (entries + 1) (r .tag) 0 inner rs → Shapes bytes depth number start (entries + 1) rest ss
       → Shapes bytes depth number start entries (entry start (r .tag) (field (r .tag) (valueAt bytes r) inner) rest) (r ∷ (rs ++ ss))
 
 -- what may stand behind anything: it begins with a field, or is nothing

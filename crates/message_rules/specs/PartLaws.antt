@@ -84,8 +84,28 @@ part-split Trailer m =
       fields = λ x. omega arith;
       same = refl;
       from = omega (arith, length-append (laid 1 (m .header)) (row 2 0 2 0 ∷ (laid 1 (m .body) ++ (row 2 0 3 0 ∷ []))), length-append (laid 1 (m .body)) (row 2 0 3 0 ∷ []));
-      to = omega (arith, length-append (laid 1 (m .header)) (row 2 0 2 0 ∷ (laid 1 (m .body) ++ (row 2 0 3 0 ∷ []))), length-append (laid 1 (m .body)) (row 2 0 3 0 ∷ []), length-append (laid 1 (m .header)) (row 2 0 2 0 ∷ (laid 1 (m .body) ++ (row 2 0 3 0 ∷ (laid 1 (m .trailer) ++ [])))), length-append (laid 1 (m .body)) (row 2 0 3 0 ∷ (laid 1 (m .trailer) ++ [])), length-append (laid 1 (m .trailer)) []);
-      count = omega (arith, length-append (laid 1 (m .header)) (row 2 0 2 0 ∷ (laid 1 (m .body) ++ (row 2 0 3 0 ∷ []))), length-append (laid 1 (m .body)) (row 2 0 3 0 ∷ []), length-append (laid 1 (m .header)) (row 2 0 2 0 ∷ (laid 1 (m .body) ++ (row 2 0 3 0 ∷ (laid 1 (m .trailer) ++ [])))), length-append (laid 1 (m .body)) (row 2 0 3 0 ∷ (laid 1 (m .trailer) ++ [])), length-append (laid 1 (m .trailer)) []);
+      to = omega (
+        arith,
+        length-append (laid 1 (m .header)) (row 2 0 2 0 ∷ (laid 1 (m .body) ++ (row 2 0 3 0
+            ∷ []))),
+        length-append (laid 1 (m .body)) (row 2 0 3 0 ∷ []),
+        length-append (laid 1 (m .header)) (row 2 0 2 0 ∷ (laid 1 (m .body) ++ (row 2 0 3 0
+            ∷ (laid 1 (m .trailer) ++ [])))),
+        length-append (laid 1 (m .body)) (row 2 0 3 0 ∷ (laid 1 (m .trailer)
+            ++ [])),
+        length-append (laid 1 (m .trailer)) [],
+      );
+      count = omega (
+        arith,
+        length-append (laid 1 (m .header)) (row 2 0 2 0 ∷ (laid 1 (m .body) ++ (row 2 0 3 0
+            ∷ []))),
+        length-append (laid 1 (m .body)) (row 2 0 3 0 ∷ []),
+        length-append (laid 1 (m .header)) (row 2 0 2 0 ∷ (laid 1 (m .body) ++ (row 2 0 3 0
+            ∷ (laid 1 (m .trailer) ++ [])))),
+        length-append (laid 1 (m .body)) (row 2 0 3 0 ∷ (laid 1 (m .trailer)
+            ++ [])),
+        length-append (laid 1 (m .trailer)) [],
+      );
     }
 
 pub total-laid : (m : Message) → fieldsIn 1 (laid 0 (parts m)) ≡ fieldTotal m

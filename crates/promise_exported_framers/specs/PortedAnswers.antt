@@ -12,7 +12,8 @@ use borrow.Author.Tests.{le-ltb, ne-eqb}
 use Rattle.field_rules.specs.Choice.{pick}
 use Rattle.frame_parser_rules.specs.Announced.{announcedIn}
 use Rattle.frame_parser_rules.specs.AnnouncedLaws.{announced-limit}
-use Rattle.frame_parser_rules.specs.Framer.{numberOfParser, lengthReturned, whereAccepted, held, unusable, pushAnswer, pushed, pushedStore, endAnswer, finished, readyOf, readyAnswer, takeAnswer, takeState, taken, movedToFront, takenStore, takenOutput}
+use Rattle.frame_parser_rules.specs.Framer.{numberOfParser, lengthReturned, whereAccepted, held, unusable, pushAnswer, pushed, pushedStore, endAnswer}
+use Rattle.frame_parser_rules.specs.Framer.{finished, readyOf, readyAnswer, takeAnswer, takeState, taken, movedToFront, takenStore, takenOutput}
 use Rattle.frame_parser_rules.specs.FramerLaws.{usable-is, ready-in}
 use Rattle.frame_parser_rules.specs.declared.State.{State}
 use Rattle.frame_parser_rules.specs.declared.Answer.{Answer}
@@ -52,10 +53,12 @@ end-done state store = by-tests (unusable (state .used) store) (state .ended) (s
 pub take-done : (state : State) (store output : List ℕ) → numberOfParser (takeAnswer state store output) ≡ 0 →
     takeAnswer state store output ≡ Message (lengthReturned (takeAnswer state store output))
 unfolding takeAnswer readyAnswer numberOfParser lengthReturned
-take-done state store output = by-tests (unusable (state .used) store) (ltb (length output) 8192) (state .over) (readyOf (state .used) (announcedIn (held state store)))
+take-done state store output =
+    by-tests (unusable (state .used) store) (ltb (length output) 8192) (state .over) (readyOf (state .used) (announcedIn (held state store)))
   where
     by-tests : (u l o : Bool) (r : Ready) → numberOfParser (pick u BadStore (pick l ShortOutput (pick o OverLong (readyAnswer r)))) ≡ 0 →
-        pick u BadStore (pick l ShortOutput (pick o OverLong (readyAnswer r))) ≡ Message (lengthReturned (pick u BadStore (pick l ShortOutput (pick o OverLong (readyAnswer r)))))
+        pick u BadStore (pick l ShortOutput (pick o OverLong (readyAnswer r)))
+        ≡ Message (lengthReturned (pick u BadStore (pick l ShortOutput (pick o OverLong (readyAnswer r)))))
     by-tests true l o r h = absurd (omega arith)
     by-tests false true o r h = absurd (omega arith)
     by-tests false false true r h = absurd (omega arith)
@@ -121,7 +124,9 @@ unfolding takeAnswer
 take-usable state store output n e = by-test (unusable (state .used) store) refl e
   where
     by-test : (u : Bool) → unusable (state .used) store ≡ u →
-        pick u BadStore (pick (ltb (length output) 8192) ShortOutput (pick (state .over) OverLong (readyAnswer (readyOf (state .used) (announcedIn (held state store)))))) ≡ Message n → unusable (state .used) store ≡ false
+        pick u BadStore (pick (ltb (length output) 8192) ShortOutput
+        (pick (state .over) OverLong (readyAnswer (readyOf (state .used) (announcedIn (held state store)))))) ≡ Message n
+        → unusable (state .used) store ≡ false
     by-test true h k = let z : _≡_ {A = ℕ} 0 1 = cc in absurd (omega arith)
     by-test false h k = h
 
@@ -141,7 +146,8 @@ pub take-alike : (state : State) (store output other : List ℕ) (n : ℕ) → t
     takeAnswer state store other ≡ Message n
 unfolding takeAnswer
 take-alike state store output other n e long =
-    by-tests (unusable (state .used) store) (ltb (length output) 8192) (state .over) (readyAnswer (readyOf (state .used) (announcedIn (held state store)))) (ltb (length other) 8192) (le-ltb (length other) 8192 long) e
+    by-tests (unusable (state .used) store) (ltb (length output) 8192) (state .over) (readyAnswer (readyOf (state .used) (announcedIn (held state store))))
+    (ltb (length other) 8192) (le-ltb (length other) 8192 long) e
   where
     by-tests : (u l o : Bool) (a : Answer) (k : Bool) → k ≡ false → pick u BadStore (pick l ShortOutput (pick o OverLong a)) ≡ Message n →
         pick u BadStore (pick k ShortOutput (pick o OverLong a)) ≡ Message n

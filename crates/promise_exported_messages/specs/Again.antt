@@ -29,7 +29,9 @@ use Rattle.promise_roundtrip.specs.AgainValues.{Split}
 use Rattle.promise_roundtrip.specs.Again.{Again}
 use Rattle.promise_roundtrip.specs.AgainTheorem.{comes-back}
 use Rattle.promise_exported_messages.specs.Exports.{Builds, Calls}
-use Rattle.promise_exported_messages.specs.CallLaws.{same-separator, from-blank, number-valid, number-written, length-written, number-too-long, length-too-long, counts-told, built-valid, count-told, taking-is, records-are, taken-made, encoding-as, encoded-so}
+use Rattle.promise_exported_messages.specs.CallLaws.{same-separator, from-blank, number-valid, number-written, length-written, number-too-long}
+use Rattle.promise_exported_messages.specs.CallLaws.{length-too-long, counts-told, built-valid, count-told, taking-is, records-are, taken-made}
+use Rattle.promise_exported_messages.specs.CallLaws.{encoding-as, encoded-so}
 
 module _ (message : List ℕ) (separator settings : ℕ) (dictionary : List ℕ) where
   -- what is read of some bytes with the dictionary, the separator and the setting
@@ -47,11 +49,14 @@ module _ (message : List ℕ) (separator settings : ℕ) (dictionary : List ℕ)
   module _ (records : List FieldRecord) (words values output : List ℕ) (calls : Calls message separator settings dictionary records words values output) where
     -- "encoding what was built succeeds or passes 8,192 bytes"
     pub data Encodes (before : Split (readOf message .records)) : Type 0 where
-      succeeds : (copy : List ℕ) → length copy ≤ 8192 → calls .encoded ≡ 0 → calls .encoded-output ≡ copy ++ drop (length copy) output → calls .encoded-out ≡ 0 ∷ length copy ∷ 0 ∷ 0 ∷ []
-          → ((others : List FieldRecord) (number : ℕ) (recordsLeft : List FieldRecord) (out : List ℕ) → 1024 ≤ length others → Builds (take (getD (calls .encoded-out) 1 0) (calls .encoded-output)) separator settings dictionary others number recordsLeft out
+      succeeds : (copy : List ℕ) → length copy ≤ 8192 → calls .encoded ≡ 0 → calls .encoded-output ≡ copy ++ drop (length copy) output
+          → calls .encoded-out ≡ 0 ∷ length copy ∷ 0 ∷ 0 ∷ []
+          → ((others : List FieldRecord) (number : ℕ) (recordsLeft : List FieldRecord) (out : List ℕ) → 1024 ≤ length others
+          → Builds (take (getD (calls .encoded-out) 1 0) (calls .encoded-output)) separator settings dictionary others number recordsLeft out
           → BuiltAgain before copy number recordsLeft out)
           → Encodes before
-      passes : calls .encoded ≡ 20 → calls .encoded-words ≡ calls .taken-words → calls .encoded-values ≡ calls .taken-values → calls .encoded-output ≡ output → calls .encoded-out ≡ 0 ∷ 0 ∷ 0 ∷ 0 ∷ [] → Encodes before
+      passes : calls .encoded ≡ 20 → calls .encoded-words ≡ calls .taken-words → calls .encoded-values ≡ calls .taken-values → calls .encoded-output ≡ output
+          → calls .encoded-out ≡ 0 ∷ 0 ∷ 0 ∷ 0 ∷ [] → Encodes before
 
     -- what the calls answer and leave
     pub record RoundTrip : Type 0 where
@@ -61,34 +66,46 @@ module _ (message : List ℕ) (separator settings : ℕ) (dictionary : List ℕ)
       pub encodes : Encodes before
 
   -- the build of what was encoded
-  module _ {built : BuildOutcome} {lent : ℕ} (s : Shown message (configOf settings separator) dictionary lent built) (before : Split (readOf message .records)) (copy : List ℕ) (short : length copy ≤ 8192) (again : Again message before copy (readOf copy)) (free : RepeatFree (dictionaryOf dictionary) (configOf settings separator) copy) where
-    second-build : (others : List FieldRecord) (number : ℕ) (recordsLeft : List FieldRecord) (out : List ℕ) → 1024 ≤ length others → Builds copy separator settings dictionary others number recordsLeft out → BuiltAgain before copy number recordsLeft out
+  module _ {built : BuildOutcome} {lent : ℕ} (s : Shown message (configOf settings separator) dictionary lent built)
+      (before : Split (readOf message .records)) (copy : List ℕ) (short : length copy ≤ 8192) (again : Again message before copy (readOf copy))
+      (free : RepeatFree (dictionaryOf dictionary) (configOf settings separator) copy) where
+    second-build : (others : List FieldRecord) (number : ℕ) (recordsLeft : List FieldRecord) (out : List ℕ) → 1024 ≤ length others
+        → Builds copy separator settings dictionary others number recordsLeft out → BuiltAgain before copy number recordsLeft out
     unfolding shown
     second-build others number recordsLeft out many b =
-        let e : buildOf copy (configOf settings separator) dictionary (length others) (replicate recordWords 0) ≡ shown (length others) (readOf copy) = shown-build copy (configOf settings separator) dictionary (length others) (replicate recordWords 0) (s .separates) (le-ltb (length others) 1024 many) short (s .checked) in
-        let is : builtFrom copy separator settings dictionary (length others) ≡ shown (length others) (readOf copy) = from-blank copy separator settings dictionary (length others) ∙ e in
+        let e : buildOf copy (configOf settings separator) dictionary (length others) (replicate recordWords 0) ≡ shown (length others) (readOf copy) =
+        shown-build copy (configOf settings separator) dictionary (length others) (replicate recordWords 0) (s .separates)
+        (le-ltb (length others) 1024 many) short (s .checked) in
+        let is : builtFrom copy separator settings dictionary (length others) ≡ shown (length others) (readOf copy) =
+        from-blank copy separator settings dictionary (length others) ∙ e in
         let size : length (readOf copy .records) ≡ length (readOf message .records) = sym (similar-length (again .similar)) in
         let answer : builtFrom copy separator settings dictionary (length others) .answer ≡ Valid = ap (λ (o : BuildOutcome). o .answer) is ∙ again .valid in
         let count : getD out 0 0 ≡ length (readOf message .records) = count-told b ∙ ap (λ (o : BuildOutcome). o .records) is ∙ size in
         record {
           valid = b .answers ∙ ap numberOf answer ∙ number-valid;
           tells = counts-told b answer ∙ ap (λ (n : ℕ). n ∷ 0 ∷ 0 ∷ 0 ∷ []) count;
-          records-read = ap (λ (n : ℕ). recordsFrom (take n recordsLeft)) (sym count) ∙ records-are b (readOf copy .records) (ap (λ (o : BuildOutcome). o .words) e) (ap (λ (o : BuildOutcome). o .records) e);
+          records-read =
+              ap (λ (n : ℕ). recordsFrom (take n recordsLeft)) (sym count)
+              ∙ records-are b (readOf copy .records) (ap (λ (o : BuildOutcome). o .words) e) (ap (λ (o : BuildOutcome). o .records) e);
           again = again;
           free = free;
         }
 
-builds-as : {bytes other : List ℕ} {separator settings : ℕ} {dictionary : List ℕ} {records : List FieldRecord} {number : ℕ} {recordsLeft : List FieldRecord} {out : List ℕ} → bytes ≡ other
+builds-as : {bytes other : List ℕ} {separator settings : ℕ} {dictionary : List ℕ} {records : List FieldRecord} {number : ℕ} {recordsLeft : List FieldRecord}
+    {out : List ℕ}
+    → bytes ≡ other
     → Builds bytes separator settings dictionary records number recordsLeft out → Builds other separator settings dictionary records number recordsLeft out
 builds-as e b = rw (← e) b
 
 -- the first bytes of an output, as many as were told
-copied : (out outputLeft copy output : List ℕ) → out ≡ 0 ∷ length copy ∷ 0 ∷ 0 ∷ [] → outputLeft ≡ copy ++ drop (length copy) output → take (getD out 1 0) outputLeft ≡ copy
+copied : (out outputLeft copy output : List ℕ) → out ≡ 0 ∷ length copy ∷ 0 ∷ 0 ∷ [] → outputLeft ≡ copy ++ drop (length copy) output
+    → take (getD out 1 0) outputLeft ≡ copy
 copied out outputLeft copy output tells is = rw (tells, is) (take-at copy (drop (length copy) output) (length copy) refl)
 
 -- "Encoded and, if within 8,192 bytes, built again with the same separator, setting and dictionary, it gives 0 and the same", the second build being
 -- one of the first bytes of the output, as many as were told, into any 1,024 lent records or more
-pub repeat-free-again-exported : (message : List ℕ) (separator settings : ℕ) (dictionary : List ℕ) (records : List FieldRecord) (words values output : List ℕ) (calls : Calls message separator settings dictionary records words values output)
+pub repeat-free-again-exported : (message : List ℕ) (separator settings : ℕ) (dictionary : List ℕ) (records : List FieldRecord) (words values output : List ℕ)
+    (calls : Calls message separator settings dictionary records words values output)
     → length words ≡ messageWords → length values ≡ 8192 → 8192 ≤ length output
     → calls .built ≡ 0 → RepeatFree (dictionaryOf dictionary) (configOf settings separator) message
     → RoundTrip message separator settings dictionary records words values output calls
@@ -113,9 +130,12 @@ repeat-free-again-exported message separator settings dictionary records words v
                 let e = encoded-so (calls .encodes) (Written (length copy)) _ _ _ (same ∙ back .written output short (omega arith)) in
                 let tells = e .out-is ∙ length-written (length copy) short in
                 succeeds copy short (e .number-is ∙ number-written (length copy)) (e .output-is) tells
-                (λ others number recordsLeft out many b. second-build message separator settings dictionary s (back .before) copy short (back .again short) (back .repeat-free short) others number recordsLeft out many (builds-as (copied (calls .encoded-out) (calls .encoded-output) copy output tells (e .output-is)) b))
+                (λ others number recordsLeft out many b. second-build message separator settings dictionary s (back .before) copy short (back .again short)
+                (back .repeat-free short) others number recordsLeft out many
+                (builds-as (copied (calls .encoded-out) (calls .encoded-output) copy output tells (e .output-is)) b))
             | no long ↦
                 let e = encoded-so (calls .encodes) TooLong _ _ _ (same ∙ back .too-long output (lt-of-not-le long)) in
-                passes (e .number-is ∙ number-too-long) (e .words-are ∙ sym (k .words-are)) (e .values-are ∙ sym (k .values-are)) (e .output-is) (e .out-is ∙ length-too-long)
+                passes (e .number-is ∙ number-too-long) (e .words-are ∙ sym (k .words-are)) (e .values-are ∙ sym (k .values-are)) (e .output-is)
+                (e .out-is ∙ length-too-long)
           ];
     }

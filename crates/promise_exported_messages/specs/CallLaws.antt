@@ -30,7 +30,8 @@ unfolding configOf
 same-separator settings separator = refl
 
 -- a build of what the caller gives is one over blank words
-pub from-blank : (message : List ℕ) (separator settings : ℕ) (dictionary : List ℕ) (lent : ℕ) → builtFrom message separator settings dictionary lent ≡ buildOf message (configOf settings separator) dictionary lent (replicate recordWords 0)
+pub from-blank : (message : List ℕ) (separator settings : ℕ) (dictionary : List ℕ) (lent : ℕ)
+    → builtFrom message separator settings dictionary lent ≡ buildOf message (configOf settings separator) dictionary lent (replicate recordWords 0)
 unfolding builtFrom
 from-blank message separator settings dictionary lent = refl
 
@@ -49,25 +50,34 @@ length-told n small = let e : n % 2 ^ 32 ≡ n = omega arith in rw e refl
 
 module _ {message : List ℕ} {separator settings : ℕ} {dictionary : List ℕ} {records : List FieldRecord} where
   -- a build that answered 0
-  module _ {number : ℕ} {recordsLeft : List FieldRecord} {out : List ℕ} (b : Builds message separator settings dictionary records number recordsLeft out) where
-    pub built-valid : number ≡ 0 → buildOf message (configOf settings separator) dictionary (length records) (replicate recordWords 0) .answer ≡ Valid
-    built-valid z = unfold builtFrom in answered-valid message separator settings dictionary (length records) (sym (b .answers) ∙ z)
+  module _ {number : ℕ} {recordsLeft : List FieldRecord} {out : List ℕ} (b : Builds message separator settings dictionary records number recordsLeft out)
+    where
+      pub built-valid : number ≡ 0 → buildOf message (configOf settings separator) dictionary (length records) (replicate recordWords 0) .answer ≡ Valid
+      built-valid z = unfold builtFrom in answered-valid message separator settings dictionary (length records) (sym (b .answers) ∙ z)
 
-    pub count-told : getD out 0 0 ≡ builtFrom message separator settings dictionary (length records) .records
-    count-told = ap (λ (l : List ℕ). getD l 0 0) (b .tells) ∙ first-told (builtFrom message separator settings dictionary (length records) .records) _ (omega (arith, few-records message separator settings dictionary (length records)))
+      pub count-told : getD out 0 0 ≡ builtFrom message separator settings dictionary (length records) .records
+      count-told =
+          ap (λ (l : List ℕ). getD l 0 0) (b .tells) ∙ first-told (builtFrom message separator settings dictionary (length records) .records) _
+          (omega (arith, few-records message separator settings dictionary (length records)))
 
-    -- what take-over makes of the records that it left
-    pub taking-is : (words values : List ℕ) → takingOver (wordsLent recordsLeft) (getD out 0 0) message words values
-        ≡ takingOver (buildOf message (configOf settings separator) dictionary (length records) (replicate recordWords 0) .words) (buildOf message (configOf settings separator) dictionary (length records) (replicate recordWords 0) .records) message words values
-    taking-is words values = rw (b .fills, count-told) (unfold builtFrom in taken-alike message separator settings dictionary records message words values)
+      -- what take-over makes of the records that it left
+      pub taking-is : (words values : List ℕ) → takingOver (wordsLent recordsLeft) (getD out 0 0) message words values
+          ≡ takingOver (buildOf message (configOf settings separator) dictionary (length records) (replicate recordWords 0) .words)
+          (buildOf message (configOf settings separator) dictionary (length records) (replicate recordWords 0) .records) message words values
+      taking-is words values = rw (b .fills, count-told) (unfold builtFrom in taken-alike message separator settings dictionary records message words values)
 
-    pub counted-as : {n : ℕ} → buildOf message (configOf settings separator) dictionary (length records) (replicate recordWords 0) .records ≡ n → getD out 0 0 ≡ n
-    counted-as e = unfold builtFrom in (count-told ∙ e)
+      pub counted-as : {n : ℕ} → buildOf message (configOf settings separator) dictionary (length records) (replicate recordWords 0) .records ≡ n
+          → getD out 0 0 ≡ n
+      counted-as e = unfold builtFrom in (count-told ∙ e)
 
-    -- the records that it showed, where it read what some bytes hold
-    pub records-are : (rs : List Record) → buildOf message (configOf settings separator) dictionary (length records) (replicate recordWords 0) .words ≡ wordsWith rs
-        → buildOf message (configOf settings separator) dictionary (length records) (replicate recordWords 0) .records ≡ length rs → recordsFrom (take (getD out 0 0) recordsLeft) ≡ rs
-    records-are rs words count = rw (b .fills, count-told) (unfold builtFrom in records-shown message separator settings dictionary records rs (unfold builtFrom in words) (unfold builtFrom in count))
+      -- the records that it showed, where it read what some bytes hold
+      pub records-are : (rs : List Record)
+          → buildOf message (configOf settings separator) dictionary (length records) (replicate recordWords 0) .words ≡ wordsWith rs
+          → buildOf message (configOf settings separator) dictionary (length records) (replicate recordWords 0) .records ≡ length rs
+          → recordsFrom (take (getD out 0 0) recordsLeft) ≡ rs
+      records-are rs words count =
+          rw (b .fills, count-told) (unfold builtFrom in records-shown message separator settings dictionary records rs (unfold builtFrom in words)
+          (unfold builtFrom in count))
 
 -- a taking over that made a message
 pub record Taken (number : ℕ) (wordsLeft valuesLeft words values : List ℕ) : Type 0 where
@@ -75,10 +85,12 @@ pub record Taken (number : ℕ) (wordsLeft valuesLeft words values : List ℕ) :
   pub words-are : wordsLeft ≡ words
   pub values-are : valuesLeft ≡ values
 
-pub taken-made : {records : List FieldRecord} {count : ℕ} {message words values : List ℕ} {number : ℕ} {wordsLeft valuesLeft out : List ℕ} → TakesOver records count message words values number wordsLeft valuesLeft out
+pub taken-made : {records : List FieldRecord} {count : ℕ} {message words values : List ℕ} {number : ℕ} {wordsLeft valuesLeft out : List ℕ}
+    → TakesOver records count message words values number wordsLeft valuesLeft out
     → (w v : List ℕ) → takingOver (wordsLent records) count message words values ≡ after Made w v → Taken number wordsLeft valuesLeft w v
 unfolding takingNumber takenWords takenValues numberOfTaken
-taken-made t w v e = record { made = t .answers ∙ ap takingNumber e; words-are = t .leaves-words ∙ ap takenWords e; values-are = t .leaves-values ∙ ap takenValues e }
+taken-made t w v e =
+    record { made = t .answers ∙ ap takingNumber e; words-are = t .leaves-words ∙ ap takenWords e; values-are = t .leaves-values ∙ ap takenValues e }
 
 -- the same of what was left before
 pub encoding-as : {s r : ℕ} {w v x y : List ℕ} (output : List ℕ) → s ≡ r → w ≡ x → v ≡ y → encodingOf r w v output ≡ encodingOf s x y output
@@ -92,8 +104,10 @@ pub record Encoded (encoding : Encoding) (number : ℕ) (wordsLeft valuesLeft ou
   pub output-is : outputLeft ≡ output
   pub out-is : out ≡ told 0 (lengthOfEncoding encoding, 0)
 
-pub encoded-so : {words values output : List ℕ} {separator number : ℕ} {wordsLeft valuesLeft outputLeft out : List ℕ} → Encodes words values output separator number wordsLeft valuesLeft outputLeft out
-    → (encoding : Encoding) (w v o : List ℕ) → encodingOf separator words values output ≡ left encoding w v o → Encoded encoding number wordsLeft valuesLeft outputLeft out w v o
+pub encoded-so : {words values output : List ℕ} {separator number : ℕ} {wordsLeft valuesLeft outputLeft out : List ℕ}
+    → Encodes words values output separator number wordsLeft valuesLeft outputLeft out
+    → (encoding : Encoding) (w v o : List ℕ) → encodingOf separator words values output ≡ left encoding w v o
+    → Encoded encoding number wordsLeft valuesLeft outputLeft out w v o
 unfolding encodingNumber encodingLength leftWords leftValues leftOutput
 encoded-so e encoding w v o is =
     record {
@@ -123,7 +137,8 @@ unfolding lengthOfEncoding told
 length-too-long = refl
 
 -- a valid build tells its records and no values
-pub counts-told : {message : List ℕ} {separator settings : ℕ} {dictionary : List ℕ} {records : List FieldRecord} {number : ℕ} {recordsLeft : List FieldRecord} {out : List ℕ} (b : Builds message separator settings dictionary records number recordsLeft out)
+pub counts-told : {message : List ℕ} {separator settings : ℕ} {dictionary : List ℕ} {records : List FieldRecord} {number : ℕ} {recordsLeft : List FieldRecord}
+    {out : List ℕ} (b : Builds message separator settings dictionary records number recordsLeft out)
     → builtFrom message separator settings dictionary (length records) .answer ≡ Valid → out ≡ getD out 0 0 ∷ 0 ∷ 0 ∷ 0 ∷ []
 unfolding told valuesOf
 counts-told b valid = rw (b .tells, valid) refl
@@ -138,7 +153,8 @@ unfolding lengthOfEncoding told
 length-no-room = refl
 
 -- the calls can always be made, whatever is given and lent
-pub can-call : (message : List ℕ) (separator settings : ℕ) (dictionary : List ℕ) (records : List FieldRecord) (words values output : List ℕ) → Calls message separator settings dictionary records words values output
+pub can-call : (message : List ℕ) (separator settings : ℕ) (dictionary : List ℕ) (records : List FieldRecord) (words values output : List ℕ)
+    → Calls message separator settings dictionary records words values output
 can-call message separator settings dictionary records words values output =
     record {
       built = _;

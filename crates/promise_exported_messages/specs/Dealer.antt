@@ -29,9 +29,12 @@ use Rattle.promise_roundtrip.specs.LastRead.{LastRead, last-read}
 use Rattle.promise_roundtrip.specs.Dealer.{message-loses}
 use Rattle.promise_roundtrip.specs.DealerEarlier.{EarlierLost, stored-twice-earlier}
 use Rattle.promise_exported_messages.specs.Exports.{Calls}
-use Rattle.promise_exported_messages.specs.CallLaws.{same-separator, number-written, length-written, number-too-long, length-too-long, number-no-room, length-no-room, built-valid, counted-as, taking-is, records-are, taken-made, encoding-as, encoded-so}
+use Rattle.promise_exported_messages.specs.CallLaws.{same-separator, number-written, length-written, number-too-long, length-too-long, number-no-room}
+use Rattle.promise_exported_messages.specs.CallLaws.{length-no-room, built-valid, counted-as, taking-is, records-are, taken-made, encoding-as}
+use Rattle.promise_exported_messages.specs.CallLaws.{encoded-so}
 
-module _ (message : List ℕ) (separator settings : ℕ) (dictionary : List ℕ) (records : List FieldRecord) (words values output : List ℕ) (calls : Calls message separator settings dictionary records words values output) where
+module _ (message : List ℕ) (separator settings : ℕ) (dictionary : List ℕ) (records : List FieldRecord) (words values output : List ℕ)
+    (calls : Calls message separator settings dictionary records words values output) where
   abbrev pub read : Outcome
   read = messageRead (dictionaryOf dictionary) (configOf settings separator) message
 
@@ -41,9 +44,12 @@ module _ (message : List ℕ) (separator settings : ℕ) (dictionary : List ℕ)
 
   -- how an encode ends, by the length of its encoding alone: written, with fewer fields than were read; 20; or 23
   pub data Encodes (size : ℕ) : Type 0 where
-    written : size ≤ 8192 → size ≤ length output → calls .encoded ≡ 0 → calls .encoded-out ≡ 0 ∷ size ∷ 0 ∷ 0 ∷ [] → fieldTotal (messageIn (calls .encoded-words) (calls .encoded-values)) < fieldsRead → Encodes size
-    too-long : 8192 < size → calls .encoded ≡ 20 → calls .encoded-words ≡ calls .taken-words → calls .encoded-values ≡ calls .taken-values → calls .encoded-output ≡ output → calls .encoded-out ≡ 0 ∷ 0 ∷ 0 ∷ 0 ∷ [] → Encodes size
-    no-room : size ≤ 8192 → length output < size → calls .encoded ≡ 23 → calls .encoded-words ≡ calls .taken-words → calls .encoded-values ≡ calls .taken-values → calls .encoded-output ≡ output → calls .encoded-out ≡ 0 ∷ 0 ∷ 0 ∷ 0 ∷ [] → Encodes size
+    written : size ≤ 8192 → size ≤ length output → calls .encoded ≡ 0 → calls .encoded-out ≡ 0 ∷ size ∷ 0 ∷ 0 ∷ []
+        → fieldTotal (messageIn (calls .encoded-words) (calls .encoded-values)) < fieldsRead → Encodes size
+    too-long : 8192 < size → calls .encoded ≡ 20 → calls .encoded-words ≡ calls .taken-words → calls .encoded-values ≡ calls .taken-values
+        → calls .encoded-output ≡ output → calls .encoded-out ≡ 0 ∷ 0 ∷ 0 ∷ 0 ∷ [] → Encodes size
+    no-room : size ≤ 8192 → length output < size → calls .encoded ≡ 23 → calls .encoded-words ≡ calls .taken-words
+        → calls .encoded-values ≡ calls .taken-values → calls .encoded-output ≡ output → calls .encoded-out ≡ 0 ∷ 0 ∷ 0 ∷ 0 ∷ [] → Encodes size
 
   pub record Loses : Type 0 where
     pub fewer-told : getD (calls .built-out) 0 0 < fieldsRead
@@ -58,7 +64,8 @@ module _ (message : List ℕ) (separator settings : ℕ) (dictionary : List ℕ)
     pub encodes : Encodes (length (encoding separator meant))
 
 -- THE DEALER'S CASE, for every message, dictionary, separator and setting
-pub stored-twice-lost-exported : (message : List ℕ) (separator settings : ℕ) (dictionary : List ℕ) (records : List FieldRecord) (words values output : List ℕ) (calls : Calls message separator settings dictionary records words values output)
+pub stored-twice-lost-exported : (message : List ℕ) (separator settings : ℕ) (dictionary : List ℕ) (records : List FieldRecord) (words values output : List ℕ)
+    (calls : Calls message separator settings dictionary records words values output)
     → length words ≡ messageWords → length values ≡ 8192
     → calls .built ≡ 0 → storedTwice (dictionaryOf dictionary) (configOf settings separator) message ≡ true
     → Loses message separator settings dictionary records words values output calls
@@ -75,7 +82,8 @@ stored-twice-lost-exported message separator settings dictionary records words v
     let text = encoding (config .mode .separator) m in
     let only = l .only-length output in
     let p = in-parts (dictionaryOf dictionary) config message (s .valid) in
-    let count : getD (calls .built-out) 0 0 ≡ length (messageRead (dictionaryOf dictionary) config message .records) = counted-as (calls .builds) (s .count) in
+    let count : getD (calls .built-out) 0 0 ≡ length (messageRead (dictionaryOf dictionary) config message .records) =
+    counted-as (calls .builds) (s .count) in
     record {
       fewer-told = omega (arith, count, twice-fewer (dictionaryOf dictionary) config message (s .valid) twice);
       records-read = records-are (calls .builds) (messageRead (dictionaryOf dictionary) config message .records) (s .words) (s .count);
@@ -93,13 +101,16 @@ stored-twice-lost-exported message separator settings dictionary records words v
                   | yes fits ↦
                       let is = only .written short fits in
                       let e = encoded-so (calls .encodes) (Written (length text)) _ _ _ (same ∙ is) in
-                      written short fits (e .number-is ∙ number-written (length text)) (e .out-is ∙ length-written (length text) short) (rw (e .words-are, e .values-are) (l .loses output (length text) _ _ _ is))
+                      written short fits (e .number-is ∙ number-written (length text)) (e .out-is ∙ length-written (length text) short)
+                      (rw (e .words-are, e .values-are) (l .loses output (length text) _ _ _ is))
                   | no full ↦
                       let e = encoded-so (calls .encodes) NoRoom _ _ _ (same ∙ only .no-room short (lt-of-not-le full)) in
-                      no-room short (lt-of-not-le full) (e .number-is ∙ number-no-room) (e .words-are ∙ sym (k .words-are)) (e .values-are ∙ sym (k .values-are)) (e .output-is) (e .out-is ∙ length-no-room)
+                      no-room short (lt-of-not-le full) (e .number-is ∙ number-no-room) (e .words-are ∙ sym (k .words-are))
+                      (e .values-are ∙ sym (k .values-are)) (e .output-is) (e .out-is ∙ length-no-room)
                 ]
             | no long ↦
                 let e = encoded-so (calls .encodes) TooLong _ _ _ (same ∙ only .too-long (lt-of-not-le long)) in
-                too-long (lt-of-not-le long) (e .number-is ∙ number-too-long) (e .words-are ∙ sym (k .words-are)) (e .values-are ∙ sym (k .values-are)) (e .output-is) (e .out-is ∙ length-too-long)
+                too-long (lt-of-not-le long) (e .number-is ∙ number-too-long) (e .words-are ∙ sym (k .words-are)) (e .values-are ∙ sym (k .values-are))
+                (e .output-is) (e .out-is ∙ length-too-long)
           ];
     }

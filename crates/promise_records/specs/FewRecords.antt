@@ -34,14 +34,17 @@ use Rattle.build_rules.specs.Message.{Outcome, shownWith, refusal, afterTrailer
 use Rattle.message_read_laws.specs.CountLaws.{grows-stored}
 use Rattle.promise_records.specs.TakenOver.{build-takes}
 
-header-few : (tags : List ℕ) (fields : Fields) (room : ℕ) (rs : List Record) → length rs + room ≤ 1024 → (f : Field) (rest : Fields) (room₁ : ℕ) (rs₁ : List Record) → headerFrom tags fields room rs ≡ ended f rest room₁ rs₁ → length rs₁ ≤ 1024
+header-few : (tags : List ℕ) (fields : Fields) (room : ℕ) (rs : List Record) → length rs + room ≤ 1024
+    → (f : Field) (rest : Fields) (room₁ : ℕ) (rs₁ : List Record) → headerFrom tags fields room rs ≡ ended f rest room₁ rs₁ → length rs₁ ≤ 1024
 unfolding headerFrom
 header-few tags (unreadable cause place) room rs n f rest room₁ rs₁ e = let z : _≡_ {A = ℕ} 0 1 = cc in absurd (omega arith)
 header-few tags (field g more) zero rs n f rest room₁ rs₁ e = let z : _≡_ {A = ℕ} 0 1 = cc in absurd (omega arith)
 header-few tags (field g more) (suc room) rs n f rest room₁ rs₁ e =
-    by-tag (holdsTag (g .tag) tags) e (λ q. header-few tags more room (stored (partRecord 1 g) rs) (omega (arith, n, grows-stored (partRecord 1 g) rs .longer)) f rest room₁ rs₁ q)
+    by-tag (holdsTag (g .tag) tags) e
+    (λ q. header-few tags more room (stored (partRecord 1 g) rs) (omega (arith, n, grows-stored (partRecord 1 g) rs .longer)) f rest room₁ rs₁ q)
   where
-    by-tag : (b : Bool) → pick b (headerFrom tags more room (stored (partRecord 1 g) rs)) (ended g more room rs) ≡ ended f rest room₁ rs₁ → (headerFrom tags more room (stored (partRecord 1 g) rs) ≡ ended f rest room₁ rs₁ → length rs₁ ≤ 1024) → length rs₁ ≤ 1024
+    by-tag : (b : Bool) → pick b (headerFrom tags more room (stored (partRecord 1 g) rs)) (ended g more room rs) ≡ ended f rest room₁ rs₁
+        → (headerFrom tags more room (stored (partRecord 1 g) rs) ≡ ended f rest room₁ rs₁ → length rs₁ ≤ 1024) → length rs₁ ≤ 1024
     by-tag true e later = later e
     by-tag false e later = let d : rs ≡ rs₁ = cc in rw (← d) (omega (arith, n))
 
@@ -73,29 +76,40 @@ body-few h checksum (refused answer) n = refusal-few answer h n
 body-few h checksum (ended f rest room b) n = trailer-few h b (trailerFrom (field f rest) (suc room) (partRecord 3 checksum ∷ [])) n
 
 module _ (dictionary : Dictionary) (config : Config) (message : List ℕ) where
-  type-few : (f : Field) (rest : Fields) (room : ℕ) (h : List Record) (checksum : Field) (choice : Choice) → length h ≤ 1024 → Few (afterType dictionary config f rest room h checksum choice)
+  type-few : (f : Field) (rest : Fields) (room : ℕ) (h : List Record) (checksum : Field) (choice : Choice) → length h ≤ 1024
+      → Few (afterType dictionary config f rest room h checksum choice)
   unfolding afterType
   type-few f rest room h checksum noMessage n = refusal-few _ h n
-  type-few f rest room h checksum (laidOut layout) n = body-few h checksum (bodyFrom (bodyOf (layoutRules (accepted config (knows dictionary))) layoutDemands (trailerTags dictionary) layout) (field f rest) (suc room) []) n
+  type-few f rest room h checksum (laidOut layout) n =
+      body-few h checksum (bodyFrom (bodyOf (layoutRules (accepted config (knows dictionary))) layoutDemands (trailerTags dictionary) layout) (field f rest)
+      (suc room) []) n
 
-  start-few : (checksum : Field) (r : Reading) → ((f : Field) (rest : Fields) (room : ℕ) (h : List Record) → r ≡ ended f rest room h → length h ≤ 1024) → Few (afterHeader dictionary config message (withChecksum checksum r))
+  start-few : (checksum : Field) (r : Reading) → ((f : Field) (rest : Fields) (room : ℕ) (h : List Record) → r ≡ ended f rest room h → length h ≤ 1024)
+      → Few (afterHeader dictionary config message (withChecksum checksum r))
   unfolding afterHeader withChecksum
   start-few checksum (refused answer) n = refusal-few answer [] (omega arith)
-  start-few checksum (ended f rest room h) n = type-few f rest room h checksum (layoutOf dictionary (valueAt message (msgTypeRecord h))) (n f rest room h refl)
+  start-few checksum (ended f rest room h) n =
+      type-few f rest room h checksum (layoutOf dictionary (valueAt message (msgTypeRecord h))) (n f rest room h refl)
 
   verified-few : (v : Verified) → length (verifiedRecords v) ≤ 3
   unfolding verifiedRecords
   verified-few v =
       let one = stored (partRecord 1 (v .«begin_string»)) [] in
       let two = stored (partRecord 1 (v .«body_length»)) one in
-      omega (arith, grows-stored (partRecord 1 (v .«begin_string»)) [] .longer, grows-stored (partRecord 1 (v .«body_length»)) one .longer, grows-stored (partRecord 1 (v .«msg_type»)) two .longer)
+      omega (
+        arith,
+        grows-stored (partRecord 1 (v .«begin_string»)) [] .longer,
+        grows-stored (partRecord 1 (v .«body_length»)) one .longer,
+        grows-stored (partRecord 1 (v .«msg_type»)) two .longer,
+      )
 
   integrity-few : (i : Integrity) → Few (afterHeader dictionary config message (startedBy (headerTags dictionary) config message i))
   unfolding startedBy
   integrity-few (Garbled reason) = unfold afterHeader in refusal-few _ [] (omega arith)
   integrity-few (Sound v) =
       start-few (v .checksum) (headerOf (headerTags dictionary) config message v)
-      (λ f rest room h q. header-few (headerTags dictionary) (fieldsFrom (config .mode) message (v .«msg_type» .next)) 1021 (verifiedRecords v) (omega (arith, verified-few v)) f rest room h (unfold headerOf in q))
+      (λ f rest room h q. header-few (headerTags dictionary) (fieldsFrom (config .mode) message (v .«msg_type» .next)) 1021 (verifiedRecords v)
+      (omega (arith, verified-few v)) f rest room h (unfold headerOf in q))
 
   pub read-few : length message ≤ 8192 → length (messageRead dictionary config message .records) ≤ 1024
   read-few short = by-answer (unfold messageRead startOf in integrity-few (integrityOf (config .mode) message))

@@ -52,45 +52,61 @@ module _ (message : List ℕ) where
   trailer-shown h b crowded ah ab at = refusal-small _ h ah
 
   module _ (dictionary : Dictionary) (config : Config) (checksum : Field) (sum-fine : Fine message checksum) where
-    body-shown : (h : List Record) (r : Reading) → AllSmall h → ((f : Field) (rest : Fields) (room : ℕ) (b : List Record) → r ≡ ended f rest room b → Kept message (field f rest) (suc room) b) → AllSmall (afterBody h checksum r .records)
+    body-shown : (h : List Record) (r : Reading) → AllSmall h
+        → ((f : Field) (rest : Fields) (room : ℕ) (b : List Record) → r ≡ ended f rest room b → Kept message (field f rest) (suc room) b)
+        → AllSmall (afterBody h checksum r .records)
     unfolding afterBody
     body-shown h (refused answer) ah k = refusal-small answer h ah
     body-shown h (ended f rest room b) ah k =
         let kept = k f rest room b refl in
         trailer-shown h b (trailerFrom (field f rest) (suc room) (partRecord 3 checksum ∷ [])) ah (kept .small)
-        (trailer-small (field f rest) (suc room) (partRecord 3 checksum ∷ []) (record { small = all-more (part-small 3 checksum (omega arith) sum-fine) all-none; each = kept .each; left = kept .left }))
+        (trailer-small (field f rest) (suc room) (partRecord 3 checksum ∷ [])
+        (record { small = all-more (part-small 3 checksum (omega arith) sum-fine) all-none; each = kept .each; left = kept .left }))
 
-    type-shown : (f : Field) (rest : Fields) (room : ℕ) (h : List Record) (choice : Choice) → Kept message (field f rest) (suc room) h → AllSmall (afterType dictionary config f rest room h checksum choice .records)
+    type-shown : (f : Field) (rest : Fields) (room : ℕ) (h : List Record) (choice : Choice) → Kept message (field f rest) (suc room) h
+        → AllSmall (afterType dictionary config f rest room h checksum choice .records)
     unfolding afterType
     type-shown f rest room h noMessage k = refusal-small _ h (k .small)
     type-shown f rest room h (laidOut layout) k =
-        body-shown h (bodyFrom (bodyOf (layoutRules (accepted config (knows dictionary))) layoutDemands (trailerTags dictionary) layout) (field f rest) (suc room) []) (k .small)
-        (λ g more room₂ b e. body-kept (layoutRules (accepted config (knows dictionary))) layoutDemands (trailerTags dictionary) layout (suc (suc room)) (field f rest) (suc room) [] (record { small = all-none; each = k .each; left = k .left }) g more room₂ b (unfold bodyFrom in e))
+        body-shown h (bodyFrom (bodyOf (layoutRules (accepted config (knows dictionary))) layoutDemands (trailerTags dictionary) layout) (field f rest)
+        (suc room) []) (k .small)
+        (λ g more room₂ b e. body-kept (layoutRules (accepted config (knows dictionary))) layoutDemands (trailerTags dictionary) layout (suc (suc room))
+        (field f rest) (suc room) [] (record { small = all-none; each = k .each; left = k .left }) g more room₂ b (unfold bodyFrom in e))
 
-    header-shown : (r : Reading) → ((f : Field) (rest : Fields) (room : ℕ) (h : List Record) → r ≡ ended f rest room h → Kept message (field f rest) (suc room) h) → AllSmall (afterHeader dictionary config message (withChecksum checksum r) .records)
+    header-shown : (r : Reading)
+        → ((f : Field) (rest : Fields) (room : ℕ) (h : List Record) → r ≡ ended f rest room h → Kept message (field f rest) (suc room) h)
+        → AllSmall (afterHeader dictionary config message (withChecksum checksum r) .records)
     unfolding afterHeader withChecksum
     header-shown (refused answer) k = refusal-small answer [] all-none
     header-shown (ended f rest room h) k = type-shown f rest room h (layoutOf dictionary (valueAt message (msgTypeRecord h))) (k f rest room h refl)
 
   module _ (dictionary : Dictionary) (config : Config) where
-    pub verified-kept : (v : Verified) → VerifiedRead (config .mode) message v → Kept message (fieldsFrom (config .mode) message (v .«msg_type» .next)) 1021 (verifiedRecords v)
+    pub verified-kept : (v : Verified) → VerifiedRead (config .mode) message v
+        → Kept message (fieldsFrom (config .mode) message (v .«msg_type» .next)) 1021 (verifiedRecords v)
     unfolding verifiedRecords
-    verified-kept v r = record {
-      small =
-          all-stored _ (partRecord 1 (v .«msg_type»)) (part-small 1 (v .«msg_type») (omega arith) (read-fine (config .mode) message _ (v .«msg_type») (r .types)))
-          (all-stored _ (partRecord 1 (v .«body_length»)) (part-small 1 (v .«body_length») (omega arith) (read-fine (config .mode) message _ (v .«body_length») (r .counts)))
-          (all-stored _ (partRecord 1 (v .«begin_string»)) (part-small 1 (v .«begin_string») (omega arith) (read-fine (config .mode) message _ (v .«begin_string») (r .begins))) all-none));
-      each = all-fine (config .mode) message (v .«msg_type» .next);
-      left = omega arith;
-    }
+    verified-kept v r =
+        record {
+          small =
+              all-stored _ (partRecord 1 (v .«msg_type»))
+              (part-small 1 (v .«msg_type») (omega arith) (read-fine (config .mode) message _ (v .«msg_type») (r .types)))
+              (all-stored _ (partRecord 1 (v .«body_length»))
+              (part-small 1 (v .«body_length») (omega arith) (read-fine (config .mode) message _ (v .«body_length») (r .counts)))
+              (all-stored _ (partRecord 1 (v .«begin_string»))
+              (part-small 1 (v .«begin_string») (omega arith) (read-fine (config .mode) message _ (v .«begin_string») (r .begins))) all-none));
+          each = all-fine (config .mode) message (v .«msg_type» .next);
+          left = omega arith;
+        }
 
-    started-shown : (i : Integrity) → integrityOf (config .mode) message ≡ i → AllSmall (afterHeader dictionary config message (startedBy (headerTags dictionary) config message i) .records)
+    started-shown : (i : Integrity) → integrityOf (config .mode) message ≡ i
+        → AllSmall (afterHeader dictionary config message (startedBy (headerTags dictionary) config message i) .records)
     unfolding startedBy
     started-shown (Garbled reason) e = unfold afterHeader in refusal-small _ [] all-none
     started-shown (Sound v) e =
         let r = verified-read (config .mode) message v e in
-        header-shown dictionary config (v .checksum) (read-fine (config .mode) message _ (v .checksum) (r .sums)) (headerOf (headerTags dictionary) config message v)
-        (λ f rest room h q. header-kept (headerTags dictionary) (fieldsFrom (config .mode) message (v .«msg_type» .next)) 1021 (verifiedRecords v) (verified-kept v r) f rest room h (unfold headerOf in q))
+        header-shown dictionary config (v .checksum) (read-fine (config .mode) message _ (v .checksum) (r .sums))
+        (headerOf (headerTags dictionary) config message v)
+        (λ f rest room h q. header-kept (headerTags dictionary) (fieldsFrom (config .mode) message (v .«msg_type» .next)) 1021 (verifiedRecords v)
+        (verified-kept v r) f rest room h (unfold headerOf in q))
 
     pub read-small : AllSmall (messageRead dictionary config message .records)
     unfolding messageRead startOf

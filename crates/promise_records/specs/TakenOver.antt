@@ -50,36 +50,50 @@ use Rattle.message_read_laws.specs.Refusals.{header-never, body-never}
 
 module _ (dictionary : Dictionary) (config : Config) (message : List ℕ) (short : length message ≤ 8192) where
   -- behind the trailer
-  trailer-takes : (h b : List Record) (t : Trailer) → ((rs : List Record) → Ended t rs → Takes message (h ++ (b ++ rs))) → afterTrailer h b t .answer ≡ Valid → Takes message (afterTrailer h b t .records)
+  trailer-takes : (h b : List Record) (t : Trailer) → ((rs : List Record) → Ended t rs → Takes message (h ++ (b ++ rs))) → afterTrailer h b t .answer ≡ Valid
+      → Takes message (afterTrailer h b t .records)
   unfolding afterTrailer
   trailer-takes h b (stopped f rs) takes e = takes rs at-checksum
   trailer-takes h b (unstopped rs) takes e = takes rs at-end
   trailer-takes h b crowded takes e = let z : _≡_ {A = ℕ} 0 1 = unfold refusal in cc in absurd (omega arith)
 
-  module _ (v : Verified) (sound : integrityOf (config .mode) message ≡ Sound v) (f : Field) (rest : Fields) (room : ℕ) (h : List Record) (header : headerOf (headerTags dictionary) config message v ≡ ended f rest room h) where
+  module _ (v : Verified) (sound : integrityOf (config .mode) message ≡ Sound v) (f : Field) (rest : Fields) (room : ℕ) (h : List Record)
+      (header : headerOf (headerTags dictionary) config message v ≡ ended f rest room h) where
     -- behind the body
-    body-takes : (layout : _) (r : Reading) → bodyFrom (bodyOf (layoutRules (accepted config (knows dictionary))) layoutDemands (trailerTags dictionary) layout) (field f rest) (suc room) [] ≡ r
+    body-takes : (layout : _) (r : Reading)
+        → bodyFrom (bodyOf (layoutRules (accepted config (knows dictionary))) layoutDemands (trailerTags dictionary) layout) (field f rest) (suc room) [] ≡ r
         → afterBody h (v .checksum) r .answer ≡ Valid → Takes message (afterBody h (v .checksum) r .records)
     unfolding afterBody
-    body-takes layout (refused answer) e a = absurd (body-never (layoutRules (accepted config (knows dictionary))) layoutDemands (trailerTags dictionary) layout (suc (suc room)) (field f rest) (suc room) [] (unfold bodyFrom in (e ∙ ap refused (unfold refusal in a))))
+    body-takes layout (refused answer) e a =
+        absurd (body-never (layoutRules (accepted config (knows dictionary))) layoutDemands (trailerTags dictionary) layout (suc (suc room)) (field f rest)
+        (suc room) [] (unfold bodyFrom in (e ∙ ap refused (unfold refusal in a))))
     body-takes layout (ended g more room₂ b) e a =
         trailer-takes h b (trailerFrom (field g more) (suc room₂) (partRecord 3 (v .checksum) ∷ []))
-        (λ rs end-of-it. parts-take (config .mode) message v (verified-read (config .mode) message v sound) (layoutRules (accepted config (knows dictionary))) (layout-first (accepted config (knows dictionary))) layoutDemands (headerTags dictionary) (trailerTags dictionary) layout f g rest more room room₂ h b rs (trailerFrom (field g more) (suc room₂) (partRecord 3 (v .checksum) ∷ [])) short (unfold headerOf verifiedRecords in header) e refl end-of-it)
+        (λ rs end-of-it. parts-take (config .mode) message v (verified-read (config .mode) message v sound) (layoutRules (accepted config (knows dictionary)))
+        (layout-first (accepted config (knows dictionary))) layoutDemands (headerTags dictionary) (trailerTags dictionary) layout f g rest more room room₂ h b
+        rs (trailerFrom (field g more) (suc room₂) (partRecord 3 (v .checksum) ∷ [])) short (unfold headerOf verifiedRecords in header) e refl end-of-it)
         a
 
-    type-takes : (choice : Choice) → afterType dictionary config f rest room h (v .checksum) choice .answer ≡ Valid → Takes message (afterType dictionary config f rest room h (v .checksum) choice .records)
+    type-takes : (choice : Choice) → afterType dictionary config f rest room h (v .checksum) choice .answer ≡ Valid
+        → Takes message (afterType dictionary config f rest room h (v .checksum) choice .records)
     unfolding afterType
     type-takes noMessage a = let z : _≡_ {A = ℕ} 0 1 = unfold refusal in cc in absurd (omega arith)
-    type-takes (laidOut layout) a = body-takes layout (bodyFrom (bodyOf (layoutRules (accepted config (knows dictionary))) layoutDemands (trailerTags dictionary) layout) (field f rest) (suc room) []) refl a
+    type-takes (laidOut layout) a =
+        body-takes layout (bodyFrom (bodyOf (layoutRules (accepted config (knows dictionary))) layoutDemands (trailerTags dictionary) layout) (field f rest)
+        (suc room) []) refl a
 
   -- behind the header
   header-takes : (v : Verified) → integrityOf (config .mode) message ≡ Sound v → (r : Reading) → headerOf (headerTags dictionary) config message v ≡ r
-      → afterHeader dictionary config message (withChecksum (v .checksum) r) .answer ≡ Valid → Takes message (afterHeader dictionary config message (withChecksum (v .checksum) r) .records)
+      → afterHeader dictionary config message (withChecksum (v .checksum) r) .answer ≡ Valid
+      → Takes message (afterHeader dictionary config message (withChecksum (v .checksum) r) .records)
   unfolding afterHeader withChecksum
-  header-takes v sound (refused answer) e a = absurd (header-never (headerTags dictionary) (fieldsFrom (config .mode) message (v .«msg_type» .next)) 1021 (verifiedRecords v) (unfold headerOf in (e ∙ ap refused (unfold refusal in a))))
+  header-takes v sound (refused answer) e a =
+      absurd (header-never (headerTags dictionary) (fieldsFrom (config .mode) message (v .«msg_type» .next)) 1021 (verifiedRecords v)
+      (unfold headerOf in (e ∙ ap refused (unfold refusal in a))))
   header-takes v sound (ended f rest room h) e a = type-takes v sound f rest room h e (layoutOf dictionary (valueAt message (msgTypeRecord h))) a
 
-  integrity-takes : (i : Integrity) → integrityOf (config .mode) message ≡ i → afterHeader dictionary config message (startedBy (headerTags dictionary) config message i) .answer ≡ Valid
+  integrity-takes : (i : Integrity) → integrityOf (config .mode) message ≡ i
+      → afterHeader dictionary config message (startedBy (headerTags dictionary) config message i) .answer ≡ Valid
       → Takes message (afterHeader dictionary config message (startedBy (headerTags dictionary) config message i) .records)
   unfolding startedBy
   integrity-takes (Garbled reason) e a = let z : _≡_ {A = ℕ} 0 1 = unfold afterHeader refusal in cc in absurd (omega arith)
@@ -107,14 +121,17 @@ pub record TakenOver (message : List ℕ) (rs : List Record) (words values : Lis
   pub same : derived (takes .meant) ≡ given message rs
 
 -- "what a build answered with 0 is never refused at take-over, and keeps its records"
-pub build-taken : (dictionary : Dictionary) (config : Config) (message words values : List ℕ) → length message ≤ 8192 → length words ≡ messageWords → length values ≡ 8192 → messageRead dictionary config message .answer ≡ Valid
+pub build-taken : (dictionary : Dictionary) (config : Config) (message words values : List ℕ) → length message ≤ 8192 → length words ≡ messageWords
+    → length values ≡ 8192 → messageRead dictionary config message .answer ≡ Valid
     → TakenOver message (messageRead dictionary config message .records) words values
 build-taken dictionary config message words values short whole store a =
     let rs = messageRead dictionary config message .records in
     let t = build-takes dictionary config message short a in
     record {
       takes = t;
-      made = stand-taken (wordsWith rs) (length rs) message words values (t .meant) whole store (words-many rs) (t .few) (rw (words-hold rs) (t .stand)) (t .within);
+      made =
+          stand-taken (wordsWith rs) (length rs) message words values (t .meant) whole store (words-many rs) (t .few) (rw (words-hold rs) (t .stand))
+          (t .within);
       lends = layout-lends (t .meant) (t .within);
       same = sym (given-derived message (t .meant) rs (t .stand));
     }
@@ -130,7 +147,8 @@ pub record Shown (message : List ℕ) (config : Config) (dictionary : List ℕ) 
   pub words : built .words ≡ wordsWith (messageRead (dictionaryOf dictionary) config message .records)
 
 module _ (message : List ℕ) (config : Config) (dictionary : List ℕ) (lent : ℕ) (before : List ℕ) where
-  shown-valid : isRefusedSeparator (config .mode .separator) ≡ false → ltb lent 1024 ≡ false → length message ≤ 8192 → shown lent (checkedRead message config dictionary (checkOf dictionary)) .answer ≡ Valid
+  shown-valid : isRefusedSeparator (config .mode .separator) ≡ false → ltb lent 1024 ≡ false → length message ≤ 8192
+      → shown lent (checkedRead message config dictionary (checkOf dictionary)) .answer ≡ Valid
       → Shown message config dictionary lent (shown lent (checkedRead message config dictionary (checkOf dictionary)))
   unfolding shown checkedRead
   shown-valid separates enough short a = by-check (eqb (numberOfCheck (checkOf dictionary)) 0) refl a
@@ -138,34 +156,42 @@ module _ (message : List ℕ) (config : Config) (dictionary : List ℕ) (lent : 
       out : Bool → Outcome
       out b = pick b (messageRead (dictionaryOf dictionary) config message) (refusal (BadDictionary (checkOf dictionary)) [])
 
-      by-check : (b : Bool) → eqb (numberOfCheck (checkOf dictionary)) 0 ≡ b → out b .answer ≡ Valid → Shown message config dictionary lent (shown lent (out b))
+      by-check : (b : Bool) → eqb (numberOfCheck (checkOf dictionary)) 0 ≡ b → out b .answer ≡ Valid
+          → Shown message config dictionary lent (shown lent (out b))
       by-check true c a = record { separates = separates; enough = enough; short = short; checked = c; valid = a; count = refl; words = refl }
       by-check false c a = let z : _≡_ {A = ℕ} 0 1 = unfold refusal in cc in absurd (omega arith)
 
   -- a build that answers 0, taken apart
-  pub build-shown : buildOf message config dictionary lent before .answer ≡ Valid → Shown message config dictionary lent (buildOf message config dictionary lent before)
+  pub build-shown : buildOf message config dictionary lent before .answer ≡ Valid
+      → Shown message config dictionary lent (buildOf message config dictionary lent before)
   unfolding buildOf
   build-shown a = by-tests (isRefusedSeparator (config .mode .separator)) (ltb lent 1024) (ltb 8192 (length message)) refl refl refl a
     where
       by-tests : (x y z : Bool) → isRefusedSeparator (config .mode .separator) ≡ x → ltb lent 1024 ≡ y → ltb 8192 (length message) ≡ z
-          → pick x (untouched InvalidSeparator before) (pick y (untouched TooFewRecords before) (pick z (untouched MessageTooLong before) (shown lent (checkedRead message config dictionary (checkOf dictionary))))) .answer ≡ Valid
-          → Shown message config dictionary lent (pick x (untouched InvalidSeparator before) (pick y (untouched TooFewRecords before) (pick z (untouched MessageTooLong before) (shown lent (checkedRead message config dictionary (checkOf dictionary))))))
+          → pick x (untouched InvalidSeparator before) (pick y (untouched TooFewRecords before)
+          (pick z (untouched MessageTooLong before) (shown lent (checkedRead message config dictionary (checkOf dictionary))))) .answer ≡ Valid
+          → Shown message config dictionary lent (pick x (untouched InvalidSeparator before)
+          (pick y (untouched TooFewRecords before)
+          (pick z (untouched MessageTooLong before) (shown lent (checkedRead message config dictionary (checkOf dictionary))))))
       by-tests true y z q r s a = let e : _≡_ {A = ℕ} 0 1 = unfold untouched in cc in absurd (omega arith)
       by-tests false true z q r s a = let e : _≡_ {A = ℕ} 0 1 = unfold untouched in cc in absurd (omega arith)
       by-tests false false true q r s a = let e : _≡_ {A = ℕ} 0 1 = unfold untouched in cc in absurd (omega arith)
       by-tests false false false q r s a = shown-valid q r (ltb-false 8192 (length message) s) a
 
   -- and put together again: past its checks the build shows what is read
-  pub shown-build : isRefusedSeparator (config .mode .separator) ≡ false → ltb lent 1024 ≡ false → length message ≤ 8192 → eqb (numberOfCheck (checkOf dictionary)) 0 ≡ true
+  pub shown-build : isRefusedSeparator (config .mode .separator) ≡ false → ltb lent 1024 ≡ false → length message ≤ 8192
+      → eqb (numberOfCheck (checkOf dictionary)) 0 ≡ true
       → buildOf message config dictionary lent before ≡ shown lent (messageRead (dictionaryOf dictionary) config message)
   unfolding buildOf checkedRead
   shown-build separates enough short checked = rw (separates, enough, le-ltb 8192 (length message) short, checked) refl
 
 -- for every message, dictionary, separator, setting and number of lent records: what the build leaves is taken over
-pub build-of-taken : (message : List ℕ) (config : Config) (dictionary : List ℕ) (lent : ℕ) (before words values : List ℕ) → length words ≡ messageWords → length values ≡ 8192 → (a : buildOf message config dictionary lent before .answer ≡ Valid)
+pub build-of-taken : (message : List ℕ) (config : Config) (dictionary : List ℕ) (lent : ℕ) (before words values : List ℕ) → length words ≡ messageWords
+    → length values ≡ 8192 → (a : buildOf message config dictionary lent before .answer ≡ Valid)
     → let built = buildOf message config dictionary lent before in
     let rs = messageRead (dictionaryOf dictionary) config message .records in
-    (t : TakenOver message rs words values) × (takingOver (built .words) (built .records) message words values ≡ after Made (wordsOf (t .takes .meant)) (valueBytesOf (t .takes .meant)))
+    (t : TakenOver message rs words values)
+    × (takingOver (built .words) (built .records) message words values ≡ after Made (wordsOf (t .takes .meant)) (valueBytesOf (t .takes .meant)))
 build-of-taken message config dictionary lent before words values whole store a =
     let s = build-shown message config dictionary lent before a in
     let t = build-taken (dictionaryOf dictionary) config message words values (s .short) whole store (s .valid) in

@@ -73,17 +73,27 @@ module _ (message : List ℕ) (config : Config) (dictionary : List ℕ) where
       by-check true = read-small message (dictionaryOf dictionary) config
       by-check false = refusal-small message (BadDictionary c) [] all-none
 
-  shown-at : (i : ℕ) → length message ≤ 8192 → i < length (read .records) → Uncut (recordAt i (read .records)) (fieldRecordAt (wordsWith (read .records)) (length (read .records)) i)
+  shown-at : (i : ℕ) → length message ≤ 8192 → i < length (read .records)
+      → Uncut (recordAt i (read .records)) (fieldRecordAt (wordsWith (read .records)) (length (read .records)) i)
   unfolding fieldRecordAt
-  shown-at i short h = rw (lt-leb (length (read .records)) i h, record-shown (read .records) i h) (small-uncut message (recordAt i (read .records)) short (all-at (read .records) i (checked-small (checkOf dictionary)) h))
+  shown-at i short h =
+      rw (lt-leb (length (read .records)) i h, record-shown (read .records) i h)
+      (small-uncut message (recordAt i (read .records)) short (all-at (read .records) i (checked-small (checkOf dictionary)) h))
 
   build-uncut : (lent : ℕ) (words : List ℕ) (i : ℕ) → i < buildOf message config dictionary lent words .records
-      → Uncut (recordAt i (read .records)) (fieldRecordAt (buildOf message config dictionary lent words .words) (buildOf message config dictionary lent words .records) i)
+      → Uncut (recordAt i (read .records)) (fieldRecordAt (buildOf message config dictionary lent words .words)
+      (buildOf message config dictionary lent words .records) i)
   unfolding buildOf
   build-uncut lent words i h = by-tests (isRefusedSeparator (config .mode .separator)) (ltb lent 1024) (ltb 8192 (length message)) refl h
     where
-      by-tests : (x y z : Bool) → ltb 8192 (length message) ≡ z → i < pick x (untouched InvalidSeparator words) (pick y (untouched TooFewRecords words) (pick z (untouched MessageTooLong words) (shown lent read))) .records
-          → Uncut (recordAt i (read .records)) (fieldRecordAt (pick x (untouched InvalidSeparator words) (pick y (untouched TooFewRecords words) (pick z (untouched MessageTooLong words) (shown lent read))) .words) (pick x (untouched InvalidSeparator words) (pick y (untouched TooFewRecords words) (pick z (untouched MessageTooLong words) (shown lent read))) .records) i)
+      by-tests : (x y z : Bool) → ltb 8192 (length message) ≡ z
+          → i < pick x (untouched InvalidSeparator words) (pick y (untouched TooFewRecords words)
+          (pick z (untouched MessageTooLong words) (shown lent read))) .records
+          → Uncut (recordAt i (read .records))
+          (fieldRecordAt (pick x (untouched InvalidSeparator words)
+          (pick y (untouched TooFewRecords words) (pick z (untouched MessageTooLong words) (shown lent read))) .words)
+          (pick x (untouched InvalidSeparator words)
+          (pick y (untouched TooFewRecords words) (pick z (untouched MessageTooLong words) (shown lent read))) .records) i)
       by-tests true y z e h = unfold untouched in absurd (not-suc-le-zero h)
       by-tests false true z e h = unfold untouched in absurd (not-suc-le-zero h)
       by-tests false false true e h = unfold untouched in absurd (not-suc-le-zero h)
@@ -101,7 +111,9 @@ module _ (message : List ℕ) (config : Config) (dictionary : List ℕ) where
   unfolding buildOf
   build-few lent words = by-tests (isRefusedSeparator (config .mode .separator)) (ltb lent 1024) (ltb 8192 (length message)) refl
     where
-      by-tests : (x y z : Bool) → ltb 8192 (length message) ≡ z → pick x (untouched InvalidSeparator words) (pick y (untouched TooFewRecords words) (pick z (untouched MessageTooLong words) (shown lent read))) .records ≤ 1024
+      by-tests : (x y z : Bool) → ltb 8192 (length message) ≡ z
+          → pick x (untouched InvalidSeparator words) (pick y (untouched TooFewRecords words)
+          (pick z (untouched MessageTooLong words) (shown lent read))) .records ≤ 1024
       by-tests true y z e = unfold untouched in omega arith
       by-tests false true z e = unfold untouched in omega arith
       by-tests false false true e = unfold untouched in omega arith
@@ -110,7 +122,8 @@ module _ (message : List ℕ) (config : Config) (dictionary : List ℕ) where
 module _ (message : List ℕ) (separator settings : ℕ) (dictionary : List ℕ) (lent : ℕ) where
   -- each lent record that is shown has the numbers of the record that was read
   pub shown-uncut : (i : ℕ) → i < builtFrom message separator settings dictionary lent .records
-      → Uncut (recordAt i (checkedRead message (configOf settings separator) dictionary (checkOf dictionary) .records)) (fieldRecordAt (builtFrom message separator settings dictionary lent .words) (builtFrom message separator settings dictionary lent .records) i)
+      → Uncut (recordAt i (checkedRead message (configOf settings separator) dictionary (checkOf dictionary) .records))
+      (fieldRecordAt (builtFrom message separator settings dictionary lent .words) (builtFrom message separator settings dictionary lent .records) i)
   unfolding builtFrom
   shown-uncut i h = build-uncut message (configOf settings separator) dictionary lent (replicate recordWords 0) i h
 

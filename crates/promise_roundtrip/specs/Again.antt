@@ -32,10 +32,13 @@ use Rattle.promise_roundtrip.specs.AgainRead.{ReadAlong, read-along}
 use Rattle.promise_roundtrip.specs.AgainValues.{similar-first, similar-rest, carried-append, given-same, Split, keptOf}
 
 -- the records of a message that was read in order, split; the header is told as it starts
-module _ {dictionary : Dictionary} {config : Config} {message : List ℕ} {outcome : Outcome} (parts : InParts dictionary config message outcome) {one two three last : Fields} {others trailer : List Record}
-    (header-starts : parts .header ≡ partRecord 1 (parts .verified .«begin_string») ∷ partRecord 1 (parts .verified .«body_length») ∷ partRecord 1 (parts .verified .«msg_type») ∷ others)
+module _ {dictionary : Dictionary} {config : Config} {message : List ℕ} {outcome : Outcome} (parts : InParts dictionary config message outcome)
+    {one two three last : Fields} {others trailer : List Record}
+    (header-starts : parts .header ≡ partRecord 1 (parts .verified .«begin_string») ∷ partRecord 1 (parts .verified .«body_length»)
+    ∷ partRecord 1 (parts .verified .«msg_type») ∷ others)
     (trailer-starts : parts .whole-trailer ≡ partRecord 3 (parts .verified .checksum) ∷ trailer)
-    (header-follows : Follows 1 one (parts .header) two) (body-follows : Follows 2 two (parts .body) three) (trailer-follows : Follows 3 three trailer last) where
+    (header-follows : Follows 1 one (parts .header) two) (body-follows : Follows 2 two (parts .body) three)
+    (trailer-follows : Follows 3 three trailer last) where
   unfoldable pub split-parts : Split (outcome .records)
   split-parts =
       let v = parts .verified in
@@ -76,7 +79,8 @@ module _ (dictionary : Dictionary) (config : Config) (message : List ℕ) (order
   splitOf = split-parts (order .parts) (order .header-starts) (order .trailer-starts) (order .header-follows) (order .body-follows) (order .trailer-follows)
 
   module _ (copy : List ℕ)
-      (like : ReadsLike (config .mode) message copy (partRecord 1 (order .parts .verified .«begin_string»)) (partRecord 1 (order .parts .verified .«msg_type»)) (order .others ++ (order .parts .body ++ order .trailer))) where
+      (like : ReadsLike (config .mode) message copy (partRecord 1 (order .parts .verified .«begin_string»))
+      (partRecord 1 (order .parts .verified .«msg_type»)) (order .others ++ (order .parts .body ++ order .trailer))) where
     along : ReadAlong dictionary config message order copy like
     along = read-along dictionary config message order copy like
 
@@ -88,13 +92,22 @@ module _ (dictionary : Dictionary) (config : Config) (message : List ℕ) (order
 
     -- each part has as many records as fields were read
     header-many : length (q .header) ≡ counts .of-header .read
-    header-many = omega (arith, counts .of-header .room-is, along .header-room, order .others-room, similar-length (along .header-similar), ap length (order .header-starts))
+    header-many =
+        omega (
+          arith,
+          counts .of-header .room-is,
+          along .header-room,
+          order .others-room,
+          similar-length (along .header-similar),
+          ap length (order .header-starts),
+        )
 
     body-many : length (q .body) ≡ counts .of-body .read
     body-many = omega (arith, counts .of-body .room-is, along .header-room, along .body-room, order .body-room, similar-length (along .body-similar))
 
     trailer-many : length (q .whole-trailer) ≡ suc (counts .of-trailer .stores .read)
-    trailer-many = omega (arith, counts .of-trailer .counted, along .trailer-few, counts .of-trailer .stores .at-most, similar-length (along .trailer-similar))
+    trailer-many =
+        omega (arith, counts .of-trailer .counted, along .trailer-few, counts .of-trailer .stores .at-most, similar-length (along .trailer-similar))
 
     header-follows : Follows 1 (fieldsFrom (config .mode) copy (startAt 0)) (q .header) (field (q .f) (q .rest))
     header-follows =
@@ -110,7 +123,9 @@ module _ (dictionary : Dictionary) (config : Config) (message : List ℕ) (order
     trailer-ordered = counts .of-trailer .stores .ordered (omega (arith, trailer-many))
 
     -- its fields in the order of reading
-    followed : Followed (config .mode) copy (partRecord 1 (q .verified .«begin_string») ∷ partRecord 1 (q .verified .«body_length») ∷ partRecord 1 (q .verified .«msg_type») ∷ along .others) (q .body) (trailer-ordered .new) (counts .of-trailer .last)
+    followed : Followed (config .mode) copy
+        (partRecord 1 (q .verified .«begin_string») ∷ partRecord 1 (q .verified .«body_length») ∷ partRecord 1 (q .verified .«msg_type») ∷ along .others)
+        (q .body) (trailer-ordered .new) (counts .of-trailer .last)
     followed =
         record {
           behind-header = field (q .f) (q .rest);
@@ -120,22 +135,30 @@ module _ (dictionary : Dictionary) (config : Config) (message : List ℕ) (order
           trailer-follows = trailer-ordered .follows;
         }
 
-    carried : CarriedAll message copy (partRecord 1 (order .parts .verified .«begin_string»)) (partRecord 1 (order .parts .verified .«msg_type»)) (order .others) (order .parts .body) (order .trailer) (partRecord 1 (q .verified .«begin_string»)) (partRecord 1 (q .verified .«msg_type»)) (along .others) (q .body) (trailer-ordered .new)
+    carried : CarriedAll message copy (partRecord 1 (order .parts .verified .«begin_string»)) (partRecord 1 (order .parts .verified .«msg_type»))
+        (order .others) (order .parts .body) (order .trailer) (partRecord 1 (q .verified .«begin_string»)) (partRecord 1 (q .verified .«msg_type»))
+        (along .others) (q .body) (trailer-ordered .new)
     carried =
-        read-again (config .mode) message copy _ _ (order .others) (order .parts .body) (order .trailer) _ (partRecord 1 (q .verified .«body_length»)) _ (along .others) (q .body) (trailer-ordered .new) (counts .of-trailer .last) like followed
+        read-again (config .mode) message copy _ _ (order .others) (order .parts .body) (order .trailer) _ (partRecord 1 (q .verified .«body_length»)) _
+        (along .others) (q .body) (trailer-ordered .new) (counts .of-trailer .last) like followed
         (omega (arith, similar-length (along .header-similar), ap length (order .header-starts), ap length (along .header-starts)))
         (omega (arith, similar-length (along .body-similar)))
         (omega (arith, similar-length (along .trailer-similar), ap length (trailer-ordered .appended)))
         .0
 
-    similar-headers : Similar (partRecord 1 (order .parts .verified .«begin_string») ∷ partRecord 1 (order .parts .verified .«body_length») ∷ partRecord 1 (order .parts .verified .«msg_type») ∷ order .others) (partRecord 1 (q .verified .«begin_string») ∷ partRecord 1 (q .verified .«body_length») ∷ partRecord 1 (q .verified .«msg_type») ∷ along .others)
+    similar-headers : Similar (partRecord 1 (order .parts .verified .«begin_string») ∷ partRecord 1 (order .parts .verified .«body_length») ∷ partRecord 1
+        (order .parts .verified .«msg_type») ∷ order .others)
+        (partRecord 1 (q .verified .«begin_string») ∷ partRecord 1 (q .verified .«body_length») ∷ partRecord 1 (q .verified .«msg_type») ∷ along .others)
     similar-headers = similar-as (order .header-starts) (along .header-starts) (along .header-similar)
 
-    similar-trailers : Similar (partRecord 3 (order .parts .verified .checksum) ∷ order .trailer) (partRecord 3 (q .verified .checksum) ∷ trailer-ordered .new)
+    similar-trailers : Similar (partRecord 3 (order .parts .verified .checksum) ∷ order .trailer)
+        (partRecord 3 (q .verified .checksum) ∷ trailer-ordered .new)
     similar-trailers = similar-as refl (trailer-ordered .appended) (along .trailer-similar)
 
     similar-all : Similar (messageRead dictionary config message .records) (along .outcome .records)
-    similar-all = similar-as (sym (order .records)) (sym (q .records)) (similar-append (along .header-similar) (similar-append (along .body-similar) (along .trailer-similar)))
+    similar-all =
+        similar-as (sym (order .records)) (sym (q .records))
+        (similar-append (along .header-similar) (similar-append (along .body-similar) (along .trailer-similar)))
 
     again-along : Again message splitOf copy (along .outcome)
     unfolding splitOf split-parts keptOf
@@ -148,7 +171,8 @@ module _ (dictionary : Dictionary) (config : Config) (message : List ℕ) (order
               given-same
               (more (similar-first similar-headers)
               (more (similar-first (similar-rest (similar-rest similar-headers)))
-              (similar-append (similar-rest (similar-rest (similar-rest similar-headers))) (similar-append (along .body-similar) (similar-rest similar-trailers)))))
+              (similar-append (similar-rest (similar-rest (similar-rest similar-headers)))
+              (similar-append (along .body-similar) (similar-rest similar-trailers)))))
               (carried-more (carried .begin-tag ∙ sym (splitOf .begins)) (carried .begin-value)
               (carried-more (carried .type-tag ∙ sym (splitOf .types)) (carried .type-value)
               (carried-append (carried .of-others) (carried-append (carried .of-body) (carried .of-trailer)))));

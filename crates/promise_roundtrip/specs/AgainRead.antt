@@ -47,11 +47,13 @@ use Rattle.encode_rewriting_laws.specs.Copied.{onto, copied-length}
 use Rattle.encode_rewriting_laws.specs.ReadRewritten.{ReadsLike}
 use Rattle.encode_rewriting_laws.specs.ReadWritten.{of-value}
 use Rattle.message_read_laws.specs.PartReading.{of-field}
-use Rattle.promise_roundtrip.specs.AgainFields.{copied-agree, copied-none-agree, stopFields, end-agree, trailer-some, reaches-onto, reaches-rest, ten-ends}
+use Rattle.promise_roundtrip.specs.AgainFields.{copied-agree, copied-none-agree, stopFields, end-agree, trailer-some, reaches-onto, reaches-rest}
+use Rattle.promise_roundtrip.specs.AgainFields.{ten-ends}
 use Rattle.promise_roundtrip.specs.AgainParts.{verified-first, verified-similar, msg-type-third, put-together}
 
 module _ (dictionary : Dictionary) (config : Config) (message : List ℕ) (order : InOrder dictionary config message) (copy : List ℕ)
-    (like : ReadsLike (config .mode) message copy (partRecord 1 (order .parts .verified .«begin_string»)) (partRecord 1 (order .parts .verified .«msg_type»)) (order .others ++ (order .parts .body ++ order .trailer))) where
+    (like : ReadsLike (config .mode) message copy (partRecord 1 (order .parts .verified .«begin_string»)) (partRecord 1 (order .parts .verified .«msg_type»))
+    (order .others ++ (order .parts .body ++ order .trailer))) where
   abbrev p : InParts dictionary config message (messageRead dictionary config message)
   p = order .parts
 
@@ -71,7 +73,8 @@ module _ (dictionary : Dictionary) (config : Config) (message : List ℕ) (order
   behind-type : fields ≡ onto (like .fields) (field (w .checksum) (like .end))
   behind-type =
       let r = verified-read (config .mode) copy w (like .sound) in
-      let e : field (w .«begin_string») (field (w .«body_length») (field (w .«msg_type») fields)) ≡ field (w .«begin_string») (field (w .«body_length») (field (w .«msg_type») (onto (like .fields) (field (w .checksum) (like .end))))) =
+      let e : field (w .«begin_string») (field (w .«body_length») (field (w .«msg_type») fields))
+      ≡ field (w .«begin_string») (field (w .«body_length») (field (w .«msg_type») (onto (like .fields) (field (w .checksum) (like .end))))) =
       sym (fields-field (config .mode) copy (startAt 0) (w .«begin_string») (r .begins)
       ∙ ap (λ (fs : Fields). field (w .«begin_string») fs)
       (fields-field (config .mode) copy (w .«begin_string» .next) (w .«body_length») (r .counts)
@@ -80,7 +83,8 @@ module _ (dictionary : Dictionary) (config : Config) (message : List ℕ) (order
       cc
 
   -- so the fields behind MsgType agree, up to a 10 that stopped the message's trailer
-  all-agree : Agree (length (order .others) + (length (p .body) + (length (order .trailer) + stopFields stop))) (fieldsFrom (config .mode) message (v .«msg_type» .next)) fields
+  all-agree : Agree (length (order .others) + (length (p .body) + (length (order .trailer) + stopFields stop)))
+      (fieldsFrom (config .mode) message (v .«msg_type» .next)) fields
   all-agree =
       let end = field (w .checksum) (like .end) in
       rw behind-type
@@ -98,9 +102,11 @@ module _ (dictionary : Dictionary) (config : Config) (message : List ℕ) (order
   tags-again : VerifiedTags w
   tags-again = verified-tags (config .mode) copy w (like .sound)
 
-  header-along : Alongside ended (headerFrom (headerTags dictionary) fields 1021 (verifiedRecords w)) (length (order .others) + (length (p .body) + (length (order .trailer) + stopFields stop))) 1021 (p .f) (p .rest) (p .room) (p .header)
+  header-along : Alongside ended (headerFrom (headerTags dictionary) fields 1021 (verifiedRecords w))
+      (length (order .others) + (length (p .body) + (length (order .trailer) + stopFields stop))) 1021 (p .f) (p .rest) (p .room) (p .header)
   header-along =
-      header-same (headerTags dictionary) (fieldsFrom (config .mode) message (v .«msg_type» .next)) fields 1021 _ (verifiedRecords v) (verifiedRecords w) (p .f) (p .rest) (p .room) (p .header) (unfold headerOf in p .header-read)
+      header-same (headerTags dictionary) (fieldsFrom (config .mode) message (v .«msg_type» .next)) fields 1021 _ (verifiedRecords v) (verifiedRecords w)
+      (p .f) (p .rest) (p .room) (p .header) (unfold headerOf in p .header-read)
       (verified-similar v w tags tags-again) all-agree (omega (arith, some-trailer, order .others-room))
 
   -- the verified fields stand first in the copy's header too
@@ -109,13 +115,26 @@ module _ (dictionary : Dictionary) (config : Config) (message : List ℕ) (order
     starts : header-along .kept ≡ partRecord 1 (w .«begin_string») ∷ partRecord 1 (w .«body_length») ∷ partRecord 1 (w .«msg_type») ∷ others
 
   header-stored : Stores 1 fields 1021 (verifiedRecords w) (field (header-along .found) (header-along .behind)) (suc (p .room)) (header-along .kept)
-  header-stored = header-stores (headerTags dictionary) fields 1021 (verifiedRecords w) (header-along .found) (header-along .behind) (p .room) (header-along .kept) (header-along .is)
+  header-stored =
+      header-stores (headerTags dictionary) fields 1021 (verifiedRecords w) (header-along .found) (header-along .behind) (p .room) (header-along .kept)
+      (header-along .is)
 
   header-ordered : Ordered 1 fields (verifiedRecords w) (field (header-along .found) (header-along .behind)) (header-along .kept)
-  header-ordered = header-stored .ordered (omega (arith, header-stored .room-is, order .others-room, similar-length (header-along .similar), ap length (order .header-starts), three-verified w tags-again))
+  header-ordered =
+      header-stored .ordered (omega (
+        arith,
+        header-stored .room-is,
+        order .others-room,
+        similar-length (header-along .similar),
+        ap length (order .header-starts),
+        three-verified w tags-again,
+      ))
 
   header-again : HeaderAgain
-  header-again = record { others = header-ordered .new; starts = header-ordered .appended ∙ ap (λ (l : List Record). l ++ header-ordered .new) (verified-first w tags-again) }
+  header-again = record {
+    others = header-ordered .new;
+    starts = header-ordered .appended ∙ ap (λ (l : List Record). l ++ header-ordered .new) (verified-first w tags-again);
+  }
 
   chosen-again : layoutOf dictionary (valueAt copy (msgTypeRecord (header-along .kept))) ≡ laidOut (p .layout)
   chosen-again =
@@ -126,35 +145,63 @@ module _ (dictionary : Dictionary) (config : Config) (message : List ℕ) (order
       ∙ sym (msg-type-third message v (p .header) (order .others) tags (order .header-starts)))
       ∙ p .chosen
 
-  body-along : Alongside ended (bodyFrom (bodyOf (layoutRules (accepted config (knows dictionary))) layoutDemands (trailerTags dictionary) (p .layout)) (field (header-along .found) (header-along .behind)) (suc (p .room)) []) (suc (header-along .left)) (suc (p .room)) (p .g) (p .more) (p .room₂) (p .body)
+  body-along : Alongside ended (bodyFrom (bodyOf (layoutRules (accepted config (knows dictionary))) layoutDemands (trailerTags dictionary) (p .layout))
+      (field (header-along .found) (header-along .behind)) (suc (p .room)) []) (suc (header-along .left)) (suc (p .room)) (p .g) (p .more) (p .room₂)
+      (p .body)
   body-along =
-      body-same (layoutRules (accepted config (knows dictionary))) layoutDemands (trailerTags dictionary) (p .layout) (field (p .f) (p .rest)) (field (header-along .found) (header-along .behind)) (suc (p .room)) (suc (header-along .left)) [] [] (p .g) (p .more) (p .room₂) (p .body) (p .body-read)
+      body-same (layoutRules (accepted config (knows dictionary))) layoutDemands (trailerTags dictionary) (p .layout) (field (p .f) (p .rest))
+      (field (header-along .found) (header-along .behind)) (suc (p .room)) (suc (header-along .left)) [] [] (p .g) (p .more) (p .room₂) (p .body)
+      (p .body-read)
       none (same (header-along .tag) (header-along .agree)) (omega (arith, some-trailer, order .others-room, order .body-room, header-along .counted))
 
   -- behind the body as many fields stand before the copy's CheckSum as the message's trailer has records
   checksum-reached : Reaches (field (body-along .found) (body-along .behind)) (length (order .trailer)) (field (w .checksum) (like .end))
   checksum-reached =
-      let b = body-stores (layoutRules (accepted config (knows dictionary))) layoutDemands (trailerTags dictionary) (p .layout) (field (header-along .found) (header-along .behind)) (suc (p .room)) [] (body-along .found) (body-along .behind) (p .room₂) (body-along .kept) (body-along .is) in
-      let all : Reaches fields (length (like .fields)) (field (w .checksum) (like .end)) = rw behind-type (reaches-onto (like .fields) (field (w .checksum) (like .end))) in
+      let b =
+      body-stores (layoutRules (accepted config (knows dictionary))) layoutDemands (trailerTags dictionary) (p .layout)
+      (field (header-along .found) (header-along .behind)) (suc (p .room)) [] (body-along .found) (body-along .behind) (p .room₂) (body-along .kept)
+      (body-along .is) in
+      let all : Reaches fields (length (like .fields)) (field (w .checksum) (like .end)) =
+      rw behind-type (reaches-onto (like .fields) (field (w .checksum) (like .end))) in
       reaches-rest (reaches-then (header-stored .reaches) (b .reaches)) all
-      (omega (arith, header-stored .room-is, b .room-is, order .others-room, order .body-room, copied-length (like .copied), length-append (order .others) (p .body ++ order .trailer), length-append (p .body) (order .trailer)))
+      (omega (
+        arith,
+        header-stored .room-is,
+        b .room-is,
+        order .others-room,
+        order .body-room,
+        copied-length (like .copied),
+        length-append (order .others) (p .body ++ order .trailer),
+        length-append (p .body) (order .trailer),
+      ))
 
-  trailer-along : Stops (trailerFrom (field (body-along .found) (body-along .behind)) (suc (p .room₂)) (partRecord 3 (w .checksum) ∷ [])) (partRecord 3 (v .checksum) ∷ order .trailer)
-  trailer-along = by-stop stop (order .trailer-read) (agree-less (omega (arith, some-trailer, order .others-room, order .body-room, header-along .counted, body-along .counted)) (same (body-along .tag) (body-along .agree)))
+  trailer-along : Stops (trailerFrom (field (body-along .found) (body-along .behind)) (suc (p .room₂)) (partRecord 3 (w .checksum) ∷ []))
+      (partRecord 3 (v .checksum) ∷ order .trailer)
+  trailer-along =
+      by-stop stop (order .trailer-read)
+      (agree-less (omega (arith, some-trailer, order .others-room, order .body-room, header-along .counted, body-along .counted))
+      (same (body-along .tag) (body-along .agree)))
     where
       checks : Similar (partRecord 3 (v .checksum) ∷ []) (partRecord 3 (w .checksum) ∷ [])
       checks = more (alike-field 3 (v .checksum) (w .checksum) (tags .sums ∙ sym (tags-again .sums))) none
 
-      by-stop : (s : Stop) → trailerFrom (field (p .g) (p .more)) (suc (p .room₂)) (partRecord 3 (v .checksum) ∷ []) ≡ trailerAt s (partRecord 3 (v .checksum) ∷ order .trailer)
+      by-stop : (s : Stop)
+          → trailerFrom (field (p .g) (p .more)) (suc (p .room₂)) (partRecord 3 (v .checksum) ∷ [])
+          ≡ trailerAt s (partRecord 3 (v .checksum) ∷ order .trailer)
           → Agree (length (order .trailer) + stopFields s) (field (p .g) (p .more)) (field (body-along .found) (body-along .behind))
-          → Stops (trailerFrom (field (body-along .found) (body-along .behind)) (suc (p .room₂)) (partRecord 3 (w .checksum) ∷ [])) (partRecord 3 (v .checksum) ∷ order .trailer)
+          → Stops (trailerFrom (field (body-along .found) (body-along .behind)) (suc (p .room₂)) (partRecord 3 (w .checksum) ∷ []))
+          (partRecord 3 (v .checksum) ∷ order .trailer)
       by-stop (At f) e a =
-          let l : suc (trailerFields (field (p .g) (p .more))) ≤ length (order .trailer) + stopFields (At f) = unfold stopFields in omega (arith, order .trailer-count) in
-          trailer-same (field (p .g) (p .more)) (field (body-along .found) (body-along .behind)) (suc (p .room₂)) (partRecord 3 (v .checksum) ∷ []) (partRecord 3 (w .checksum) ∷ []) f (partRecord 3 (v .checksum) ∷ order .trailer) (unfold trailerAt in e) checks
+          let l : suc (trailerFields (field (p .g) (p .more))) ≤ length (order .trailer) + stopFields (At f) = unfold stopFields in
+          omega (arith, order .trailer-count) in
+          trailer-same (field (p .g) (p .more)) (field (body-along .found) (body-along .behind)) (suc (p .room₂)) (partRecord 3 (v .checksum) ∷ [])
+          (partRecord 3 (w .checksum) ∷ []) f (partRecord 3 (v .checksum) ∷ order .trailer) (unfold trailerAt in e) checks
           (agree-less l a)
       by-stop Nowhere e a =
           let l : trailerFields (field (p .g) (p .more)) ≤ length (order .trailer) + stopFields Nowhere = omega (arith, order .trailer-count) in
-          let t = trailer-stopped (field (p .g) (p .more)) (field (body-along .found) (body-along .behind)) (suc (p .room₂)) (partRecord 3 (v .checksum) ∷ []) (partRecord 3 (w .checksum) ∷ []) (partRecord 3 (v .checksum) ∷ order .trailer) (w .checksum) (like .end) (unfold trailerAt in e) checks
+          let t =
+          trailer-stopped (field (p .g) (p .more)) (field (body-along .found) (body-along .behind)) (suc (p .room₂)) (partRecord 3 (v .checksum) ∷ [])
+          (partRecord 3 (w .checksum) ∷ []) (partRecord 3 (v .checksum) ∷ order .trailer) (w .checksum) (like .end) (unfold trailerAt in e) checks
           (agree-less l a) (rw (← order .trailer-count) checksum-reached) (like .sum-tag) in
           record { found = w .checksum; kept = t .kept; is = t .is; tag = like .sum-tag; similar = t .similar }
 
@@ -165,7 +212,8 @@ module _ (dictionary : Dictionary) (config : Config) (message : List ℕ) (order
     pub valid : outcome .answer ≡ Valid
     pub parts : InParts dictionary config copy outcome
     pub others : List Record
-    pub header-starts : parts .header ≡ partRecord 1 (parts .verified .«begin_string») ∷ partRecord 1 (parts .verified .«body_length») ∷ partRecord 1 (parts .verified .«msg_type») ∷ others
+    pub header-starts : parts .header ≡ partRecord 1 (parts .verified .«begin_string») ∷ partRecord 1 (parts .verified .«body_length»)
+        ∷ partRecord 1 (parts .verified .«msg_type») ∷ others
     pub header-similar : Similar (order .parts .header) (parts .header)
     pub header-room : parts .room ≡ order .parts .room
     pub body-similar : Similar (order .parts .body) (parts .body)
@@ -177,7 +225,9 @@ module _ (dictionary : Dictionary) (config : Config) (message : List ℕ) (order
   read-along =
       record {
         outcome = record { answer = Valid; records = header-along .kept ++ (body-along .kept ++ trailer-along .kept); stop = At (trailer-along .found) };
-        is = put-together dictionary config copy w (like .sound) (p .layout) (header-along .found) (body-along .found) (header-along .behind) (body-along .behind) (p .room) (p .room₂) (header-along .kept) (body-along .kept) (trailer-along .kept) (trailer-along .found)
+        is =
+            put-together dictionary config copy w (like .sound) (p .layout) (header-along .found) (body-along .found) (header-along .behind)
+            (body-along .behind) (p .room) (p .room₂) (header-along .kept) (body-along .kept) (trailer-along .kept) (trailer-along .found)
             (unfold headerOf in header-along .is) chosen-again (body-along .is) (trailer-along .is);
         valid = refl;
         parts =

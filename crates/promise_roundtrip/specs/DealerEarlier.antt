@@ -33,16 +33,22 @@ module _ (dictionary : Dictionary) (config : Config) (message : List ℕ) where
     -- Two fields with one tag that a map took, and what it holds under the tag. In an entry only unknown user tags can be two, for declared ones
     -- that don't rise are answered with 2; what joins an entry is stored there as in any map (`under-joined`), and no record of the body is the earlier's.
     pub data EarlierLost : Type 0 where
-      in-header : (r : RepeatedIn (ofHeader dictionary config message p)) → LaterHeld 1 (r .earlier) (r .later) (under 0 (r .later .tag) (p .header)) → EarlierLost
+      in-header : (r : RepeatedIn (ofHeader dictionary config message p)) → LaterHeld 1 (r .earlier) (r .later) (under 0 (r .later .tag) (p .header))
+          → EarlierLost
       in-body : (r : RepeatedIn (ofBody dictionary config message p)) → LaterHeld 2 (r .earlier) (r .later) (under 0 (r .later .tag) (p .body)) → EarlierLost
-      in-trailer : (r : RepeatedIn (trailerTakes (field (p .g) (p .more)))) → LaterHeld 3 (r .earlier) (r .later) (under 0 (r .later .tag) (p .whole-trailer)) → EarlierLost
-      in-entry : EntryLoses (layoutRules (accepted config (knows dictionary))) layoutDemands (trailerTags dictionary) (p .layout) (field (p .f) (p .rest)) (p .body) → EarlierLost
+      in-trailer : (r : RepeatedIn (trailerTakes (field (p .g) (p .more)))) → LaterHeld 3 (r .earlier) (r .later) (under 0 (r .later .tag) (p .whole-trailer))
+          → EarlierLost
+      in-entry : EntryLoses (layoutRules (accepted config (knows dictionary))) layoutDemands (trailerTags dictionary) (p .layout) (field (p .f) (p .rest))
+          (p .body)
+          → EarlierLost
 
     abbrev inHeader : Bool
     inHeader = twiceInHeader (headerTags dictionary) (fieldsFrom (config .mode) message (p .verified .«msg_type» .next)) (verifiedRecords (p .verified))
 
     abbrev inBody : Bool
-    inBody = twiceInBody (layoutRules (accepted config (knows dictionary))) layoutDemands (trailerTags dictionary) (p .layout) (field (p .f) (p .rest)) (suc (p .room)) []
+    inBody =
+        twiceInBody (layoutRules (accepted config (knows dictionary))) layoutDemands (trailerTags dictionary) (p .layout) (field (p .f) (p .rest))
+        (suc (p .room)) []
 
     abbrev inTrailer : Bool
     inTrailer = twiceInTrailer (field (p .g) (p .more)) (partRecord 3 (p .verified .checksum) ∷ [])
@@ -54,20 +60,27 @@ module _ (dictionary : Dictionary) (config : Config) (message : List ℕ) where
     header-lost : inHeader ≡ true → EarlierLost
     header-lost e =
         let v = p .verified in
-        let r = header-repeats (headerTags dictionary) (v .«begin_string» ∷ v .«body_length» ∷ v .«msg_type» ∷ []) (fieldsFrom (config .mode) message (v .«msg_type» .next)) (verifiedRecords v) (record { single = verified-single v; same = λ tag asked. verified-last v tag }) e in
+        let r =
+        header-repeats (headerTags dictionary) (v .«begin_string» ∷ v .«body_length» ∷ v .«msg_type» ∷ [])
+        (fieldsFrom (config .mode) message (v .«msg_type» .next)) (verifiedRecords v)
+        (record { single = verified-single v; same = λ tag asked. verified-last v tag }) e in
         in-header r (header-loses dictionary config message p (r .earlier) (r .later) (r .repeats))
 
     body-lost : inBody ≡ true → EarlierLost
     unfolding twiceInBody
     body-lost e =
         by-place
-        (body-repeats (layoutRules (accepted config (knows dictionary))) layoutDemands (trailerTags dictionary) (p .layout) (field (p .f) (p .rest)) (p .g) (p .more) (p .room₂) (p .body) (suc (suc (p .room))) [] (field (p .f) (p .rest)) (suc (p .room)) [] _ 0
-        (record { single = single-none 0; same = λ tag asked. nothing-held tag }) (body-starts dictionary config message p) all-none here (unfold bodyFrom in p .body-read) e)
+        (body-repeats (layoutRules (accepted config (knows dictionary))) layoutDemands (trailerTags dictionary) (p .layout) (field (p .f) (p .rest)) (p .g)
+        (p .more) (p .room₂) (p .body) (suc (suc (p .room))) [] (field (p .f) (p .rest)) (suc (p .room)) [] _ 0
+        (record { single = single-none 0; same = λ tag asked. nothing-held tag }) (body-starts dictionary config message p) all-none here
+        (unfold bodyFrom in p .body-read) e)
       where
         nothing-held : (tag : ℕ) → under 0 tag [] ≡ latest 2 tag [] []
         nothing-held tag = unfold under latest in refl
 
-        by-place : BodyTwice (layoutRules (accepted config (knows dictionary))) layoutDemands (trailerTags dictionary) (p .layout) (field (p .f) (p .rest)) (ofBody dictionary config message p) (p .body) → EarlierLost
+        by-place : BodyTwice (layoutRules (accepted config (knows dictionary))) layoutDemands (trailerTags dictionary) (p .layout) (field (p .f) (p .rest))
+            (ofBody dictionary config message p) (p .body)
+            → EarlierLost
         by-place (of-body r) = in-body r (body-loses dictionary config message p (r .earlier) (r .later) (r .repeats))
         by-place (of-entry l) = in-entry l
 
@@ -76,11 +89,14 @@ module _ (dictionary : Dictionary) (config : Config) (message : List ℕ) where
     unfolding latest
     sum-apart tag other =
         stored-one 3 (p .verified .checksum) tag
-        ∙ ap (λ (b : Bool). pick b (partRecord 3 (p .verified .checksum) ∷ []) []) (ne-eqb (p .verified .checksum .tag) tag (λ e. other (sym e ∙ verified-tags (config .mode) message (p .verified) (p .sound) .sums)))
+        ∙ ap (λ (b : Bool). pick b (partRecord 3 (p .verified .checksum) ∷ []) [])
+        (ne-eqb (p .verified .checksum .tag) tag (λ e. other (sym e ∙ verified-tags (config .mode) message (p .verified) (p .sound) .sums)))
 
     trailer-lost : inTrailer ≡ true → EarlierLost
     trailer-lost e =
-        let r = trailer-repeats [] (field (p .g) (p .more)) (stored (partRecord 3 (p .verified .checksum)) []) (record { single = field-single 3 (p .verified .checksum) [] (single-none 0); same = sum-apart }) (unfold stored in e) in
+        let r =
+        trailer-repeats [] (field (p .g) (p .more)) (stored (partRecord 3 (p .verified .checksum)) [])
+        (record { single = field-single 3 (p .verified .checksum) [] (single-none 0); same = sum-apart }) (unfold stored in e) in
         in-trailer r (trailer-loses dictionary config message p (r .earlier) (r .later) (r .repeats))
 
     parts-lose : pick inHeader true (pick inBody true inTrailer) ≡ true → EarlierLost
@@ -92,5 +108,6 @@ module _ (dictionary : Dictionary) (config : Config) (message : List ℕ) where
         by-tests false false h k e = trailer-lost e
 
   -- "If a tag was stored twice in one map", the earlier value is lost
-  pub stored-twice-earlier : (a : messageRead dictionary config message .answer ≡ Valid) → storedTwice dictionary config message ≡ true → EarlierLost (in-parts dictionary config message a)
+  pub stored-twice-earlier : (a : messageRead dictionary config message .answer ≡ Valid) → storedTwice dictionary config message ≡ true
+      → EarlierLost (in-parts dictionary config message a)
   stored-twice-earlier a twice = let p = in-parts dictionary config message a in parts-lose p (sym (twice-in-parts p) ∙ twice)

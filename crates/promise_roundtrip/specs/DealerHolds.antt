@@ -70,7 +70,8 @@ module _ {part tag : ℕ} where
   unfolding stored
   held-stored r of (held-first {r = x} {rs = rs} u) = by-tests (eqb (x .depth) (r .depth)) (eqb (x .tag) (r .tag)) refl refl
     where
-      by-tests : (d t : Bool) → eqb (x .depth) (r .depth) ≡ d → eqb (x .tag) (r .tag) ≡ t → Held part tag (pick d (pick t (r ∷ rs) (x ∷ stored r rs)) (x ∷ stored r rs))
+      by-tests : (d t : Bool) → eqb (x .depth) (r .depth) ≡ d → eqb (x .tag) (r .tag) ≡ t
+          → Held part tag (pick d (pick t (r ∷ rs) (x ∷ stored r rs)) (x ∷ stored r rs))
       by-tests true true e f = held-first (record { of = of; shallow = sym (eqb-true _ _ e) ∙ u .shallow; tagged = sym (eqb-true _ _ f) ∙ u .tagged })
       by-tests true false e f = held-first u
       by-tests false t e f = held-first u
@@ -105,35 +106,45 @@ module _ (v : Verified) (t : VerifiedTags v) where
   unfolding verifiedRecords
   begin-held =
       held-stored (partRecord 1 (v .«msg_type»)) (of-part 1 (v .«msg_type»))
-      (held-stored (partRecord 1 (v .«body_length»)) (of-part 1 (v .«body_length»)) (held-new (partRecord 1 (v .«begin_string»)) (under-field 1 8 (v .«begin_string») (t .begins)) []))
+      (held-stored (partRecord 1 (v .«body_length»)) (of-part 1 (v .«body_length»))
+      (held-new (partRecord 1 (v .«begin_string»)) (under-field 1 8 (v .«begin_string») (t .begins)) []))
 
   size-held : Held 1 9 (verifiedRecords v)
   unfolding verifiedRecords
-  size-held = held-stored (partRecord 1 (v .«msg_type»)) (of-part 1 (v .«msg_type»)) (held-new (partRecord 1 (v .«body_length»)) (under-field 1 9 (v .«body_length») (t .counts)) _)
+  size-held =
+      held-stored (partRecord 1 (v .«msg_type»)) (of-part 1 (v .«msg_type»))
+      (held-new (partRecord 1 (v .«body_length»)) (under-field 1 9 (v .«body_length») (t .counts)) _)
 
   type-held : Held 1 35 (verifiedRecords v)
   unfolding verifiedRecords
   type-held = held-new (partRecord 1 (v .«msg_type»)) (under-field 1 35 (v .«msg_type») (t .types)) _
 
-header-held : {tag : ℕ} (tags : List ℕ) (fields : Fields) (room : ℕ) (rs : List Record) (f : Field) (rest : Fields) (left : ℕ) (ss : List Record) → headerFrom tags fields room rs ≡ ended f rest left ss → Held 1 tag rs → Held 1 tag ss
+header-held : {tag : ℕ} (tags : List ℕ) (fields : Fields) (room : ℕ) (rs : List Record) (f : Field) (rest : Fields) (left : ℕ) (ss : List Record)
+    → headerFrom tags fields room rs ≡ ended f rest left ss → Held 1 tag rs → Held 1 tag ss
 unfolding headerFrom
 header-held tags (unreadable cause place) room rs f rest left ss e h = let z : _≡_ {A = ℕ} 0 1 = cc in absurd (omega arith)
 header-held tags (field g more) zero rs f rest left ss e h = let z : _≡_ {A = ℕ} 0 1 = cc in absurd (omega arith)
-header-held {tag} tags (field g more) (suc room) rs f rest left ss e h = by-tag (holdsTag (g .tag) tags) e (λ q. header-held tags more room (stored (partRecord 1 g) rs) f rest left ss q (held-stored (partRecord 1 g) (of-part 1 g) h))
+header-held {tag} tags (field g more) (suc room) rs f rest left ss e h =
+    by-tag (holdsTag (g .tag) tags) e (λ q. header-held tags more room (stored (partRecord 1 g) rs) f rest left ss q
+    (held-stored (partRecord 1 g) (of-part 1 g) h))
   where
-    by-tag : (b : Bool) → pick b (headerFrom tags more room (stored (partRecord 1 g) rs)) (ended g more room rs) ≡ ended f rest left ss → (headerFrom tags more room (stored (partRecord 1 g) rs) ≡ ended f rest left ss → Held 1 tag ss) → Held 1 tag ss
+    by-tag : (b : Bool) → pick b (headerFrom tags more room (stored (partRecord 1 g) rs)) (ended g more room rs) ≡ ended f rest left ss
+        → (headerFrom tags more room (stored (partRecord 1 g) rs) ≡ ended f rest left ss → Held 1 tag ss) → Held 1 tag ss
     by-tag true q later = later q
     by-tag false q later = let d : rs ≡ ss = cc in rw (← d) h
 
 -- the verified CheckSum is in the trailer, and stays there
-trailer-held : {tag : ℕ} (fields : Fields) (room : ℕ) (rs : List Record) (stop : Stop) (ts : List Record) → trailerFrom fields room rs ≡ trailerAt stop ts → Held 3 tag rs → Held 3 tag ts
+trailer-held : {tag : ℕ} (fields : Fields) (room : ℕ) (rs : List Record) (stop : Stop) (ts : List Record) → trailerFrom fields room rs ≡ trailerAt stop ts
+    → Held 3 tag rs → Held 3 tag ts
 unfolding trailerFrom
 trailer-held (unreadable cause place) zero rs stop ts e h = absurd (not-crowded stop ts e)
 trailer-held (unreadable cause place) (suc room) rs stop ts e h = let d = unstopped-with rs ts stop e in rw (← d) h
 trailer-held (field g more) zero rs stop ts e h = absurd (not-crowded stop ts e)
-trailer-held {tag} (field g more) (suc room) rs stop ts e h = by-tag (eqb (g .tag) 10) e (λ q. trailer-held more room (stored (partRecord 3 g) rs) stop ts q (held-stored (partRecord 3 g) (of-part 3 g) h))
+trailer-held {tag} (field g more) (suc room) rs stop ts e h =
+    by-tag (eqb (g .tag) 10) e (λ q. trailer-held more room (stored (partRecord 3 g) rs) stop ts q (held-stored (partRecord 3 g) (of-part 3 g) h))
   where
-    by-tag : (b : Bool) → pick b (stopped g rs) (trailerFrom more room (stored (partRecord 3 g) rs)) ≡ trailerAt stop ts → (trailerFrom more room (stored (partRecord 3 g) rs) ≡ trailerAt stop ts → Held 3 tag ts) → Held 3 tag ts
+    by-tag : (b : Bool) → pick b (stopped g rs) (trailerFrom more room (stored (partRecord 3 g) rs)) ≡ trailerAt stop ts
+        → (trailerFrom more room (stored (partRecord 3 g) rs) ≡ trailerAt stop ts → Held 3 tag ts) → Held 3 tag ts
     by-tag true q later = let d = stopped-with rs ts g stop q in rw (← d) h
     by-tag false q later = later q
 
@@ -141,7 +152,9 @@ module _ (dictionary : Dictionary) (config : Config) (message : List ℕ) (outco
   in-header : {tag : ℕ} → Held 1 tag (verifiedRecords (p .verified)) → Held 1 tag (outcome .records)
   in-header held =
       let v = p .verified in
-      let h = header-held (headerTags dictionary) (fieldsFrom (config .mode) message (v .«msg_type» .next)) 1021 (verifiedRecords v) (p .f) (p .rest) (p .room) (p .header) (unfold headerOf in p .header-read) held in
+      let h =
+      header-held (headerTags dictionary) (fieldsFrom (config .mode) message (v .«msg_type» .next)) 1021 (verifiedRecords v) (p .f) (p .rest) (p .room)
+      (p .header) (unfold headerOf in p .header-read) held in
       rw (p .records) (held-left (p .body ++ p .whole-trailer) h)
 
   pub begin-string-held : Held 1 8 (outcome .records)
@@ -156,34 +169,44 @@ module _ (dictionary : Dictionary) (config : Config) (message : List ℕ) (outco
   pub checksum-held : Held 3 10 (outcome .records)
   checksum-held =
       let v = p .verified in
-      let t = trailer-held (field (p .g) (p .more)) (suc (p .room₂)) (partRecord 3 (v .checksum) ∷ []) (outcome .stop) (p .whole-trailer) (p .trailer-read) (held-first (under-field 3 10 (v .checksum) (verified-tags (config .mode) message v (p .sound) .sums))) in
+      let t =
+      trailer-held (field (p .g) (p .more)) (suc (p .room₂)) (partRecord 3 (v .checksum) ∷ []) (outcome .stop) (p .whole-trailer) (p .trailer-read)
+      (held-first (under-field 3 10 (v .checksum) (verified-tags (config .mode) message v (p .sound) .sums))) in
       rw (p .records) (held-right (p .header) (held-right (p .body) t))
 
 -- the records that stand for a map are of its part
-stands-part : {bytes : List ℕ} {part depth number start entries other tag : ℕ} {map : Map} {rs : List Record} → Stands bytes part depth number start entries map rs → Held other tag rs → other ≡ part
+stands-part : {bytes : List ℕ} {part depth number start entries other tag : ℕ} {map : Map} {rs : List Record}
+    → Stands bytes part depth number start entries map rs → Held other tag rs → other ≡ part
 stands-part (stands-own r o more) (held-first u) = sym (u .of) ∙ o .of
 stands-part (stands-own r o more) (held-later h) = stands-part more h
 stands-part (stands-entry r o inner more) (held-first u) = sym (u .of) ∙ o .of
-stands-part (stands-entry {rs = rs} {ss = ss} r o inner more) (held-later h) = ⊎-elim (λ a. stands-part inner a) (λ b. stands-part more b) (held-either rs ss h)
+stands-part (stands-entry {rs = rs} {ss = ss} r o inner more) (held-later h) =
+    ⊎-elim (λ a. stands-part inner a) (λ b. stands-part more b) (held-either rs ss h)
 
 -- no record of an entry stands outside groups
-entry-deep : {bytes : List ℕ} {part depth number start entries other tag : ℕ} {map : Map} {rs : List Record} → 0 < depth → Stands bytes part depth number start entries map rs → Held other tag rs → ⊥
+entry-deep : {bytes : List ℕ} {part depth number start entries other tag : ℕ} {map : Map} {rs : List Record} → 0 < depth
+    → Stands bytes part depth number start entries map rs → Held other tag rs → ⊥
 entry-deep deep (stands-own r o more) (held-first u) = omega (arith, o .deep, u .shallow)
 entry-deep deep (stands-own r o more) (held-later h) = entry-deep deep more h
 entry-deep deep (stands-entry r o inner more) (held-first u) = omega (arith, o .deep, u .shallow)
-entry-deep deep (stands-entry {rs = rs} {ss = ss} r o inner more) (held-later h) = ⊎-elim (λ a. entry-deep (omega arith) inner a) (λ b. entry-deep deep more b) (held-either rs ss h)
+entry-deep deep (stands-entry {rs = rs} {ss = ss} r o inner more) (held-later h) =
+    ⊎-elim (λ a. entry-deep (omega arith) inner a) (λ b. entry-deep deep more b) (held-either rs ss h)
 
 -- so what is held stands in the map itself
-stands-hold : {bytes : List ℕ} {part number start entries other tag : ℕ} {map : Map} {rs : List Record} → Stands bytes part 0 number start entries map rs → Held other tag rs → holds tag map ≡ true
+stands-hold : {bytes : List ℕ} {part number start entries other tag : ℕ} {map : Map} {rs : List Record} → Stands bytes part 0 number start entries map rs
+    → Held other tag rs → holds tag map ≡ true
 unfolding holds
 stands-hold {tag = tag} (stands-own r o more) (held-first u) = rw (eq-eqb (r .tag) tag (u .tagged))
 stands-hold {tag = tag} (stands-own r o more) (held-later h) = rw (stands-hold more h) (pick-same (eqb (r .tag) tag) true)
 stands-hold (stands-entry r o inner more) (held-first u) = absurd (omega (arith, o .deep, u .shallow))
-stands-hold (stands-entry {rs = rs} {ss = ss} r o inner more) (held-later h) = ⊎-elim (λ a. absurd (entry-deep (omega arith) inner a)) (λ b. stands-hold more b) (held-either rs ss h)
+stands-hold (stands-entry {rs = rs} {ss = ss} r o inner more) (held-later h) =
+    ⊎-elim (λ a. absurd (entry-deep (omega arith) inner a)) (λ b. stands-hold more b) (held-either rs ss h)
 
 module _ {bytes : List ℕ} {m : Message} {rs : List Record} (stand : StandFor bytes m rs) where
   in-parts-held : {part tag : ℕ} → Held part tag rs → Held part tag (stand .ofHeader) ⊎ (Held part tag (stand .ofBody) ⊎ Held part tag (stand .ofTrailer))
-  in-parts-held {part} {tag} h = ⊎-elim (λ a. inl a) (λ b. inr (held-either (stand .ofBody) (stand .ofTrailer) b)) (held-either (stand .ofHeader) (stand .ofBody ++ stand .ofTrailer) all)
+  in-parts-held {part} {tag} h =
+      ⊎-elim (λ a. inl a) (λ b. inr (held-either (stand .ofBody) (stand .ofTrailer) b))
+      (held-either (stand .ofHeader) (stand .ofBody ++ stand .ofTrailer) all)
     where
       all : Held part tag (stand .ofHeader ++ (stand .ofBody ++ stand .ofTrailer))
       all = rw (stand .all) at h
@@ -204,11 +227,22 @@ module _ {bytes : List ℕ} {m : Message} {rs : List Record} (stand : StandFor b
   stand-total : fieldTotal m ≡ length rs
   unfolding fieldTotal
   stand-total =
-      omega (arith, stands-count (stand .header), stands-count (stand .body), stands-count (stand .trailer), ap length (stand .all), length-append (stand .ofHeader) (stand .ofBody ++ stand .ofTrailer), length-append (stand .ofBody) (stand .ofTrailer))
+      omega (
+        arith,
+        stands-count (stand .header),
+        stands-count (stand .body),
+        stands-count (stand .trailer),
+        ap length (stand .all),
+        length-append (stand .ofHeader) (stand .ofBody ++ stand .ofTrailer),
+        length-append (stand .ofBody) (stand .ofTrailer),
+      )
 
 -- the new 9 and 10 stand for the old: "the message then holds the new 9, and the new 10 last in its trailer"
-pub encoded-records : {message : List ℕ} {rs : List Record} (separator : ℕ) (t : Takes message rs) → Held 1 9 rs → Held 3 10 rs → fieldTotal (encodedMessage separator (t .meant)) ≡ length rs
+pub encoded-records : {message : List ℕ} {rs : List Record} (separator : ℕ) (t : Takes message rs) → Held 1 9 rs → Held 3 10 rs
+    → fieldTotal (encodedMessage separator (t .meant)) ≡ length rs
 encoded-records separator t nine ten =
     let m = t .meant in
-    let e = rw (header-holds (t .stand) nine, trailer-holds (t .stand) ten) at (encoded-fields separator m (gone-once 10 (m .trailer) (t .within .formed .trailer))) in
+    let e =
+    rw (header-holds (t .stand) nine, trailer-holds (t .stand) ten) at
+    (encoded-fields separator m (gone-once 10 (m .trailer) (t .within .formed .trailer))) in
     omega (arith, e, stand-total (t .stand))

@@ -45,7 +45,8 @@ use Rattle.field_rules.specs.Separator.{isRefusedSeparator}
 use Rattle.encode_rules.specs.Encode.{left, encodingOf}
 use Rattle.encode_rules.specs.declared.Encoding.the-variants.{Written}
 use Rattle.build_order_laws.specs.Counted.{countedTo, countedFields, fieldsCounted}
-use Rattle.build_order_laws.specs.Twice.{twiceInHeader, twiceInTrailer, twiceBehind, twiceTaking, twiceWithin, twiceInBody, twiceFromBody, twiceFromHeader, storedTwice}
+use Rattle.build_order_laws.specs.Twice.{twiceInHeader, twiceInTrailer, twiceBehind, twiceTaking, twiceWithin, twiceInBody, twiceFromBody, twiceFromHeader}
+use Rattle.build_order_laws.specs.Twice.{storedTwice}
 use Rattle.message_rules.specs.Changes.{fieldTotal}
 use Rattle.encode_rewriting_laws.specs.Written.{written, rewritten}
 use Rattle.encode_rewriting_laws.specs.EncodedBuilt.{Built, encoding-rewritten}
@@ -99,14 +100,22 @@ pub record OrderRead : Type 0 where
   pub one-recorded : recordedUnder 38 sent (read .records) ≡ bytes "800" ∷ []
 
 order-read : OrderRead
-unfolding storedTwice twiceFromHeader twiceFromBody twiceInBody twiceWithin twiceTaking twiceBehind twiceInTrailer twiceInHeader fieldsCounted countedFields countedTo readUnder recordedUnder messageRead startOf startedBy headerOf verifiedRecords withChecksum headerFrom afterHeader afterType afterBody afterTrailer msgTypeRecord valueAt trailerFrom partRecord bodyFrom bodyWithin takes nextFrom andThen bodyOf bodyKind placedKind groupKind integrityOf begun counted summed typed lengthIs lengthAgrees sumIs sumAgrees sumOf checksumOf checksumDigits decimalWithin layoutThen positionFrom firstOf positionIn groupSince groupOf holdsTag knows plainFields headerTags trailerTags flattened sameBytes messageOf layoutOf stored accepted layoutRules has layoutDemands openedAs reading-fields
+unfolding storedTwice twiceFromHeader twiceFromBody twiceInBody twiceWithin twiceTaking twiceBehind twiceInTrailer twiceInHeader fieldsCounted countedFields
+    countedTo readUnder recordedUnder messageRead startOf startedBy headerOf verifiedRecords withChecksum headerFrom afterHeader afterType afterBody
+    afterTrailer msgTypeRecord valueAt trailerFrom partRecord bodyFrom bodyWithin takes nextFrom andThen bodyOf bodyKind placedKind groupKind integrityOf
+    begun counted summed typed lengthIs lengthAgrees sumIs sumAgrees sumOf checksumOf checksumDigits decimalWithin layoutThen positionFrom firstOf positionIn
+    groupSince groupOf holdsTag knows plainFields headerTags trailerTags flattened sameBytes messageOf layoutOf stored accepted layoutRules has layoutDemands
+    openedAs reading-fields
 order-read = record { valid = refl; twice = refl; records = refl; fields-counted = refl; fields-recorded = refl; both-read = refl; one-recorded = refl }
 
 -- the records stand for a message of that shape, whichever take-over made of them
 sent-built : (t : Takes sent (read .records)) → Built sent (t .meant) begin size type [] ofBody check []
 sent-built t =
-    let p = stands-parted (t .stand) (order-read .records) (all-more {r = begin} (record { of = refl }) (all-more {r = size} (record { of = refl }) (all-more {r = type} (record { of = refl }) all-none)))
-    (all-more {r = shows 2 0 0 38 35 3} (record { of = refl }) (all-more {r = shows 2 0 0 58 30 1} (record { of = refl }) all-none)) (all-more {r = check} (record { of = refl }) all-none) in
+    let p =
+    stands-parted (t .stand) (order-read .records)
+    (all-more {r = begin} (record { of = refl }) (all-more {r = size} (record { of = refl }) (all-more {r = type} (record { of = refl }) all-none)))
+    (all-more {r = shows 2 0 0 38 35 3} (record { of = refl }) (all-more {r = shows 2 0 0 58 30 1} (record { of = refl }) all-none))
+    (all-more {r = check} (record { of = refl }) all-none) in
     record {
       header = p .header-stands;
       body = p .body-stands;
@@ -115,7 +124,9 @@ sent-built t =
       counts = refl;
       types = refl;
       sums = refl;
-      header-own = all-more {r = begin} (record { deep = refl; numbered = refl }) (all-more {r = size} (record { deep = refl; numbered = refl }) (all-more {r = type} (record { deep = refl; numbered = refl }) all-none));
+      header-own =
+          all-more {r = begin} (record { deep = refl; numbered = refl })
+          (all-more {r = size} (record { deep = refl; numbered = refl }) (all-more {r = type} (record { deep = refl; numbered = refl }) all-none));
       trailer-own = all-more {r = check} (record { deep = refl; numbered = refl }) all-none;
       within = t .within;
     }
@@ -144,10 +155,12 @@ pub record DealersOrder (words values output : List ℕ) : Type 0 where
   pub fields-left : fieldTotal (encodedMessage 1 (lost .taken .takes .meant)) ≡ 6
   pub left-words : List ℕ
   pub left-values : List ℕ
-  pub writes : encodingOf 1 (wordsOf (lost .taken .takes .meant)) (valueBytesOf (lost .taken .takes .meant)) output ≡ left (Written 39) left-words left-values (resent ++ drop 39 output)
+  pub writes : encodingOf 1 (wordsOf (lost .taken .takes .meant)) (valueBytesOf (lost .taken .takes .meant)) output
+      ≡ left (Written 39) left-words left-values (resent ++ drop 39 output)
 
 -- "for P5 the field that is lost is 38=600"
-pub dealers-order : (words values output : List ℕ) → length words ≡ messageWords → length values ≡ 8192 → 39 ≤ length output → DealersOrder words values output
+pub dealers-order : (words values output : List ℕ) → length words ≡ messageWords → length values ≡ 8192 → 39 ≤ length output
+    → DealersOrder words values output
 dealers-order words values output whole store room =
     let c = order-read in
     let l = stored-twice-lost dictionary (validating true) sent words values (c .valid) (c .twice) (omega (arith, sent-short)) whole store in
@@ -161,8 +174,14 @@ dealers-order words values output whole store room =
       fields-left = a-field-each dictionary (validating true) sent (c .valid) t ∙ c .fields-recorded;
       left-words = wordsOf (encodedMessage 1 m);
       left-values = valueBytesOf (encodedMessage 1 m);
-      writes = encoding-written (sent-built t) 1 separates output (omega (arith, w, resent-short)) (omega (arith, w, resent-short)) ∙ written-as (wordsOf (encodedMessage 1 m)) (valueBytesOf (encodedMessage 1 m));
+      writes =
+          encoding-written (sent-built t) 1 separates output (omega (arith, w, resent-short)) (omega (arith, w, resent-short))
+          ∙ written-as (wordsOf (encodedMessage 1 m)) (valueBytesOf (encodedMessage 1 m));
     }
   where
-    written-as : (a b : List ℕ) → left (Written (length (rewritten 1 sent begin (type ∷ ([] ++ (ofBody ++ [])))))) a b (rewritten 1 sent begin (type ∷ ([] ++ (ofBody ++ []))) ++ drop (length (rewritten 1 sent begin (type ∷ ([] ++ (ofBody ++ []))))) output) ≡ left (Written 39) a b (resent ++ drop 39 output)
-    written-as a b = ap (λ (e : List ℕ). left (Written (length e)) a b (e ++ drop (length e) output)) sent-rewritten ∙ ap (λ (n : ℕ). left (Written n) a b (resent ++ drop n output)) resent-short
+    written-as : (a b : List ℕ)
+        → left (Written (length (rewritten 1 sent begin (type ∷ ([] ++ (ofBody ++ [])))))) a b (rewritten 1 sent begin (type ∷ ([] ++ (ofBody ++ [])))
+        ++ drop (length (rewritten 1 sent begin (type ∷ ([] ++ (ofBody ++ []))))) output) ≡ left (Written 39) a b (resent ++ drop 39 output)
+    written-as a b =
+        ap (λ (e : List ℕ). left (Written (length e)) a b (e ++ drop (length e) output)) sent-rewritten
+        ∙ ap (λ (n : ℕ). left (Written n) a b (resent ++ drop n output)) resent-short

@@ -31,7 +31,8 @@ use Rattle.build_rules.specs.declared.Stop.{Stop}
 use Rattle.build_rules.specs.declared.Stop.the-variants.{At, Nowhere}
 use Rattle.build_rules.specs.Examples.{dictionary, closed, order}
 use Rattle.build_order_laws.specs.Counted.{fieldsCounted, countedFields, countedTo}
-use Rattle.build_order_laws.specs.Twice.{twiceInHeader, twiceInTrailer, twiceMoved, twiceInRun, twiceBehind, twiceTaking, twiceWithin, twiceInBody, twiceFromBody, twiceFromHeader, storedTwice}
+use Rattle.build_order_laws.specs.Twice.{twiceInHeader, twiceInTrailer, twiceMoved, twiceInRun, twiceBehind, twiceTaking, twiceWithin, twiceInBody}
+use Rattle.build_order_laws.specs.Twice.{twiceFromBody, twiceFromHeader, storedTwice}
 use Rattle.encode_rewriting_laws.specs.Plain.{isPlain, plainTags, plainLength, threeDigits}
 use Rattle.promise_roundtrip.specs.Clean.{Clean}
 
@@ -40,9 +41,15 @@ abbrev Tests : Type 0
 Tests = Bool × Bool × Bool × Bool × Bool
 
 abbrev testsAt : List ℕ → Stop → Tests
-testsAt message (At f) =
-    (storedTwice dictionary (validating true) message, plainTags message (f .first) (fieldsFrom (separatedBy 1) message (startAt 0)), plainLength message (fieldsFrom (separatedBy 1) message (startAt 0)), threeDigits message f, eqb (f .first) (length message - 7))
-testsAt message Nowhere = (storedTwice dictionary (validating true) message, true, plainLength message (fieldsFrom (separatedBy 1) message (startAt 0)), false, false)
+testsAt message (At f) = (
+  storedTwice dictionary (validating true) message,
+  plainTags message (f .first) (fieldsFrom (separatedBy 1) message (startAt 0)),
+  plainLength message (fieldsFrom (separatedBy 1) message (startAt 0)),
+  threeDigits message f,
+  eqb (f .first) (length message - 7),
+)
+testsAt message Nowhere =
+    (storedTwice dictionary (validating true) message, true, plainLength message (fieldsFrom (separatedBy 1) message (startAt 0)), false, false)
 
 abbrev tests : List ℕ → Tests
 tests message = testsAt message (messageRead dictionary (validating true) message .stop)
@@ -68,12 +75,26 @@ table =
     ∷ []
 
 pub tests-hold : map (λ (row : Row). tests (row .0)) table ≡ map (λ (row : Row). row .1) table
-unfolding storedTwice twiceFromHeader twiceFromBody twiceInBody twiceWithin twiceTaking twiceBehind twiceInRun twiceMoved twiceInTrailer twiceInHeader isPlain plainTags plainLength threeDigits messageRead startOf startedBy headerOf verifiedRecords withChecksum headerFrom afterHeader afterType afterBody afterTrailer msgTypeRecord valueAt trailerFrom partRecord bodyFrom bodyWithin takes withRun nextFrom andThen storedRun behindRun bodyOf runFrom ranAs checked bodyKind placedKind groupKind integrityOf begun counted summed typed lengthIs lengthAgrees sumIs sumAgrees sumOf checksumOf checksumDigits decimalWithin layoutThen positionFrom firstOf positionIn groupSince groupOf delimiterOf requiredTags holdsTag knows plainFields headerTags trailerTags flattened sameBytes messageOf layoutOf stored isDelimiter counting opens declared entryKind inEntry decide entryRecord moved walk accepted openedAs layoutRules joinedList listStore orElse has fieldsLack before shallow runLacks nestedLack entriesLack opensEntry entryLack runLack layoutDemands reading-fields
+unfolding storedTwice twiceFromHeader twiceFromBody twiceInBody twiceWithin twiceTaking twiceBehind twiceInRun twiceMoved twiceInTrailer twiceInHeader
+    isPlain plainTags plainLength threeDigits messageRead startOf startedBy headerOf verifiedRecords withChecksum headerFrom afterHeader afterType afterBody
+    afterTrailer msgTypeRecord valueAt trailerFrom partRecord bodyFrom bodyWithin takes withRun nextFrom andThen storedRun behindRun bodyOf runFrom ranAs
+    checked bodyKind placedKind groupKind integrityOf begun counted summed typed lengthIs lengthAgrees sumIs sumAgrees sumOf checksumOf checksumDigits
+    decimalWithin layoutThen positionFrom firstOf positionIn groupSince groupOf delimiterOf requiredTags holdsTag knows plainFields headerTags trailerTags
+    flattened sameBytes messageOf layoutOf stored isDelimiter counting opens declared entryKind inEntry decide entryRecord moved walk accepted openedAs
+    layoutRules joinedList listStore orElse has fieldsLack before shallow runLacks nestedLack entriesLack opensEntry entryLack runLack layoutDemands
+    reading-fields
 tests-hold = refl
 
 -- P1 is clean
 pub heartbeat-clean : Clean dictionary (validating true) heartbeat
-unfolding storedTwice twiceFromHeader twiceFromBody twiceInBody twiceWithin twiceTaking twiceBehind twiceInRun twiceMoved twiceInTrailer twiceInHeader isPlain plainTags plainLength threeDigits messageRead startOf startedBy headerOf verifiedRecords withChecksum headerFrom afterHeader afterType afterBody afterTrailer msgTypeRecord valueAt trailerFrom partRecord bodyFrom bodyWithin takes withRun nextFrom andThen storedRun behindRun bodyOf runFrom ranAs checked bodyKind placedKind groupKind integrityOf begun counted summed typed lengthIs lengthAgrees sumIs sumAgrees sumOf checksumOf checksumDigits decimalWithin layoutThen positionFrom firstOf positionIn groupSince groupOf delimiterOf requiredTags holdsTag knows plainFields headerTags trailerTags flattened sameBytes messageOf layoutOf stored isDelimiter counting opens declared entryKind inEntry decide entryRecord moved walk accepted openedAs layoutRules joinedList listStore orElse has fieldsLack before shallow runLacks nestedLack entriesLack opensEntry entryLack runLack layoutDemands reading-fields fieldsCounted countedFields countedTo
+unfolding storedTwice twiceFromHeader twiceFromBody twiceInBody twiceWithin twiceTaking twiceBehind twiceInRun twiceMoved twiceInTrailer twiceInHeader
+    isPlain plainTags plainLength threeDigits messageRead startOf startedBy headerOf verifiedRecords withChecksum headerFrom afterHeader afterType afterBody
+    afterTrailer msgTypeRecord valueAt trailerFrom partRecord bodyFrom bodyWithin takes withRun nextFrom andThen storedRun behindRun bodyOf runFrom ranAs
+    checked bodyKind placedKind groupKind integrityOf begun counted summed typed lengthIs lengthAgrees sumIs sumAgrees sumOf checksumOf checksumDigits
+    decimalWithin layoutThen positionFrom firstOf positionIn groupSince groupOf delimiterOf requiredTags holdsTag knows plainFields headerTags trailerTags
+    flattened sameBytes messageOf layoutOf stored isDelimiter counting opens declared entryKind inEntry decide entryRecord moved walk accepted openedAs
+    layoutRules joinedList listStore orElse has fieldsLack before shallow runLacks nestedLack entriesLack opensEntry entryLack runLack layoutDemands
+    reading-fields fieldsCounted countedFields countedTo
 heartbeat-clean =
     record {
       repeat-free = record { valid = refl; holds-begin-string = refl; holds-body-length = refl; holds-msg-type = refl; none-twice = refl };

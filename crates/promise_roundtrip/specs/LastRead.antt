@@ -90,7 +90,8 @@ latest-as part tag fs e = rw e refl
 
 -- ===== the header =====
 
-header-last : (tags : List ℕ) (fields : Fields) (room : ℕ) (rs : List Record) (f : Field) (rest : Fields) (room₁ : ℕ) (rs₁ : List Record) → headerFrom tags fields room rs ≡ ended f rest room₁ rs₁ → Single 0 rs
+header-last : (tags : List ℕ) (fields : Fields) (room : ℕ) (rs : List Record) (f : Field) (rest : Fields) (room₁ : ℕ) (rs₁ : List Record)
+    → headerFrom tags fields room rs ≡ ended f rest room₁ rs₁ → Single 0 rs
     → (tag : ℕ) → under 0 tag rs₁ ≡ latest 1 tag (under 0 tag rs) (headerTakes tags fields)
 unfolding headerFrom headerTakes
 header-last tags (unreadable cause place) room rs f rest room₁ rs₁ e s tag = let z : _≡_ {A = ℕ} 0 1 = cc in absurd (omega arith)
@@ -99,14 +100,16 @@ header-last tags (field g more) (suc room) rs f rest room₁ rs₁ e s tag =
     by-tag (holdsTag (g .tag) tags) e (λ q. header-last tags more room (stored (partRecord 1 g) rs) f rest room₁ rs₁ q (field-single 1 g rs s) tag)
   where
     by-tag : (b : Bool) → pick b (headerFrom tags more room (stored (partRecord 1 g) rs)) (ended g more room rs) ≡ ended f rest room₁ rs₁
-        → (headerFrom tags more room (stored (partRecord 1 g) rs) ≡ ended f rest room₁ rs₁ → under 0 tag rs₁ ≡ latest 1 tag (under 0 tag (stored (partRecord 1 g) rs)) (headerTakes tags more))
+        → (headerFrom tags more room (stored (partRecord 1 g) rs) ≡ ended f rest room₁ rs₁
+        → under 0 tag rs₁ ≡ latest 1 tag (under 0 tag (stored (partRecord 1 g) rs)) (headerTakes tags more))
         → under 0 tag rs₁ ≡ latest 1 tag (under 0 tag rs) (pick b (g ∷ headerTakes tags more) [])
     by-tag true e later = later e ∙ latest-as 1 tag (headerTakes tags more) (field-under 1 g rs s tag) ∙ (unfold latest in refl)
     by-tag false e later = let d : rs ≡ rs₁ = cc in rw (← d) (unfold latest in refl)
 
 -- ===== the trailer =====
 
-trailer-last : (fields : Fields) (room : ℕ) (rs : List Record) (stop : Stop) (ts : List Record) → trailerFrom fields room rs ≡ trailerAt stop ts → Single 0 rs → (tag : ℕ) → under 0 tag ts ≡ latest 3 tag (under 0 tag rs) (trailerTakes fields)
+trailer-last : (fields : Fields) (room : ℕ) (rs : List Record) (stop : Stop) (ts : List Record) → trailerFrom fields room rs ≡ trailerAt stop ts → Single 0 rs
+    → (tag : ℕ) → under 0 tag ts ≡ latest 3 tag (under 0 tag rs) (trailerTakes fields)
 unfolding trailerFrom trailerTakes
 trailer-last (unreadable cause place) zero rs stop ts e s tag = absurd (not-crowded stop ts e)
 trailer-last (unreadable cause place) (suc room) rs stop ts e s tag = let d = unstopped-with rs ts stop e in rw (← d) (unfold latest in refl)
@@ -115,7 +118,8 @@ trailer-last (field g more) (suc room) rs stop ts e s tag =
     by-tag (eqb (g .tag) 10) e (λ q. trailer-last more room (stored (partRecord 3 g) rs) stop ts q (field-single 3 g rs s) tag)
   where
     by-tag : (b : Bool) → pick b (stopped g rs) (trailerFrom more room (stored (partRecord 3 g) rs)) ≡ trailerAt stop ts
-        → (trailerFrom more room (stored (partRecord 3 g) rs) ≡ trailerAt stop ts → under 0 tag ts ≡ latest 3 tag (under 0 tag (stored (partRecord 3 g) rs)) (trailerTakes more))
+        → (trailerFrom more room (stored (partRecord 3 g) rs) ≡ trailerAt stop ts
+        → under 0 tag ts ≡ latest 3 tag (under 0 tag (stored (partRecord 3 g) rs)) (trailerTakes more))
         → under 0 tag ts ≡ latest 3 tag (under 0 tag rs) (pick b [] (g ∷ trailerTakes more))
     by-tag true q later = let d = stopped-with rs ts g stop q in rw (← d) (unfold latest in refl)
     by-tag false q later = later q ∙ latest-as 3 tag (trailerTakes more) (field-under 3 g rs s tag) ∙ (unfold latest in refl)
@@ -131,7 +135,8 @@ module _ {L : Type 0} (rules : Rules L) (demands : Demands L) (tags : List ℕ) 
     unfolding bodyTakes bodyTaking
     takes-field k = rw k
 
-    takes-run : (inner : L) (g : Field) (more : Fields) (left : ℕ) (es : List Record) → body .kind (f .tag) ≡ counts inner → body .run inner (f .tag) rest room ≡ ended g more left es
+    takes-run : (inner : L) (g : Field) (more : Fields) (left : ℕ) (es : List Record) → body .kind (f .tag) ≡ counts inner
+        → body .run inner (f .tag) rest room ≡ ended g more left es
         → bodyTakes body (suc turns) (field f rest) (suc room) ≡ f ∷ bodyTakes body turns (field g more) (suc left)
     unfolding bodyTakes bodyTaking takenBehind
     takes-run inner g more left es k e = rw (k, e)
@@ -146,29 +151,39 @@ module _ {L : Type 0} (rules : Rules L) (demands : Demands L) (tags : List ℕ) 
     same : (tag : ℕ) → latest 2 tag (under 0 tag rs) (bodyTakes body turns fields room) ≡ whole tag
 
   -- the entries of a run stand deeper than the body
-  pub run-deeper : (inner : L) (f : Field) (rest : Fields) (room : ℕ) (g : Field) (more : Fields) (left : ℕ) (es : List Record) → RunRead rules demands tags level inner f rest room g more left es → All (Deep 1) es
+  pub run-deeper : (inner : L) (f : Field) (rest : Fields) (room : ℕ) (g : Field) (more : Fields) (left : ℕ) (es : List Record)
+      → RunRead rules demands tags level inner f rest room g more left es → All (Deep 1) es
   run-deeper inner f rest room g more left es w =
       let read = run-formed rules [] (outermost (f .tag) inner) room rest g more left es (w .walked) in
       let same : es ≡ read .records = read .whole in
       rw same (formed-deep rules (read .formed))
 
-  next-standing : (whole : ℕ → List Record) (turns : ℕ) (f : Field) (rest : Fields) (room : ℕ) (rs : List Record) (fields : Fields) (left : ℕ) (ss : List Record)
-      → bodyTakes body (suc turns) (field f rest) (suc room) ≡ f ∷ bodyTakes body turns fields left → Single 0 ss → ((tag : ℕ) → under 0 tag ss ≡ pick (eqb (f .tag) tag) (partRecord 2 f ∷ []) (under 0 tag rs))
+  next-standing : (whole : ℕ → List Record) (turns : ℕ) (f : Field) (rest : Fields) (room : ℕ) (rs : List Record) (fields : Fields) (left : ℕ)
+      (ss : List Record)
+      → bodyTakes body (suc turns) (field f rest) (suc room) ≡ f ∷ bodyTakes body turns fields left → Single 0 ss
+      → ((tag : ℕ) → under 0 tag ss ≡ pick (eqb (f .tag) tag) (partRecord 2 f ∷ []) (under 0 tag rs))
       → Standing whole (suc turns) (field f rest) (suc room) rs → Standing whole turns fields left ss
   unfolding latest
   next-standing whole turns f rest room rs fields left ss takes single same s =
-      record { single = single; same = λ tag. latest-as 2 tag (bodyTakes body turns fields left) (same tag) ∙ sym (ap (latest 2 tag (under 0 tag rs)) takes) ∙ s .same tag }
+      record {
+        single = single;
+        same = λ tag. latest-as 2 tag (bodyTakes body turns fields left) (same tag) ∙ sym (ap (latest 2 tag (under 0 tag rs)) takes) ∙ s .same tag;
+      }
 
-  body-last : (turns : ℕ) (fields : Fields) (room : ℕ) (rs : List Record) (f : Field) (rest : Fields) (room₁ : ℕ) (rs₁ : List Record) → bodyWithin body turns fields room rs ≡ ended f rest room₁ rs₁ → Single 0 rs
+  body-last : (turns : ℕ) (fields : Fields) (room : ℕ) (rs : List Record) (f : Field) (rest : Fields) (room₁ : ℕ) (rs₁ : List Record)
+      → bodyWithin body turns fields room rs ≡ ended f rest room₁ rs₁ → Single 0 rs
       → (tag : ℕ) → under 0 tag rs₁ ≡ latest 2 tag (under 0 tag rs) (bodyTakes body turns fields room)
   unfolding latest
   body-last turns fields room rs f rest room₁ rs₁ e s tag =
       let whole : ℕ → List Record = λ n. latest 2 n (under 0 n rs) (bodyTakes body turns fields room) in
       let end = body-ends rules demands tags level (Standing whole)
-      (λ turns₂ g more room₂ ss k p. next-standing whole turns₂ g more room₂ ss more room₂ (stored (partRecord 2 g) ss) (takes-field turns₂ g more room₂ k) (field-single 2 g ss (p .single)) (field-under 2 g ss (p .single)) p)
+      (λ turns₂ g more room₂ ss k p. next-standing whole turns₂ g more room₂ ss more room₂ (stored (partRecord 2 g) ss) (takes-field turns₂ g more room₂ k)
+      (field-single 2 g ss (p .single)) (field-under 2 g ss (p .single)) p)
       (λ turns₂ g more room₂ ss inner h last left es k w p.
       let deeper = run-deeper inner g more room₂ h last left es w in
-      next-standing whole turns₂ g more room₂ ss (field h last) (suc left) (storedRun (partRecord 2 g) es ss) (takes-run turns₂ g more room₂ inner h last left es k (w .comes-to)) (count-single 2 g ss (p .single) es deeper) (count-under 2 g ss (p .single) es deeper) p)
+      next-standing whole turns₂ g more room₂ ss (field h last) (suc left) (storedRun (partRecord 2 g) es ss)
+      (takes-run turns₂ g more room₂ inner h last left es k (w .comes-to)) (count-single 2 g ss (p .single) es deeper)
+      (count-under 2 g ss (p .single) es deeper) p)
       f rest room₁ rs₁ turns fields room rs e (record { single = s; same = λ n. refl }) in
       sym (ap (latest 2 tag (under 0 tag rs₁)) (takes-no-more (end .turns) f rest room₁ (end .not-taken))) ∙ end .holds .same tag
 
@@ -191,16 +206,21 @@ module _ (v : Verified) where
       let two = field-single 1 (v .«body_length») _ one in
       field-under 1 (v .«msg_type») _ two tag
       ∙ ap (pick (eqb (v .«msg_type» .tag) tag) (partRecord 1 (v .«msg_type») ∷ []))
-      (field-under 1 (v .«body_length») _ one tag ∙ ap (pick (eqb (v .«body_length» .tag) tag) (partRecord 1 (v .«body_length») ∷ [])) (stored-one 1 (v .«begin_string») tag))
+      (field-under 1 (v .«body_length») _ one tag ∙ ap (pick (eqb (v .«body_length» .tag) tag) (partRecord 1 (v .«body_length») ∷ []))
+      (stored-one 1 (v .«begin_string») tag))
 
 module _ (dictionary : Dictionary) (config : Config) (message : List ℕ) {outcome : Outcome} (p : InParts dictionary config message outcome) where
   -- the fields that each part's own map took, in the order of reading: 8, 9 and 35 first in the header; "The verified CheckSum stands first in
   -- the trailer."
   abbrev pub ofHeader : List Field
-  ofHeader = p .verified .«begin_string» ∷ p .verified .«body_length» ∷ p .verified .«msg_type» ∷ headerTakes (headerTags dictionary) (fieldsFrom (config .mode) message (p .verified .«msg_type» .next))
+  ofHeader =
+      p .verified .«begin_string» ∷ p .verified .«body_length» ∷ p .verified .«msg_type» ∷ headerTakes (headerTags dictionary)
+      (fieldsFrom (config .mode) message (p .verified .«msg_type» .next))
 
   abbrev pub ofBody : List Field
-  ofBody = bodyTakes (bodyOf (layoutRules (accepted config (knows dictionary))) layoutDemands (trailerTags dictionary) (p .layout)) (suc (suc (p .room))) (field (p .f) (p .rest)) (suc (p .room))
+  ofBody =
+      bodyTakes (bodyOf (layoutRules (accepted config (knows dictionary))) layoutDemands (trailerTags dictionary) (p .layout)) (suc (suc (p .room)))
+      (field (p .f) (p .rest)) (suc (p .room))
 
   abbrev pub ofTrailer : List Field
   ofTrailer = p .verified .checksum ∷ trailerTakes (field (p .g) (p .more))
@@ -218,12 +238,15 @@ module _ (dictionary : Dictionary) (config : Config) (message : List ℕ) {outco
       let rules = layoutRules (accepted config (knows dictionary)) in
       record {
         in-header = λ tag.
-            header-last (headerTags dictionary) (fieldsFrom (config .mode) message (v .«msg_type» .next)) 1021 (verifiedRecords v) (p .f) (p .rest) (p .room) (p .header) (unfold headerOf in p .header-read) (verified-single v) tag
+            header-last (headerTags dictionary) (fieldsFrom (config .mode) message (v .«msg_type» .next)) 1021 (verifiedRecords v) (p .f) (p .rest) (p .room)
+            (p .header) (unfold headerOf in p .header-read) (verified-single v) tag
             ∙ latest-as 1 tag (headerTakes (headerTags dictionary) (fieldsFrom (config .mode) message (v .«msg_type» .next))) (verified-last v tag);
         in-body = λ tag.
-            body-last rules layoutDemands (trailerTags dictionary) (p .layout) (suc (suc (p .room))) (field (p .f) (p .rest)) (suc (p .room)) [] (p .g) (p .more) (p .room₂) (p .body) (unfold bodyFrom in p .body-read) (single-none 0) tag
+            body-last rules layoutDemands (trailerTags dictionary) (p .layout) (suc (suc (p .room))) (field (p .f) (p .rest)) (suc (p .room)) [] (p .g)
+            (p .more) (p .room₂) (p .body) (unfold bodyFrom in p .body-read) (single-none 0) tag
             ∙ latest-as 2 tag ofBody (unfold under in refl);
         in-trailer = λ tag.
-            trailer-last (field (p .g) (p .more)) (suc (p .room₂)) (stored (partRecord 3 (v .checksum)) []) (outcome .stop) (p .whole-trailer) (unfold stored in p .trailer-read) (field-single 3 (v .checksum) [] (single-none 0)) tag
+            trailer-last (field (p .g) (p .more)) (suc (p .room₂)) (stored (partRecord 3 (v .checksum)) []) (outcome .stop) (p .whole-trailer)
+            (unfold stored in p .trailer-read) (field-single 3 (v .checksum) [] (single-none 0)) tag
             ∙ latest-as 3 tag (trailerTakes (field (p .g) (p .more))) (stored-one 3 (v .checksum) tag);
       }

@@ -36,7 +36,9 @@ unfolding has under
 has-some depth tag [] h e = let z : _≡_ {A = ℕ} 0 1 = cc in omega arith
 has-some depth tag (r ∷ rs) h e = by-tests (eqb (r .depth) depth) (eqb (r .tag) tag) h e (has-some depth tag rs)
   where
-    by-tests : (d t : Bool) → pick d (pick t true (has depth tag rs)) (has depth tag rs) ≡ true → pick d (pick t (r ∷ under depth tag rs) (under depth tag rs)) (under depth tag rs) ≡ [] → (has depth tag rs ≡ true → under depth tag rs ≡ [] → ⊥) → ⊥
+    by-tests : (d t : Bool) → pick d (pick t true (has depth tag rs)) (has depth tag rs) ≡ true
+        → pick d (pick t (r ∷ under depth tag rs) (under depth tag rs)) (under depth tag rs) ≡ [] → (has depth tag rs ≡ true → under depth tag rs ≡ [] → ⊥)
+        → ⊥
     by-tests true true h e later = let z : _≡_ {A = ℕ} 0 1 = cc in omega arith
     by-tests true false h e later = later h e
     by-tests false t h e later = later h e
@@ -46,11 +48,15 @@ unfolding latest
 found-some part tag [] some = absurd (some refl)
 found-some part tag (f ∷ fs) some = by-tag (eqb (f .tag) tag) refl some (found-some part tag fs)
   where
-    by-tag : (b : Bool) → eqb (f .tag) tag ≡ b → (latest part tag (pick b (partRecord part f ∷ []) []) fs ≡ [] → ⊥) → ((latest part tag [] fs ≡ [] → ⊥) → Found tag fs) → Found tag (f ∷ fs)
+    by-tag : (b : Bool) → eqb (f .tag) tag ≡ b → (latest part tag (pick b (partRecord part f ∷ []) []) fs ≡ [] → ⊥)
+        → ((latest part tag [] fs ≡ [] → ⊥) → Found tag fs) → Found tag (f ∷ fs)
     by-tag true e some later = record { before = []; that = f; after = fs; is = refl; tagged = eqb-true _ _ e }
-    by-tag false e some later = let l = later some in record { before = f ∷ l .before; that = l .that; after = l .after; is = ap (λ (fs₁ : List Field). f ∷ fs₁) (l .is); tagged = l .tagged }
+    by-tag false e some later =
+        let l = later some in
+        record { before = f ∷ l .before; that = l .that; after = l .after; is = ap (λ (fs₁ : List Field). f ∷ fs₁) (l .is); tagged = l .tagged }
 
-latest-last : (part tag : ℕ) (held : List Record) (fs : List Field) (f : Field) → latest part tag held (fs ++ (f ∷ [])) ≡ pick (eqb (f .tag) tag) (partRecord part f ∷ []) (latest part tag held fs)
+latest-last : (part tag : ℕ) (held : List Record) (fs : List Field) (f : Field)
+    → latest part tag held (fs ++ (f ∷ [])) ≡ pick (eqb (f .tag) tag) (partRecord part f ∷ []) (latest part tag held fs)
 unfolding latest
 latest-last part tag held [] f = refl
 latest-last part tag held (g ∷ fs) f = latest-last part tag (pick (eqb (g .tag) tag) (partRecord part g ∷ []) held) fs f
@@ -74,7 +80,15 @@ module _ (Asked : ℕ → Type 0) (part : ℕ) (fs : List Field) (f : Field) (re
       record {
         earlier = l .that;
         later = f;
-        repeats = record { before = l .before; between = l .after; after = rest; is = ap (λ (fs₁ : List Field). fs₁ ++ (f ∷ rest)) (l .is) ∙ append-assoc (l .before) (l .that ∷ l .after) (f ∷ rest); same-tag = l .tagged };
+        repeats =
+            record {
+              before = l .before;
+              between = l .after;
+              after = rest;
+              is = ap (λ (fs₁ : List Field). fs₁ ++ (f ∷ rest)) (l .is)
+                  ∙ append-assoc (l .before) (l .that ∷ l .after) (f ∷ rest);
+              same-tag = l .tagged;
+            };
       }
 
   -- or a later one
@@ -83,11 +97,21 @@ module _ (Asked : ℕ → Type 0) (part : ℕ) (fs : List Field) (f : Field) (re
 
   pub stored-holds : HoldsLast Asked part (fs ++ (f ∷ [])) (stored (partRecord part f) rs)
   stored-holds =
-      record { single = field-single part f rs (h .single); same = λ tag asked. field-under part f rs (h .single) tag ∙ ap (pick (eqb (f .tag) tag) (partRecord part f ∷ [])) (h .same tag asked) ∙ sym (latest-last part tag [] fs f) }
+      record {
+        single = field-single part f rs (h .single);
+        same =
+            λ tag asked. field-under part f rs (h .single) tag ∙ ap (pick (eqb (f .tag) tag) (partRecord part f ∷ [])) (h .same tag asked)
+            ∙ sym (latest-last part tag [] fs f);
+      }
 
   pub run-holds : (es : List Record) → All (Deep 1) es → HoldsLast Asked part (fs ++ (f ∷ [])) (storedRun (partRecord part f) es rs)
   run-holds es deeper =
-      record { single = count-single part f rs (h .single) es deeper; same = λ tag asked. count-under part f rs (h .single) es deeper tag ∙ ap (pick (eqb (f .tag) tag) (partRecord part f ∷ [])) (h .same tag asked) ∙ sym (latest-last part tag [] fs f) }
+      record {
+        single = count-single part f rs (h .single) es deeper;
+        same =
+            λ tag asked. count-under part f rs (h .single) es deeper tag ∙ ap (pick (eqb (f .tag) tag) (partRecord part f ∷ [])) (h .same tag asked)
+            ∙ sym (latest-last part tag [] fs f);
+      }
 
 -- every tag is asked for, or every tag but 10
 abbrev pub Any : ℕ → Type 0
@@ -96,27 +120,34 @@ Any tag = Unit {0}
 abbrev pub NotTen : ℕ → Type 0
 NotTen tag = tag ≡ 10 → ⊥
 
-pub header-repeats : (tags : List ℕ) (fs : List Field) (fields : Fields) (rs : List Record) → HoldsLast Any 1 fs rs → twiceInHeader tags fields rs ≡ true → RepeatedIn (fs ++ headerTakes tags fields)
+pub header-repeats : (tags : List ℕ) (fs : List Field) (fields : Fields) (rs : List Record) → HoldsLast Any 1 fs rs → twiceInHeader tags fields rs ≡ true
+    → RepeatedIn (fs ++ headerTakes tags fields)
 unfolding twiceInHeader headerTakes
 header-repeats tags fs (unreadable cause place) rs h e = let z : _≡_ {A = ℕ} 0 1 = cc in absurd (omega arith)
 header-repeats tags fs (field f rest) rs h e =
-    by-tests (holdsTag (f .tag) tags) (has 0 (f .tag) rs) refl e (header-repeats tags (fs ++ (f ∷ [])) rest (stored (partRecord 1 f) rs) (stored-holds Any 1 fs f (headerTakes tags rest) rs h))
+    by-tests (holdsTag (f .tag) tags) (has 0 (f .tag) rs) refl e
+    (header-repeats tags (fs ++ (f ∷ [])) rest (stored (partRecord 1 f) rs) (stored-holds Any 1 fs f (headerTakes tags rest) rs h))
   where
     by-tests : (b d : Bool) → has 0 (f .tag) rs ≡ d → pick b (pick d true (twiceInHeader tags rest (stored (partRecord 1 f) rs))) false ≡ true
-        → (twiceInHeader tags rest (stored (partRecord 1 f) rs) ≡ true → RepeatedIn ((fs ++ (f ∷ [])) ++ headerTakes tags rest)) → RepeatedIn (fs ++ pick b (f ∷ headerTakes tags rest) [])
+        → (twiceInHeader tags rest (stored (partRecord 1 f) rs) ≡ true → RepeatedIn ((fs ++ (f ∷ [])) ++ headerTakes tags rest))
+        → RepeatedIn (fs ++ pick b (f ∷ headerTakes tags rest) [])
     by-tests true true d e later = repeated-now Any 1 fs f (headerTakes tags rest) rs h tt d
     by-tests true false d e later = repeated-later Any 1 fs f (headerTakes tags rest) rs h (later e)
     by-tests false x d e later = let z : _≡_ {A = ℕ} 0 1 = cc in absurd (omega arith)
 
 -- the verified 10 is the only 10
-pub trailer-repeats : (fs : List Field) (fields : Fields) (rs : List Record) → HoldsLast NotTen 3 fs rs → twiceInTrailer fields rs ≡ true → RepeatedIn (fs ++ trailerTakes fields)
+pub trailer-repeats : (fs : List Field) (fields : Fields) (rs : List Record) → HoldsLast NotTen 3 fs rs → twiceInTrailer fields rs ≡ true
+    → RepeatedIn (fs ++ trailerTakes fields)
 unfolding twiceInTrailer trailerTakes
 trailer-repeats fs (unreadable cause place) rs h e = let z : _≡_ {A = ℕ} 0 1 = cc in absurd (omega arith)
 trailer-repeats fs (field f rest) rs h e =
-    by-tests (eqb (f .tag) 10) (has 0 (f .tag) rs) refl refl e (trailer-repeats (fs ++ (f ∷ [])) rest (stored (partRecord 3 f) rs) (stored-holds NotTen 3 fs f (trailerTakes rest) rs h))
+    by-tests (eqb (f .tag) 10) (has 0 (f .tag) rs) refl refl e
+    (trailer-repeats (fs ++ (f ∷ [])) rest (stored (partRecord 3 f) rs) (stored-holds NotTen 3 fs f (trailerTakes rest) rs h))
   where
-    by-tests : (b d : Bool) → eqb (f .tag) 10 ≡ b → has 0 (f .tag) rs ≡ d → pick b false (pick d true (twiceInTrailer rest (stored (partRecord 3 f) rs))) ≡ true
-        → (twiceInTrailer rest (stored (partRecord 3 f) rs) ≡ true → RepeatedIn ((fs ++ (f ∷ [])) ++ trailerTakes rest)) → RepeatedIn (fs ++ pick b [] (f ∷ trailerTakes rest))
+    by-tests : (b d : Bool) → eqb (f .tag) 10 ≡ b → has 0 (f .tag) rs ≡ d
+        → pick b false (pick d true (twiceInTrailer rest (stored (partRecord 3 f) rs))) ≡ true
+        → (twiceInTrailer rest (stored (partRecord 3 f) rs) ≡ true → RepeatedIn ((fs ++ (f ∷ [])) ++ trailerTakes rest))
+        → RepeatedIn (fs ++ pick b [] (f ∷ trailerTakes rest))
     by-tests true x b d e later = let z : _≡_ {A = ℕ} 0 1 = cc in absurd (omega arith)
     by-tests false true b d e later = repeated-now NotTen 3 fs f (trailerTakes rest) rs h (eqb-false _ _ b) d
     by-tests false false b d e later = repeated-later NotTen 3 fs f (trailerTakes rest) rs h (later e)

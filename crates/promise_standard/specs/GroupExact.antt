@@ -109,8 +109,8 @@ module _ {L : Type 0} (rules : Rules L) (message : List ℕ) (x : Field) (rest :
         -- a field that counts no entries has none behind it
         deeper : (position : ℕ)
             → Takes rules x rest (entry group (reaching own position) ∷ below) ((numbered (group .depth + 1) 0 g
-                ++ numbered (group .depth) (own .number) s) ++ more) behind → MembersFit (group .level) (group .depth) (own .last) (told t count ∷ (gs
-                ++ fs)) (Stands.group {t = t} may opening i g s) below more y later
+            ++ numbered (group .depth) (own .number) s) ++ more) behind → MembersFit (group .level) (group .depth) (own .last) (told t count ∷ (gs
+            ++ fs)) (Stands.group {t = t} may opening i g s) below more y later
         deeper position taken =
             let first = entries-start (group .depth + 1) 0 g in
             absurd (not-deeper rules x rest (group .depth + 1) _ refl (entry-gives rules group (reaching own position) below gives) (rw (first .1) at taken))
@@ -123,9 +123,9 @@ module _ {L : Type 0} (rules : Rules L) (message : List ℕ) (x : Field) (rest :
         by-goes _ (goes-count {inner} {position} r o deep) taken =
             let cut = reads-split message y later behind gs fs reads in
             let e = within (nested group (f .tag) inner) 0 (entry group (reaching own position) ∷ below) (numbered (group .depth) (own .number) s
-                ++ more) behind (cut .next) (cut .rest) (entry-gives rules group (reaching own position) below gives) (members-head (group .depth)
-                (own .number) more s (deeper-head (group .depth) (own .number) head)) (cut .reads-first) (rw (append-assoc (numbered
-                (group .depth + 1) 0 g) (numbered (group .depth) (own .number) s) more) at taken) in
+            ++ more) behind (cut .next) (cut .rest) (entry-gives rules group (reaching own position) below gives) (members-head (group .depth)
+            (own .number) more s (deeper-head (group .depth) (own .number) head)) (cut .reads-first) (rw (append-assoc (numbered
+            (group .depth + 1) 0 g) (numbered (group .depth) (own .number) s) more) at taken) in
             let m = inside group (reaching own position) below more (field (cut .next) (cut .rest)) y later gives head (cut .reads-second) (e .onward) in
             let leaves : Leaves rules inner (cut .next .tag) = record { no-delimiter = e .no-delimiter; no-position = e .untaken (some-fields _ d n g refl) .0; not-accepted = e .untaken (some-fields _ d n g refl) .1 } in
             record { fits = Fits.nested (rw same at r) (rw same at o) deep (rw (cut .tag-is) at leaves) (rw (cut .tag-is) at (e .fits)) (m .fits); at = m .at; ended-there = m .ended-there; onward = m .onward }
@@ -205,7 +205,7 @@ module _ {L : Type 0} (rules : Rules L) (message : List ℕ) (x : Field) (rest :
 -- and that field is none that it takes; and only there.
 pub group-exact : {T : Tables} {Here : ℕ → Type 0} {c d n : ℕ} {gs : List Told} (s : Stands T Here (entries c d (suc n)) gs) (message : List ℕ) (accepts : ℕ → Bool) (layout : Layout) (tag left : ℕ) (fields : Fields) (x : Field) (rest : Fields) → ReadsAs message fields gs (field x rest)
     → (walk (layoutRules accepts) listStore (length gs + suc left) (run (outermost tag layout) 0 ∷ []) [] fields
-        ≡ ended x rest left (recordsAs (numbered 1 0 s) fields)) ↔ ((Fits (layoutRules accepts) (entriesOf layout 1) (x .tag) (entries c d (suc n)) gs s)
-        × (Leaves (layoutRules accepts) layout (x .tag)))
+    ≡ ended x rest left (recordsAs (numbered 1 0 s) fields)) ↔ ((Fits (layoutRules accepts) (entriesOf layout 1) (x .tag) (entries c d (suc n)) gs s)
+    × (Leaves (layoutRules accepts) layout (x .tag)))
 group-exact s message accepts layout tag left fields x rest reads =
     (λ e. group-fits (layoutRules accepts) message x rest _ _ s (outermost tag layout) left [] fields reads e, λ f. layout-group-read message accepts s layout tag left fields x rest (f .0) (f .1) reads)

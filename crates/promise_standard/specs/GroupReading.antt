@@ -112,9 +112,9 @@ module _ {L : Type 0} (rules : Rules L) (message : List ℕ) where
         walk-next rules done f later _ _ (length gs + suc (length fs + left)) (omega arith)
         ∙ entry-counts rules done f later below _ _ _ inner position (rw same (kind-count rules level inner depth last position t rises opens-inner deep))
         ∙ inside (f .tag) 0 (done ++ (r
-            ∷ [])) leaves (omega arith) (length fs + left) (entry (record { level = level; tag = group; depth = depth })
-            (record { number = number; last = position; start = start }) ∷ below) later (cut .next) (cut .rest) (cut .tag-is
-            ∙ ap (λ (n : ℕ). tagBehind n fs) tag) (cut .reads-first)
+        ∷ [])) leaves (omega arith) (length fs + left) (entry (record { level = level; tag = group; depth = depth })
+        (record { number = number; last = position; start = start }) ∷ below) later (cut .next) (cut .rest) (cut .tag-is
+        ∙ ap (λ (n : ℕ). tagBehind n fs) tag) (cut .reads-first)
         ∙ sym (walk-next rules ((done ++ (r ∷ [])) ++ inner-records) (cut .next) (cut .rest) (entry (record { level = level; tag = group; depth = depth }) (record { number = number; last = position; start = start }) ∷ below) (length fs + suc left) (length fs + left) (omega arith))
         ∙ more group number start ((done ++ (r ∷ [])) ++ inner-records) over (fresh-nested start depth ts (done ++ (r ∷ [])) g later (fresh-field start depth number t ts done f same fresh)) left below (field (cut .next) (cut .rest)) x rest tag (cut .reads-second)
         ∙ ap (λ (l : List Record). taking rules listStore left below l x rest)
@@ -138,10 +138,10 @@ module _ {L : Type 0} (rules : Rules L) (message : List ℕ) where
         walk-next rules done f later _ _ (length fs + suc (length gs + left)) (omega arith)
         ∙ run-opens rules done f later below _ _ number (rw same o)
         ∙ first group (number + 1) (length done) (done ++ (r
-            ∷ [])) (over-entry level depth c d n next o leaves g) (fresh-field (length done) depth (number + 1) d ts done f same (fresh-entry depth (d
-            ∷ ts) done (distinct-behind placed (d
-            ∷ ts) (once .distinct)))) (length gs + left) (run (record { level = level; tag = group; depth = depth }) (number + 1)
-            ∷ below) later (cut .next) (cut .rest) (cut .tag-is ∙ ap (λ (n : ℕ). tagBehind n gs) tag) (cut .reads-first)
+        ∷ [])) (over-entry level depth c d n next o leaves g) (fresh-field (length done) depth (number + 1) d ts done f same (fresh-entry depth (d
+        ∷ ts) done (distinct-behind placed (d
+        ∷ ts) (once .distinct)))) (length gs + left) (run (record { level = level; tag = group; depth = depth }) (number + 1)
+        ∷ below) later (cut .next) (cut .rest) (cut .tag-is ∙ ap (λ (n : ℕ). tagBehind n gs) tag) (cut .reads-first)
         ∙ sym (walk-next rules ((done ++ (r ∷ [])) ++ records) (cut .next) (cut .rest) (run (record { level = level; tag = group; depth = depth }) (number + 1) ∷ below) (length gs + suc left) (length gs + left) (omega arith))
         ∙ more group (number + 1) ((done ++ (r ∷ [])) ++ records) leaves (omega arith) left below (field (cut .next) (cut .rest)) x rest tag (cut .reads-second)
         ∙ ap (λ (l : List Record). taking rules listStore left below l x rest)

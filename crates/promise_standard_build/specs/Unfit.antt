@@ -13,7 +13,8 @@ use Rattle.field_rules.specs.CheckSum.{sumOf, checksumOf, checksumDigits}
 use Rattle.field_rules.specs.Decimal.{decimalWithin}
 use Rattle.build_integrity_rules.specs.Integrity.{numberOfReason, integrityOf, begun, counted, summed, typed, lengthIs, lengthAgrees, sumIs, sumAgrees}
 use Rattle.dictionary_layout_rules.specs.Layout.{followedBy as layoutThen, firstOf, positionFrom, positionIn, groupSince, groupOf, delimiterOf, requiredTags}
-use Rattle.dictionary_layout_rules.specs.Tree.{Nodes, nothing, fieldItem, groupItem, Message, Dictionary, holdsTag, knows, plainFields, headerTags, trailerTags, flattened, sameBytes, messageOf, layoutOf}
+use Rattle.dictionary_layout_rules.specs.Tree.{Nodes, nothing, fieldItem, groupItem, Message, Dictionary, holdsTag, knows, plainFields, headerTags}
+use Rattle.dictionary_layout_rules.specs.Tree.{trailerTags, flattened, sameBytes, messageOf, layoutOf}
 use Rattle.build_records.specs.Records.{stored, valueAt}
 use Rattle.build_records.specs.declared.Record.{Record}
 use Rattle.build_group_rules.specs.Groups.{isDelimiter, counting, opens, declared, entryKind, inEntry, decide, entryRecord, moved, walk}
@@ -96,5 +97,11 @@ table =
 
 -- THE TABLE
 each-needed : map (λ (row : Row). seen (messageRead (row .0) (validating true) (order (row .1)))) table ≡ map (λ (row : Row). (row .2, row .3)) table
-unfolding messageRead numberOf startOf startedBy headerOf verifiedRecords withChecksum headerFrom afterHeader afterType afterBody afterTrailer refusal shownWith msgTypeRecord valueAt trailerFrom partRecord valuesOf bodyFrom bodyWithin takes withRun nextFrom andThen storedRun behindRun bodyOf runFrom ranAs checked bodyKind placedKind groupKind answerOf numberOfReason integrityOf begun counted summed typed lengthIs lengthAgrees sumIs sumAgrees sumOf checksumOf checksumDigits decimalWithin layoutThen positionFrom firstOf positionIn groupSince groupOf delimiterOf requiredTags holdsTag knows plainFields headerTags trailerTags flattened sameBytes messageOf layoutOf stored isDelimiter counting opens declared entryKind inEntry decide entryRecord moved walk accepted openedAs layoutRules joinedList listStore orElse has fieldsLack before shallow runLacks nestedLack entriesLack opensEntry entryLack runLack layoutDemands reading-fields
+unfolding messageRead numberOf startOf startedBy headerOf verifiedRecords withChecksum headerFrom afterHeader afterType afterBody afterTrailer refusal
+    shownWith msgTypeRecord valueAt trailerFrom partRecord valuesOf bodyFrom bodyWithin takes withRun nextFrom andThen storedRun behindRun bodyOf runFrom
+    ranAs checked bodyKind placedKind groupKind answerOf numberOfReason integrityOf begun counted summed typed lengthIs lengthAgrees sumIs sumAgrees sumOf
+    checksumOf checksumDigits decimalWithin layoutThen positionFrom firstOf positionIn groupSince groupOf delimiterOf requiredTags holdsTag knows plainFields
+    headerTags trailerTags flattened sameBytes messageOf layoutOf stored isDelimiter counting opens declared entryKind inEntry decide entryRecord moved walk
+    accepted openedAs layoutRules joinedList listStore orElse has fieldsLack before shallow runLacks nestedLack entriesLack opensEntry entryLack runLack
+    layoutDemands reading-fields
 each-needed = refl

@@ -29,7 +29,8 @@ unfolding hangs withoutField
 hangs-without start gone end = refl
 hangs-without start gone (field t v rest) = by-test (eqb t gone) (hangs-without start gone rest)
   where
-    by-test : (b : Bool) → hangs start (withoutField gone rest) ≡ hangs start rest → hangs start (pick b rest (field t v (withoutField gone rest))) ≡ hangs start rest
+    by-test : (b : Bool) → hangs start (withoutField gone rest) ≡ hangs start rest
+        → hangs start (pick b rest (field t v (withoutField gone rest))) ≡ hangs start rest
     by-test true h = refl
     by-test false h = h
 hangs-without start gone (entry s d own rest) = ap (pick (eqb s start) true) (hangs-without start gone rest)
@@ -41,7 +42,8 @@ holds-without tag gone (field t v rest) h =
     let n = nor (eqb t tag) (holds tag rest) h in
     by-test (eqb t gone) (n .0) (n .1) (holds-without tag gone rest (n .1))
   where
-    by-test : (b : Bool) → eqb t tag ≡ false → holds tag rest ≡ false → holds tag (withoutField gone rest) ≡ false → holds tag (pick b rest (field t v (withoutField gone rest))) ≡ false
+    by-test : (b : Bool) → eqb t tag ≡ false → holds tag rest ≡ false → holds tag (withoutField gone rest) ≡ false
+        → holds tag (pick b rest (field t v (withoutField gone rest))) ≡ false
     by-test true e h again = h
     by-test false e h again = rw e again
 holds-without tag gone (entry s d own rest) h = holds-without tag gone rest h
@@ -54,16 +56,19 @@ nowhere tag (field t v rest) h k = let n = nor (eqb t tag) (holds tag rest) h in
 nowhere tag (entry s d own rest) h k = let n = nor (eqb s tag) (hangs tag rest) k in rw (n .0) (nowhere tag rest h (n .1))
 
 -- what is not chosen may be left out
-under-without : (chosen : ℕ → Bool) (separator tag : ℕ) (m : Map) → chosen tag ≡ false → textUnder chosen separator (withoutField tag m) ≡ textUnder chosen separator m
+under-without : (chosen : ℕ → Bool) (separator tag : ℕ) (m : Map) → chosen tag ≡ false
+    → textUnder chosen separator (withoutField tag m) ≡ textUnder chosen separator m
 unfolding textUnder withoutField
 under-without chosen separator tag end h = refl
 under-without chosen separator tag (field t v rest) h = by-test (eqb t tag) refl (under-without chosen separator tag rest h)
   where
     by-test : (b : Bool) → eqb t tag ≡ b → textUnder chosen separator (withoutField tag rest) ≡ textUnder chosen separator rest
-        → textUnder chosen separator (pick b rest (field t v (withoutField tag rest))) ≡ pick (chosen t) (fieldBytes separator (decimal t) v) [] ++ textUnder chosen separator rest
+        → textUnder chosen separator (pick b rest (field t v (withoutField tag rest))) ≡ pick (chosen t) (fieldBytes separator (decimal t) v) []
+        ++ textUnder chosen separator rest
     by-test true e again = let other : chosen t ≡ false = ap chosen (eqb-true t tag e) ∙ h in rw other
     by-test false e again = ap (λ (s : List ℕ). pick (chosen t) (fieldBytes separator (decimal t) v) [] ++ s) again
-under-without chosen separator tag (entry s d own rest) h = ap (λ (l : List ℕ). pick (chosen s) (text separator own) [] ++ l) (under-without chosen separator tag rest h)
+under-without chosen separator tag (entry s d own rest) h =
+    ap (λ (l : List ℕ). pick (chosen s) (text separator own) [] ++ l) (under-without chosen separator tag rest h)
 
 -- ===== storing =====
 
@@ -92,13 +97,15 @@ unfolding holds replaced valueUnder
 replaced-seen tag value end h = never (sym h)
 replaced-seen tag value (field t v rest) h = by-test (eqb t tag) refl h (replaced-seen tag value rest)
   where
-    by-test : (b : Bool) → eqb t tag ≡ b → pick b true (holds tag rest) ≡ true → (holds tag rest ≡ true → valueUnder tag (replaced tag value rest) ≡ some value)
+    by-test : (b : Bool) → eqb t tag ≡ b → pick b true (holds tag rest) ≡ true
+        → (holds tag rest ≡ true → valueUnder tag (replaced tag value rest) ≡ some value)
         → valueUnder tag (pick b (field t value rest) (field t v (replaced tag value rest))) ≡ some value
     by-test true e k again = rw e
     by-test false e k again = rw e (again k)
 replaced-seen tag value (entry s d own rest) h = replaced-seen tag value rest h
 
-last-gone : (tag : ℕ) (value : List ℕ) (m : Map) → holds tag m ≡ false → (withoutField tag (joined m (field tag value end)) ≡ m) × (valueUnder tag (joined m (field tag value end)) ≡ some value)
+last-gone : (tag : ℕ) (value : List ℕ) (m : Map) → holds tag m ≡ false
+    → (withoutField tag (joined m (field tag value end)) ≡ m) × (valueUnder tag (joined m (field tag value end)) ≡ some value)
 unfolding holds withoutField joined valueUnder
 last-gone tag value end h = (rw (eq-eqb tag tag refl), rw (eq-eqb tag tag refl))
 last-gone tag value (field t v rest) h =
@@ -108,7 +115,8 @@ last-gone tag value (field t v rest) h =
 last-gone tag value (entry s d own rest) h = let r = last-gone tag value rest h in (ap (entry s d own) (r .0), r .1)
 
 -- a stored field is seen, and without it the map is as it was without it
-pub stored-gone : (tag : ℕ) (value : List ℕ) (m : Map) → hangs tag m ≡ false → (withoutField tag (stored tag value m) ≡ withoutField tag m) × (valueUnder tag (stored tag value m) ≡ some value)
+pub stored-gone : (tag : ℕ) (value : List ℕ) (m : Map) → hangs tag m ≡ false
+    → (withoutField tag (stored tag value m) ≡ withoutField tag m) × (valueUnder tag (stored tag value m) ≡ some value)
 unfolding stored
 stored-gone tag value m h = by-test (holds tag m) refl
   where
@@ -139,7 +147,8 @@ under-held separator tag value (field t v rest) formed h seen =
     by-test (eqb t tag) refl seen (f .once) (λ k. under-held separator tag value rest (f .rest-formed) h k)
   where
     by-test : (b : Bool) → eqb t tag ≡ b → pick b (some v) (valueUnder tag rest) ≡ some value → stands t (pastLeading t rest) ≡ false
-        → (valueUnder tag rest ≡ some value → (textUnder (λ t. eqb t tag) separator rest ≡ fieldBytes separator (decimal tag) value) × (sizeUnder tag rest ≡ length (decimal tag) + length value + 2))
+        → (valueUnder tag rest ≡ some value → (textUnder (λ t. eqb t tag) separator rest ≡ fieldBytes separator (decimal tag) value)
+        × (sizeUnder tag rest ≡ length (decimal tag) + length value + 2))
         → (pick b (fieldBytes separator (decimal t) v) [] ++ textUnder (λ t. eqb t tag) separator rest ≡ fieldBytes separator (decimal tag) value)
         × (pick b (length (decimal t) + length v + 2) (sizeUnder tag rest) ≡ length (decimal tag) + length value + 2)
     by-test true e k once again =
@@ -194,10 +203,14 @@ module _ (header : Map) (formed : isFormed header ≡ true) where
 
   pub others-held : (holds 8 (othersOf header) ≡ false) × (holds 9 (othersOf header) ≡ false) × (holds 35 (othersOf header) ≡ false)
   unfolding othersOf
-  others-held =
-      (holds-without 8 35 second (gone-once 8 first (formed-without 9 header formed)), holds-without 9 35 second (holds-without 9 8 first (gone-once 9 header formed)), gone-once 35 second second-formed)
+  others-held = (
+    holds-without 8 35 second (gone-once 8 first (formed-without 9 header formed)),
+    holds-without 9 35 second (holds-without 9 8 first (gone-once 9 header formed)),
+    gone-once 35 second second-formed,
+  )
 
-module _ (header : Map) (formed : isFormed header ≡ true) (eight : hangs 8 header ≡ false) (nine : hangs 9 header ≡ false) (type : hangs 35 header ≡ false) where
+module _ (header : Map) (formed : isFormed header ≡ true) (eight : hangs 8 header ≡ false) (nine : hangs 9 header ≡ false)
+    (type : hangs 35 header ≡ false) where
   rest-others : (separator : ℕ) → textUnder isRest separator (withoutField 9 header) ≡ text separator (othersOf header)
   unfolding isRest isFirst
   rest-others separator =
@@ -205,11 +218,13 @@ module _ (header : Map) (formed : isFormed header ≡ true) (eight : hangs 8 hea
       sym (under-without isRest separator 8 (withoutField 9 header) refl)
       ∙ sym (under-without isRest separator 35 (withoutField 8 (withoutField 9 header)) refl)
       ∙ (unfold othersOf in
-      under-rest separator (othersOf header) (nowhere 8 (othersOf header) (held .0) (others-hang header 8 ∙ eight)) (nowhere 9 (othersOf header) (held .1) (others-hang header 9 ∙ nine)) (nowhere 35 (othersOf header) (held .2) (others-hang header 35 ∙ type)))
+      under-rest separator (othersOf header) (nowhere 8 (othersOf header) (held .0) (others-hang header 8 ∙ eight))
+      (nowhere 9 (othersOf header) (held .1) (others-hang header 9 ∙ nine)) (nowhere 35 (othersOf header) (held .2) (others-hang header 35 ∙ type)))
 
   -- "write the header's 8, 9, 35, then the rest in map order"
   pub header-written : (separator : ℕ) (begin size msg-type : List ℕ) → valueUnder 8 header ≡ some begin → valueUnder 35 header ≡ some msg-type
-      → headerText separator (stored 9 size header) ≡ fieldBytes separator (decimal 8) begin ++ (fieldBytes separator (decimal 9) size ++ (fieldBytes separator (decimal 35) msg-type ++ text separator (othersOf header)))
+      → headerText separator (stored 9 size header) ≡ fieldBytes separator (decimal 8) begin
+      ++ (fieldBytes separator (decimal 9) size ++ (fieldBytes separator (decimal 35) msg-type ++ text separator (othersOf header)))
   unfolding headerText isRest isFirst
   header-written separator begin size msg-type begins types =
       let new : Map = stored 9 size header in
@@ -222,4 +237,12 @@ module _ (header : Map) (formed : isFormed header ≡ true) (eight : hangs 8 hea
       let first-formed : isFormed first ≡ true = formed-without 9 header formed in
       let eight-written = under-held separator 8 begin first first-formed (hangs-without 8 9 header ∙ eight) (seen-without 8 9 header refl ∙ begins) .0 in
       let type-written = under-held separator 35 msg-type first first-formed (hangs-without 35 9 header ∙ type) (seen-without 35 9 header refl ∙ types) .0 in
-      rw (same (λ tag. eqb tag 8) refl, same (λ tag. eqb tag 35) refl, same isRest refl, eight-written, type-written, under-held separator 9 size new new-formed new-hangs (g .1) .0, rest-others separator)
+      rw (
+        same (λ tag. eqb tag 8) refl,
+        same (λ tag. eqb tag 35) refl,
+        same isRest refl,
+        eight-written,
+        type-written,
+        under-held separator 9 size new new-formed new-hangs (g .1) .0,
+        rest-others separator,
+      )

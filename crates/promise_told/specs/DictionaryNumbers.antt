@@ -8,10 +8,13 @@ use lib.ListN.{length, take, drop, getD, length-drop}
 use lib.Dec.{eqb, ltb}
 use borrow.Author.Tests.{ltb-false}
 use Rattle.field_rules.specs.Choice.{pick}
-use Rattle.dictionary_rules.specs.Record.{lowFirst, recordBodyLength, withTag, withMark, zeroFilled, knownTag, opensComponent, opensMessage, fieldItem, componentItem, opensGroup, recordBody, withBody, withKind, recordFrom, recordAt}
+use Rattle.dictionary_rules.specs.Record.{lowFirst, recordBodyLength, withTag, withMark, zeroFilled, knownTag, opensComponent, opensMessage, fieldItem}
+use Rattle.dictionary_rules.specs.Record.{componentItem, opensGroup, recordBody, withBody, withKind, recordFrom, recordAt}
 use Rattle.dictionary_rules.specs.Records.{Records, ends, bad, whole, followedBy, recordsWithin, recordsFrom}
 use Rattle.dictionary_rules.specs.Names.{Looks, looksIn, named, noNames}
-use Rattle.dictionary_rules.specs.Step.{depthOf, opened, opens, grown, atTop, inside, closedBefore, knownBefore, notEmpty, notTooDeep, onceComponent, onceMessage, notTooMany, onTag, onComponent, onMessage, onField, onItem, onGroup, closesOwner, closesGroup, closesInnermost, onClose, stepOf, present, atEnd}
+use Rattle.dictionary_rules.specs.Step.{depthOf, opened, opens, grown, atTop, inside, closedBefore, knownBefore, notEmpty, notTooDeep, onceComponent}
+use Rattle.dictionary_rules.specs.Step.{onceMessage, notTooMany, onTag, onComponent, onMessage, onField, onItem, onGroup, closesOwner, closesGroup}
+use Rattle.dictionary_rules.specs.Step.{closesInnermost, onClose, stepOf, present, atEnd}
 use Rattle.dictionary_rules.specs.Check.{outcome, onStep, walked, tooLong, readOf, answerOf, checkOf, valuesOfCheck}
 use Rattle.dictionary_rules.specs.declared.Record.{Record}
 use Rattle.dictionary_rules.specs.declared.Record.the-variants.{KnownTag, OpensComponent, OpensMessage, FieldItem, ComponentItem, OpensGroup, Closes}
@@ -236,7 +239,8 @@ module _ (place : ℕ) (near : place ≤ 60000) where
       (λ o g. closed-small (looks .component number) number _ r (λ c. deep-small (depthOf (o .groups) + c .depth) _ (many-small (o .items + c .items) _ g)))
   step-small looks state (OpensGroup tag required) r s =
       inside-small state _ s
-      (λ o g. known-small (looks .known tag) tag _ r (deep-small (depthOf (o .groups) + 1) _ (many-small (o .items + 1) _ (opened-small tag (o .items + 1) (o .groups) r g))))
+      (λ o g. known-small (looks .known tag) tag _ r
+      (deep-small (depthOf (o .groups) + 1) _ (many-small (o .items + 1) _ (opened-small tag (o .items + 1) (o .groups) r g))))
   step-small looks state Closes r s = inside-small state _ s (λ o g. closes-small o (o .groups) g)
 
 end-small : (looks : Looks) (state : State) (size : ℕ) → size ≤ 60000 → valueOfCheck (atEnd looks state size) < 2 ^ 32

@@ -155,8 +155,12 @@ read-entry-add-t33 t c = omega (arith, count-below _ _ _ _ _ _ _ _ _ (c .before 
 
 read-entry-read-run-requires : (t : ℕ) → read-entry-lts.Need-read-run-requires (entry-calls t) (read-entry-at t) read-entry.Post read-entry-Inv-loop read-entry-μ-loop
 read-entry-read-run-requires t c κs = let k = c .before .before .before .before .before .before .before .before .before .before .before .before in (
-  omega (arith, count-below _ _ _ _ _ _ _ _ _ (c .before .before .before .before .before .before .before .before .before .kind-of .ensures)
-      (c .before .before .before .before .before .before .before .level .given .1), entry-loop t k .before .before .before .before .before .before .before .before .before .before .before .pre .0),
+  omega (
+    arith,
+    count-below _ _ _ _ _ _ _ _ _ (c .before .before .before .before .before .before .before .before .before .kind-of .ensures)
+        (c .before .before .before .before .before .before .before .level .given .1),
+    entry-loop t k .before .before .before .before .before .before .before .before .before .before .before .pre .0,
+  ),
   (stored-fits _ _ _ _ 1 (omega arith) (entry-fits t k) (c .before .before .before .before .add3 .ensures .0), entry-index t k),
 )
 

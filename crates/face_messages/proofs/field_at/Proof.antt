@@ -9,7 +9,9 @@ returns c = field-past _ _ _ (c .if1 .taken)
 
 returns-2 : tie.Need-returns-2
 returns-2 c =
-    field-shown _ _ _ _ _ _ _ _ _ (c .before .before .before .before .before .before .before .if1 .left) (c .before .before .before .before .before .record-at .ensures) (c .before .before .before .before .low-byte .ensures) (c .before .before .before .low-byte2 .ensures) (c .before .before .low-half .ensures) (c .before .low-half2 .ensures) (c .low-half3 .ensures)
+    field-shown _ _ _ _ _ _ _ _ _ (c .before .before .before .before .before .before .before .if1 .left)
+    (c .before .before .before .before .before .record-at .ensures) (c .before .before .before .before .low-byte .ensures)
+    (c .before .before .before .low-byte2 .ensures) (c .before .before .low-half .ensures) (c .before .low-half2 .ensures) (c .low-half3 .ensures)
 
 pub field-at-spec : {M : Type 1} → statement M
 field-at-spec =

@@ -14,5 +14,7 @@ use Rattle.gateway.proofs.framers.gateway_hunter_take.Code as code
 pub gateway-hunter-take-spec : {M : Type 1} → stated.statement M
 unfolding code.routine
 gateway-hunter-take-spec {M} 𝓤 H 𝓜 𝓖 𝓡 =
-    proved hunter core.name (λ h s c. hunterTold h (tookFrom (hunterIn h) s c .taken .state) (tookFrom (hunterIn h) s c .taken .answer)) (λ h s c. tookFrom (hunterIn h) s c .store) (λ h s c. tookFrom (hunterIn h) s c .output) (λ h s c. told 0 (tookFrom (hunterIn h) s c .taken .length, 0))
-    M 𝓤 H 𝓜 𝓖 𝓡 code.env name (code.unfolded 𝓤 H 𝓜 𝓡) (cited 𝓤 H _ 𝓜 𝓡 code.env core.name core.routine code.calls-face-framers·hunter-take (core-thm.met 𝓤 H 𝓜 𝓖 𝓡))
+    proved hunter core.name (λ h s c. hunterTold h (tookFrom (hunterIn h) s c .taken .state) (tookFrom (hunterIn h) s c .taken .answer))
+    (λ h s c. tookFrom (hunterIn h) s c .store) (λ h s c. tookFrom (hunterIn h) s c .output) (λ h s c. told 0 (tookFrom (hunterIn h) s c .taken .length, 0))
+    M 𝓤 H 𝓜 𝓖 𝓡 code.env name (code.unfolded 𝓤 H 𝓜 𝓡)
+    (cited 𝓤 H _ 𝓜 𝓡 code.env core.name core.routine code.calls-face-framers·hunter-take (core-thm.met 𝓤 H 𝓜 𝓖 𝓡))
