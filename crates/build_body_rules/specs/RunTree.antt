@@ -131,7 +131,7 @@ module _ {L : Type 0} (rules : Rules L) (demands : Demands L) (one : OneLayout r
   pub read-tree : (inner : L) (tag room : ℕ) (fields : Fields) (f : Field) (rest : Fields) (left : ℕ) (rs : List Record) →
       walk rules listStore room (run (outermost tag inner) 0 ∷ []) [] fields ≡ ran f rest left rs → RunTree demands 4 inner 1 rs
   read-tree inner tag room fields f rest left rs w =
-      let read = run-formed rules [] inner 1 room tag fields f rest left rs w in
+      let read = run-formed rules [] (outermost tag inner) room fields f rest left rs w in
       rw (read .whole) (formed-tree (read .formed) 3 refl)
 
   module _ (inner : L) (tag : ℕ) (fields : Fields) (room : ℕ) where
