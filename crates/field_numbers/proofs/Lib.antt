@@ -1,2 +1,3 @@
 pub mod Powers
-pub mod Scratch
+pub mod LastDigits
+pub mod Fraction

@@ -3,15 +3,16 @@
 use mathlib.Core.Path.{_≡_, refl, ap}
 use mathlib.Core.Logic.{⊎-elim}
 use mathlib.Core.Bool.{Bool, true, false}
-use Prim.Native.Nat.{ℕ, zero, suc, _+_, _*_, _/_, _^_, _<_}
-use native.Mathlib.Nat.{pow-suc}
+use Prim.Native.Nat.{ℕ, zero, suc, _+_, _*_, _/_, _^_, _≤_, _<_}
+use native.Mathlib.Nat.{pow-suc, one-le-pow}
+use native.Mathlib.Numerals.{add-one}
 use native.Mathlib.Omega.{arith}
 use lib.ListN.{length}
 use lib.Dec.{leb}
 use borrow.Author.Tests.{le-leb, lt-leb, leb-true, leb-false}
 use Rattle.field_rules.specs.Choice.{pick}
 use Rattle.field_rules.specs.Decimal.{decimal}
-use Rattle.field_rules.specs.DecimalLaws.{one-digit-or-more, decimal-small, decimal-length-step}
+use Rattle.field_rules.specs.DecimalLaws.{one-digit-or-more, by-tenths, digits-within, decimal-small, decimal-some, decimal-length-step}
 
 -- how many of the bounds a number reaches, each bound ten times the one before
 unfoldable pub reached : ℕ → ℕ → ℕ → ℕ
@@ -43,3 +44,19 @@ digits-reached (suc more) n h =
     (λ s. rw (le-leb 10 n s)
     (omega (arith, decimal-length-step n s, reached-tenth more 10 n, digits-reached more (n / 10) (omega (arith, pow-suc 10 (suc more))))))
     (one-digit-or-more n)
+
+-- between two powers of ten a number has as many digits as the higher one has zeros
+pub digits-over : (zeros n : ℕ) → 10 ^ zeros ≤ n → zeros < length (decimal n)
+digits-over zero n h = decimal-some n
+digits-over (suc zeros) n h =
+    let power = pow-suc 10 zeros in
+    let some = one-le-pow zeros 10 (omega arith) in
+    omega (arith, decimal-length-step n (omega arith), digits-over zeros (n / 10) (omega arith))
+
+pub digits-between : (zeros n : ℕ) → 10 ^ zeros ≤ n → n < 10 ^ suc zeros → suc zeros ≡ length (decimal n)
+digits-between zeros n over below = omega (arith, digits-over zeros n over, digits-within zeros n below)
+
+pub digits-below : (n : ℕ) → n < 10 ^ length (decimal n)
+digits-below =
+    by-tenths (λ n. n < 10 ^ length (decimal n)) (λ n h. rw (decimal-small n h) h)
+    (λ n h r. rw (decimal-length-step n h, add-one, pow-suc) (omega arith))

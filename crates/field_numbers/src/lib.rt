@@ -3,14 +3,14 @@
 use field_rules::Number;
 use field_rules::Written;
 ghost use mathlib.Core.Path.{_≡_};
-ghost use mathlib.Core.List.{_++_};
-ghost use Prim.Native.Nat.{_-_, _%_, _≤_};
+ghost use Prim.Native.Nat.{_*_, _%_, _^_, _≤_};
 ghost use lib.Dec.{leb};
-ghost use lib.ListN.{length, take};
+ghost use lib.ListN.{length};
 ghost use Rattle.field_rules.specs.Choice.{pick};
 ghost use Rattle.field_rules.specs.Number.{numberIn};
 ghost use Rattle.field_rules.specs.CheckSum.{sumOf, checksumOf, checksumDigits};
 ghost use Rattle.field_rules.specs.Decimal.{decimal, writtenAt, answerAt};
+ghost use Rattle.field_numbers.specs.Fraction.{Ahead};
 
 // A number as an index.
 pub fn wide(n: u32) -> usize
@@ -106,38 +106,67 @@ pub fn digit_count(n: u32) -> usize
         + reaches(n, 1000000000)
 }
 
-// Fills the scratch bytes from their end with the digits of n, and answers where the digits begin.
-fn fill_backwards(scratch: &mut [u8; 10], n: u32) -> usize
-    ensures { λ r. ⌜ r ≡ 10 - length (decimal n) ⌝ }
-    ensures { λ _. ⌜ now (scratch .exit) ≡ take (10 - length (decimal n)) (now (scratch .entry)) ++ decimal n ⌝ }
-{
-    // Only where the array is made a slice does the proof learn that it holds ten bytes.
-    let digits = &mut scratch[..];
-    let mut rest = n;
-    let mut at: usize = 9;
-    while 10 <= rest {
-        digits[at] = 48 + (rest % 10) as u8;
-        rest = rest / 10;
-        at -= 1;
-    }
-    digits[at] = 48 + rest as u8;
-    at
+// What one is in a fraction: its whole part is a digit, and the digits after that one stand behind its point.
+const ONE: u64 = 4294967296;
+
+// A number's digits, to be taken from the highest down: how many there are, and the number as a fraction.
+struct Digits {
+    count: usize,
+    fraction: u64,
 }
 
-// The digits of a tag or a length, from a place of the output on.
+// The point stands behind the highest digit, which counts `power`. Rounding up adds less than the lowest digit can show,
+// since `power` is below ONE; rounded down, 12 would be written as 11.
+fn pointed(n: u32, count: usize, power: u64) -> Digits
+    requires { ⌜ count ≡ length (decimal n) ⌝ }
+    requires { ⌜ power * 10 ≡ 10 ^ count ⌝ }
+    ensures { λ r. ⌜ (r .count ≡ length (decimal n)) × Ahead n (r .count) (r .fraction) ⌝ }
+{
+    Digits {
+        count,
+        fraction: n as u64 * ONE / power + 1,
+    }
+}
+
+// A range to each count, so that the compiler knows each divisor and divides by a product.
+fn digits_of(n: u32) -> Digits
+    ensures { λ r. ⌜ (r .count ≡ length (decimal n)) × Ahead n (r .count) (r .fraction) ⌝ }
+{
+    match n {
+        0..=9 => pointed(n, 1, 1),
+        10..=99 => pointed(n, 2, 10),
+        100..=999 => pointed(n, 3, 100),
+        1000..=9999 => pointed(n, 4, 1000),
+        10000..=99999 => pointed(n, 5, 10000),
+        100000..=999999 => pointed(n, 6, 100000),
+        1000000..=9999999 => pointed(n, 7, 1000000),
+        10000000..=99999999 => pointed(n, 8, 10000000),
+        100000000..=999999999 => pointed(n, 9, 100000000),
+        _ => pointed(n, 10, 1000000000),
+    }
+}
+
+// The digits of a tag or a length, from a place of the output on. The highest comes first: the digit that counts
+// 10 ^ left stands `left` places before the last.
 pub fn write_number(output: &mut [u8], at: usize, n: u32) -> Written
     ensures { λ r. ⌜ r ≡ answerAt at (decimal n) (now (output .entry)) ⌝ }
     ensures { λ _. ⌜ now (output .exit) ≡ writtenAt at (decimal n) (now (output .entry)) ⌝ }
 {
-    let mut scratch = [0u8; 10];
-    let first = fill_backwards(&mut scratch, n);
-    let count = 10 - first;
+    let digits = digits_of(n);
+    let count = digits.count;
     if output.len() < at {
         return Written::NoRoom;
     }
     if output.len() - at < count {
         return Written::NoRoom;
     }
-    bytes::copy(&scratch[first..], &mut output[at..]);
+    let last = at + count - 1;
+    let mut fraction = digits.fraction;
+    let mut left = count;
+    while 0 < left {
+        left -= 1;
+        output[last - left] = 48 + (fraction / ONE) as u8;
+        fraction = fraction % ONE * 10;
+    }
     Written::Next(at + count)
 }
