@@ -1,3 +1,4 @@
 pub mod Powers
 pub mod LastDigits
 pub mod Fraction
+pub mod Turns

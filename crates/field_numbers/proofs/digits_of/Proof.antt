@@ -1,4 +1,5 @@
 -- `digits_of` meets its contract: between two powers of ten a number has as many digits as the higher one has zeros.
+-- Each range is such a pair but for the first, which begins at 0.
 use mathlib.Core.Path.{refl, sym, ap}
 use native.Mathlib.Omega.{arith}
 use lib.ListN.{length}
@@ -20,4 +21,6 @@ digits-of-spec =
     (λ c κs. (digits-between 7 _ (omega arith) (omega arith), refl))
     (λ c κs. (digits-between 8 _ (omega arith) (omega arith), refl))
     (λ c κs. (digits-between 9 _ (omega arith) (omega arith), refl))
-    (λ c. c .pointed .ensures) (λ c. c .pointed2 .ensures) (λ c. c .pointed3 .ensures) (λ c. c .pointed4 .ensures) (λ c. c .pointed5 .ensures) (λ c. c .pointed6 .ensures) (λ c. c .pointed7 .ensures) (λ c. c .pointed8 .ensures) (λ c. c .pointed9 .ensures) (λ c. c .pointed10 .ensures))
+    (λ c. c .pointed .ensures) (λ c. c .pointed2 .ensures) (λ c. c .pointed3 .ensures) (λ c. c .pointed4 .ensures)
+    (λ c. c .pointed5 .ensures) (λ c. c .pointed6 .ensures) (λ c. c .pointed7 .ensures) (λ c. c .pointed8 .ensures)
+    (λ c. c .pointed9 .ensures) (λ c. c .pointed10 .ensures))

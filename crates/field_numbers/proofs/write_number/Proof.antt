@@ -9,7 +9,7 @@ use borrow.Author.Needs.{needs}
 use Rattle.field_rules.specs.Decimal.{decimal, writtenAt, answerAt}
 use Rattle.field_rules.specs.declared.Written.the-variants.{NoRoom}
 use Rattle.field_rules.specs.DecimalLaws.{decimal-some, answer-fits, answer-none, written-none, written-length}
-use Rattle.field_numbers.proofs.Fraction.{Turn, turn-start, turn-length, turn-digit, turn-again, turn-end}
+use Rattle.field_numbers.proofs.Turns.{Turn, turn-start, turn-length, turn-digit, turn-again, turn-end}
 use Rattle.field_numbers.proofs.write_number.Statement.{statement}
 use Rattle.field_numbers.proofs.write_number.Tie as tie
 
