@@ -6,8 +6,8 @@ use Prim.Native.Nat.{ℕ, _+_, _*_, _^_, _≤_, _<_}
 abbrev pub one : ℕ
 one = 4294967296
 
--- ahead are `left` digits, those of `rest`, led by zeros where it has fewer: the fraction is rest / 10 ^ (left - 1), and more by less than
--- one in the last digit is worth; all times ten, so that it also says what is left where no digit is ahead
+-- `left` digits are ahead, those of `rest`, with zeros before them where it has fewer: the fraction is rest / 10 ^ (left - 1), rounded up by
+-- less than one in the last digit is worth. It is said ten times as large, so that it has a meaning where no digit is ahead.
 pub record Ahead (rest left fraction : ℕ) : Type 0 where
   pub digits : rest < 10 ^ left
   pub low : 10 * one * rest ≤ fraction * 10 ^ left

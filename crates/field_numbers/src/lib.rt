@@ -128,7 +128,7 @@ fn pointed(n: u32, count: usize, power: u64) -> Digits
     }
 }
 
-// A range to each count, so that the compiler knows each divisor and divides by a product.
+// A range to each count of digits: so the compiler knows each divisor, and makes the division a product.
 fn digits_of(n: u32) -> Digits
     ensures { λ r. ⌜ (r .count ≡ length (decimal n)) × Ahead n (r .count) (r .fraction) ⌝ }
 {
