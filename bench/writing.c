@@ -182,12 +182,12 @@ static __attribute__((noinline)) void apart(void (*work)(void)) {
     gap[511] = gap[0];
 }
 
-static size_t reached(void (*work)(void)) {
-    volatile uint8_t here = 0, *lowest = &here - STACK;
-    for (volatile uint8_t *at = lowest; at < &here - 256; at++) *at = PAINT;
+static __attribute__((noinline)) size_t reached(void (*work)(void)) {
+    volatile uint8_t *here = __builtin_frame_address(0), *lowest = here - STACK;
+    for (volatile uint8_t *at = lowest; at < here - 256; at++) *at = PAINT;
     apart(work);
     while (*lowest == PAINT) lowest++;
-    return (size_t)(&here - lowest);
+    return (size_t)(here - lowest);
 }
 
 static void nothing(void) {}
@@ -204,7 +204,9 @@ static size_t taken(const struct library *by, void (*work)(void)) {
 }
 
 static void measure_stack(void) {
-    struct { const char *name; void (*work)(void); } calls[] = {{"a number", a_number}, {"a field", a_field}, {"a message's rows", write_rows}, {"encode", encode}};
+    struct { const char *name; void (*work)(void); } calls[] = {
+        {"a number", a_number}, {"a field", a_field}, {"a message's rows", write_rows}, {"encode", encode},
+    };
     puts("\n| bytes of stack | before | now |\n|---|---|---|");
     for (size_t i = 0; i < sizeof calls / sizeof *calls; i++)
         printf("| %s | %zu | %zu |\n", calls[i].name, taken(&libraries[0], calls[i].work), taken(&libraries[1], calls[i].work));
