@@ -45,7 +45,7 @@ digits-reached (suc more) n h =
     (omega (arith, decimal-length-step n s, reached-tenth more 10 n, digits-reached more (n / 10) (omega (arith, pow-suc 10 (suc more))))))
     (one-digit-or-more n)
 
--- between two powers of ten a number has as many digits as the higher one has zeros
+-- a number that reaches a power of ten has more digits than the power has zeros
 pub digits-over : (zeros n : ℕ) → 10 ^ zeros ≤ n → zeros < length (decimal n)
 digits-over zero n h = decimal-some n
 digits-over (suc zeros) n h =
@@ -53,9 +53,11 @@ digits-over (suc zeros) n h =
     let some = one-le-pow zeros 10 (omega arith) in
     omega (arith, decimal-length-step n (omega arith), digits-over zeros (n / 10) (omega arith))
 
+-- between two powers of ten a number has as many digits as the higher one has zeros
 pub digits-between : (zeros n : ℕ) → 10 ^ zeros ≤ n → n < 10 ^ suc zeros → suc zeros ≡ length (decimal n)
 digits-between zeros n over below = omega (arith, digits-over zeros n over, digits-within zeros n below)
 
+-- a number is below the power of ten that has as many zeros as it has digits
 pub digits-below : (n : ℕ) → n < 10 ^ length (decimal n)
 digits-below =
     by-tenths (λ n. n < 10 ^ length (decimal n)) (λ n h. rw (decimal-small n h) h)
