@@ -45,8 +45,8 @@ def hostile(size):
     starts = (8192 - 40) // 22
     block = bytearray()
     for i in range(starts):
-        length = 22 * (starts - i) - len("8=FIX.4.4|9=0000|")
-        block += b"8=FIX.4.4\x019=%04d\x0135=a\x01" % length
+        length = 22 * (starts - i) - len("8=F|9=0000|")
+        block += b"8=F\x019=%04d\x0135=abcdef\x01" % length + b"\x01"
     block += b"10=999\x01"
     out = bytearray()
     while len(out) < size:

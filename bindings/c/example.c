@@ -1,6 +1,6 @@
 /* One sample on its whole way: a damaged stream, the hunting framer, a build over a prepared dictionary, an encoding, a change, an encoding again; what
- * a value with a separator in it does; and what a build over less memory and a plain build answer, what the settings word decides, and what the framers
- * do with a BeginString that is none of FIX. Each line that is printed is held against what must come; the exit code is 1 where one differs. */
+ * a value with a separator in it does; and what a build over less memory and a plain build answer, and what the settings word decides. Each line that
+ * is printed is held against what must come; the exit code is 1 where one differs. */
 #include "tinkoraba.h"
 
 #include <stdio.h>
@@ -11,11 +11,6 @@
 
 /* P5 of the rules twice; a byte of the first was damaged on the way. */
 static const char STREAM[] = ORDER("6?0") ORDER("600");
-
-/* A test harness's message between two of ours. */
-#define OURS "8=FIX.4.4" SOH "9=5" SOH "35=0" SOH "10=163" SOH
-#define HARNESS "8=x" SOH "9=5" SOH "35=0" SOH "10=112" SOH
-static const char CAPTURE[] = OURS HARNESS OURS;
 
 /* A user's tag that the dictionary lacks. */
 static const char WITH_5001[] = "8=FIX.4.4" SOH "9=19" SOH "35=D" SOH "38=600" SOH "5001=x" SOH "10=167" SOH;
@@ -134,24 +129,6 @@ static size_t hunted(uint8_t *frame) {
     return out[1];
 }
 
-/* The hunting framer hands ours out and drops what stands between. The ported framer takes the harness's message too. */
-static void captured(void) {
-    static uint8_t store[TINKORABA_STORE_BYTES], output[TINKORABA_MESSAGE_BYTES];
-    const uint8_t *capture = (const uint8_t *)CAPTURE, *harness = capture + sizeof OURS - 1;
-    HunterState hunter = {0};
-    PortedState ported = {0};
-    uint32_t out[4];
-    number("push of a capture answers", gateway_hunter_push(&hunter, store, sizeof store, capture, sizeof CAPTURE - 1, out), TINKORABA_VALID);
-    for (int i = 0; i < 2; i++) {
-        number("take answers", gateway_hunter_take(&hunter, store, sizeof store, output, sizeof output, out), TINKORABA_VALID);
-        bytes(output, out[1], "8=FIX.4.4|9=5|35=0|10=163|");
-    }
-    number("places dropped", (uint32_t)hunter.dropped, sizeof HARNESS - 1);
-    number("ported push answers", gateway_ported_push(&ported, store, sizeof store, harness, sizeof HARNESS - 1, out), TINKORABA_VALID);
-    number("ported take answers", gateway_ported_take(&ported, store, sizeof store, output, sizeof output, out), TINKORABA_VALID);
-    bytes(output, out[1], "8=x|9=5|35=0|10=112|");
-}
-
 static size_t built(const uint8_t *frame, size_t length, FieldRecord *records) {
     static const char *const expected[] = {"header 8=FIX.4.4", "header 9=24", "header 35=D", "body 38=800", "body 58=x", "trailer 10=139"};
     uint32_t out[4];
@@ -236,7 +213,6 @@ int main(void) {
     built_plainly(frame, length, records, count);
     changed(records, count, frame, length);
     settings();
-    captured();
     puts(failures ? "something differs" : "all as expected");
     return failures ? 1 : 0;
 }

@@ -210,7 +210,7 @@ uint32_t gateway_find_field(const uint32_t *words, size_t word_count, const uint
 uint32_t gateway_find_entry(const uint32_t *words, size_t word_count, const uint8_t *values, size_t value_count, size_t map, uint32_t start,
                             size_t number, uint32_t out[4]);
 
-/* ---- The ported framer cuts a stream by the lengths that messages announce. It takes any BeginString, `8=x` too ---- */
+/* ---- The ported framer cuts a stream by the lengths that messages announce ---- */
 
 /* A chunk of the stream. */
 uint32_t gateway_ported_push(PortedState *state, uint8_t *store, size_t store_length, const uint8_t *chunk, size_t chunk_length, uint32_t out[4]);
@@ -225,8 +225,7 @@ uint32_t gateway_ported_take(PortedState *state, uint8_t *store, size_t store_le
 uint32_t gateway_ported_reset(PortedState *state, uint32_t out[4]);
 
 /* ---- The hunting framer finds whole frames in a damaged stream. After a reset give chunks of at most 8,192 bytes, and after each take until
- *      out[1] is 0. A frame starts with `8=FIX.` or `8=FIXT.`, then a digit, a point, a digit and the separator: a message with any other BeginString,
- *      such as a test harness's `8=x`, is dropped byte by byte, however right the rest of it is ---- */
+ *      out[1] is 0 ---- */
 
 /* A chunk of the stream. */
 uint32_t gateway_hunter_push(HunterState *state, uint8_t *store, size_t store_length, const uint8_t *chunk, size_t chunk_length, uint32_t out[4]);

@@ -24,10 +24,6 @@ uint32_t inner_find_field(const slice *, const slice *, size_t, uint32_t, void *
 uint32_t inner_encode(const slice *, const slice *, const slice *, uint8_t, void *);
 uint32_t inner_ported_push(void *, const slice *, const slice *, void *);
 uint32_t inner_ported_take(void *, const slice *, const slice *, void *);
-uint32_t inner_hunter_push(void *, const slice *, const slice *, void *);
-uint32_t inner_hunter_take(void *, const slice *, const slice *, void *);
-uint32_t inner_hunter_end(void *, const slice *, void *);
-uint32_t inner_hunter_reset(void *, void *);
 
 #define S(name) const void *name, size_t name##_length
 #define P(name) &(slice){name, name##_length}
@@ -70,7 +66,3 @@ uint32_t gateway_encode(S(words), S(values), S(output), uint8_t separator, void 
 }
 uint32_t gateway_ported_push(void *state, S(store), S(chunk), void *out) { return inner_ported_push(state, P(store), P(chunk), out); }
 uint32_t gateway_ported_take(void *state, S(store), S(output), void *out) { return inner_ported_take(state, P(store), P(output), out); }
-uint32_t gateway_hunter_push(void *state, S(store), S(chunk), void *out) { return inner_hunter_push(state, P(store), P(chunk), out); }
-uint32_t gateway_hunter_take(void *state, S(store), S(output), void *out) { return inner_hunter_take(state, P(store), P(output), out); }
-uint32_t gateway_hunter_end(void *state, S(store), void *out) { return inner_hunter_end(state, P(store), out); }
-uint32_t gateway_hunter_reset(void *state, void *out) { return inner_hunter_reset(state, out); }

@@ -7,8 +7,7 @@ fn zeros(size: usize) -> Box<[u8]> {
     vec![0; size].into_boxed_slice()
 }
 
-/// The ported framer: it cuts a stream by the lengths that messages announce, as the Rust engine does, and takes any BeginString, `8=x` too. One damaged
-/// length loses the stream; see [`Hunter`].
+/// The ported framer: it cuts a stream by the lengths that messages announce, as the Rust engine does. One damaged length loses the stream; see [`Hunter`].
 ///
 /// ```
 /// # fn main() -> Result<(), tinkoraba::Error> {
@@ -90,22 +89,6 @@ impl Framer {
 ///     println!("{}", tinkoraba::Bars(frame));
 /// }
 /// assert_eq!(hunter.dropped(), 26);
-/// # Ok(()) }
-/// ```
-///
-/// A frame starts with `8=FIX.` or `8=FIXT.`, then a digit, a point, a digit and the separator. Every other BeginString is damage, however right the rest
-/// is: a message of a test harness that says `8=x` is dropped byte by byte.
-///
-/// ```
-/// # fn main() -> Result<(), tinkoraba::Error> {
-/// let ours = &b"8=FIX.4.4\x019=5\x0135=0\x0110=163\x01"[..];
-/// let harness = &b"8=x\x019=5\x0135=0\x0110=112\x01"[..];
-/// let mut hunter = tinkoraba::Hunter::new();
-/// hunter.push(&[ours, harness, ours].concat())?;
-/// assert_eq!(hunter.take(), Some(ours));
-/// assert_eq!(hunter.take(), Some(ours));
-/// assert_eq!(hunter.take(), None);
-/// assert_eq!(hunter.dropped(), harness.len() as u64);
 /// # Ok(()) }
 /// ```
 #[derive(Debug, Clone)]

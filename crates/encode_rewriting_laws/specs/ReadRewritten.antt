@@ -9,7 +9,7 @@ use Rattle.field_rules.specs.Choice.{pick}
 use Rattle.field_rules.specs.CheckSum.{sum_of, checksum_of, checksum_digits}
 use Rattle.field_rules.specs.Number.{is_digit, all_digits, number_in}
 use Rattle.field_rules.specs.Decimal.{decimal, decimal_within}
-use Rattle.field_rules.specs.DecimalLaws.{digit_byte, last-digit, decimal_digits, number-reads, checksum_reads}
+use Rattle.field_rules.specs.DecimalLaws.{digit_byte, last_digit, decimal_digits, number-reads, checksum_reads}
 use Rattle.field_rules.specs.Field.{start_at, value_of}
 use Rattle.field_rules.specs.Fields.{Fields, field, fields_from}
 use Rattle.field_rules.specs.declared.Field.{Field}
@@ -41,7 +41,7 @@ sum-some : (s : List ℕ) → all_digits (sum_digits s) ≡ true
 unfolding sum_digits checksum_digits
 sum-some s =
     let n = sum_of s % 256 in
-    digit_byte (n / 100) _ (omega arith) (digit_byte (n / 10 % 10) _ (omega arith) (last-digit (n % 10) (omega arith)))
+    digit_byte (n / 100) _ (omega arith) (digit_byte (n / 10 % 10) _ (omega arith) (last_digit (n % 10) (omega arith)))
 
 sum_three : (s : List ℕ) → length (sum_digits s) ≡ 3
 unfolding sum_digits checksum_digits

@@ -5,7 +5,7 @@ use native.Mathlib.Nat.{one-le-pow}
 use borrow.Author.Tests.{lt-leb}
 use Rattle.field_rules.specs.Choice.{pick}
 use Rattle.field_rules.specs.Decimal.{decimal}
-use Rattle.field_rules.specs.DecimalLaws.{one-digit_or_more, by_tenths, digits_within, decimal_small, decimal-some, decimal-length-step}
+use Rattle.field_rules.specs.DecimalLaws.{one_digit_or_more, by_tenths, digits_within, decimal_small, decimal-some, decimal-length-step}
 
 -- how many of the bounds a number reaches, each bound ten times the one before
 unfoldable pub reached : ℕ → ℕ → ℕ → ℕ
@@ -36,7 +36,7 @@ digits_reached (suc more) n h =
     ⊎_elim (λ s. omega (arith, ap length (decimal_small n s), reached-none (suc more) 10 n s))
     (λ s. rw (le-leb 10 n s)
     (omega (arith, decimal-length-step n s, reached_tenth more 10 n, digits_reached more (n / 10) (omega (arith, pow-suc 10 (suc more))))))
-    (one-digit_or_more n)
+    (one_digit_or_more n)
 
 -- a number that reaches a power of ten has more digits than the power has zeros
 pub digits_over : (zeros n : ℕ) → 10 ^ zeros ≤ n → zeros < length (decimal n)

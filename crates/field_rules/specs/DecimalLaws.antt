@@ -13,8 +13,8 @@ use Rattle.field_rules.specs.Decimal.{decimal_within, decimal, written_at, answe
 use Rattle.field_rules.specs.declared.Number.TheVariants.{Worth}
 use Rattle.field_rules.specs.declared.Written.TheVariants.{Next, NoRoom}
 
-pub one-digit_or_more : (n : ℕ) → (n < 10) ⊎ (10 ≤ n)
-one-digit_or_more n = by_test (ltb n 10) refl
+pub one_digit_or_more : (n : ℕ) → (n < 10) ⊎ (10 ≤ n)
+one_digit_or_more n = by_test (ltb n 10) refl
   where
     by_test : (b : Bool) → ltb n 10 ≡ b → (n < 10) ⊎ (10 ≤ n)
     by_test true h = inl (ltb-true n 10 h)
@@ -36,7 +36,7 @@ fuel_enough (suc fuel) zero n f m = within_small (suc fuel) n (omega arith) ∙ 
 fuel_enough (suc fuel) (suc more) n f m =
     ⊎_elim (λ h. within_small (suc fuel) n h ∙ sym (within_small (suc more) n h))
     (λ h. rw (within_step fuel n h, within_step more n h, fuel_enough fuel more (n / 10) (omega arith) (omega arith)))
-    (one-digit_or_more n)
+    (one_digit_or_more n)
 
 pub decimal_small : (n : ℕ) → n < 10 → decimal n ≡ (48 + n) ∷ []
 unfolding decimal
@@ -53,7 +53,7 @@ module _ (P : ℕ → Type 0) (small : (n : ℕ) → n < 10 → P n) (step : (n 
   pub by_tenths_within : (fuel n : ℕ) → n ≤ fuel → P n
   by_tenths_within zero n f = small n (omega arith)
   by_tenths_within (suc fuel) n f =
-      ⊎_elim (small n) (λ h. step n h (by_tenths_within fuel (n / 10) (omega arith))) (one-digit_or_more n)
+      ⊎_elim (small n) (λ h. step n h (by_tenths_within fuel (n / 10) (omega arith))) (one_digit_or_more n)
 
   pub by_tenths : (n : ℕ) → P n
   by_tenths n = by_tenths_within n n (omega arith)
@@ -67,11 +67,11 @@ digits_within zero n h = omega (arith, ap length (decimal_small n (omega arith))
 digits_within (suc zeros) n h =
     ⊎_elim (λ s. omega (arith, ap length (decimal_small n s)))
     (λ s. omega (arith, decimal-length-step n s, digits_within zeros (n / 10) (omega (arith, pow-suc 10 (suc zeros)))))
-    (one-digit_or_more n)
+    (one_digit_or_more n)
 
 pub decimal-some : (n : ℕ) → 1 ≤ length (decimal n)
 decimal-some n =
-    ⊎_elim (λ h. omega (arith, ap length (decimal_small n h))) (λ h. omega (arith, decimal-length-step n h)) (one-digit_or_more n)
+    ⊎_elim (λ h. omega (arith, ap length (decimal_small n h))) (λ h. omega (arith, decimal-length-step n h)) (one_digit_or_more n)
 
 pub decimal-length : (n : ℕ) → n < 2 ^ 32 → (1 ≤ length (decimal n)) × (length (decimal n) ≤ 10)
 decimal-length n h = (decimal-some n, digits_within 9 n (omega arith))
@@ -99,14 +99,14 @@ all_digits-append (x ∷ a) b p q =
 pub digit_byte : (d : ℕ) (s : List ℕ) → d < 10 → all_digits s ≡ true → all_digits ((48 + d) ∷ s) ≡ true
 digit_byte d s h rest = all_digits_cons (48 + d) s (omega arith) (omega arith) rest
 
-pub last-digit : (d : ℕ) → d < 10 → all_digits ((48 + d) ∷ []) ≡ true
+pub last_digit : (d : ℕ) → d < 10 → all_digits ((48 + d) ∷ []) ≡ true
 unfolding all_digits
-last-digit d h = digit_byte d [] h refl
+last_digit d h = digit_byte d [] h refl
 
 pub decimal_digits : (n : ℕ) → all_digits (decimal n) ≡ true
 decimal_digits =
-    by_tenths (λ n. all_digits (decimal n) ≡ true) (λ n h. rw (decimal_small n h) (last-digit n h))
-    (λ n h r. rw (decimal_step n h) (all_digits-append (decimal (n / 10)) _ r (last-digit (n % 10) (omega arith))))
+    by_tenths (λ n. all_digits (decimal n) ≡ true) (λ n h. rw (decimal_small n h) (last_digit n h))
+    (λ n h r. rw (decimal_step n h) (all_digits-append (decimal (n / 10)) _ r (last_digit (n % 10) (omega arith))))
 
 pub worth-append : (m : ℕ) (a b : List ℕ) → worth m (a ++ b) ≡ worth (worth m a) b
 unfolding worth
@@ -136,7 +136,7 @@ pub checksum_reads : (n : ℕ) → n < 256 → checksum_of (checksum_digits n) �
 unfolding checksum_of checksum_digits worth
 checksum_reads n h =
     number_good (checksum_digits n) n (λ e. omega arith)
-    (digit_byte (n / 100) _ (omega arith) (digit_byte (n / 10 % 10) _ (omega arith) (last-digit (n % 10) (omega arith))))
+    (digit_byte (n / 100) _ (omega arith) (digit_byte (n / 10 % 10) _ (omega arith) (last_digit (n % 10) (omega arith))))
     (omega arith) (omega arith)
 
 -- a digit read after a number is a digit written after its digits

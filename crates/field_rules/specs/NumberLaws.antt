@@ -8,9 +8,9 @@ use Rattle.field_rules.specs.CheckSum.{sum_of, checksum_of}
 use Rattle.field_rules.specs.declared.Number.TheVariants.{Worth, NoNumber}
 
 module _ (s : List ℕ) (i : ℕ) where
-  pub digit-step : i < length s → 48 ≤ get_or s i 0 → get_or s i 0 ≤ 57 → all_digits (drop i s) ≡ all_digits (drop (i + 1) s)
+  pub digit_step : i < length s → 48 ≤ get_or s i 0 → get_or s i 0 ≤ 57 → all_digits (drop i s) ≡ all_digits (drop (i + 1) s)
   unfolding all_digits is_digit
-  digit-step h l u = rw (drop-cons s i 0, le-leb _ _ l, le-leb _ _ u, add-one)
+  digit_step h l u = rw (drop-cons s i 0, le-leb _ _ l, le-leb _ _ u, add-one)
 
   pub digit_low : i < length s → get_or s i 0 < 48 → all_digits (drop i s) ≡ false
   unfolding all_digits is_digit
@@ -20,9 +20,9 @@ module _ (s : List ℕ) (i : ℕ) where
   unfolding all_digits is_digit
   digit_high h l = rw (drop-cons s i 0, le-leb 48 (get_or s i 0) (omega arith), lt-leb _ _ l)
 
-  pub digit-end : length s ≤ i → all_digits (drop i s) ≡ true
+  pub digit_end : length s ≤ i → all_digits (drop i s) ≡ true
   unfolding all_digits
-  digit-end h = rw (drop_of_length-le s h)
+  digit_end h = rw (drop_of_length-le s h)
 
   pub worth-step : (n : ℕ) → i < length s → worth n (drop i s) ≡ worth (n * 10 + (get_or s i 0 - 48)) (drop (i + 1) s)
   unfolding worth

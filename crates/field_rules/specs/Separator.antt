@@ -17,6 +17,6 @@ module _ (separator : ℕ) where
   unfolding is_refused_separator is_digit
   separator-low e h = rw (ne_eqb separator 61 e, lt-leb 48 separator h)
 
-  pub separator-digit : (separator ≡ 61 → ⊥) → 48 ≤ separator → is_refused_separator separator ≡ leb separator 57
+  pub separator_digit : (separator ≡ 61 → ⊥) → 48 ≤ separator → is_refused_separator separator ≡ leb separator 57
   unfolding is_refused_separator is_digit
-  separator-digit e h = rw (ne_eqb separator 61 e, le-leb 48 separator h)
+  separator_digit e h = rw (ne_eqb separator 61 e, le-leb 48 separator h)

@@ -77,13 +77,13 @@ module _ (s : List ℕ) (i : ℕ) (inside : i < length s) where
   one_more = rw (add-one i) (take-suc s i 0 inside)
 
   -- a digit more
-  pub digit-worth : worth 0 (take (i + 1) s) ≡ worth 0 (take i s) * 10 + (get_or s i 0 - 48)
+  pub digit_worth : worth 0 (take (i + 1) s) ≡ worth 0 (take i s) * 10 + (get_or s i 0 - 48)
   unfolding worth
-  digit-worth = rw (one_more, worth-append)
+  digit_worth = rw (one_more, worth-append)
 
-  pub digit-more : all_digits (take i s) ≡ true → 48 ≤ get_or s i 0 → get_or s i 0 ≤ 57 → all_digits (take (i + 1) s) ≡ true
+  pub digit_more : all_digits (take i s) ≡ true → 48 ≤ get_or s i 0 → get_or s i 0 ≤ 57 → all_digits (take (i + 1) s) ≡ true
   unfolding all_digits
-  digit-more all low high = rw one_more (all_digits-append (take i s) (get_or s i 0 ∷ []) all (all_digits_cons (get_or s i 0) [] low high refl))
+  digit_more all low high = rw one_more (all_digits-append (take i s) (get_or s i 0 ∷ []) all (all_digits_cons (get_or s i 0) [] low high refl))
 
   -- where no `=` stands up to a byte, it stands behind it
   pub equals-behind : find_in 61 0 s ≡ find_in 61 i (drop i s) → (get_or s i 0 ≡ 61 → ⊥) → (q : ℕ) → find_in 61 0 s ≡ At q → i < q

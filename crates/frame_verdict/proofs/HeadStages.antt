@@ -9,8 +9,7 @@ use Rattle.field_rules.specs.Number.{worth}
 use Rattle.frame_verdict_rules.specs.Frame.{separator, begin_tag, length_tag, frame_most, IsBeginString, lead}
 use Rattle.frame_verdict_rules.specs.Readers.{Out, bad, short, Reader, ◌>>=◌, literal, begin_string, body_length}
 use Rattle.frame_verdict_rules.specs.Verdict.{framing, body_reader, frame_reader, stage_of, length_of, as_verdict, verdict_of}
-use Rattle.frame_verdict_rules.specs.Texts.{Ended}
-use Rattle.frame_verdict_rules.specs.BeginStrings.{begin_exact, begin-within}
+use Rattle.frame_verdict_rules.specs.Texts.{Ended, begin_exact, begin-short}
 use Rattle.frame_verdict_rules.specs.Lengths.{Fitting, length_exact}
 use Rattle.frame_verdict_rules.specs.FrameExact.{can_fit}
 use Rattle.frame_verdict_rules.specs.declared.Stage.{Stage}
@@ -86,7 +85,7 @@ module _ (s : List ℕ) where
   number_read at e b k =
       let r : Reached whole s (after_number b.begin) (begin_read b.begin ++ length_tag) e = literal-on whole s length_tag (λ e. after_number b.begin) _ at b.reached e k in
       let p : e ≡ 5 + length b.begin = stands whole s _ _ e r ∙ simp length-append (omega arith) in
-      record { begin = b.begin; is_begin = b.is_begin; reached = r; place = p; room = omega (arith, begin-within b.is_begin); wide = (omega (arith, begin-within b.is_begin), omega (arith, begin-within b.is_begin)) }
+      record { begin = b.begin; is_begin = b.is_begin; reached = r; place = p; room = omega (arith, begin-short b.is_begin); wide = (omega (arith, begin-short b.is_begin), omega (arith, begin-short b.is_begin)) }
 
   -- ---- after the announced length
   pub record Body (n at : ℕ) : Type 0 where
@@ -104,7 +103,7 @@ module _ (s : List ℕ) where
         let l : e ≡ 6 + length i.begin + length d.digits = stands whole s _ _ e d.reached ∙ ap length w ∙ lead-length i.begin d.digits in
         record {
           inside = d.reached.inside;
-          early = omega (arith, l, d.is_word.1.few, begin-within i.is_begin);
+          early = omega (arith, l, d.is_word.1.few, begin-short i.is_begin);
           least = omega (arith, d.counts, d.is_word.1.least);
           most = omega (arith, d.counts, d.is_word.1.fits);
           goes_on = d.reached.goes_on ∙ cc (t, d.counts);

@@ -1,5 +1,4 @@
 pub mod Loops
 pub mod Places
 pub mod BodyStages
-pub mod BeginStages
 pub mod HeadStages

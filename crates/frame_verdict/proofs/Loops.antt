@@ -11,7 +11,7 @@ use lib.Dec.{leb, ltb}
 use borrow.Author.Tests.{eq-eqb, ne_eqb, le-leb, lt-leb, ltb-true, leb-true}
 use Rattle.field_rules.specs.Choice.{pick}
 use Rattle.field_rules.specs.Number.{is_digit, worth}
-use Rattle.frame_verdict_rules.specs.Readers.{Out, on, bad, short, Reader, literal, with_head, Kind, ends, goes, wrong, headed, may_become}
+use Rattle.frame_verdict_rules.specs.Readers.{Out, on, bad, short, Reader, literal, with_head, Kind, ends, goes, wrong, headed, text_kind, text, may_become}
 use Rattle.frame_verdict_rules.specs.Readers.{digit_kind, body_length}
 use Rattle.frame_verdict_rules.specs.Verdict.{stage_of, length_of}
 use Rattle.frame_verdict_rules.specs.declared.Stage.TheVariants.{On, Bad, Short}
@@ -59,6 +59,67 @@ byte_none kind next s i h = rw (drop_of_length-le s h)
 place : (s : List ℕ) (i : ℕ) → i < length s → length s - length (drop (i + 1) s) ≡ i + 1
 place s i h = omega (arith, length-drop (i + 1) s)
 
+stage_on : (s : List ℕ) (i : ℕ) (o : Out (List ℕ)) → i < length s → o ≡ on [] (drop (i + 1) s) → stage_of s o ≡ On (i + 1)
+unfolding stage_of
+stage_on s i o h e = rw (e, place s i h)
+
+stage_bad : (s : List ℕ) (o : Out (List ℕ)) → o ≡ bad → stage_of s o ≡ Bad
+unfolding stage_of
+stage_bad s o e = rw e
+
+stage_short : (s : List ℕ) (o : Out (List ℕ)) → o ≡ short → stage_of s o ≡ Short
+unfolding stage_of
+stage_short s o e = rw e
+
+stage_head : (s : List ℕ) (x : ℕ) (o q : Out (List ℕ)) → o ≡ with_head x q → stage_of s o ≡ stage_of s q
+unfolding stage_of with_head
+stage_head s x o (on a r) e = rw e
+stage_head s x o bad e = rw e
+stage_head s x o short e = rw e
+
+kind_ends : (least most x : ℕ) → x ≡ 1 → least ≡ 0 → text_kind least most x ≡ ends
+unfolding text_kind
+kind_ends least most x e l = rw (eq-eqb x 1 e, eq-eqb least 0 l)
+
+kind_early : (least most x : ℕ) → x ≡ 1 → (least ≡ 0 → ⊥) → text_kind least most x ≡ wrong
+unfolding text_kind
+kind_early least most x e l = rw (eq-eqb x 1 e, ne_eqb least 0 l)
+
+kind_late : (least most x : ℕ) → (x ≡ 1 → ⊥) → most ≡ 0 → text_kind least most x ≡ wrong
+unfolding text_kind
+kind_late least most x e l = rw (ne_eqb x 1 e, eq-eqb most 0 l)
+
+kind_goes : (least most x : ℕ) → (x ≡ 1 → ⊥) → (most ≡ 0 → ⊥) → text_kind least most x ≡ goes
+unfolding text_kind
+kind_goes least most x e l = rw (ne_eqb x 1 e, ne_eqb most 0 l)
+
+module _ (s : List ℕ) (i least : ℕ) where
+  pub text-ends : (most : ℕ) → i < length s → get_or s i 0 ≡ 1 → least ≡ 0 → stage_of s (text least most (drop i s)) ≡ On (i + 1)
+  unfolding text
+  text-ends zero h e l = stage_on s i _ h (byte_ends _ _ s i h (kind_ends least 0 _ e l))
+  text-ends (suc most) h e l = stage_on s i _ h (byte_ends _ _ s i h (kind_ends least (suc most) _ e l))
+
+  pub text-early : (most : ℕ) → i < length s → get_or s i 0 ≡ 1 → (least ≡ 0 → ⊥) → stage_of s (text least most (drop i s)) ≡ Bad
+  unfolding text
+  text-early zero h e l = stage_bad s _ (byte_wrong _ _ s i h (kind_early least 0 _ e l))
+  text-early (suc most) h e l = stage_bad s _ (byte_wrong _ _ s i h (kind_early least (suc most) _ e l))
+
+  pub text-late : (most : ℕ) → i < length s → (get_or s i 0 ≡ 1 → ⊥) → most ≡ 0 → stage_of s (text least most (drop i s)) ≡ Bad
+  unfolding text
+  text-late zero h e l = stage_bad s _ (byte_wrong _ _ s i h (kind_late least 0 _ e l))
+  text-late (suc most) h e l = absurd (omega arith)
+
+  pub text-goes : (most : ℕ) → i < length s → (get_or s i 0 ≡ 1 → ⊥) → (most ≡ 0 → ⊥)
+      → stage_of s (text least most (drop i s)) ≡ stage_of s (text (least - 1) (most - 1) (drop (i + 1) s))
+  unfolding text
+  text-goes zero h e l = absurd (l refl)
+  text-goes (suc most) h e l = let y : suc most - 1 ≡ most = omega arith in rw y (stage_head s _ _ _ (byte_goes _ _ s i h (kind_goes least (suc most) _ e l)))
+
+  pub text-none : (most : ℕ) → length s ≤ i → stage_of s (text least most (drop i s)) ≡ Short
+  unfolding text
+  text-none zero h = stage_short s _ (byte_none _ _ s i h)
+  text-none (suc most) h = stage_short s _ (byte_none _ _ s i h)
+
 -- ---- the announced length
 
 -- a number that can still become N leaves room for one digit more
@@ -88,13 +149,13 @@ length_head v s x o (on a r) e = rw e
 length_head v s x o bad e = rw e
 length_head v s x o short e = rw e
 
-digit-ends : (left room v x : ℕ) → x ≡ 1 → 4 ≤ v → digit_kind left room v x ≡ ends
+digit_ends : (left room v x : ℕ) → x ≡ 1 → 4 ≤ v → digit_kind left room v x ≡ ends
 unfolding digit_kind
-digit-ends left room v x e h = rw (eq-eqb x 1 e, le-leb 4 v h)
+digit_ends left room v x e h = rw (eq-eqb x 1 e, le-leb 4 v h)
 
-digit-few : (left room v x : ℕ) → x ≡ 1 → v < 4 → digit_kind left room v x ≡ wrong
+digit_few : (left room v x : ℕ) → x ≡ 1 → v < 4 → digit_kind left room v x ≡ wrong
 unfolding digit_kind
-digit-few left room v x e h = rw (eq-eqb x 1 e, lt-leb 4 v h)
+digit_few left room v x e h = rw (eq-eqb x 1 e, lt-leb 4 v h)
 
 digit_low : (left room v x : ℕ) → (x ≡ 1 → ⊥) → x < 48 → digit_kind left room v x ≡ wrong
 unfolding digit_kind is_digit
@@ -104,25 +165,25 @@ digit_high : (left room v x : ℕ) → (x ≡ 1 → ⊥) → 57 < x → digit_ki
 unfolding digit_kind is_digit
 digit_high left room v x e h = rw (ne_eqb x 1 e, le-leb 48 x (omega arith), lt-leb x 57 h)
 
-digit-more : (room v x : ℕ) → (x ≡ 1 → ⊥) → 48 ≤ x → x ≤ 57 → digit_kind 0 room v x ≡ wrong
+digit_more : (room v x : ℕ) → (x ≡ 1 → ⊥) → 48 ≤ x → x ≤ 57 → digit_kind 0 room v x ≡ wrong
 unfolding digit_kind is_digit
-digit-more room v x e h k = rw (ne_eqb x 1 e, le-leb 48 x h, le-leb x 57 k)
+digit_more room v x e h k = rw (ne_eqb x 1 e, le-leb 48 x h, le-leb x 57 k)
 
 digit_large : (left room v x : ℕ) → (x ≡ 1 → ⊥) → 48 ≤ x → x ≤ 57 → (left ≡ 0 → ⊥) → may_become (left - 1) (room - 1) (v * 10 + (x - 48)) ≡ false
     → digit_kind left room v x ≡ wrong
 unfolding digit_kind is_digit
 digit_large left room v x e h k z m = rw (ne_eqb x 1 e, le-leb 48 x h, le-leb x 57 k, ne_eqb left 0 z, m)
 
-digit-goes : (left room v x : ℕ) → (x ≡ 1 → ⊥) → 48 ≤ x → x ≤ 57 → (left ≡ 0 → ⊥) → may_become (left - 1) (room - 1) (v * 10 + (x - 48)) ≡ true
+digit_goes : (left room v x : ℕ) → (x ≡ 1 → ⊥) → 48 ≤ x → x ≤ 57 → (left ≡ 0 → ⊥) → may_become (left - 1) (room - 1) (v * 10 + (x - 48)) ≡ true
     → digit_kind left room v x ≡ goes
 unfolding digit_kind is_digit
-digit-goes left room v x e h k z m = rw (ne_eqb x 1 e, le-leb 48 x h, le-leb x 57 k, ne_eqb left 0 z, m)
+digit_goes left room v x e h k z m = rw (ne_eqb x 1 e, le-leb 48 x h, le-leb x 57 k, ne_eqb left 0 z, m)
 
 module _ (s : List ℕ) (i room v : ℕ) where
   pub length-ends : (left : ℕ) → i < length s → get_or s i 0 ≡ 1 → 4 ≤ v → length_of v s (body_length left room v (drop i s)) ≡ Announced v (i + 1)
   unfolding body_length
-  length-ends zero h e l = length-on v s i _ h (byte_ends _ _ s i h (digit-ends 0 room v _ e l))
-  length-ends (suc left) h e l = length-on v s i _ h (byte_ends _ _ s i h (digit-ends (suc left) room v _ e l))
+  length-ends zero h e l = length-on v s i _ h (byte_ends _ _ s i h (digit_ends 0 room v _ e l))
+  length-ends (suc left) h e l = length-on v s i _ h (byte_ends _ _ s i h (digit_ends (suc left) room v _ e l))
 
   length-wrong : (left : ℕ) → i < length s → digit_kind left room v (get_or s i 0) ≡ wrong → length_of v s (body_length left room v (drop i s)) ≡ BadLength
   unfolding body_length
@@ -130,7 +191,7 @@ module _ (s : List ℕ) (i room v : ℕ) where
   length-wrong (suc left) h e = length-bad v s _ (byte_wrong _ _ s i h e)
 
   pub length-few : (left : ℕ) → i < length s → get_or s i 0 ≡ 1 → v < 4 → length_of v s (body_length left room v (drop i s)) ≡ BadLength
-  length-few left h e l = length-wrong left h (digit-few left room v _ e l)
+  length-few left h e l = length-wrong left h (digit_few left room v _ e l)
 
   pub length-low : (left : ℕ) → i < length s → (get_or s i 0 ≡ 1 → ⊥) → get_or s i 0 < 48 → length_of v s (body_length left room v (drop i s)) ≡ BadLength
   length-low left h e l = length-wrong left h (digit_low left room v _ e l)
@@ -140,7 +201,7 @@ module _ (s : List ℕ) (i room v : ℕ) where
 
   pub length_more : (left : ℕ) → i < length s → (get_or s i 0 ≡ 1 → ⊥) → 48 ≤ get_or s i 0 → get_or s i 0 ≤ 57 → left ≡ 0
       → length_of v s (body_length left room v (drop i s)) ≡ BadLength
-  length_more zero h e a b z = length-wrong 0 h (digit-more room v _ e a b)
+  length_more zero h e a b z = length-wrong 0 h (digit_more room v _ e a b)
   length_more (suc left) h e a b z = absurd (omega arith)
 
   pub length_large : (left : ℕ) → i < length s → (get_or s i 0 ≡ 1 → ⊥) → 48 ≤ get_or s i 0 → get_or s i 0 ≤ 57 → (left ≡ 0 → ⊥)
@@ -154,7 +215,7 @@ module _ (s : List ℕ) (i room v : ℕ) where
   unfolding body_length
   length-goes zero h e a b z m = absurd (z refl)
   length-goes (suc left) h e a b z m =
-      let y : suc left - 1 ≡ left = omega arith in rw y (length_head v s _ _ _ (byte_goes _ _ s i h (digit-goes (suc left) room v _ e a b z m)))
+      let y : suc left - 1 ≡ left = omega arith in rw y (length_head v s _ _ _ (byte_goes _ _ s i h (digit_goes (suc left) room v _ e a b z m)))
 
   pub length_none : (left : ℕ) → length s ≤ i → length_of v s (body_length left room v (drop i s)) ≡ ShortLength
   unfolding body_length

@@ -1,7 +1,7 @@
 // frame_verdict: what is known of a place from the bytes that stand there: a frame starts, none can start, or neither yet. It can be asked of any
 // bytes. It may not judge more than a frame: what stands between `35=` and the CheckSum is no concern of it.
 ghost use Rattle.std.specs.Prelude.{◌≡◌, ◌-◌, ◌≤◌, length, take, drop};
-ghost use Rattle.frame_verdict_rules.specs.Readers.{literal, digit, is_fixt, protocol, begin_string, may_become, body_length};
+ghost use Rattle.frame_verdict_rules.specs.Readers.{literal, begin_string, may_become, body_length};
 ghost use Rattle.frame_verdict_rules.specs.Verdict.{body_reader, stage_of, length_of, as_verdict, verdict_of};
 
 use frame_verdict_rules::{Length, Stage, Verdict};
@@ -30,67 +30,27 @@ fn literal_at(bytes: &[u8], at: usize, wanted: &[u8]) -> Stage
     Stage::On(place)
 }
 
-// From the place `at`: a digit.
-fn digit_at(bytes: &[u8], at: usize) -> Stage
-    requires { at ≤ length bytes.now }
-    ensures { result ≡ stage_of bytes.now (digit (drop at bytes.now)) }
-{
-    if at == bytes.len() {
-        return Stage::Short;
-    }
-    if bytes[at] < 48 {
-        return Stage::Bad;
-    }
-    if 57 < bytes[at] {
-        return Stage::Bad;
-    }
-    Stage::On(at + 1)
-}
-
-// Whether the fourth byte from the place `at` on is the `T` of `FIXT.`: up to it `FIX.` and `FIXT.` are alike.
-fn is_fixt(bytes: &[u8], at: usize) -> bool
-    requires { at ≤ length bytes.now }
-    ensures { result ≡ is_fixt (drop at bytes.now) }
-{
-    if bytes.len() - at < 4 {
-        return false;
-    }
-    bytes[at + 3] == b'T'
-}
-
-// From the place `at`: "`FIX.` or `FIXT.`".
-fn protocol_at(bytes: &[u8], at: usize) -> Stage
-    requires { at ≤ length bytes.now }
-    ensures { result ≡ stage_of bytes.now (protocol (drop at bytes.now)) }
-{
-    if is_fixt(bytes, at) {
-        return literal_at(bytes, at, b"FIXT.");
-    }
-    literal_at(bytes, at, b"FIX.")
-}
-
-// From the place `at`: "`FIX.` or `FIXT.`, then a digit, a point and a digit", separator.
+// From the place `at`: "1 to 16 bytes without separator, separator".
 fn begin_string_at(bytes: &[u8], at: usize) -> Stage
     requires { at ≤ length bytes.now }
     ensures { result ≡ stage_of bytes.now (begin_string (drop at bytes.now)) }
 {
-    let named = protocol_at(bytes, at);
-    let Stage::On(major) = named else {
-        return named;
-    };
-    let numbered = digit_at(bytes, major);
-    let Stage::On(point) = numbered else {
-        return numbered;
-    };
-    let pointed = literal_at(bytes, point, b".");
-    let Stage::On(minor) = pointed else {
-        return pointed;
-    };
-    let versioned = digit_at(bytes, minor);
-    let Stage::On(end) = versioned else {
-        return versioned;
-    };
-    literal_at(bytes, end, b"\x01")
+    let mut read: usize = 0;
+    let mut place = at;
+    while place < bytes.len() {
+        if bytes[place] == SEPARATOR {
+            if read == 0 {
+                return Stage::Bad;
+            }
+            return Stage::On(place + 1);
+        }
+        if read == 16 {
+            return Stage::Bad;
+        }
+        read += 1;
+        place += 1;
+    }
+    Stage::Short
 }
 
 // A digit's value, widened here once so that the loop need not show that it fits.

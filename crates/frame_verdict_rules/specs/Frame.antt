@@ -1,6 +1,6 @@
 -- What a frame of the hunting framer is, in the words of RULES.md, Hunting framer. Nothing here is computed.
-use Rattle.std.specs.Prelude.{◌≡◌, true, List, [], ◌∷◌, ◌++◌, ◌≢◌, ◌⊎◌, ℕ, ◌%◌, ◌≤◌, length, take}
-use Rattle.field_rules.specs.Number.{is_digit, all_digits, worth}
+use Rattle.std.specs.Prelude.{◌≡◌, true, List, [], ◌∷◌, ◌++◌, ◌≢◌, ℕ, ◌%◌, ◌≤◌, length, take}
+use Rattle.field_rules.specs.Number.{all_digits, worth}
 use Rattle.field_rules.specs.CheckSum.{sum_of}
 
 -- "Separator 0x01"
@@ -20,16 +20,6 @@ type_tag = 51 ∷ 53 ∷ 61 ∷ []
 abbrev pub sum_tag : List ℕ
 sum_tag = 49 ∷ 48 ∷ 61 ∷ []
 
--- the byte strings `FIX.` and `FIXT.`
-abbrev pub fix : List ℕ
-fix = 70 ∷ 73 ∷ 88 ∷ 46 ∷ []
-
-abbrev pub fixt : List ℕ
-fixt = 70 ∷ 73 ∷ 88 ∷ 84 ∷ 46 ∷ []
-
-abbrev pub point : ℕ
-point = 46
-
 -- "at most 8,192 bytes"
 abbrev pub frame_most : ℕ
 frame_most = 8192
@@ -46,17 +36,13 @@ Byte x = x ≤ 255
 abbrev pub NoSeparator : ℕ → Type 0
 NoSeparator x = x ≢ separator
 
--- "`FIX.` or `FIXT.`, then a digit, a point and a digit": the BeginString, here and nowhere else
+-- "1 to 16 bytes without separator": the BeginString, here and nowhere else
 pub record IsBeginString (begin : List ℕ) : Type 0 where
-  pub protocol : List ℕ
-  pub major : ℕ
-  pub minor : ℕ
-  pub is_protocol : (protocol ≡ fix) ⊎ (protocol ≡ fixt)
-  pub major_digit : is_digit major ≡ true
-  pub minor_digit : is_digit minor ≡ true
-  pub whole : begin ≡ protocol ++ (major ∷ point ∷ minor ∷ [])
+  pub least : 1 ≤ length begin
+  pub most : length begin ≤ 16
+  pub clean : All NoSeparator begin
 
--- all before the N bytes: "`8=`, .. separator, `9=`, one to five digits of value N, separator"
+-- all before the N bytes: "`8=`, 1 to 16 bytes without separator, separator, `9=`, one to five digits of value N, separator"
 abbrev pub lead : List ℕ → List ℕ → List ℕ
 lead begin digits = begin_tag ++ (begin ++ (separator ∷ (length_tag ++ (digits ++ (separator ∷ [])))))
 

@@ -8,8 +8,7 @@ use Rattle.frame_verdict_rules.specs.Readers.{may_become}
 use Rattle.frame_verdict_rules.specs.Verdict.{framing, checksum_for, body_reader, frame_reader}
 use Rattle.frame_verdict_rules.specs.Exact.{Exact, Then, then_exact, exact_same}
 use Rattle.frame_verdict_rules.specs.Literals.{Literal, literal_exact, small_bytes, Any, any_exact}
-use Rattle.frame_verdict_rules.specs.Texts.{Ended}
-use Rattle.frame_verdict_rules.specs.BeginStrings.{begin_exact, begin-within}
+use Rattle.frame_verdict_rules.specs.Texts.{Ended, begin_exact, begin-short}
 use Rattle.frame_verdict_rules.specs.Lengths.{Fitting, CanFit, length_exact, digit_range, digits_head, digits_tail, digits_more}
 
 -- ---- three digits
@@ -22,15 +21,15 @@ three_worth : (c : ℕ) → c < 256 → worth 0 (checksum_digits c) ≡ c
 unfolding worth checksum_digits
 three_worth c h = omega arith
 
-no_digit-wrong : all_digits [] ≡ true
+no_digit_wrong : all_digits [] ≡ true
 unfolding all_digits
-no_digit-wrong = refl
+no_digit_wrong = refl
 
 three_digits_lem : (c : ℕ) → c < 256 → all_digits (checksum_digits c) ≡ true
 unfolding checksum_digits
 three_digits_lem c h =
     digits_more (48 + c / 100) _ (is_digit_lem _ (omega arith) (omega arith))
-    (digits_more (48 + c / 10 % 10) _ (is_digit_lem _ (omega arith) (omega arith)) (digits_more (48 + c % 10) _ (is_digit_lem _ (omega arith) (omega arith)) no_digit-wrong))
+    (digits_more (48 + c / 10 % 10) _ (is_digit_lem _ (omega arith) (omega arith)) (digits_more (48 + c % 10) _ (is_digit_lem _ (omega arith) (omega arith)) no_digit_wrong))
 
 three_size : (c : ℕ) → length (checksum_digits c) ≡ 3
 unfolding checksum_digits
@@ -114,7 +113,7 @@ body_exact before n =
 -- at first any length can come about: the BeginString leaves room enough
 pub can_fit : (begin : List ℕ) → IsBeginString begin → CanFit 5 (room_after begin) 0
 unfolding may_become
-can_fit begin b = record { may = refl; wide = omega (arith, begin-within b) }
+can_fit begin b = record { may = refl; wide = omega (arith, begin-short b) }
 
 stages_exact : Exact frame_reader Stages
 unfolding frame_reader
@@ -191,7 +190,7 @@ parts_frame begin digits middle w k =
       sum-size = sum_is_three all;
       sum_digits = sum_is_digits all;
       sum_is_lem = sum_is-worth all;
-      small = omega (arith, l, n, k.is_length.fits, begin-within k.is_begin);
+      small = omega (arith, l, n, k.is_length.fits, begin-short k.is_begin);
     }
 
 -- ---- a body that starts `35=` and ends with a separator
@@ -228,7 +227,7 @@ frame_parts w f = go (body-middle f.body f.body-starts.0 f.body-ends.0 f.body-st
           m.0,
           record {
             is_begin = f.begins;
-            is_length = record { few = f.digits_most; digits = f.digits_are; least = omega (arith, f.announced, lb); fits = omega (arith, f.announced, f.small, lw, begin-within f.begins) };
+            is_length = record { few = f.digits_most; digits = f.digits_are; least = omega (arith, f.announced, lb); fits = omega (arith, f.announced, f.small, lw, begin-short f.begins) };
             middle-size = omega (arith, f.announced, lb);
             whole = rw m.1 at ew;
           },
@@ -324,8 +323,3 @@ frame_exact = exact_same frame_reader Stages _ stages_parts (λ e w f. let p = f
 -- no frame is empty
 pub frame_size : (w : List ℕ) → IsFrame w → framing ≤ length w
 frame_size w f = omega (arith, ap length f.whole, frame_length f.begin f.digits f.body f.sum f.sum-size)
-
--- What 8,192 bytes leave for N: 8,172 less the digits behind the 7 bytes of `FIX.`, 8,171 less the digits behind the 8 of `FIXT.`. So N is
--- at most 8,168 with four digits and 8,167 with five, or 8,167 and 8,166.
-pub greatest : (w : List ℕ) (f : IsFrame w) → length f.body + length f.digits + length f.begin ≤ 8179
-greatest w f = omega (arith, f.small, ap length f.whole, frame_length f.begin f.digits f.body f.sum f.sum-size)

@@ -82,41 +82,41 @@ some-four : (v : ℕ) → worth v (52 ∷ []) ≡ v * 10 + 4
 unfolding worth
 some-four v = refl
 
-four-digit : all_digits (52 ∷ []) ≡ true
+four_digit : all_digits (52 ∷ []) ≡ true
 unfolding all_digits is_digit
-four-digit = refl
+four_digit = refl
 
 fitting_one : (left room v : ℕ) → CanFit left room v → (a : List ℕ) × Fitting left room v a × All Byte a
 fitting_one left room v c = may_case left room v true c.may
-    (λ p q. (52 ∷ [], record { few = omega (arith, ltb-true 0 left q); digits = four-digit; least = omega (arith, some-four v); fits = omega (arith, some-four v, c.wide) }, all_more {x = 52} (omega arith) all_none))
+    (λ p q. (52 ∷ [], record { few = omega (arith, ltb-true 0 left q); digits = four_digit; least = omega (arith, some-four v); fits = omega (arith, some-four v, c.wide) }, all_more {x = 52} (omega arith) all_none))
     (λ p q. ([], record { few = omega arith; digits = digits_none; least = omega (arith, worth-none v); fits = omega (arith, worth-none v, leb-true v room q) }, all_none))
 
 -- what each kind says of a byte behind digits worth v
-digit-ends : (left room v x : ℕ) → digit_kind left room v x ≡ ends → (x ≡ separator) × (4 ≤ v)
+digit_ends : (left room v x : ℕ) → digit_kind left room v x ≡ ends → (x ≡ separator) × (4 ≤ v)
 unfolding digit_kind
-digit-ends left room v x e = separator_case x _ _ _ e
+digit_ends left room v x e = separator_case x _ _ _ e
     (λ p q. pick_case (leb 4 v) _ _ _ q (λ z w. (p, leb-true 4 v z)) (λ z w. ends-wrong (sym w)))
     (λ p q. pick_case (is_digit x) _ _ _ q
     (λ z w. pick_case (eqb left 0) _ _ _ w (λ y u. ends-wrong (sym u)) (λ y u. pick_case (may_become (left - 1) (room - 1) (v * 10 + (x - 48))) _ _ _ u (λ t o. ends-goes (sym o)) (λ t o. ends-wrong (sym o))))
     (λ z w. ends-wrong (sym w)))
 
-digit-goes : (left room v x : ℕ) → digit_kind left room v x ≡ goes → (x ≢ separator) × (is_digit x ≡ true) × (left ≢ 0) × (may_become (left - 1) (room - 1) (v * 10 + (x - 48)) ≡ true)
+digit_goes : (left room v x : ℕ) → digit_kind left room v x ≡ goes → (x ≢ separator) × (is_digit x ≡ true) × (left ≢ 0) × (may_become (left - 1) (room - 1) (v * 10 + (x - 48)) ≡ true)
 unfolding digit_kind
-digit-goes left room v x e = separator_case x _ _ _ e
+digit_goes left room v x e = separator_case x _ _ _ e
     (λ p q. pick_case (leb 4 v) _ _ _ q (λ z w. ends-goes w) (λ z w. goes-wrong (sym w)))
     (λ p q. pick_case (is_digit x) _ _ _ q
     (λ z w. pick_case (eqb left 0) _ _ _ w (λ y u. goes-wrong (sym u)) (λ y u. pick_case (may_become (left - 1) (room - 1) (v * 10 + (x - 48))) _ _ _ u (λ t o. (p, z, eqb-false left 0 y, t)) (λ t o. goes-wrong (sym o))))
     (λ z w. goes-wrong (sym w)))
 
-digit-wrong-end : (left room v x : ℕ) → digit_kind left room v x ≡ wrong → x ≡ separator → 4 ≤ v → ⊥
+digit_wrong-end : (left room v x : ℕ) → digit_kind left room v x ≡ wrong → x ≡ separator → 4 ≤ v → ⊥
 unfolding digit_kind
-digit-wrong-end left room v x e p h = separator_case x _ _ _ e
+digit_wrong-end left room v x e p h = separator_case x _ _ _ e
     (λ _. λ q. pick_case (leb 4 v) _ _ _ q (λ z w. ends-wrong w) (λ z w. omega (arith, leb-false 4 v z, h)))
     (λ n q. n p)
 
-digit-wrong : (left room v x : ℕ) → digit_kind left room v x ≡ wrong → is_digit x ≡ true → left ≢ 0 → may_become (left - 1) (room - 1) (v * 10 + (x - 48)) ≡ false
+digit_wrong : (left room v x : ℕ) → digit_kind left room v x ≡ wrong → is_digit x ≡ true → left ≢ 0 → may_become (left - 1) (room - 1) (v * 10 + (x - 48)) ≡ false
 unfolding digit_kind
-digit-wrong left room v x e d n = separator_case x _ _ _ e
+digit_wrong left room v x e d n = separator_case x _ _ _ e
     (λ p q. absurd (omega (arith, digit_range x d, p)))
     (λ p q. pick_case (is_digit x) _ _ _ q
     (λ z w. pick_case (eqb left 0) _ _ _ w (λ y u. absurd (n (eqb-true left 0 y))) (λ y u. pick_case (may_become (left - 1) (room - 1) (v * 10 + (x - 48))) _ _ _ u (λ t o. goes-wrong o) (λ t o. t)))
@@ -140,22 +140,22 @@ unfolding body_length
 length_exact zero room v c = headed_exact _ _ (Fitting 0 room v) (record {
   one = fitting_one 0 room v c;
   clean = λ x a g. omega (arith, digit_range x (digits_head x a g.digits));
-  if_ends = λ x e. let k = digit-ends 0 room v x e in (k.0, fitting_none 0 room v c k.1);
-  if_goes = λ x e. absurd ((digit-goes 0 room v x e).2 refl);
-  if_wrong-end = λ x e p g. digit-wrong-end 0 room v x e p (omega (arith, worth-none v, g.least));
+  if_ends = λ x e. let k = digit_ends 0 room v x e in (k.0, fitting_none 0 room v c k.1);
+  if_goes = λ x e. absurd ((digit_goes 0 room v x e).2 refl);
+  if_wrong-end = λ x e p g. digit_wrong-end 0 room v x e p (omega (arith, worth-none v, g.least));
   if_wrong = λ x a e g. omega (arith, g.few);
 })
 length_exact (suc left) room v c = headed_exact _ _ (Fitting (suc left) room v) (record {
   one = fitting_one (suc left) room v c;
   clean = λ x a g. omega (arith, digit_range x (digits_head x a g.digits));
-  if_ends = λ x e. let k = digit-ends (suc left) room v x e in (k.0, fitting_none (suc left) room v c k.1);
-  if_goes = λ x e. let k = digit-goes (suc left) room v x e in (
+  if_ends = λ x e. let k = digit_ends (suc left) room v x e in (k.0, fitting_none (suc left) room v c k.1);
+  if_goes = λ x e. let k = digit_goes (suc left) room v x e in (
     k.0,
     exact_same (body_length left (room - 1) (v * 10 + (x - 48))) _ _
         (λ a w m. (m.0, record { few = omega (arith, m.1.few); digits = digits_more x a k.1 m.1.digits; least = omega (arith, worth-more v x a, m.1.least); fits = omega (arith, worth-more v x a, m.1.fits, c.wide) }))
         (λ a w m. (m.0, record { few = omega (arith, m.1.few); digits = digits_tail x a m.1.digits; least = omega (arith, worth-more v x a, m.1.least); fits = omega (arith, worth-more v x a, m.1.fits, c.wide) }))
         (length_exact left (room - 1) (v * 10 + (x - 48)) (record { may = rw (pre left) at k.3; wide = omega (arith, c.wide) })),
   );
-  if_wrong-end = λ x e p g. digit-wrong-end (suc left) room v x e p (omega (arith, worth-none v, g.least));
-  if_wrong = λ x a e g. may_not left (room - 1) (v * 10 + (x - 48)) a (rw (pre left) at (digit-wrong (suc left) room v x e (digits_head x a g.digits) (λ z. absurd (omega arith)))) (omega (arith, g.few)) (omega (arith, worth-more v x a, g.least)) (omega (arith, worth-more v x a, g.fits));
+  if_wrong-end = λ x e p g. digit_wrong-end (suc left) room v x e p (omega (arith, worth-none v, g.least));
+  if_wrong = λ x a e g. may_not left (room - 1) (v * 10 + (x - 48)) a (rw (pre left) at (digit_wrong (suc left) room v x e (digits_head x a g.digits) (λ z. absurd (omega arith)))) (omega (arith, g.few)) (omega (arith, worth-more v x a, g.least)) (omega (arith, worth-more v x a, g.fits));
 })

@@ -5,7 +5,6 @@ pub mod Exact
 pub mod Literals
 pub mod Texts
 pub mod Lengths
-pub mod BeginStrings
 pub mod FrameExact
 pub mod VerdictLaws
 pub mod Examples

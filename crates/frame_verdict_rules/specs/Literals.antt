@@ -125,7 +125,7 @@ any-bad zero s e = bad-on _ [] s e refl
 any-bad (suc n) [] e = short-bad _ refl e
 any-bad (suc n) (x ∷ xs) e = any-bad n xs (head_bad x _ e)
 
-zeros : (n : ℕ) → All Byte (replicate n 0)
+pub zeros : (n : ℕ) → All Byte (replicate n 0)
 zeros zero = all_none
 zeros (suc n) = all_more {x = 0} (omega arith) (zeros n)
 

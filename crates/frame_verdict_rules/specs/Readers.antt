@@ -1,8 +1,8 @@
 -- Readers with three outcomes, and the small readers of which the verdict is made. Each refuses as soon as no continuation can be right.
-use Rattle.std.specs.Prelude.{Bool, List, [], ◌∷◌, ◌++◌, ℕ, zero, suc, ◌+◌, ◌-◌, ◌*◌, eqb, leb, ltb, get_or}
+use Rattle.std.specs.Prelude.{Bool, List, [], ◌∷◌, ℕ, zero, suc, ◌+◌, ◌-◌, ◌*◌, eqb, leb, ltb}
 use Rattle.field_rules.specs.Choice.{pick}
 use Rattle.field_rules.specs.Number.{is_digit}
-use Rattle.frame_verdict_rules.specs.Frame.{separator, fix, fixt, point}
+use Rattle.frame_verdict_rules.specs.Frame.{separator}
 
 -- `a` was read, and these bytes are left; no continuation can be read; all is well so far, and the bytes do not reach
 pub data Out (A : Type 0) : Type 0 where
@@ -35,36 +35,6 @@ any zero s = on [] s
 any (suc n) [] = short
 any (suc n) (x ∷ xs) = with_head x (any n xs)
 
--- nothing is read, and `a` is told
-unfoldable pub given : {A : Type 0} → A → Reader A
-given a s = on a s
-
--- exactly these bytes, and they are told
-unfoldable pub named : List ℕ → Reader (List ℕ)
-named name = literal name >>= (λ e. given name)
-
-unfoldable pub digit : Reader ℕ
-digit [] = short
-digit (x ∷ xs) = pick (is_digit x) (on x xs) bad
-
--- `FIX.` and `FIXT.` are alike up to their fourth byte, `.` or `T`
-unfoldable pub is_fixt : List ℕ → Bool
-is_fixt s = eqb (get_or s 3 0) 84
-
--- "`FIX.` or `FIXT.`"
-unfoldable pub protocol : Reader (List ℕ)
-protocol s = pick (is_fixt s) (named fixt s) (named fix s)
-
--- "`FIX.` or `FIXT.`, then a digit, a point and a digit", separator
-unfoldable pub begin_string : Reader (List ℕ)
-begin_string = do
-  name ← protocol
-  major ← digit
-  e₁ ← literal (point ∷ [])
-  minor ← digit
-  e₂ ← literal (separator ∷ [])
-  given (name ++ (major ∷ point ∷ minor ∷ []))
-
 -- A byte of a text that a separator ends: it ends the text, belongs to it or is wrong.
 pub data Kind : Type 0 where
   ends : Kind
@@ -75,6 +45,19 @@ pub data Kind : Type 0 where
 unfoldable pub headed : (ℕ → Kind) → (ℕ → Reader (List ℕ)) → Reader (List ℕ)
 headed kind next [] = short
 headed kind next (x ∷ xs) = elim (kind x) [ ends ↦ on [] xs | goes ↦ with_head x (next x xs) | wrong ↦ bad ]
+
+-- a byte of a text that still lacks `least` bytes and has room for `most`
+unfoldable pub text_kind : ℕ → ℕ → ℕ → Kind
+text_kind least most x = pick (eqb x separator) (pick (eqb least 0) ends wrong) (pick (eqb most 0) wrong goes)
+
+-- at least `least` and at most `most` bytes without separator, and a separator
+unfoldable pub text : ℕ → ℕ → Reader (List ℕ)
+text least zero s = headed (text_kind least 0) (λ x r. bad) s
+text least (suc most) s = headed (text_kind least (suc most)) (λ x. text (least - 1) most) s
+
+-- "1 to 16 bytes without separator, separator"
+unfoldable pub begin_string : Reader (List ℕ)
+begin_string = text 1 16
 
 -- The digits so far are worth v and at most `left` may follow. N can still be at least 4, as `35=` and a separator need, and still
 -- fit the `room` that the frame has for N and the digits that follow.

@@ -1,13 +1,14 @@
--- Texts that a separator ends: reading one byte by byte is exact where every byte's kind is.
-use Rattle.std.specs.Prelude.{◌≡◌, ◌≢◌, Bool, true, false, List, [], ◌∷◌, ◌++◌, ℕ, eqb}
+-- Texts that a separator ends: reading one byte by byte is exact where every byte's kind is, and so the BeginString's reader is.
+use Rattle.std.specs.Prelude.{◌≡◌, ◌≢◌, Bool, true, false, List, [], ◌∷◌, ◌++◌, ℕ, zero, suc, ◌-◌, ◌≤◌, eqb, length, replicate}
 use Rattle.std.proofs.Math.Path.{refl}
 use Rattle.std.proofs.Common.{sym, ap, ◌∙◌, arith, eqb-true}
+use Rattle.std.proofs.lemmas.List.{length-replicate}
 use Rattle.std.proofs.lemmas.Bool.{eqb-false}
 use Rattle.field_rules.specs.Choice.{pick}
-use Rattle.frame_verdict_rules.specs.Frame.{separator, All, all_none, all_more, Byte}
-use Rattle.frame_verdict_rules.specs.Readers.{on, bad, short, Reader, with_head, Kind, ends, goes, wrong, headed}
-use Rattle.frame_verdict_rules.specs.Exact.{Exact, all_append, bad-on, short_on, short-bad, on_value, on-rest}
-use Rattle.frame_verdict_rules.specs.Literals.{head_on, head_bad, head_short, to_head}
+use Rattle.frame_verdict_rules.specs.Frame.{separator, All, all_none, all_more, Byte, NoSeparator, IsBeginString}
+use Rattle.frame_verdict_rules.specs.Readers.{on, bad, short, Reader, with_head, Kind, ends, goes, wrong, headed, text_kind, text, begin_string}
+use Rattle.frame_verdict_rules.specs.Exact.{Exact, all_append, exact_same, bad-on, short_on, short-bad, on_value, on-rest}
+use Rattle.frame_verdict_rules.specs.Literals.{head_on, head_bad, head_short, to_head, zeros}
 
 module _ (kind : ℕ → Kind) (next : ℕ → Reader (List ℕ)) where
   headed-ends : (x : ℕ) (xs : List ℕ) → kind x ≡ ends → headed kind next (x ∷ xs) ≡ on [] xs
@@ -132,6 +133,12 @@ ends-wrong e = let z : ◌≡◌ {A = ℕ} 0 1 = cc in absurd (omega arith)
 pub goes-wrong : {X : Type 0} → goes ≡ wrong → X
 goes-wrong e = let z : ◌≡◌ {A = ℕ} 0 1 = cc in absurd (omega arith)
 
+pub all_head : {P : ℕ → Type 0} {x : ℕ} {xs : List ℕ} → All P (x ∷ xs) → P x
+all_head (all_more p a) = p
+
+pub all_tail : {P : ℕ → Type 0} {x : ℕ} {xs : List ℕ} → All P (x ∷ xs) → All P xs
+all_tail (all_more p a) = a
+
 pub separator_case : {X : Type 0} (x : ℕ) (k l m : Kind) → pick (eqb x separator) k l ≡ m → (x ≡ separator → k ≡ m → X) → (x ≢ separator → l ≡ m → X) → X
 separator_case {X} x k l m e f g = go (eqb x separator) refl e
   where
@@ -139,6 +146,76 @@ separator_case {X} x k l m e f g = go (eqb x separator) refl e
     go true q h = f (eqb-true x separator q) h
     go false q h = g (eqb-false x separator q) h
 
+-- ---- the BeginString
+
+-- a text within both bounds
+pub record Text (least most : ℕ) (a : List ℕ) : Type 0 where
+  pub long : least ≤ length a
+  pub fits : length a ≤ most
+  pub clean : All NoSeparator a
+
 pub pick_case : {X : Type 0} (b : Bool) (k l m : Kind) → pick b k l ≡ m → (b ≡ true → k ≡ m → X) → (b ≡ false → l ≡ m → X) → X
 pick_case true k l m e f g = f refl e
 pick_case false k l m e f g = g refl e
+
+-- what each kind says of a byte of the text
+text-ends : (least most x : ℕ) → text_kind least most x ≡ ends → (x ≡ separator) × (least ≡ 0)
+unfolding text_kind
+text-ends least most x e = separator_case x _ _ _ e
+    (λ p q. pick_case (eqb least 0) _ _ _ q (λ z w. (p, eqb-true least 0 z)) (λ z w. ends-wrong (sym w)))
+    (λ p q. pick_case (eqb most 0) _ _ _ q (λ z w. ends-wrong (sym w)) (λ z w. ends-goes (sym w)))
+
+text-goes : (least most x : ℕ) → text_kind least most x ≡ goes → (x ≢ separator) × (most ≢ 0)
+unfolding text_kind
+text-goes least most x e = separator_case x _ _ _ e
+    (λ p q. pick_case (eqb least 0) _ _ _ q (λ z w. ends-goes w) (λ z w. goes-wrong (sym w)))
+    (λ p q. pick_case (eqb most 0) _ _ _ q (λ z w. goes-wrong (sym w)) (λ z w. (p, eqb-false most 0 z)))
+
+text-wrong : (least most x : ℕ) → text_kind least most x ≡ wrong → (x ≡ separator → least ≡ 0 → ⊥) × (x ≢ separator → most ≡ 0)
+unfolding text_kind
+text-wrong least most x e = separator_case x _ _ _ e
+    (λ p q. pick_case (eqb least 0) _ _ _ q (λ z w. ends-wrong w) (λ z w. (λ a b. eqb-false least 0 z b, λ n. absurd (n p))))
+    (λ p q. pick_case (eqb most 0) _ _ _ q (λ z w. (λ a. absurd (p a), λ n. eqb-true most 0 z)) (λ z w. goes-wrong w))
+
+zeros_clean : (n : ℕ) → All NoSeparator (replicate n 0)
+zeros_clean zero = all_none
+zeros_clean (suc n) = all_more {x = 0} (omega arith) (zeros_clean n)
+
+text-one : (least most : ℕ) → least ≤ most → (a : List ℕ) × Text least most a × All Byte a
+text-one least most h = (replicate least 0, record { long = omega (arith, length-replicate {A = ℕ} least 0); fits = omega (arith, length-replicate {A = ℕ} least 0); clean = zeros_clean least }, zeros least)
+
+-- The first byte of a text leaves a text that lacks one byte less and has room for one less.
+pub text_exact : (least most : ℕ) → least ≤ most → Exact (text least most) (Ended (Text least most))
+unfolding text
+text_exact least zero h = headed_exact _ _ (Text least 0) (record {
+  one = text-one least 0 h;
+  clean = λ x a g. all_head g.clean;
+  if_ends = λ x e. let k = text-ends least 0 x e in (k.0, record { long = omega arith; fits = omega arith; clean = all_none });
+  if_goes = λ x e. absurd ((text-goes least 0 x e).1 refl);
+  if_wrong-end = λ x e p g. (text-wrong least 0 x e).0 p (omega (arith, g.long));
+  if_wrong = λ x a e g. omega (arith, g.fits);
+})
+text_exact least (suc most) h = headed_exact _ _ (Text least (suc most)) (record {
+  one = text-one least (suc most) h;
+  clean = λ x a g. all_head g.clean;
+  if_ends = λ x e. let k = text-ends least (suc most) x e in (k.0, record { long = omega (arith, k.1); fits = omega arith; clean = all_none });
+  if_goes = λ x e. let k = text-goes least (suc most) x e in (
+    k.0,
+    exact_same (text (least - 1) most) _ _
+        (λ a w m. (m.0, record { long = omega (arith, m.1.long); fits = omega (arith, m.1.fits); clean = all_more k.0 m.1.clean }))
+        (λ a w m. (m.0, record { long = omega (arith, m.1.long); fits = omega (arith, m.1.fits); clean = all_tail m.1.clean })) (text_exact (least - 1) most (omega arith)),
+  );
+  if_wrong-end = λ x e p g. (text-wrong least (suc most) x e).0 p (omega (arith, g.long));
+  if_wrong = λ x a e g. let z : suc most ≡ 0 = (text-wrong least (suc most) x e).1 (all_head g.clean) in absurd (omega arith);
+})
+
+-- THE BEGINSTRING'S READER IS EXACT
+pub begin_exact : Exact begin_string (Ended IsBeginString)
+unfolding begin_string
+begin_exact = exact_same (text 1 16) _ _
+    (λ a w m. (m.0, record { least = m.1.long; most = m.1.fits; clean = m.1.clean }))
+    (λ a w m. (m.0, record { long = m.1.least; fits = m.1.most; clean = m.1.clean })) (text_exact 1 16 (omega arith))
+
+-- all that the rest of the frame needs to know of its size: much room is left for the N bytes
+pub begin-short : {begin : List ℕ} → IsBeginString begin → length begin ≤ 1000
+begin-short b = omega (arith, b.most)

@@ -147,9 +147,9 @@ pub field_numbers_checksum_digits : NoFreedom 0 in-field-numbers-checksum-digits
     (λ κs x y left other. x ≡ y)
 field_numbers_checksum_digits κs a x y left other p q = same p q
 
-pub field_numbers_digit-count : NoFreedom 0 in-field-numbers-digit-count.ps in-field-numbers-digit-count.r of-field-numbers-digit-count.Post
+pub field_numbers_digit_count : NoFreedom 0 in-field-numbers-digit-count.ps in-field-numbers-digit-count.r of-field-numbers-digit-count.Post
     (λ κs x y left other. x ≡ y)
-field_numbers_digit-count κs a x y left other p q = same p q
+field_numbers_digit_count κs a x y left other p q = same p q
 
 pub field_numbers_wide : NoFreedom 0 in-field-numbers-wide.ps in-field-numbers-wide.r of-field-numbers-wide.Post (λ κs x y left other. x ≡ y)
 field_numbers_wide κs a x y left other p q = same p q

@@ -5,22 +5,18 @@ use Rattle.std.proofs.Math.Path.{sym, ap}
 use Rattle.std.proofs.Common.{◌∙◌, arith, length-append}
 use mathlib.Core.List.{List, [], ◌∷◌, ◌++◌, append_assoc, append-nil}
 use Rattle.field_rules.specs.CheckSum.{sum_of}
-use Rattle.field_rules.specs.Text.{bytes as text}
 use Rattle.field_rules.specs.Decimal.{decimal, decimal_within}
 use Rattle.standard_rules.specs.Standard as standard
 use Rattle.standard_rules.specs.Standard.{Tables, Message, Told, told, Int, TagNum, SOH, total}
 use Rattle.standard_rules.specs.Reading.{others}
-use Rattle.standard_rules.specs.Samples.{a-field, int, once}
 use Rattle.standard_rules.specs.FieldReads.{digits_all, worth-same}
 use Rattle.frame_verdict_rules.specs.Frame.{IsFrame, IsBeginString, NoSeparator, separator, begin_tag, length_tag, type_tag, sum_tag, lead}
 use Rattle.frame_verdict_rules.specs.Frame as frame
-use Rattle.frame_verdict_rules.specs.BeginStrings.{begin-within, begin_clean}
-use Rattle.frame_verdict_rules.specs.Readers.{◌>>=◌, literal, named, is_fixt, protocol, begin_string}
-use Rattle.frame_verdict_rules.specs.Verdict.{frame_reader, stage_of, as_verdict, verdict_of}
-use Rattle.frame_verdict_rules.specs.VerdictLaws.{frame_is}
-use Rattle.frame_verdict_rules.specs.Examples.{harness}
-use Rattle.frame_verdict_rules.specs.declared.Verdict.TheVariants.{Frame, Never}
 use Rattle.promise_standard.specs.Texts.{sum_same, tag-text, digits_int, digits_plain}
+
+without : (text : List ℕ) → standard.All standard.NotDelimiter text → frame.All NoSeparator text
+without [] standard.All.none = frame.All.All-none
+without (x ∷ text) (standard.All.also p a) = frame.All.All-more p (without text a)
 
 delimited : (text : List ℕ) → frame.All NoSeparator text → standard.All standard.NotDelimiter text
 delimited [] frame.All.All-none = standard.All.none
@@ -80,11 +76,10 @@ module _ {T : Tables} where
           let o = opened l count d.length-bytes (tail ++ rest) (ap (λ (f : Told). f.tag) same) (field_bytes l count d.length-bytes d.length-field) in
           (o.0, ap (λ (x : List ℕ). x ++ rest) d.whole ∙ append_assoc d.length-bytes tail rest ∙ o.1)
 
-  -- "a message of the standard whose BeginString is `FIX.` or `FIXT.`, a digit, a point and a digit, with at most five BodyLength digits and at
-  -- most 8,192 bytes is a frame"
-  pub message_frame : (bytes : List ℕ) (m : Message T bytes) → IsBeginString m.begin_string → length m.body_length ≤ 5 → length bytes ≤ 8192 → IsFrame bytes
+  -- "a message of the standard with a BeginString of 1 to 16 bytes, at most five BodyLength digits and at most 8,192 bytes is a frame"
+  pub message_frame : (bytes : List ℕ) (m : Message T bytes) → length m.begin_string ≤ 16 → length m.body_length ≤ 5 → length bytes ≤ 8192 → IsFrame bytes
   unfolding decimal decimal_within
-  message_frame bytes m begins digits-few small =
+  message_frame bytes m begin-small digits-few small =
       let first : m.first ≡ 56 ∷ 61 ∷ (m.begin_string ++ (1 ∷ [])) = field_bytes 8 m.begin_string m.first m.first_is in
       let second : m.second ≡ 57 ∷ 61 ∷ (m.body_length ++ (1 ∷ [])) = field_bytes 9 m.body_length m.second m.second_is in
       let last : m.last ≡ 49 ∷ 48 ∷ 61 ∷ (m.check-sum ++ (1 ∷ [])) = field_bytes 10 m.check-sum m.last m.last_is in
@@ -96,7 +91,7 @@ module _ {T : Tables} where
         body = m.counted;
         sum = m.check-sum;
         whole = m.whole ∙ regroup m.first m.second m.counted m.last ∙ rw (summed, last);
-        begins = begins;
+        begins = record { least = m.first_is.is_value.some; most = begin-small; clean = without m.begin_string m.first_is.is_value.plain };
         digits_least = m.length_is_lem.some;
         digits_most = digits-few;
         digits_are = digits_all m.body_length m.length_is_lem.digits;
@@ -130,11 +125,11 @@ pub record Agrees (bytes : List ℕ) : Type 0 where
   pub sum_is_lem : Int check-sum (total (first ++ (second ++ counted)) % 256)
   pub three_digits_lem : length check-sum ≡ 3
 
-one-digit-tag : (d : ℕ) → d ≢ 48 → 48 ≤ d → d ≤ 57 → TagNum (d ∷ []) (d - 48)
-one-digit-tag d n l h = record { highest = d; others = []; starts = refl; no_leading_zero = n; int = record { some = omega arith; digits = standard.All.also (l, h) standard.All.none; worth = omega arith } }
+one_digit_tag : (d : ℕ) → d ≢ 48 → 48 ≤ d → d ≤ 57 → TagNum (d ∷ []) (d - 48)
+one_digit_tag d n l h = record { highest = d; others = []; starts = refl; no_leading_zero = n; int = record { some = omega arith; digits = standard.All.also (l, h) standard.All.none; worth = omega arith } }
 
-two-digit-tag : (d e tag : ℕ) → d ≢ 48 → 48 ≤ d → d ≤ 57 → 48 ≤ e → e ≤ 57 → (d - 48) * 10 + (e - 48) ≡ tag → TagNum (d ∷ e ∷ []) tag
-two-digit-tag d e tag n l h k j w =
+two_digit_tag : (d e tag : ℕ) → d ≢ 48 → 48 ≤ d → d ≤ 57 → 48 ≤ e → e ≤ 57 → (d - 48) * 10 + (e - 48) ≡ tag → TagNum (d ∷ e ∷ []) tag
+two_digit_tag d e tag n l h k j w =
     record { highest = d; others = e ∷ []; starts = refl; no_leading_zero = n; int = record { some = omega arith; digits = standard.All.also (l, h) (standard.All.also (k, j) standard.All.none); worth = omega (arith, w) } }
 
 -- "a frame agrees with the standard in its first three tags, BodyLength and CheckSum"
@@ -157,10 +152,10 @@ frame_agrees bytes f =
       counted = f.body;
       last = last;
       whole = f.whole ∙ ap (λ (l : List ℕ). l ++ last) summed ∙ regroup first second f.body last;
-      first_is = record { text = 56 ∷ []; is_tag = one-digit-tag 56 (λ e. omega arith) (omega arith) (omega arith); is_value = record { some = omega (arith, begin-within f.begins); plain = delimited f.begin (begin_clean f.begins) }; whole = refl };
-      second_is = record { text = 57 ∷ []; is_tag = one-digit-tag 57 (λ e. omega arith) (omega arith) (omega arith); is_value = record { some = f.digits_least; plain = digits_plain f.digits length_is_lem.digits }; whole = refl };
-      third_starts = (51 ∷ 53 ∷ [], f.body-starts.0, two-digit-tag 51 53 35 (λ e. omega arith) (omega arith) (omega arith) (omega arith) (omega arith) refl, f.body-starts.1);
-      last_is = record { text = 49 ∷ 48 ∷ []; is_tag = two-digit-tag 49 48 10 (λ e. omega arith) (omega arith) (omega arith) (omega arith) (omega arith) refl; is_value = record { some = omega (arith, f.sum-size); plain = digits_plain f.sum sum_is_lem.digits }; whole = refl };
+      first_is = record { text = 56 ∷ []; is_tag = one_digit_tag 56 (λ e. omega arith) (omega arith) (omega arith); is_value = record { some = f.begins.least; plain = delimited f.begin f.begins.clean }; whole = refl };
+      second_is = record { text = 57 ∷ []; is_tag = one_digit_tag 57 (λ e. omega arith) (omega arith) (omega arith); is_value = record { some = f.digits_least; plain = digits_plain f.digits length_is_lem.digits }; whole = refl };
+      third_starts = (51 ∷ 53 ∷ [], f.body-starts.0, two_digit_tag 51 53 35 (λ e. omega arith) (omega arith) (omega arith) (omega arith) (omega arith) refl, f.body-starts.1);
+      last_is = record { text = 49 ∷ 48 ∷ []; is_tag = two_digit_tag 49 48 10 (λ e. omega arith) (omega arith) (omega arith) (omega arith) (omega arith) refl; is_value = record { some = omega (arith, f.sum-size); plain = digits_plain f.sum sum_is_lem.digits }; whole = refl };
       length_is_lem = length_is_lem;
       sum_is_lem = sum_is_lem;
       three_digits_lem = f.sum-size;
@@ -168,42 +163,3 @@ frame_agrees bytes f =
   where
     regroup : (a b c d : List ℕ) → (a ++ (b ++ c)) ++ d ≡ a ++ (b ++ (c ++ d))
     regroup a b c d = simp append_assoc
-
--- ---- why the BeginString is among the conditions
-
--- `8=x|9=5|35=0|10=112|` IS A MESSAGE OF THE STANDARD, by all tables in which 35 is no data tag
-pub harness-message : (T : Tables) → standard.NoData T 35 → Message T harness
-harness-message T n = record {
-  begin_string = text "x";
-  body_length = text "5";
-  msg_type = text "0";
-  header = [];
-  body = [];
-  trailer = [];
-  check-sum = text "112";
-  first = text "8=x|";
-  second = text "9=5|";
-  counted = text "35=0|";
-  last = text "10=112|";
-  header_tags = [];
-  body-tags = [];
-  trailer_tags = [];
-  whole = refl;
-  first_is = a-field 8 "8" "x" refl;
-  second_is = a-field 9 "9" "5" refl;
-  counted_is = standard.Fields.plain (a-field 35 "35" "0" refl) n standard.Fields.no_field;
-  last_is = a-field 10 "10" "112" refl;
-  length_is_lem = int (text "5") 5 refl;
-  sum_is_lem = int (text "112") 112 refl;
-  three_digits_lem = refl;
-  header_is = standard.Stands.no_member;
-  body_is = standard.Stands.no_member;
-  trailer_is = standard.Stands.no_member;
-  no_tag-twice = once [] refl;
-  outside_groups = standard.All.none;
-}
-
--- AND NO FRAME: its BeginString is none
-pub harness_no_frame : IsFrame harness → ⊥
-unfolding verdict_of as_verdict stage_of frame_reader begin_string protocol is_fixt named ◌>>=◌ literal
-harness_no_frame f = let e : Never ≡ Frame 20 = (frame_is harness).1 f in let z : ◌≡◌ {A = ℕ} 0 1 = cc in omega arith

@@ -9,7 +9,7 @@ use Rattle.field_rules.specs.Choice.{pick, pick_same}
 use Rattle.field_rules.specs.Number.{worth}
 use Rattle.field_rules.specs.CheckSum.{sum_of, checksum_digits}
 use Rattle.field_rules.specs.Decimal.{decimal, decimal_within}
-use Rattle.field_rules.specs.DecimalLaws.{digit_byte, last-digit}
+use Rattle.field_rules.specs.DecimalLaws.{digit_byte, last_digit}
 use Rattle.field_rules.specs.Field.{field_bytes}
 use Rattle.field_rules.specs.FieldTextLaws.{bytes-size}
 use Rattle.standard_rules.specs.Standard as standard
@@ -63,7 +63,7 @@ sum_int : (n : ℕ) → n < 256 → Int (checksum_digits n) n
 unfolding checksum_digits worth
 sum_int n h =
     digits_int (checksum_digits n) n (omega arith)
-    (digit_byte (n / 100) _ (omega arith) (digit_byte (n / 10 % 10) _ (omega arith) (last-digit (n % 10) (omega arith))))
+    (digit_byte (n / 100) _ (omega arith) (digit_byte (n / 10 % 10) _ (omega arith) (last_digit (n % 10) (omega arith))))
     (omega arith)
 
 -- ===== tags =====

@@ -4,7 +4,6 @@
 // name, with `|` for a space, and behind the colon what the call is given:
 //   R            a fresh state, and no line
 //   p|one:x  e   push these bytes; end
-//   n|8193       push so many bytes `x`
 //   t  T         take; take into an output of 8191 bytes
 //   m:26         take, and show so many bytes of the output
 //   c5:8=F|      these bytes as a stream of its own, cut behind so many: a point where it is right
@@ -51,13 +50,6 @@ fn push(state: State, store: &mut [u8], piece: &[u8]) -> State {
     told(b"push", piece, reply)
 }
 
-fn push_many(state: State, store: &mut [u8], piece: &[u8]) -> State {
-    let chunk = [b'x'; 16385];
-    let size = sample_texts::number(sample_texts::from(piece, 2)) as usize;
-    let reply = frame_hunter::push(state, store, sample_texts::first(&chunk, size));
-    told(b"push", piece, reply)
-}
-
 fn taken(piece: &[u8], taken: Taken, output: &[u8]) -> State {
     let answer = taken.answer;
     let state = taken.state;
@@ -87,7 +79,7 @@ fn take_short(state: State, store: &mut [u8], piece: &[u8]) -> State {
     taken(piece, answered, &output)
 }
 
-// Of 26 bytes that are no frame and then P1, however cut, P1 is handed out once and 26 places are dropped.
+// Of P2 and then P1, however cut, P1 is handed out once and 26 places are dropped.
 fn right(state: State, first: usize, second: usize, third: usize, last: usize) -> bool {
     if state.used != 0 {
         return false;
@@ -149,7 +141,6 @@ fn cut_at(text: &[u8]) {
 fn call(state: State, store: &mut [u8], piece: &[u8]) -> State {
     match sample_texts::first_byte(piece) {
         b'p' => return push(state, store, piece),
-        b'n' => return push_many(state, store, piece),
         b'e' => return told(b"end", piece, frame_hunter::end(state, store)),
         b't' | b'm' => return take(state, store, piece),
         b'T' => return take_short(state, store, piece),

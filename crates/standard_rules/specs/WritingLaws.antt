@@ -85,27 +85,27 @@ message-written {T = T} L {bytes = bytes} m = subst (λ (fs : List Told). Writte
 -- ===== BodyLength and CheckSum =====
 
 -- a tag number's first digit is 1 to 9
-starting-digit : (d : ℕ) (ds : List ℕ) (t : ℕ) → TagNum (d ∷ ds) t → (49 ≤ d) × (d ≤ 57)
-starting-digit d ds t n = of n.int.digits (λ e. n.no_leading_zero (let same : d ≡ n.highest = cc n.starts in sym same ∙ e))
+starting_digit : (d : ℕ) (ds : List ℕ) (t : ℕ) → TagNum (d ∷ ds) t → (49 ≤ d) × (d ≤ 57)
+starting_digit d ds t n = of n.int.digits (λ e. n.no_leading_zero (let same : d ≡ n.highest = cc n.starts in sym same ∙ e))
   where
     of : All Digit (d ∷ ds) → d ≢ 48 → (49 ≤ d) × (d ≤ 57)
     of (All.also digit _) no_zero = let first : (d ≡ 48) → ⊥ = no_zero in (omega (arith, digit), omega (arith, digit))
 
 -- up to 9 it has one digit, and 10 has two
-one-digit : (text : List ℕ) (t : ℕ) → TagNum text t → t ≤ 9 → length text ≡ 1
-one-digit [] t n l = absurd (omega (arith, n.int.some))
-one-digit (d ∷ []) t n l = refl
-one-digit (d ∷ (e ∷ ds)) t n l =
+one_digit : (text : List ℕ) (t : ℕ) → TagNum text t → t ≤ 9 → length text ≡ 1
+one_digit [] t n l = absurd (omega (arith, n.int.some))
+one_digit (d ∷ []) t n l = refl
+one_digit (d ∷ (e ∷ ds)) t n l =
     let next : ℕ = (0 * 10 + (d - 48)) * 10 + (e - 48) in
-    absurd (omega (arith, starting-digit d (e ∷ ds) t n, n.int.worth, worth-least ds next, worth-same next ds))
+    absurd (omega (arith, starting_digit d (e ∷ ds) t n, n.int.worth, worth-least ds next, worth-same next ds))
 
 two_digits : (text : List ℕ) → TagNum text 10 → length text ≡ 2
 two_digits [] n = absurd (omega (arith, n.int.some))
-two_digits (d ∷ []) n = absurd (omega (arith, starting-digit d [] 10 n, n.int.worth))
+two_digits (d ∷ []) n = absurd (omega (arith, starting_digit d [] 10 n, n.int.worth))
 two_digits (d ∷ (e ∷ [])) n = refl
 two_digits (d ∷ (e ∷ (c ∷ ds))) n =
     let next : ℕ = ((0 * 10 + (d - 48)) * 10 + (e - 48)) * 10 + (c - 48) in
-    absurd (omega (arith, starting-digit d (e ∷ (c ∷ ds)) 10 n, n.int.worth, worth-least ds next, worth-same next ds))
+    absurd (omega (arith, starting_digit d (e ∷ (c ∷ ds)) 10 n, n.int.worth, worth-least ds next, worth-same next ds))
 
 field-size : {t : ℕ} {v bytes : List ℕ} (f : Field t v bytes) → length bytes ≡ length f.text + (length v + 2)
 field-size {v = v} f = omega (arith, ap length f.whole, length-append f.text (61 ∷ (v ++ (1 ∷ []))), length-append v (1 ∷ []))
@@ -142,8 +142,8 @@ module _ {T : Tables} {bytes : List ℕ} (m : Message T bytes) where
         length-append m.counted m.last,
         last-size,
         field-size m.first_is,
-        one-digit m.first_is.text 8 m.first_is.is_tag (omega arith),
+        one_digit m.first_is.text 8 m.first_is.is_tag (omega arith),
         field-size m.second_is,
-        one-digit m.second_is.text 9 m.second_is.is_tag (omega arith),
+        one_digit m.second_is.text 9 m.second_is.is_tag (omega arith),
       ))
       m.length_is_lem

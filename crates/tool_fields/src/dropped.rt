@@ -83,6 +83,13 @@ pub fn more(run: Run, bytes: &[u8], memory: &mut [u8]) -> Run {
     longer
 }
 
+fn is_digit(byte: u8) -> bool {
+    if byte < b'0' {
+        return false;
+    }
+    byte <= b'9'
+}
+
 // Whether `8=` stands at a place and is not the end of a longer tag; on a new line, if that is asked for.
 fn may_start(bytes: &[u8], place: usize, on_new_line: bool) -> bool {
     if !integrity::begins(sample_texts::from(bytes, place), b"8=") {
@@ -95,7 +102,7 @@ fn may_start(bytes: &[u8], place: usize, on_new_line: bool) -> bool {
     if on_new_line {
         return is_line_break(before);
     }
-    !integrity::is_digit(before)
+    !is_digit(before)
 }
 
 // The first place behind the first byte at which a message may start, or the end.

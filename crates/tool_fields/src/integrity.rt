@@ -100,42 +100,17 @@ fn is_written(message: &[u8], field: Field, tag: &[u8]) -> bool {
     begins(fields::text_of(message, field), tag)
 }
 
-pub fn is_digit(byte: u8) -> bool {
-    if byte < b'0' {
-        return false;
-    }
-    byte <= b'9'
-}
-
-// Whether a text is a digit, a point and a digit.
-fn is_version(text: &[u8]) -> bool {
-    if text.len() != 3 {
-        return false;
-    }
-    if text[1] != b'.' {
-        return false;
-    }
-    is_digit(text[0]) && is_digit(text[2])
-}
-
-// "`FIX.` or `FIXT.`, then a digit, a point and a digit."
-fn is_begin_string(value: &[u8]) -> bool {
-    if begins(value, b"FIX.") {
-        return is_version(sample_texts::from(value, 4));
-    }
-    if begins(value, b"FIXT.") {
-        return is_version(sample_texts::from(value, 5));
-    }
-    false
-}
-
 fn begin_string(message: &[u8], field: Field) {
     if !is_written(message, field, b"8=") {
         saying::say(b"  no BeginString (`8=`) as the first field\n");
         return;
     }
-    if !is_begin_string(field_tagvalue::value_of(message, field)) {
-        saying::say(b"  BeginString is not `FIX.` or `FIXT.`, a digit, a point and a digit\n");
+    let size = field_tagvalue::value_of(message, field).len();
+    if size == 0 {
+        saying::say(b"  BeginString is empty\n");
+    }
+    if 16 < size {
+        saying::say(b"  BeginString has more than 16 bytes\n");
     }
 }
 

@@ -77,7 +77,6 @@ fn kind_of(request: &Request) -> &'static str {
         Request::Again(..) => "again",
         Request::Calls(_) => "calls",
         Request::Frames(_) => "frames",
-        Request::Hunts(_) => "hunts",
     }
 }
 

@@ -1,7 +1,6 @@
 //! The seeded generator: dictionaries, messages read over them, messages made by calls, streams.
 mod calls;
 mod exhaustive;
-mod hunts;
 mod messages;
 mod outside;
 pub(crate) mod random;
@@ -12,7 +11,6 @@ mod streams;
 use crate::paper::Paper;
 use crate::protocol::{KEPT, Reading, Request, VALIDATE};
 pub use exhaustive::exhaustive;
-pub use hunts::{every_short_head, hunts};
 pub use standard::standard;
 use messages::{Draft, Wrapping};
 use random::Random;

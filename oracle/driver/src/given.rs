@@ -291,7 +291,6 @@ impl Given {
                 Answer::plain(words.join(" "), 0)
             }
             Request::Frames(chunks) => Answer { line: frames(chunks), ..Answer::default() },
-            Request::Hunts(_) => Answer { line: "nohunter".to_string(), ..Answer::default() },
         }
     }
 

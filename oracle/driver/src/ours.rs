@@ -8,8 +8,6 @@ mod exports;
 #[cfg(feature = "library")]
 mod forms;
 #[cfg(feature = "library")]
-mod framers;
-#[cfg(feature = "library")]
 pub mod library;
 #[cfg(feature = "library")]
 pub mod prepared;

@@ -3,7 +3,6 @@
 mod build;
 mod dictionary;
 mod framer;
-mod hunter;
 mod message;
 
 use crate::protocol::{Answer, KEPT, Request};
@@ -49,7 +48,6 @@ impl Paper {
             }
             Request::Calls(steps) => message::calls(steps),
             Request::Frames(chunks) => framer::frames(chunks),
-            Request::Hunts(chunks) => hunter::hunts(chunks),
         }
     }
 }

@@ -26,7 +26,6 @@ pub enum Request {
     Again(Reading, u8),
     Calls(Vec<Step>),
     Frames(Vec<Vec<u8>>),
-    Hunts(Vec<Vec<u8>>),
 }
 
 /// The bit of a settings word that asks for validation. No other bit means anything.
@@ -121,14 +120,6 @@ fn step_text(step: &Step) -> String {
     }
 }
 
-fn chunks(words: &[&str]) -> Option<Vec<Vec<u8>>> {
-    words.iter().map(|text| unhex(text)).collect()
-}
-
-fn chunks_text(chunks: &[Vec<u8>]) -> String {
-    chunks.iter().map(|chunk| hex(chunk)).collect::<Vec<_>>().join(" ")
-}
-
 fn reading(number: &str, separator: &str, settings: &str, message: &str) -> Option<Reading> {
     Some(Reading {
         dictionary: number.parse().ok().filter(|n| *n < KEPT)?,
@@ -148,8 +139,7 @@ impl Request {
                 Some(Self::Again(reading(number, separator, settings, message)?, byte(second)?))
             }
             ["calls", ref steps @ ..] => steps.iter().map(|text| step(text)).collect::<Option<_>>().map(Self::Calls),
-            ["frames", ref words @ ..] => chunks(words).map(Self::Frames),
-            ["hunts", ref words @ ..] => chunks(words).map(Self::Hunts),
+            ["frames", ref chunks @ ..] => chunks.iter().map(|text| unhex(text)).collect::<Option<_>>().map(Self::Frames),
             _ => None,
         }
     }
@@ -162,8 +152,7 @@ impl Request {
                 format!("again {} {:02x} {} {second:02x} {}", r.dictionary, r.separator, r.settings, hex(&r.message))
             }
             Self::Calls(steps) => format!("calls {}", steps.iter().map(step_text).collect::<Vec<_>>().join(" ")),
-            Self::Frames(chunks) => format!("frames {}", chunks_text(chunks)),
-            Self::Hunts(chunks) => format!("hunts {}", chunks_text(chunks)),
+            Self::Frames(chunks) => format!("frames {}", chunks.iter().map(|c| hex(c)).collect::<Vec<_>>().join(" ")),
         }
     }
 }

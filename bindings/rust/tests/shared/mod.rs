@@ -46,7 +46,7 @@ fn repeated(line: &str) -> String {
     let (range, text) = inner.split_once(':').expect("a repeat has a text");
     let (first, last) = range.split_once("..").expect("a repeat has numbers");
     let numbers = first.parse::<u32>().expect("a number")..=last.parse::<u32>().expect("a number");
-    let texts: String = numbers.map(|n| text.replace('@', &n.to_string()).replace('<', &n.saturating_sub(1).to_string())).collect();
+    let texts: String = numbers.map(|n| text.replace('@', &n.to_string()).replace('<', &(n - 1).to_string())).collect();
     format!("{before}{texts}{}", repeated(behind))
 }
 

@@ -2,7 +2,7 @@
 -- after n. A number past the limit stays past it, whatever follows.
 use Rattle.std.proofs.Common.{◌≡◌, ◌+◌, ◌-◌, ◌*◌, ◌<◌, ◌≤◌, length, get_or, drop, sym, refl, ◌∙◌, arith, rules}
 use Rattle.field_rules.specs.Number.{worth, all_digits}
-use Rattle.field_rules.specs.NumberLaws.{digit-step, digit_low, digit_high, digit-end, worth-step, worth-end, worth-least, number-empty, number-bad, number_large, number_good}
+use Rattle.field_rules.specs.NumberLaws.{digit_step, digit_low, digit_high, digit_end, worth-step, worth-end, worth-least, number-empty, number-bad, number_large, number_good}
 use Rattle.field_numbers.proofs.number_of.Statement.{statement}
 use Rattle.field_numbers.proofs.number_of.Tie as tie
 
@@ -38,13 +38,13 @@ loop-again c = let a = c.before.before.before.before.before.before in
     let h = c.before.before.before.before.before.loop-test.true in (
       omega arith,
       omega arith,
-      a.loop.invariant.2 ∙ digit-step _ _ h (omega arith) (omega arith),
+      a.loop.invariant.2 ∙ digit_step _ _ h (omega arith) (omega arith),
       a.loop.invariant.3 ∙ worth-step _ _ _ h ∙ rw c.before.widened.ensures,
     )
 
 returns-5 : tie.Need-returns-5 invariant-loop decreases-loop
 returns-5 c = let h = c.loop-test.false in
-    sym (number_good _ _ c.before.before.if1.false (c.before.loop.invariant.2 ∙ digit-end _ _ h) (c.before.loop.invariant.3 ∙ worth-end _ _ _ h) c.before.loop.invariant.1)
+    sym (number_good _ _ c.before.before.if1.false (c.before.loop.invariant.2 ∙ digit_end _ _ h) (c.before.loop.invariant.3 ∙ worth-end _ _ _ h) c.before.loop.invariant.1)
 
 pub number-of-spec : {M : Type 1} → statement M
 number-of-spec =

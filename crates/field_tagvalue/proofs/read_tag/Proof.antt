@@ -10,7 +10,7 @@ use Rattle.field_rules.specs.Find.{find_in}
 use Rattle.field_rules.specs.FindLaws.{find_hit, find_miss, find_end}
 use Rattle.field_rules.specs.Number.{all_digits, worth}
 use Rattle.field_tagvalue.specs.Tagged.{tagged_at}
-use Rattle.field_tagvalue.specs.TaggedLaws.{NoDigit, digits_tell, stray_spoils, large_spoils, digit-worth, digit-more, equals-behind}
+use Rattle.field_tagvalue.specs.TaggedLaws.{NoDigit, digits_tell, stray_spoils, large_spoils, digit_worth, digit_more, equals-behind}
 use Rattle.field_tagvalue.specs.declared.Tagged.TheVariants.{At}
 use Rattle.field_tagvalue.proofs.read_tag.Statement.{statement}
 use Rattle.field_tagvalue.proofs.read_tag.Tie as tie
@@ -52,7 +52,7 @@ grown : (c : tie.After-widened invariant-loop decreases-loop) → let b = c.befo
     worth 0 (take (a.loop.i + 1) a.before.before.args.rest.now) ≡ a.loop.tag * 10 + c.widened.result
 grown c = let b = c.before.before.before.before in
     let a = b.before.before in
-    digit-worth _ _ b.before.loop-test.true ∙ rw (a.loop.invariant.4, c.widened.ensures)
+    digit_worth _ _ b.before.loop-test.true ∙ rw (a.loop.invariant.4, c.widened.ensures)
 
 untagged-requires-3 : tie.Need-untagged-requires-3 invariant-loop decreases-loop
 untagged-requires-3 c κs = let w = c.before in
@@ -72,7 +72,7 @@ loop-again c = let w = c.before in
       omega arith,
       omega arith,
       a.loop.invariant.2 ∙ find_miss _ _ _ inside w.before.before.before.if1.false,
-      digit-more _ _ inside a.loop.invariant.3 (omega arith) (omega arith),
+      digit_more _ _ inside a.loop.invariant.3 (omega arith) (omega arith),
       grown w,
     )
 

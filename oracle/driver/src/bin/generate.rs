@@ -1,10 +1,9 @@
-//! generate [--seed S] [--count N] [--anywhere] [--small] [--exhaustive | --standard] [--hunts]: requests on standard output, one a line.
+//! generate [--seed S] [--count N] [--anywhere] [--small] [--exhaustive | --standard]: requests on standard output, one a line.
 //! It keeps to 01's domain of equality unless --anywhere is given; --small keeps dictionaries and messages small. --exhaustive gives every short sequence instead,
-//! --standard the messages of public documents, whatever the seed. --hunts gives streams for the hunting framer instead, and with --exhaustive
-//! every short head of its frames.
+//! --standard the messages of public documents, whatever the seed.
 use std::io::Write;
 
-use driver::generate::{Generator, every_short_head, exhaustive, hunts, standard};
+use driver::generate::{Generator, exhaustive, standard};
 use driver::protocol::Request;
 
 fn after(words: &[String], flag: &str) -> Option<u64> {
@@ -16,15 +15,12 @@ fn main() {
     let has = |flag: &str| words.iter().any(|word| word == flag);
     let mut out = std::io::BufWriter::new(std::io::stdout().lock());
     let mut sink = |request: Request| writeln!(out, "{}", request.text()).is_ok();
-    let (seed, count) = (after(&words, "--seed").unwrap_or(1), after(&words, "--count").unwrap_or(1_000));
-    if has("--hunts") {
-        return if has("--exhaustive") { every_short_head(&mut sink) } else { hunts(seed, count, &mut sink) };
-    }
     if has("--exhaustive") {
         return exhaustive(&mut sink);
     }
     if has("--standard") {
         return standard(&mut sink);
     }
-    Generator::new(seed, !has("--anywhere"), has("--small")).run(count, &mut sink);
+    let mut generator = Generator::new(after(&words, "--seed").unwrap_or(1), !has("--anywhere"), has("--small"));
+    generator.run(after(&words, "--count").unwrap_or(1_000), &mut sink);
 }

@@ -98,7 +98,7 @@ fn wrapped(tags: &[u32]) -> Vec<u8> {
 }
 
 /// Every sequence of at most `longest` of the letters, shorter ones first; `false` ends it.
-pub(super) fn sequences<T: Copy>(letters: &[T], longest: usize, each: &mut dyn FnMut(&[T]) -> bool) -> bool {
+fn sequences<T: Copy>(letters: &[T], longest: usize, each: &mut dyn FnMut(&[T]) -> bool) -> bool {
     for length in 0..=longest {
         let mut places = vec![0; length];
         loop {

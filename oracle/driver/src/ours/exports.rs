@@ -24,14 +24,6 @@ pub struct PortedState {
     over: u8,
 }
 
-/// The hunting framer's state; a fresh one is all 0.
-#[repr(C)]
-pub struct HunterState {
-    pub used: usize,
-    pub dropped: u64,
-    pub ended: u8,
-}
-
 unsafe extern "C" {
     pub fn gateway_check(dictionary: *const u8, length: usize, out: *mut Out) -> u32;
     pub fn gateway_build(
@@ -183,24 +175,6 @@ unsafe extern "C" {
         output_length: usize,
         out: *mut Out,
     ) -> u32;
-    pub fn gateway_hunter_push(
-        state: *mut HunterState,
-        store: *mut u8,
-        store_length: usize,
-        chunk: *const u8,
-        chunk_length: usize,
-        out: *mut Out,
-    ) -> u32;
-    pub fn gateway_hunter_take(
-        state: *mut HunterState,
-        store: *mut u8,
-        store_length: usize,
-        output: *mut u8,
-        output_length: usize,
-        out: *mut Out,
-    ) -> u32;
-    pub fn gateway_hunter_end(state: *mut HunterState, store: *const u8, store_length: usize, out: *mut Out) -> u32;
-    pub fn gateway_hunter_reset(state: *mut HunterState, out: *mut Out) -> u32;
 }
 
 pub const RECORDS: usize = 1_024;

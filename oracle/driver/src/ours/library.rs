@@ -1,7 +1,7 @@
 //! Our static library, called through its exports. The answers are made into lines here, so that all sides are compared alike.
 use super::exports::*;
 use super::forms::Forms;
-use super::{Ours, Unlike, framers};
+use super::{Ours, Unlike};
 use crate::maps::Row;
 use crate::protocol::{KEPT, Reading, Request, Step, hex, rows_text};
 
@@ -10,8 +10,8 @@ pub const UNTOUCHED: u32 = 9;
 const UNTOUCHED_RECORD: FieldRecord = FieldRecord { part: 9, depth: 9, entry: 9, tag: 9, place: 9, length: 9 };
 const BLANK_RECORD: FieldRecord = FieldRecord { part: 0, depth: 0, entry: 0, tag: 0, place: 0, length: 0 };
 
-/// A call with its four words, none of which it returns anything in.
-pub fn changed(call: impl FnOnce(*mut Out) -> u32) -> u32 {
+/// A call on a message, with its four words, none of which it returns anything in.
+fn changed(call: impl FnOnce(*mut Out) -> u32) -> u32 {
     let mut out = [UNTOUCHED; 4];
     let number = call(&mut out);
     assert_eq!(out, [0; 4], "the four words of a call with number {number}");
@@ -308,6 +308,29 @@ fn again_line(built: &Built, reading: &Reading, second: u8) -> String {
     }
 }
 
+fn chunk_word(state: &mut PortedState, store: &mut [u8], chunk: &[u8]) -> String {
+    // SAFETY: see `build`.
+    let pushed = changed(|out| unsafe { gateway_ported_push(state, store.as_mut_ptr(), store.len(), chunk.as_ptr(), chunk.len(), out) });
+    if pushed > 0 {
+        return format!("!{pushed}");
+    }
+    let mut words = vec![];
+    loop {
+        let (mut output, mut out) = (vec![0; OUTPUT], [UNTOUCHED; 4]);
+        // SAFETY: see `build`.
+        let number = unsafe { gateway_ported_take(state, store.as_mut_ptr(), store.len(), output.as_mut_ptr(), OUTPUT, &mut out) };
+        if number > 0 {
+            words.push(format!("!{number}"));
+            break;
+        }
+        if out[1] == 0 {
+            break;
+        }
+        words.push(hex(&output[..out[1] as usize]));
+    }
+    if words.is_empty() { "-".to_string() } else { words.join(",") }
+}
+
 pub struct Library {
     dictionaries: Vec<Vec<u8>>,
     forms: Forms,
@@ -348,8 +371,10 @@ impl Ours for Library {
                 let words: Option<Vec<String>> = steps.iter().map(|step| lent.step(step)).collect();
                 words.map(|words| words.join(" "))
             }
-            Request::Frames(chunks) => Some(framers::frames(chunks)),
-            Request::Hunts(chunks) => Some(framers::hunts(chunks)),
+            Request::Frames(chunks) => {
+                let (mut state, mut store) = (PortedState::default(), vec![0; STORE]);
+                Some(chunks.iter().map(|chunk| chunk_word(&mut state, &mut store, chunk)).collect::<Vec<_>>().join(" "))
+            }
         }
     }
 

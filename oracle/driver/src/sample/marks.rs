@@ -6,7 +6,7 @@ use crate::protocol::{Reading, Request, Step, VALIDATE};
 
 pub fn marks_of(request: &Request, dictionary: &[u8], line: &str, either: bool) -> BTreeSet<String> {
     match request {
-        Request::Dictionary(..) | Request::Hunts(_) => BTreeSet::new(),
+        Request::Dictionary(..) => BTreeSet::new(),
         Request::Build(reading) => reading_marks("build", reading, dictionary, line, either),
         Request::Again(reading, second) => {
             let mut marks = reading_marks("again", reading, dictionary, line, either);
