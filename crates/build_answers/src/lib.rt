@@ -1,5 +1,7 @@
 // build_answers: the answer to a message, with its number and the values returned with it. A new answer is one more case here.
 // It reads nothing and decides nothing: whoever refuses says which answer it is.
+#![tactic(auto)]
+
 ghost use Rattle.std.specs.Prelude.{◌≡◌};
 ghost use Rattle.build_integrity_rules.specs.Integrity.{number_of_reason};
 ghost use Rattle.build_answers.specs.Answer.{number_of, values_of};
@@ -9,7 +11,7 @@ use dictionary_rules::Checked;
 use field_rules::Cause;
 
 // The answer to a message. Numbers are a tag and the tag of its group, or the place and length of a value.
-#[derive(Drop)]
+#[derive(Clone, Copy)]
 pub enum Answer {
     Valid,
     InvalidField(u32),
@@ -27,7 +29,7 @@ pub enum Answer {
 }
 
 // The values that are returned with an answer, 0 where there is none.
-#[derive(Drop)]
+#[derive(Clone, Copy)]
 pub struct Values {
     pub first: usize,
     pub second: usize,

@@ -1,5 +1,7 @@
 // build_body: the body of a message, its fields and its repeating groups, between header and trailer.
 // It reads through look-ups only and keeps records through `build_records` only; only the builder calls it.
+#![tactic(auto)]
+
 ghost use Rattle.std.specs.Prelude.{◌≡◌, List, ℕ, suc, ◌+◌, ◌≤◌, ◌<◌, ◌/◌, ◌^◌, length};
 ghost use Rattle.dictionary_rules.specs.Index.{tag_at};
 ghost use Rattle.dictionary_chains.specs.Chain.{index_words};

@@ -1,12 +1,14 @@
 // build_config: how a message is built, in one value that every reader hands on whole. A new mode or setting is one more field of it.
 // It decides nothing: what a setting means is said where it is asked.
+#![tactic(auto)]
+
 ghost use Rattle.std.specs.Prelude.{◌≡◌};
 ghost use Rattle.build_config.specs.Settings.{validates, config_of};
 
 use field_rules::Mode;
 
 // How fields are read, and whether unknown user-defined tags are refused.
-#[derive(Drop)]
+#[derive(Clone, Copy)]
 pub struct Config {
     pub mode: Mode,
     pub validate: bool,

@@ -1,12 +1,14 @@
 // build_group_rules: how repeating groups are read, one field a step over a stack of what is open: definitions, what they come to over tables
 // and over layouts, and worked runs. No function stands here, so that a wrong definition is refused in seconds; `build_groups` is proved against it.
+#![tactic(auto)]
+
 use field_rules::{Cause, Field};
 
 // How deep groups nest.
 pub const LEVELS: u32 = 4;
 
 // A group whose count was read: where the level of its entries starts in the table, the count's tag, and the depth of its records.
-#[derive(Drop)]
+#[derive(Clone, Copy)]
 pub struct Group {
     pub level: usize,
     pub tag: u32,
@@ -14,7 +16,7 @@ pub struct Group {
 }
 
 // How far reading has come: how many fields may still be read, how many records there are, and where the next one goes.
-#[derive(Drop)]
+#[derive(Clone, Copy)]
 pub struct Progress {
     pub room: usize,
     pub records: usize,
@@ -22,7 +24,7 @@ pub struct Progress {
 }
 
 // Why reading was refused. The numbers are a tag and the tag of its group.
-#[derive(Drop)]
+#[derive(Clone, Copy)]
 pub enum Refusal {
     Malformed(Cause, usize),
     TooManyFields,
@@ -30,14 +32,14 @@ pub enum Refusal {
 }
 
 // Where reading stands: at a field that is read already, or it was refused.
-#[derive(Drop)]
+#[derive(Clone, Copy)]
 pub enum Reading {
     At(Field, Progress),
     Refused(Refusal),
 }
 
 // What a tag is to an open entry. A tag of the level comes with its position, a count also with where the level of its entries starts.
-#[derive(Drop)]
+#[derive(Clone, Copy)]
 pub enum Kind {
     Plain(usize),
     Count(usize, usize),

@@ -1,5 +1,7 @@
 // build_groups: reading repeating groups. The run reader and the entry reader call each other, and the depth that is left falls.
 // It reads through look-up tables only, counts fields by the room that is left for them, and never compares a count's value.
+#![tactic(auto)]
+
 ghost use Rattle.std.specs.Prelude.{◌≡◌, ◌<◌, ◌^◌, length};
 ghost use Rattle.dictionary_rules.specs.Index.{tag_at};
 ghost use Rattle.dictionary_chains.specs.Chain.{index_words};

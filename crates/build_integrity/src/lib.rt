@@ -1,5 +1,7 @@
 // build_integrity: whether a message's frame is sound, before anything else is read (11 to 14).
 // It looks at four fields and knows no dictionary; what it answers is all that later reading needs of them.
+#![tactic(auto)]
+
 ghost use Rattle.std.specs.Prelude.{◌≡◌};
 ghost use Rattle.build_integrity_rules.specs.Integrity.{integrity_of, length_agrees, sum_agrees};
 

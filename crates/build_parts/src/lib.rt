@@ -1,5 +1,7 @@
 // build_parts: header and trailer, read one field at a time, and what all parts share: a field's record, storing it.
 // It keeps records through `build_records` only and knows nothing of layouts and groups; only the body and the builder call it.
+#![tactic(auto)]
+
 ghost use Rattle.std.specs.Prelude.{◌≡◌, ◌+◌, ◌≤◌, ◌<◌, ◌/◌, ◌^◌, length};
 ghost use Rattle.build_records.specs.Records.{stride};
 ghost use Rattle.field_rules.specs.Fields.{field, fields_from, Inside};
@@ -17,21 +19,21 @@ use field_rules::{Cursor, Field, FieldRead};
 const CHECKSUM: u32 = 10;
 
 // How many fields may still be read, and how many records there are.
-#[derive(Drop)]
+#[derive(Clone, Copy)]
 pub struct Progress {
     pub room: usize,
     pub records: usize,
 }
 
 // A part ends at a field that is read already, or reading was refused.
-#[derive(Drop)]
+#[derive(Clone, Copy)]
 pub enum PartRead {
     At(Field, Progress),
     Refused(Answer),
 }
 
 // The trailer stops at a CheckSum or where no field can be read; the number is that of all records.
-#[derive(Drop)]
+#[derive(Clone, Copy)]
 pub enum TrailerRead {
     Stopped(Field, usize),
     Unstopped(usize),
@@ -39,7 +41,7 @@ pub enum TrailerRead {
 }
 
 // The next field, or why there is none.
-#[derive(Drop)]
+#[derive(Clone, Copy)]
 pub enum Next {
     Got(Field),
     Missing(Answer),

@@ -1,5 +1,7 @@
 // build_records: a built message's records as words in one lent slice, and the ways in which maps change them: in at a place, over, out, found.
 // Header, body, groups and trailer keep their maps through these functions alone. It judges nothing, and it demands nothing of its callers.
+#![tactic(auto)]
+
 ghost use Rattle.std.specs.Prelude.{◌≡◌};
 ghost use Rattle.build_records.specs.Records.{records_of, on_records, record_at, replaced, inserted, removed, between, held_from, stored_between};
 
@@ -20,7 +22,7 @@ pub const BODY: u32 = 2;
 pub const TRAILER: u32 = 3;
 
 // One field of a built message. Depth and entry number are 0 outside groups, else they start from 1.
-#[derive(Drop)]
+#[derive(Clone, Copy)]
 pub struct Record {
     pub part: u32,
     pub depth: u32,
@@ -30,7 +32,7 @@ pub struct Record {
     pub length: u32,
 }
 
-#[derive(Drop)]
+#[derive(Clone, Copy)]
 pub enum Standing {
     At(usize),
     Nowhere,

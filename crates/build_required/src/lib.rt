@@ -1,5 +1,7 @@
 // build_required: whether the entries of a body group that was read hold their required fields (4).
 // The run check and the entry check call each other, and the depth that is left falls. It only looks at records and tables.
+#![tactic(auto)]
+
 ghost use Rattle.std.specs.Prelude.{◌≡◌, ◌/◌, ◌≤◌, ◌-◌, length};
 ghost use Rattle.build_records.specs.Records.{records_of, between, stride};
 ghost use Rattle.build_required_rules.specs.Required.{shallow};

@@ -1,6 +1,8 @@
 // builder: from a message's bytes to its answer and its records: integrity, header, MsgType's layout, body and trailer in turn.
 // It reads a dictionary through its records, the index and the tables that are kept, whatever they hold, and keeps records through `build_records` only.
 // A build checks its dictionary and then reads; a build over memory that a dictionary was prepared in reads at once. There is one path of reading.
+#![tactic(auto)]
+
 mod beginning;
 mod finishing;
 mod showing;
@@ -21,7 +23,7 @@ use dictionary_directory::Kept;
 use field_rules::Field;
 
 // A header that was read: the field that ended it, how far reading has come, and the verified CheckSum.
-#[derive(Drop)]
+#[derive(Clone, Copy)]
 pub struct Headed {
     pub stop: Field,
     pub progress: Progress,
@@ -29,21 +31,21 @@ pub struct Headed {
 }
 
 // Where the tables of the header's tags and of the trailer's start, each with how many words it has; or both are listed of the records.
-#[derive(Drop)]
+#[derive(Clone, Copy)]
 pub enum Tags {
     Both(usize, usize, usize, usize),
     Listed,
 }
 
 // A header was read, or reading was refused before its end.
-#[derive(Drop)]
+#[derive(Clone, Copy)]
 pub enum Begun {
     Header(Headed),
     Refused(Answer),
 }
 
 // What was read: the answer, the CheckSum that stopped the trailer, and how many records are shown.
-#[derive(Drop)]
+#[derive(Clone, Copy)]
 pub struct Read {
     pub answer: Answer,
     pub stop: Stop,
@@ -51,7 +53,7 @@ pub struct Read {
 }
 
 // What a build answers: so many records are shown, and over so many of the lent ones is written, all of them or none.
-#[derive(Drop)]
+#[derive(Clone, Copy)]
 pub struct Built {
     pub answer: Answer,
     pub stop: Stop,

@@ -2,6 +2,8 @@
 // array, in trees that branch by the bits of a key. It reads no dictionary bytes, and demands nothing of the array: only links that rise are
 // followed, and no look-up follows more than the bits of its key allow: 6 for a component, 22 for a tag, 54 for a MsgType, whatever the array
 // holds.
+#![tactic(auto)]
+
 ghost use Rattle.std.specs.Prelude.{◌≡◌, ◌++◌, ◌<◌, length, drop, replicate};
 ghost use Rattle.dictionary_chains.specs.Chain.{entry_room, head_words, index_words, key_room, most_turns, key_of, head_of, entry_at, link_at, way_of, found, written, entered};
 
@@ -14,7 +16,7 @@ const ENTRY_ROOM: usize = 60004;
 // Words of an index: it ends behind the entry of the last number.
 pub const WORDS: usize = HEAD_WORDS + 3 * ENTRY_ROOM / 2 + 4;
 
-#[derive(Drop)]
+#[derive(Clone, Copy)]
 pub enum Table {
     Tags,
     Components,
@@ -22,7 +24,7 @@ pub enum Table {
 }
 
 // What an entry holds: the place of its record, and four words that are the table's own.
-#[derive(Drop)]
+#[derive(Clone, Copy)]
 pub struct Entry {
     pub place: u16,
     pub first: u16,
@@ -32,7 +34,7 @@ pub struct Entry {
 }
 
 // Where a way ends: the word that leads on from there, and the number of the entry with the key, 0 where there is none.
-#[derive(Drop)]
+#[derive(Clone, Copy)]
 struct Way {
     cell: usize,
     number: usize,

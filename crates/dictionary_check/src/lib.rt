@@ -1,5 +1,7 @@
 // dictionary_check: the check of a flat dictionary's bytes, 30 to 37, and the index that it leaves for look-ups.
 // It knows nothing of messages, and of a dictionary's meaning only what the check needs: what is named, how often and how deep.
+#![tactic(auto)]
+
 ghost use Rattle.std.specs.Prelude.{◌≡◌, true, ◌+◌, ◌≤◌, ◌<◌, length, get_or, eqb};
 ghost use Rattle.dictionary_rules.specs.Record.{record_at};
 ghost use Rattle.dictionary_rules.specs.Records.{records_from};
@@ -77,7 +79,7 @@ fn field_item_at(dictionary: &[u8], place: usize) -> u32
 }
 
 // Where a walk has come: a place of the dictionary, and what the records before it left open.
-#[derive(Drop)]
+#[derive(Clone, Copy)]
 struct Reached {
     at: usize,
     state: State,

@@ -1,5 +1,7 @@
 // dictionary_directory: the tables of a dictionary's messages and of the tags of its header and trailer, laid once into lent words behind a directory
 // that leads to them. What stands in the words is never trusted: whatever they hold, what the directory leads to lies in them and says whose table it is.
+#![tactic(auto)]
+
 ghost use Rattle.std.specs.Prelude.{◌≡◌, ◌++◌, ◌+◌, ◌/◌, ◌≤◌, ◌<◌, length, take, drop, replicate};
 ghost use Rattle.dictionary_chains.specs.Chain.{index_words};
 ghost use Rattle.dictionary_layout_rules.specs.RowsLayout.{layout_in};
@@ -16,7 +18,7 @@ use dictionary_meaning_rules::{MessageTable, TagList};
 use dictionary_rules::{Record, RecordRead};
 
 // From which word on a table stands, and how many words it has.
-#[derive(Drop)]
+#[derive(Clone, Copy)]
 pub enum Kept {
     Table(usize, usize),
     Nowhere,

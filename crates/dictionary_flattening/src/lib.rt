@@ -1,5 +1,7 @@
 // dictionary_flattening: the layout of a message, written from a dictionary's bytes into a lent table.
 // It trusts the index that the dictionary's check left, but no content of bytes, index or table makes it fail: it then says so.
+#![tactic(auto)]
+
 pub mod empty;
 pub mod tags;
 

@@ -136,7 +136,7 @@ empty-last end tag required (none_in_group some inner more) = some refl
 empty-last (field t r rest) tag required (none-after-field more) = empty-last rest tag required more
 empty-last (group t r i rest) tag required (none_in_group some inner more) = empty-last rest tag required more
 
-pub some_open : {tag groups : ℕ} {inner layout : Layout} → InnermostOpen tag inner groups layout → 1 ≤ groups
+pub some_open : {tag : ℕ} {inner : Layout} {groups : ℕ} {layout : Layout} → InnermostOpen tag inner groups layout → 1 ≤ groups
 some_open (innermost before required) = omega arith
 some_open (innermost-within before other required i) = omega (arith, some_open i)
 

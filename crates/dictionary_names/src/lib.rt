@@ -1,5 +1,7 @@
 // dictionary_names: what a dictionary names, kept in the lent index: known tags, closed components and MsgTypes, each looked up by one search.
 // It reads no dictionary bytes, and decides nothing: whether a record may name what it names is decided above it.
+#![tactic(auto)]
+
 ghost use Rattle.std.specs.Prelude.{◌≡◌, length};
 ghost use Rattle.dictionary_rules.specs.Index.{tag_at, component_at, message_at, tag_entry, component_entry, message_entry, noted};
 ghost use Rattle.dictionary_chains.specs.Chain.{index_words};

@@ -1,6 +1,8 @@
 // dictionary_prepared: a dictionary that is checked once for many messages. Its records are copied into bytes that the caller lends; what they name
 // and the tables of its messages are left in words that the caller lends, behind a stamp. It reads no message; and it trusts no memory: what was not
 // prepared is told.
+#![tactic(auto)]
+
 ghost use Rattle.std.specs.Prelude.{◌≡◌, ◌+◌, ◌≤◌, ◌++◌, length, drop};
 ghost use Rattle.dictionary_prepared.specs.Memory.{is_prepared, preparation, prepared, head_for, number_of_preparing, value_of_preparing};
 ghost use Rattle.dictionary_chains.specs.Chain.{index_words};
@@ -19,7 +21,7 @@ pub const FRONT: usize = 3;
 pub const HEAD: usize = FRONT + dictionary_chains::WORDS;
 
 // A dictionary was prepared; what is lent is too small for it; or the dictionary is refused.
-#[derive(Drop)]
+#[derive(Clone, Copy)]
 pub enum Preparing {
     Ready,
     NoRoom,

@@ -1,5 +1,7 @@
 // dictionary_pressing: the table that reading uses, written from the rows of a layout, level by level: a level's items first, each group's level
 // behind them, and the items linked once all of them stand there. What the words are is said by `dictionary_tables_rules`.
+#![tactic(auto)]
+
 ghost use Rattle.std.specs.Prelude.{◌≡◌, ◌+◌, ◌*◌, ◌/◌, ◌≤◌, ◌<◌, ◌++◌, length, drop};
 ghost use Rattle.dictionary_layout_rules.specs.Layout.{Layout, items};
 ghost use Rattle.dictionary_layout_rules.specs.Tabled.{Tabled};

@@ -1,5 +1,7 @@
 // dictionary_records: stage one of a flat dictionary's check. It reads one record from the dictionary's bytes.
 // It keeps nothing from record to record: whether a record may stand where it stands is decided above it.
+#![tactic(auto)]
+
 ghost use Rattle.std.specs.Prelude.{◌≡◌, true, false, ◌+◌, ◌≤◌, length, take, drop};
 ghost use Rattle.dictionary_rules.specs.Record.{low_first, record_body_length, zero_filled, with_tag, with_mark, opens_message, record_body, record_at};
 

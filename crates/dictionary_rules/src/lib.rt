@@ -1,9 +1,10 @@
 // dictionary_rules: definitions and worked examples alone. What the records of a flat dictionary are, what they name, and how the whole is
 // answered, whatever code checks it: `dictionary_records`, `dictionary_names`, `dictionary_steps` and `dictionary_check` are proved against it. No function stands here, so
 // that a wrong definition is refused in seconds.
+#![tactic(auto)]
 
 // A component item has its mark first: no variant then has a byte where another has part of a number, and a record is handed on in whole words.
-#[derive(Drop)]
+#[derive(Clone, Copy)]
 pub enum Record {
     KnownTag(u32),
     OpensComponent(u16),
@@ -15,14 +16,14 @@ pub enum Record {
 }
 
 // A record's body, as its kind reads it.
-#[derive(Drop)]
+#[derive(Clone, Copy)]
 pub enum Body {
     Good(Record),
     Wrong,
 }
 
 // A whole record and the place of the next one; none that can be read; or the end of the dictionary.
-#[derive(Drop)]
+#[derive(Clone, Copy)]
 pub enum RecordRead {
     Whole(Record, usize),
     Bad,
@@ -30,7 +31,7 @@ pub enum RecordRead {
 }
 
 // A closed component: where it opened, what it holds after flattening, and the component that it stands for.
-#[derive(Drop)]
+#[derive(Clone, Copy)]
 pub struct Component {
     pub number: u16,
     pub place: u16,
@@ -39,20 +40,20 @@ pub struct Component {
     pub stands: u16,
 }
 
-#[derive(Drop)]
+#[derive(Clone, Copy)]
 pub enum Looked {
     Closed(Component),
     Missing,
 }
 
-#[derive(Drop)]
+#[derive(Clone, Copy)]
 pub enum Placed {
     At(u16),
     Nowhere,
 }
 
 // What a record makes known.
-#[derive(Drop)]
+#[derive(Clone, Copy)]
 pub enum Note {
     Unchanged,
     KnowsTag(u16, u32),
@@ -61,7 +62,7 @@ pub enum Note {
 }
 
 // The answer to a dictionary. A place is that of a record's first byte, or the dictionary's length.
-#[derive(Drop)]
+#[derive(Clone, Copy)]
 pub enum Checked {
     Passes,
     TooLong,
@@ -75,14 +76,14 @@ pub enum Checked {
 }
 
 // An open group, and how many items had been counted when it opened, itself included.
-#[derive(Drop)]
+#[derive(Clone, Copy)]
 pub struct Group {
     pub tag: u32,
     pub since: u16,
 }
 
 // The open groups, the innermost first.
-#[derive(Drop)]
+#[derive(Clone, Copy)]
 pub enum Groups {
     NoGroup,
     OneGroup(Group),
@@ -92,21 +93,21 @@ pub enum Groups {
 }
 
 // What a component holds that is not empty: nothing, one component only, or something else.
-#[derive(Drop)]
+#[derive(Clone, Copy)]
 pub enum Held {
     Empty,
     Only(u16),
     Several,
 }
 
-#[derive(Drop)]
+#[derive(Clone, Copy)]
 pub enum Owner {
     OfComponent(u16),
     OfMessage,
 }
 
 // What is open, counted so far.
-#[derive(Drop)]
+#[derive(Clone, Copy)]
 pub struct Open {
     pub owner: Owner,
     pub place: u16,
@@ -116,13 +117,13 @@ pub struct Open {
     pub groups: Groups,
 }
 
-#[derive(Drop)]
+#[derive(Clone, Copy)]
 pub enum State {
     TopLevel,
     Inside(Open),
 }
 
-#[derive(Drop)]
+#[derive(Clone, Copy)]
 pub enum Step {
     Refuses(Checked),
     Goes(State, Note),

@@ -1,5 +1,7 @@
 // dictionary_steps: what one record of a dictionary does to what the records before it left, 31 to 37 in number order.
 // It looks names up in the lent index and changes nothing there: what a record makes known is handed back as a note.
+#![tactic(auto)]
+
 ghost use Rattle.std.specs.Prelude.{◌≡◌, ◌<◌, length};
 ghost use Rattle.dictionary_rules.specs.Index.{looks_at};
 ghost use Rattle.dictionary_rules.specs.Step.{step_of, at_end, depth_of, opened, opens, deeper, grown, held_with, stands_for, on_tag, on_component, on_message, on_field, on_item, on_group, on_close, closes_owner, closes_group};

@@ -1,5 +1,7 @@
 // dictionary_tables: the tables that reading uses, looked up and written. What a tag is at a level is found by one probe, and what is required
 // by the marks alone. Look-ups have an answer for every content, and never look at a dictionary's bytes.
+#![tactic(auto)]
+
 ghost use Rattle.std.specs.Prelude.{◌≡◌, ◌+◌, ◌*◌, ◌≤◌, ◌<◌, length};
 ghost use Rattle.dictionary_layout_rules.specs.Tree.{holds_tag};
 ghost use Rattle.dictionary_tables_rules.specs.Table.{heads_at, tag_at, item_of, delimiter_at, marked_behind, mark_from};

@@ -1,5 +1,7 @@
 // encode_rows: a message as bytes. It writes what a lent message holds in one pass over its rows, with the CheckSum behind it. Only `encoder` calls
 // it, which judges a message first and sets its BodyLength: its functions may ask that a message is lent and has room.
+#![tactic(auto)]
+
 ghost use Rattle.std.specs.Prelude.{◌≡◌, true, false, ◌+◌, ◌-◌, ◌*◌, ◌%◌, ◌≤◌, ◌<◌, length, take, drop};
 ghost use Rattle.field_rules.specs.Decimal.{decimal, written_at};
 ghost use Rattle.field_rules.specs.CheckSum.{sum_of};

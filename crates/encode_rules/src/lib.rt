@@ -1,9 +1,10 @@
 // encode_rules: definitions and worked encodings alone. What a message is as bytes, by RULES.md, Encoding, and what an encode call answers and leaves,
 // whatever code writes it: `encode_rows` and `encoder` are proved against it. No code stands here, so that a wrong definition is refused in
 // seconds.
+#![tactic(auto)]
 
 // How encoding ended: 0 with the length of the encoding, 27, 22, 43, 20, 21, 23.
-#[derive(Drop)]
+#[derive(Clone, Copy)]
 pub enum Encoding {
     Written(usize),
     NoMessage,
@@ -15,7 +16,7 @@ pub enum Encoding {
 }
 
 // What is found before anything changes: the BodyLength, or why the call is refused.
-#[derive(Drop)]
+#[derive(Clone, Copy)]
 pub enum Verdict {
     Measured(u32),
     Refused(Encoding),

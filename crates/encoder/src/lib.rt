@@ -1,5 +1,7 @@
 // encoder: the encode operation (27, 22, 43, 20, 21, 23). All is judged once, by sizes of rows, before anything changes; then the message gets its
 // new BodyLength, is written, and gets its new CheckSum. It keeps nothing and demands nothing of what is lent.
+#![tactic(auto)]
+
 ghost use Rattle.std.specs.Prelude.{◌≡◌, true, [], ◌+◌, ◌-◌, ◌≤◌, ◌<◌, ltb};
 ghost use Rattle.field_rules.specs.Decimal.{decimal};
 ghost use Rattle.message_maps.specs.Rows.{rows_from};

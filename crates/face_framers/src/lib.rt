@@ -1,5 +1,7 @@
 // face_framers: the framers' calls over states as a caller lends them: plain numbers, where a mark is set if its byte isn't 0, so that every
 // content of a state is one. A mark that stays set keeps its byte. Each call hands the state to its framer and tells the answer; it decides nothing.
+#![tactic(auto)]
+
 ghost use Rattle.std.specs.Prelude.{◌≡◌};
 ghost use Rattle.face_told.specs.Told.{told};
 ghost use Rattle.frame_parser_rules.specs.Framer.{length_returned, pushed, pushed_store, finished, taken, taken_store, taken_output};
@@ -8,7 +10,7 @@ ghost use Rattle.face_framers.specs.States.{is_set, mark_left, ported_in, ported
 
 // The ported framer's state: how many bytes of the store are used, and whether the end, or a length over 8,192 bytes, was met.
 #[repr(C)]
-#[derive(Drop)]
+#[derive(Clone, Copy)]
 pub struct PortedState {
     pub used: usize,
     pub ended: u8,
@@ -17,20 +19,20 @@ pub struct PortedState {
 
 // The hunting framer's state: how many bytes of the store are used, how many were dropped, and whether the end was met.
 #[repr(C)]
-#[derive(Drop)]
+#[derive(Clone, Copy)]
 pub struct HunterState {
     pub used: usize,
     pub dropped: u64,
     pub ended: u8,
 }
 
-#[derive(Drop)]
+#[derive(Clone, Copy)]
 pub struct PortedReply {
     pub state: PortedState,
     pub number: u32,
 }
 
-#[derive(Drop)]
+#[derive(Clone, Copy)]
 pub struct HunterReply {
     pub state: HunterState,
     pub number: u32,

@@ -1,5 +1,7 @@
 // face_messages: a build and a taking over as a caller in another language asks for them, over records of twelve bytes that the caller lends.
 // It takes records apart and decides nothing; `gateway` lends what the caller lent.
+#![tactic(auto)]
+
 ghost use Rattle.std.specs.Prelude.{◌≡◌, ◌*◌, ◌%◌, ◌^◌, ◌≤◌, take, replicate};
 ghost use Rattle.message_take_over.specs.Taking.{taking_over};
 ghost use Rattle.build_records.specs.Records.{on_records, replaced, record_words, stride};
@@ -15,7 +17,7 @@ use builder::Built;
 
 // A record as it is lent: twelve bytes. Depth and entry are 0 outside groups, else they start from 1.
 #[repr(C)]
-#[derive(Drop)]
+#[derive(Clone, Copy)]
 pub struct FieldRecord {
     pub part: u8,
     pub depth: u8,
@@ -26,7 +28,7 @@ pub struct FieldRecord {
 }
 
 // What is told of a build: its number, how many records it shows, and over how many of the lent ones is written.
-#[derive(Drop)]
+#[derive(Clone, Copy)]
 pub struct Shown {
     pub number: u32,
     pub records: usize,

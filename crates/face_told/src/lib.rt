@@ -1,5 +1,7 @@
 // face_told: what a caller in another language is told of any answer: the rules' number, and the rest in four lent words.
 // It takes answers apart and decides nothing.
+#![tactic(auto)]
+
 ghost use Rattle.std.specs.Prelude.{◌≡◌, ◌%◌, ◌^◌};
 ghost use Rattle.message_rules.specs.Changes.{number_of_change};
 ghost use Rattle.message_rules.specs.LookUps.{number_of_value, number_of_map};

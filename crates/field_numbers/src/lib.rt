@@ -1,5 +1,7 @@
 // field_numbers: the lowest layer's numbers. It reads digits, sums bytes for a CheckSum, and writes digits.
 // It knows nothing of fields, and it demands nothing of its callers.
+#![tactic(auto)]
+
 ghost use Rattle.std.specs.Prelude.{◌≡◌, ◌*◌, ◌%◌, ◌^◌, ◌≤◌, length, nat_le};
 ghost use Rattle.field_rules.specs.Choice.{pick};
 ghost use Rattle.field_rules.specs.Number.{number_in};
@@ -106,7 +108,7 @@ pub fn digit_count(n: u32) -> usize
 const ONE: u64 = 4294967296;
 
 // A number's digits, to be taken from the highest down: how many there are, and the number as a fraction.
-#[derive(Drop)]
+#[derive(Clone, Copy)]
 struct Digits {
     count: usize,
     fraction: u64,

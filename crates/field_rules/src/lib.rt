@@ -1,40 +1,42 @@
 // field_rules: definitions, laws and worked examples alone. What a field is, what numbers, sums and digits are worth, how a list of fields is
 // read, and the FIX TagValue encoding itself, whatever code reads: `field_tagvalue` is proved against it. No function stands here, so that a
 // wrong definition is refused in seconds.
-#[derive(Drop)]
+#![tactic(auto)]
+
+#[derive(Clone, Copy)]
 pub enum Found {
     At(usize),
     Nothing,
 }
 
 // What a text of digits is worth. NoNumber: it is none, or worth more than 4,294,967,295.
-#[derive(Drop)]
+#[derive(Clone, Copy)]
 pub enum Number {
     Worth(u32),
     NoNumber,
 }
 
 // Where writing went on to, or that there was no room and nothing was written.
-#[derive(Drop)]
+#[derive(Clone, Copy)]
 pub enum Written {
     Next(usize),
     NoRoom,
 }
 
 // How fields are read. Whoever reads hands it on whole: what a way of reading must know goes here.
-#[derive(Drop)]
+#[derive(Clone, Copy)]
 pub struct Mode {
     pub separator: u8,
 }
 
 // Where reading stands. It is handed on whole: what reading one field must tell the next goes here.
-#[derive(Drop)]
+#[derive(Clone, Copy)]
 pub struct Cursor {
     pub at: usize,
 }
 
 // One field of a message: where it starts, its tag, the place and length of its value, and where the next one starts.
-#[derive(Drop)]
+#[derive(Clone, Copy)]
 pub struct Field {
     pub first: usize,
     pub tag: u32,
@@ -44,14 +46,14 @@ pub struct Field {
 }
 
 // Why no field can be read, in the order in which the reasons are looked for.
-#[derive(Drop)]
+#[derive(Clone, Copy)]
 pub enum Cause {
     NoEquals,
     NoSeparator,
     BadTag,
 }
 
-#[derive(Drop)]
+#[derive(Clone, Copy)]
 pub enum FieldRead {
     Read(Field),
     Unreadable(Cause, usize),

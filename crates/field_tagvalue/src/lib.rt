@@ -1,5 +1,7 @@
 // field_tagvalue: the lowest layer. It finds bytes, reads tags, and reads one field at a cursor.
 // It knows nothing of dictionaries, of messages as a whole or of any tag's meaning, and it demands nothing of its callers.
+#![tactic(auto)]
+
 ghost use Rattle.std.specs.Prelude.{◌≡◌, ℕ, ◌+◌, ◌<◌, ◌^◌, length, take, drop};
 ghost use Rattle.field_rules.specs.Find.{find_in};
 ghost use Rattle.field_rules.specs.Number.{tag_of};
@@ -31,7 +33,7 @@ pub fn find(bytes: &[u8], wanted: u8) -> Found
 }
 
 // The first `=` of a text, and the tag before it, 0 where that is none.
-#[derive(Drop)]
+#[derive(Clone, Copy)]
 enum Tagged {
     At(usize, u32),
     Nothing,

@@ -1,5 +1,7 @@
 // frame_answers: the rules' numbers of what the framers answer, and the length that a take of the ported one returns.
 // It keeps nothing and decides nothing: whoever refuses says which answer it is.
+#![tactic(auto)]
+
 ghost use Rattle.std.specs.Prelude.{◌≡◌};
 ghost use Rattle.frame_parser_rules.specs.Framer.{number_of_parser, length_returned};
 ghost use Rattle.frame_hunter_rules.specs.Bytes.{number_of_hunter};

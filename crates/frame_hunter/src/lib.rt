@@ -2,6 +2,8 @@
 // drops the places at which none can start.
 // It may not keep anything: the caller lends store and output to each call, and hands the state on as it was returned. And it may not
 // judge a place: `frame_verdict` does.
+#![tactic(auto)]
+
 ghost use Rattle.std.specs.Prelude.{◌≡◌, ◌-◌, ◌≤◌, ◌++◌, length, take, drop};
 ghost use Rattle.frame_verdict_rules.specs.Verdict.{verdict_of};
 ghost use Rattle.frame_hunter_rules.specs.Hunt.{act_on, hunt_from};

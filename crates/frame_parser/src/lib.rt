@@ -1,5 +1,7 @@
 // frame_parser: the ported framer. Chunks of a stream go in at the end of a lent store, whole messages come out at its front, cut by
 // their announced lengths alone. It never looks for a message's start, checks no CheckSum and knows no field but by its position.
+#![tactic(auto)]
+
 ghost use Rattle.std.specs.Prelude.{◌≡◌, ◌*◌, ◌%◌, ◌^◌, ◌≤◌, length, take, drop};
 ghost use Rattle.frame_parser_rules.specs.Announced.{nominal, find_from, value_from, announced_in};
 ghost use Rattle.frame_parser_rules.specs.Framer.{unusable, fresh, only_mark, answers_with, ready_of, moved_to_front, pushed, pushed_store, finished, taken, taken_store, taken_output};

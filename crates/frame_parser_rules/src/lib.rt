@@ -1,9 +1,10 @@
 // frame_parser_rules: definitions and worked examples alone. What the ported framer answers and leaves, and what a stream of messages comes
 // out as, whatever code does it: `frame_parser` is proved against it. No function stands here, so that a wrong definition is refused in seconds.
+#![tactic(auto)]
 
 // What the framer keeps beside the store: how many bytes are used, whether the end was told, and whether a length over 8,192 bytes
 // was announced, the mark that 20 leaves.
-#[derive(Drop)]
+#[derive(Clone, Copy)]
 pub struct State {
     pub used: usize,
     pub ended: bool,
@@ -11,7 +12,7 @@ pub struct State {
 }
 
 // What a call answers. Accepted: a chunk or the end. Message: a take, with the message's length, 0 if none is ready.
-#[derive(Drop)]
+#[derive(Clone, Copy)]
 pub enum Answer {
     Accepted,
     Message(usize),
@@ -22,21 +23,21 @@ pub enum Answer {
     BadStore,
 }
 
-#[derive(Drop)]
+#[derive(Clone, Copy)]
 pub struct Outcome {
     pub state: State,
     pub answer: Answer,
 }
 
 // Where a value starts and where the separator behind it stands.
-#[derive(Drop)]
+#[derive(Clone, Copy)]
 pub enum Value {
     Between(usize, usize),
     NoValue,
 }
 
 // Where the message at the front ends: at a place within the limit, past the limit, or not known yet.
-#[derive(Drop)]
+#[derive(Clone, Copy)]
 pub enum Announced {
     Ends(usize),
     Over,
@@ -44,7 +45,7 @@ pub enum Announced {
 }
 
 // How long the message is that can be handed out, 0 if none is ready; or that it is refused for its length.
-#[derive(Drop)]
+#[derive(Clone, Copy)]
 pub enum Ready {
     Length(usize),
     Refused,

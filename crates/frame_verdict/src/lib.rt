@@ -1,5 +1,7 @@
 // frame_verdict: what is known of a place from the bytes that stand there: a frame starts, none can start, or neither yet. It can be asked of any
 // bytes. It may not judge more than a frame: what stands between `35=` and the CheckSum is no concern of it.
+#![tactic(auto)]
+
 ghost use Rattle.std.specs.Prelude.{◌≡◌, ◌-◌, ◌≤◌, length, take, drop};
 ghost use Rattle.frame_verdict_rules.specs.Readers.{literal, begin_string, may_become, body_length};
 ghost use Rattle.frame_verdict_rules.specs.Verdict.{body_reader, stage_of, length_of, as_verdict, verdict_of};

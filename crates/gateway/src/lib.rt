@@ -1,5 +1,7 @@
 // gateway: the public face for programs in other languages. Each export calls one core over what the caller lends and tells its answer: the
 // number is returned, the rest stands in four lent words. Nothing is decided here, and nothing is kept: all state is lent.
+#![tactic(auto)]
+
 pub mod building;
 pub mod finding;
 pub mod framers;

@@ -1,5 +1,7 @@
 // message: FIX messages made and changed by calls. It says what a message means in no other words than maps; `message_lent` says what may be lent,
 // `message_maps` moves rows and bytes. No operation demands anything of what is lent: where it is no message the answer is 27.
+#![tactic(auto)]
+
 ghost use Rattle.std.specs.Prelude.{◌≡◌, true, false, ◌+◌, ◌-◌, ◌*◌, ◌≤◌, ◌<◌, length, leb};
 ghost use Rattle.message_maps.specs.Rows.{message_words, message_rows};
 ghost use Rattle.message_lent_rules.specs.Lent.{is_message};
@@ -78,7 +80,7 @@ fn fits(left: usize, more: usize) -> bool
 }
 
 // Where the values of a cut's rows stand, in the order of its rows.
-#[derive(Drop)]
+#[derive(Clone, Copy)]
 pub struct Places {
     pub from: usize,
     pub kept: usize,

@@ -1,5 +1,7 @@
 // message_allowed: whether rows that are lent are allowed, and whether each run among them has its count, in one pass. A table finds, of the rows
 // passed, the newest of each level and tag, and the newest above each level. It demands nothing of what the rows hold.
+#![tactic(auto)]
+
 ghost use Rattle.std.specs.Prelude.{◌≡◌, true, false, ◌+◌, ◌-◌, ◌*◌, ◌≤◌, ◌<◌, length, replicate};
 ghost use Rattle.field_rules.specs.Choice.{pick};
 ghost use Rattle.message_maps.specs.Rows.{row_at, rows_from, rows_before, level_of, message_words, message_rows};

@@ -1,5 +1,7 @@
 // message_answers: the rules' numbers of what the calls on a message answer, and the length that an encoding returns.
 // It reads nothing and decides nothing: whoever refuses says which answer it is.
+#![tactic(auto)]
+
 ghost use Rattle.std.specs.Prelude.{◌≡◌};
 ghost use Rattle.message_rules.specs.Changes.{number_of_change};
 ghost use Rattle.message_take_over.specs.Taking.{number_of_taken};

@@ -1,5 +1,7 @@
 // message_hung_rows: the rows of a run are spliced into a map, one level deeper. It knows rows only; `message_runs` says what they mean and asks first. Only
 // `message_runs` calls it: its functions may ask that what is lent is whole.
+#![tactic(auto)]
+
 ghost use Rattle.std.specs.Prelude.{◌≡◌, ℕ, ◌+◌, ◌-◌, ◌*◌, ◌≤◌, ◌<◌, length, get_or, take};
 ghost use Rattle.message_maps.specs.Rows.{flat, row_at, rows_from, sizes, message_words, message_rows};
 ghost use Rattle.message_lent_rules.specs.Lent.{row_count, rows_of};

@@ -1,5 +1,7 @@
 // message_lent: whether what a caller lends is a message, and how many fields it stores. It changes nothing and demands nothing of what is lent.
 // Fields are counted in one pass over the rows; where a head's own fields don't come first, in one from the back.
+#![tactic(auto)]
+
 ghost use Rattle.std.specs.Prelude.{◌≡◌, ◌+◌, ◌-◌, ◌≤◌, ◌<◌, length, get_or, ltb};
 ghost use Rattle.message_maps.specs.Rows.{row_at, rows_from, end_from, message_words, message_rows};
 ghost use Rattle.message_lent_rules.specs.Lent.{is_part, next_part, parts_from, is_own, own_below, weight, fields_in, row_count, is_laid, is_message};

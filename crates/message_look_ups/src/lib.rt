@@ -1,5 +1,7 @@
 // message_look_ups: what a message made by calls holds. A map of it, a part's or an entry's, is named by the row of its head, which a look-up
 // gives and takes by value; any other number names no map. Nothing is changed, and nothing is demanded of what is lent.
+#![tactic(auto)]
+
 ghost use Rattle.std.specs.Prelude.{◌≡◌, ◌+◌, ◌-◌, ◌≤◌, ◌<◌, length};
 ghost use Rattle.message_maps.specs.Rows.{rows_from, sizes, message_words, message_rows};
 ghost use Rattle.message_rules.specs.RowChanges.{place_of};
@@ -9,14 +11,14 @@ ghost use Rattle.message_look_ups.specs.Opening.{opened_at, value_from, entry_fr
 use message_rules::{FoundMap, FoundValue, Value};
 
 // The own rows of a map, and their level.
-#[derive(Drop)]
+#[derive(Clone, Copy)]
 pub struct Rows {
     pub level: u32,
     pub from: usize,
     pub to: usize,
 }
 
-#[derive(Drop)]
+#[derive(Clone, Copy)]
 pub enum Opened {
     NoMessage,
     Absent,

@@ -1,5 +1,7 @@
 // message_maps: field maps in lent words and bytes. It finds rows and cuts, moves and inserts them; it knows no tag's meaning and refuses nothing
 // by number. Only `message_lent`, `message`, `encode_rows` and `message_take_over` call it: its functions may ask that the words are whole.
+#![tactic(auto)]
+
 ghost use Rattle.std.specs.Prelude.{◌≡◌, ◌++◌, [], true, false, ◌+◌, ◌-◌, ◌*◌, ◌≤◌, ◌<◌, length, get_or, take, drop, replicate};
 ghost use Rattle.field_rules.specs.Decimal.{written_at};
 ghost use Rattle.message_maps.specs.Rows.{row_at, rows_from, rows_before, level_of, size_of, matches, find_from, end_from, in_run, run_end_from, sizes, padded, part, spliced, message_words, message_rows};

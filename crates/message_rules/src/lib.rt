@@ -1,8 +1,9 @@
 // message_rules: definitions and worked examples alone. What a call makes of a message that is lent, what is found in one, and what a run is
 // made of, whatever code does it: `message`, `message_look_ups` and `message_runs` are proved against it. No function stands here, so that a wrong definition
 // is refused in seconds.
+#![tactic(auto)]
 
-#[derive(Drop)]
+#[derive(Clone, Copy)]
 pub enum Part {
     Header,
     Body,
@@ -10,7 +11,7 @@ pub enum Part {
 }
 
 // What a call that changes a message answers: 0, 27, 41, 42, 21.
-#[derive(Drop)]
+#[derive(Clone, Copy)]
 pub enum Change {
     Made,
     NoMessage,
@@ -20,21 +21,21 @@ pub enum Change {
 }
 
 // The rows of a part's map, and how many rows there are in all.
-#[derive(Drop)]
+#[derive(Clone, Copy)]
 pub struct Span {
     pub from: usize,
     pub to: usize,
     pub count: usize,
 }
 
-#[derive(Drop)]
+#[derive(Clone, Copy)]
 pub enum Located {
     At(Span),
     Nowhere,
 }
 
 // Rows that are taken out, from `from` to `to`; those from `kept` on come back behind what follows up to `until`.
-#[derive(Drop)]
+#[derive(Clone, Copy)]
 pub struct Cut {
     pub from: usize,
     pub to: usize,
@@ -44,20 +45,20 @@ pub struct Cut {
 }
 
 // Where a value stands in the store.
-#[derive(Drop)]
+#[derive(Clone, Copy)]
 pub struct Value {
     pub place: usize,
     pub size: usize,
 }
 
-#[derive(Drop)]
+#[derive(Clone, Copy)]
 pub enum FoundValue {
     NoMessage,
     Absent,
     At(Value),
 }
 
-#[derive(Drop)]
+#[derive(Clone, Copy)]
 pub enum FoundMap {
     NoMessage,
     Absent,

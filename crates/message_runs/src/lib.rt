@@ -1,5 +1,7 @@
 // message_runs: repeating groups made by calls. An entry is made before it is hung, as in the Rust: a run is handed over as a draft in a message's
 // own layout and spliced in. No operation demands anything of what is lent: where it is no message or no draft the answer is 27.
+#![tactic(auto)]
+
 ghost use Rattle.std.specs.Prelude.{◌≡◌, ◌+◌, ◌-◌, ◌*◌, ◌≤◌, ◌<◌, length};
 ghost use Rattle.message_maps.specs.Rows.{rows_from, message_words, message_rows};
 ghost use Rattle.message_rules.specs.Changes.{after};

@@ -1,5 +1,7 @@
 // message_take_over: what a build answered, taken over into a lent message, so that reading, changing and writing are one path. It lays the records out
 // as rows and lets `message_lent` judge them; it demands nothing of what it is given: what is no message is refused with 27.
+#![tactic(auto)]
+
 ghost use Rattle.std.specs.Prelude.{◌≡◌, true, false, [], ◌∷◌, ◌+◌, ◌-◌, ◌*◌, ◌/◌, ◌≤◌, ◌<◌, length, replicate, set};
 ghost use Rattle.message_maps.specs.Rows.{row, padded, message_words, message_rows};
 ghost use Rattle.field_rules.specs.Decimal.{written_at};
@@ -13,21 +15,21 @@ use build_records::Record;
 use field_numbers::wide;
 
 // What taking over answers: 0 or 27.
-#[derive(Drop)]
+#[derive(Clone, Copy)]
 pub enum Taken {
     Made,
     NoMessage,
 }
 
 // The nearest record before another that stands no deeper than it.
-#[derive(Drop)]
+#[derive(Clone, Copy)]
 pub enum Nearest {
     Is(Record),
     Nothing,
 }
 
 // Where a record belongs: in the map that is open, first in a new entry of the run on a start tag, or nowhere.
-#[derive(Drop)]
+#[derive(Clone, Copy)]
 pub enum Joins {
     Open,
     Entry(u32),
@@ -35,14 +37,14 @@ pub enum Joins {
 }
 
 // The part that is open, how many rows are laid, and how many bytes their values take.
-#[derive(Drop)]
+#[derive(Clone, Copy)]
 pub struct Laying {
     pub part: u32,
     pub rows: usize,
     pub used: usize,
 }
 
-#[derive(Drop)]
+#[derive(Clone, Copy)]
 pub enum Step {
     On(Laying),
     Refused,

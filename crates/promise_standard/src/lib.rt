@@ -1,1 +1,2 @@
 // promise_standard: messages of the standard (`standard_rules`) against integrity, reading, repeating groups and the hunting framer. Laws alone.
+#![tactic(auto)]

@@ -8,13 +8,15 @@
 //   p pc pw pl      prepares the dictionary in a copy of 62 bytes, 61 with `c`, 60,001 with `l`, and the least memory, a word less with `w`, and builds no
 //                   byte over them
 // Each message is built over prepared memory too, and a line says so only where that is answered otherwise.
+#![tactic(auto)]
+
 mod telling;
 
 use sample_kit::{dictionaries, saying, scripts};
 use sample_texts::messages;
 
 // The size of the dictionary, and what a case sets.
-#[derive(Drop)]
+#[derive(Clone, Copy)]
 struct Case {
     dictionary: usize,
     separator: u8,

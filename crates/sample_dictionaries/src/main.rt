@@ -1,5 +1,7 @@
 // sample_dictionaries: checks dictionaries at the edges of every answer, and writes the number and the value of each. Its script (see sample_kit) has
 // nothing but dictionaries, each checked as it stands. The lines of `stdout` were written from the rules.
+#![tactic(auto)]
+
 use sample_kit::{dictionaries, saying, scripts};
 
 fn show(dictionary: &[u8]) {

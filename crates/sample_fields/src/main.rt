@@ -5,6 +5,8 @@
 //   +8=F|            the sum of these bytes
 //   d7               the digits of a CheckSum
 //   w8192,3          the digits of a number, from a place on of an output of twelve dots
+#![tactic(auto)]
+
 use field_rules::{Cause, FieldRead, Number, Written};
 use sample_kit::{saying, scripts};
 use sample_texts::messages;

@@ -8,6 +8,8 @@
 //   m:26         take, and show so many bytes of the output
 //   c5:8=F|      these bytes as a stream of its own, cut behind so many: a point where it is right
 //   l16383  x    lend so many bytes of the store, until the next fresh state; a used length of 16385, ended, 7 places dropped
+#![tactic(auto)]
+
 use frame_hunter_rules::{Answer, Reply, State, Taken};
 use sample_kit::{saying, scripts};
 use sample_texts::messages;
@@ -15,7 +17,7 @@ use sample_texts::messages;
 const STORE: usize = 16384;
 
 // The state in hand, and how many bytes of the store are lent.
-#[derive(Drop)]
+#[derive(Clone, Copy)]
 struct Held {
     state: State,
     lent: usize,

@@ -15,6 +15,8 @@
 //
 // A program gets its script in pieces, each ended by a line break: a heading and a dictionary as their lines, of a case `:NAME`, then its
 // words, then `.`. Where a word starts is told by nothing but its first byte, so no word starts with `-`, `*`, `:` or `.`.
+#![tactic(auto)]
+
 pub mod dictionaries;
 pub mod saying;
 pub mod scripts;

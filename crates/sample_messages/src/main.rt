@@ -12,6 +12,8 @@
 // aside and starts an empty message, `^b` hangs what was laid aside on a part, and `^` hangs it in the last entry of the draft in hand.
 // To lay rows by hand: ~ none, p1 a part's head, f1,38=600 a field at a level, e1,78,79 an entry at a level, # any row, w the count of rows.
 // And l8204,8192 lends so many words and value bytes from here to the end of the case.
+#![tactic(auto)]
+
 mod calls;
 mod laying;
 mod looking;
@@ -20,7 +22,7 @@ mod showing;
 use sample_kit::scripts;
 
 // How many words and value bytes are lent.
-#[derive(Drop)]
+#[derive(Clone, Copy)]
 struct Lent {
     words: usize,
     bytes: usize,

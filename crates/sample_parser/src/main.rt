@@ -7,6 +7,8 @@
 //   m30,33      take, and show so many bytes of the output and of the store
 //   c5:8=F|     of these bytes as a stream of its own, cut behind so many: how many came out after each of the two chunks
 //   l16383  x   lend so many bytes of the store, until the next reset; a used length of 16385, ended and over
+#![tactic(auto)]
+
 use frame_parser_rules::{Answer, Outcome, State};
 use sample_kit::{saying, scripts};
 use sample_texts::messages;
@@ -14,7 +16,7 @@ use sample_texts::messages;
 const STORE: usize = 16384;
 
 // The state in hand, and how many bytes of the store are lent.
-#[derive(Drop)]
+#[derive(Clone, Copy)]
 struct Held {
     state: State,
     lent: usize,
@@ -76,7 +78,7 @@ fn take_short(state: State, store: &mut [u8]) -> State {
 }
 
 // How much of a stream came out, message by message.
-#[derive(Drop)]
+#[derive(Clone, Copy)]
 struct Came {
     state: State,
     bytes: usize,

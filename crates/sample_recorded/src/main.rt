@@ -1,6 +1,8 @@
 // sample_recorded: answers the recorded requests on standard input, one a line, in the lines of the comparison (oracle/README.md). `stdout` holds what
 // the Rust answered to them; where its hash order decides, the rules' one answer, which is among those that the Rust gave.
 // The recorded requests are short: a dictionary, a message or an encoding has up to 2,000 bytes.
+#![tactic(auto)]
+
 mod building;
 mod calling;
 mod drafts;

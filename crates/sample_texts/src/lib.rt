@@ -1,5 +1,7 @@
 // sample_texts: what the sample programs do with texts: it takes them apart, puts them together and spells messages. It is for programs alone:
 // no library of the gateway may stand on it. Its contracts say that it is safe and ends, and how long a part is where a caller slices by it.
+#![tactic(auto)]
+
 pub mod messages;
 
 ghost use Rattle.std.specs.Prelude.{◌≤◌, ◌<◌, length};

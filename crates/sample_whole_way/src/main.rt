@@ -1,5 +1,7 @@
 // sample_whole_way: one sample on its whole way, as README.md tells it: a damaged stream, the hunting framer, a build, an encoding, a change and an
 // encoding again. Nothing is told that was not computed, but for the sentences between.
+#![tactic(auto)]
+
 mod sample;
 mod showing;
 

@@ -1,10 +1,11 @@
 // tool_capture: hunts the stream on standard input, of any length, and says how much of it was frames and how much was dropped.
 // It is what the framer's speed is measured with; it keeps no frame.
+#![tactic(auto)]
 
 // Chunks of 8,192 bytes that are read at the most: the program ends on every input.
 const CHUNKS: u64 = 0x1_0000_0000;
 
-#[derive(Drop)]
+#[derive(Clone, Copy)]
 struct Counts {
     frames: u64,
     bytes: u64,
@@ -23,7 +24,7 @@ fn with_frame(counts: Counts, length: usize) -> Counts {
     }
 }
 
-#[derive(Drop)]
+#[derive(Clone, Copy)]
 struct Hunting {
     state: frame_hunter_rules::State,
     counts: Counts,

@@ -1,5 +1,6 @@
 // tool_dictionary: checks the flat dictionary on standard input and says the answer's number and value. It checks once more for each
 // word of its command line, which is what the check is timed with.
+#![tactic(auto)]
 
 fn answered(dictionary: &[u8], n: usize) -> dictionary_rules::Checked {
     if dictionary.len() < n {

@@ -2,7 +2,7 @@
 use crate::dropped::Run;
 use crate::saying;
 
-#[derive(Drop)]
+#[derive(Clone, Copy)]
 pub struct Counts {
     pub messages: u64,
     pub repeating: u64,

@@ -4,7 +4,7 @@ use crate::{fields, integrity, saying};
 
 // A run goes from its first byte that is no line break to its last one. `leading` line breaks stand before it and `trailing` behind it so far.
 // Of its bytes, and those behind it, the first `kept` are in the lent memory.
-#[derive(Drop)]
+#[derive(Clone, Copy)]
 pub struct Run {
     pub first: u64,
     pub length: u64,
@@ -14,7 +14,7 @@ pub struct Run {
 }
 
 // How far a text is read as one message, and the place of its CheckSum field; the end, where there is none.
-#[derive(Drop)]
+#[derive(Clone, Copy)]
 struct Extent {
     last: usize,
     end: usize,

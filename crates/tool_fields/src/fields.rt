@@ -8,14 +8,14 @@ use field_rules::{Field, FieldRead, Found};
 const SEPARATOR: u8 = 1;
 
 // How often a tag was read before, and where first.
-#[derive(Drop)]
+#[derive(Clone, Copy)]
 struct Standing {
     times: usize,
     first: usize,
 }
 
 // How many tags stand more than once: of those that may stand in a repeating group, and of those that stand in none.
-#[derive(Drop)]
+#[derive(Clone, Copy)]
 pub struct Repeated {
     pub grouped: u64,
     pub ungrouped: u64,

@@ -1,5 +1,7 @@
 // tool_fields: shows the stream on standard input, of any length: the fields of each message with their places, whether BodyLength and CheckSum
 // are right, and what was dropped between. The separator is 0x01. It knows no dictionary, and judges nothing else.
+#![tactic(auto)]
+
 mod counting;
 mod dropped;
 mod fields;
@@ -14,7 +16,7 @@ use frame_hunter_rules::{State, Taken};
 const CHUNKS: u64 = 0x1_0000_0000;
 
 // `place` is that of the first byte that the framer holds, and the run that of the bytes dropped right before it.
-#[derive(Drop)]
+#[derive(Clone, Copy)]
 struct Showing {
     state: State,
     place: u64,
