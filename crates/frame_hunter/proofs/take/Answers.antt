@@ -99,7 +99,7 @@ returns c =
     (hunt_inside c.args.state c.args.store.now c.args.output.now _ f c.hunt-hunted.ensures, f.within, f.size, hunt_small c.args.state c.args.store.now c.args.output.now _ f c.hunt-hunted.ensures) in
     let m = take_fine c.args.state c.args.store.now c.args.output.now c.hunt-hunted.result (fit) (omega (arith, c.if-output-lt-FRAME_MOST.false)) c.hunt-hunted.ensures in
     record {
-      taken_is = answered c.args.state c.args.store.now c.args.output.now c.hunt-hunted.result _ _ _ m (c.copy-length.ensures.value ∙ part_length c.args.store.now c.hunt-hunted.result.passed c.hunt-hunted.result.length (omega (arith, inside))) c.wrapping_add_u64.ensures;
+      taken_is = answered c.args.state c.args.store.now c.args.output.now c.hunt-hunted.result _ _ _ m (c.copy-length.ensures.value ∙ part_length c.args.store.now c.hunt-hunted.result.passed c.hunt-hunted.result.length (omega (arith, inside))) c.wrapping_add_u64.ensures.value;
       store_is = stored c.args.state c.args.store.now c.args.output.now c.hunt-hunted.result _ _ m c.keep.ensures;
       output_is = written c.args.state c.args.store.now c.args.output.now c.hunt-hunted.result _ _ m (put_first c.args.store.now c.args.output.now _ c.hunt-hunted.result.passed c.hunt-hunted.result.length (omega (arith, inside)) c.copy-length.ensures.target_after);
     }

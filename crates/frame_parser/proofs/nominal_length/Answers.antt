@@ -10,7 +10,7 @@ pub loop-i-preserved : goal.loop-i-preserved
 loop-i-preserved c = let text = c.args.text.now in
     let i = c.loop-i.i in
     let digit = c.wrapping_sub_u8-digit.result in
-    let same : digit ≡ digit_of (get_or text i 0) = digit_wraps (get_or text i 0) digit (omega (arith, c.shared_slice_known-in-loop-i-1.given i)) (omega arith) c.wrapping_sub_u8-digit.ensures in
+    let same : digit ≡ digit_of (get_or text i 0) = digit_wraps (get_or text i 0) digit (omega (arith, c.shared_slice_known-in-loop-i-1.given i)) (omega arith) c.wrapping_sub_u8-digit.ensures.value in
     let next : c.wrapping_add_u64-n.result ≡ (c.loop-i.n * 10 % 2 ^ 64 + digit_of (get_or text i 0)) % 2 ^ 64 = cc in
     (omega arith, c.loop-i.invariant.1 ∙ nominal-step text i c.loop-i.n c.loop-i-test.true ∙ ap (λ (n : ℕ). nominal n (drop (i + 1) text)) (sym next))
 

@@ -44,7 +44,8 @@ returns-in_default c =
     record { value = c.over_long-in_default.ensures ∙ law.0; store_after = law.1; output_after = law.2 }
 
 ready_at : (c : In-Length) → ready_of c.args.state.used (announced_in (held c.args.state c.args.store.now)) ≡ Length c.in-Length.length
-ready_at c = ready-was c ∙ c.in-Length.is
+unfolding held
+ready_at c = ap (ready_of _) (sym c.announced_in.ensures) ∙ sym c.ready_of.ensures ∙ c.in-Length.is
 
 ready-within : (c : In-Length) → (c.in-Length.length ≤ c.args.state.used) × (c.in-Length.length ≤ 8192)
 ready-within c = ready_in _ _ _ (announced_limit _) (ready_at c)

@@ -9,4 +9,4 @@ tenfold : (n two four eight ten : ℕ) → two ≡ (n + n) % 2 ^ 64 → four ≡
 tenfold n two four eight ten a b c d = d ∙ rw (c, b, a) (simp (mod-add-mod, add-mod-mod) (ap (λ (k : ℕ). k % 2 ^ 64) (omega arith)))
 
 pub returns : goal.returns
-returns c = tenfold _ _ _ _ _ c.wrapping_add_u64-two.ensures c.wrapping_add_u64-four.ensures c.wrapping_add_u64-eight.ensures c.wrapping_add_u64.ensures
+returns c = tenfold _ _ _ _ _ c.wrapping_add_u64-two.ensures.value c.wrapping_add_u64-four.ensures.value c.wrapping_add_u64-eight.ensures.value c.wrapping_add_u64.ensures.value
