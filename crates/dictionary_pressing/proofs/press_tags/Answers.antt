@@ -24,7 +24,7 @@ put_item-requires c =
 
 -- a tag's halves fit into their words, and make the tag
 pub overflow_cast-tag-in-loop-next : goal.overflow_cast-tag-in-loop-next
-overflow_cast-tag-in-loop-next c = omega (arith, c.shared_slice_known-in-loop-next-1.given c.loop-next.next)
+overflow_cast-tag-in-loop-next c = omega (arith, c.type_inv.tags c.loop-next.next)
 
 halves : (tag : ℕ) → tag % 65536 + 65536 * (tag / 65536) ≡ tag
 halves tag = omega arith
