@@ -47,13 +47,13 @@ pub returns-in_default-lay_items-clause-table_after : goal.returns-in_default-la
 returns-in_default-lay_items-clause-table_after t c =
     let here = read_as (sym c.in-Whole.ensures) c.in-OpensGroup.is in
     sym (c.loop-record.invariant.3 ∙ lay_group_broken _ _ _ (lay_advances _ _ _) _ _ _ _ _ _ _ here c.if-row-ge1024-2.false
-        (laid_as c.lay_items.ensures.table_after c.in_default-lay_items.is))
+    (laid_as c.lay_items.ensures.table_after c.in_default-lay_items.is))
 
 pub returns-then-end-row-clause-table_after : goal.returns-then-end-row-clause-table_after
 returns-then-end-row-clause-table_after t c =
     let here = read_as (sym c.in-Whole.ensures) c.in-OpensGroup.is in
     sym (c.loop-record.invariant.3 ∙ lay_group-empty _ _ _ (lay_advances _ _ _) _ _ _ _ _ _ _ _ _ here c.if-row-ge1024-2.false
-        (sym c.in-Upto.ensures.table_after) c.if-end-row.true)
+    (sym c.in-Upto.ensures.table_after) c.if-end-row.true)
 
 pub put_row-requires-in-OpensGroup : goal.put_row-requires-in-OpensGroup
 put_row-requires-in-OpensGroup t c =
@@ -75,7 +75,7 @@ loop-record-preserved-in-OpensGroup t c =
       c.lay_items.auto.leaps ∙ i.1,
       c.lay_items.ensures.leaps,
       i.3 ∙ lay_group _ _ _ (lay_advances _ _ _) _ _ _ _ _ _ _ _ _ here c.if-row-ge1024-2.false laid c.if-end-row.false
-      ∙ rw c.put_row-in-OpensGroup.ensures,
+          ∙ rw c.put_row-in-OpensGroup.ensures,
     )
 
 -- a component item, and what was laid of the component
@@ -83,13 +83,13 @@ pub returns-in_default-lay_items-2-clause-table_after : goal.returns-in_default-
 returns-in_default-lay_items-2-clause-table_after t c =
     let here = read_as (sym c.in-Whole.ensures) c.in-ComponentItem.is in
     sym (c.loop-record.invariant.3 ∙ lay_component_broken _ _ _ (lay_advances _ _ _) _ _ _ _ _ _ here _ _ (sym c.in-ItemsAt.ensures)
-        (laid_as c.lay_items-in-ItemsAt.ensures.table_after c.in_default-lay_items-2.is))
+    (laid_as c.lay_items-in-ItemsAt.ensures.table_after c.in_default-lay_items-2.is))
 
 pub returns-then-end-row-2-clause-table_after : goal.returns-then-end-row-2-clause-table_after
 returns-then-end-row-2-clause-table_after t c =
     let here = read_as (sym c.in-Whole.ensures) c.in-ComponentItem.is in
     sym (c.loop-record.invariant.3 ∙ lay_component_still _ _ _ (lay_advances _ _ _) _ _ _ _ _ _ here _ _ _ _ (sym c.in-ItemsAt.ensures)
-        (sym c.in-Upto-lay_items.ensures.table_after) c.if-end-row-2.true)
+    (sym c.in-Upto-lay_items.ensures.table_after) c.if-end-row-2.true)
 
 pub loop-record-smaller-in-ItemsAt : goal.loop-record-smaller-in-ItemsAt
 loop-record-smaller-in-ItemsAt t c = omega (arith, record_falls _ _ _ _ (sym c.in-Whole.ensures))
@@ -125,4 +125,4 @@ pub returns-in_default-record-clause-table_after : goal.returns-in_default-recor
 returns-in_default-record-clause-table_after t c =
     let d = c.in_default-record in
     sym (c.loop-record.invariant.3 ∙ top_level _ _ _ (lay_advances _ _ _) _ _ _ _ _ (sym c.in-Whole.ensures)
-        d.not-FieldItem d.not-ComponentItem d.not-OpensGroup d.not-Closes)
+    d.not-FieldItem d.not-ComponentItem d.not-OpensGroup d.not-Closes)
