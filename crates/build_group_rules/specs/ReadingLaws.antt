@@ -8,7 +8,7 @@ use native.Mathlib.Omega.{arith}
 use Rattle.field_rules.specs.declared.Mode.{Mode}
 use Rattle.field_rules.specs.Field.{field_at}
 use Rattle.field_rules.specs.Fields.{field, fields_from, Inside}
-use Rattle.field_rules.specs.FieldsLaws.{step-inside, all-inside, fields-field, fields-end}
+use Rattle.field_rules.proofs.FieldsLaws.{step-inside, all-inside, fields-field, fields-end}
 use Rattle.field_rules.specs.declared.Cursor.{Cursor}
 use Rattle.field_rules.specs.declared.Cause.{Cause}
 use Rattle.field_rules.specs.declared.Field.{Field}

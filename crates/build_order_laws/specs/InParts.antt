@@ -9,7 +9,7 @@ use Rattle.field_rules.specs.declared.Mode.{Mode}
 use Rattle.build_config.specs.declared.Config.{Config}
 use Rattle.field_rules.specs.Field.{start_at}
 use Rattle.field_rules.specs.Fields.{Fields, field, fields_from}
-use Rattle.field_rules.specs.FieldsLaws.{fields-field}
+use Rattle.field_rules.proofs.FieldsLaws.{fields-field}
 use Rattle.field_rules.specs.declared.Field.{Field}
 use Rattle.build_integrity_rules.specs.Integrity.{integrity_of}
 use Rattle.build_integrity_rules.specs.VerifiedLaws.{VerifiedRead}

@@ -11,7 +11,7 @@ use Rattle.std.proofs.Math.Seq.{length-take-le}
 use Rattle.field_rules.specs.declared.Mode.{Mode}
 use Rattle.field_rules.specs.Field.{field_at}
 use Rattle.field_rules.specs.Fields.{field, fields_from, Inside}
-use Rattle.field_rules.specs.FieldsLaws.{fields-field, step-inside}
+use Rattle.field_rules.proofs.FieldsLaws.{fields-field, step-inside}
 use Rattle.field_rules.specs.declared.Cursor.{Cursor}
 use Rattle.field_rules.specs.declared.Cause.{Cause}
 use Rattle.field_rules.specs.declared.Field.{Field}

@@ -6,7 +6,7 @@ use Rattle.std.proofs.Math.ListN.{length-replicate}
 use Rattle.std.proofs.Math.Seq.{take-length}
 use Rattle.std.proofs.lemmas.List.{set_at}
 use Rattle.std.proofs.lemmas.Bool.{lt-leb}
-use Rattle.field_rules.specs.DecimalLaws.{written_fits, written_copied}
+use Rattle.field_rules.proofs.DecimalLaws.{written_fits, written_copied}
 use Rattle.dictionary_layout_rules.specs.Layout.{Layout, items}
 use Rattle.dictionary_layout_rules.specs.Tabled.{Tabled}
 use Rattle.dictionary_layout_rules.specs.RowsLayout.{layout_in, layout_held}

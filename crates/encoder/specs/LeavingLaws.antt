@@ -10,7 +10,7 @@ use native.Mathlib.Omega.{arith}
 use Rattle.std.proofs.Math.ListN.{length, take, length-append}
 use Rattle.std.proofs.Math.Seq.{take_at}
 use Rattle.field_rules.specs.Decimal.{decimal, written_at}
-use Rattle.field_rules.specs.DecimalLaws.{written_fits}
+use Rattle.field_rules.proofs.DecimalLaws.{written_fits}
 use Rattle.message_maps.specs.Map.{stored, without_field}
 use Rattle.message_lent_rules.specs.Meaning.{Message, words_of, value_bytes_of, message_in}
 use Rattle.message_lent_rules.specs.FormedLaws.{Lends}

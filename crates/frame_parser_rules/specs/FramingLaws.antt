@@ -10,7 +10,7 @@ use Rattle.std.proofs.Math.Seq.{length-take-le, take_at, drop-append_seam}
 use Rattle.std.proofs.lemmas.List.{drop-append-le}
 use Rattle.standard_rules.specs.Standard.{Tables}
 use Rattle.field_rules.specs.Decimal.{written_at}
-use Rattle.field_rules.specs.DecimalLaws.{written_fits, written-length}
+use Rattle.field_rules.proofs.DecimalLaws.{written_fits, written-length}
 use Rattle.frame_parser_rules.specs.Announced.{announced_in, with_first, value_from, with_equals, find_from}
 use Rattle.field_rules.specs.Find.{find_in}
 use Rattle.frame_parser_rules.specs.Framer.{answers_with, held, unusable, with_chunk, pushed, pushed_store, ready_of, take_state, taken, moved_to_front, taken_output}

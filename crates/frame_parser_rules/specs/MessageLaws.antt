@@ -9,7 +9,7 @@ use Rattle.std.proofs.Math.ListN.{length}
 use Rattle.std.proofs.lemmas.List.{take-append-le}
 use Rattle.std.proofs.Math.Seq.{take-append_seam}
 use Rattle.field_rules.specs.Decimal.{decimal, decimal_within}
-use Rattle.field_rules.specs.DecimalLaws.{decimal_unique}
+use Rattle.field_rules.proofs.DecimalLaws.{decimal_unique}
 use Rattle.standard_rules.specs.Standard as standard
 use Rattle.standard_rules.specs.Standard.{Tables, Message, SOH, equals}
 use Rattle.standard_rules.specs.FieldReads.{digits_all, worth-same, absent_all}

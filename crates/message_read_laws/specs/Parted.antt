@@ -8,7 +8,7 @@ use Rattle.std.proofs.Math.ListN.{length, length-append, length-take}
 use Rattle.field_rules.specs.declared.Mode.{Mode}
 use Rattle.field_rules.specs.Field.{start_at}
 use Rattle.field_rules.specs.Fields.{Fields, field, fields_from}
-use Rattle.field_rules.specs.FieldsLaws.{step-lies}
+use Rattle.field_rules.proofs.FieldsLaws.{step-lies}
 use Rattle.field_rules.specs.declared.Field.{Field}
 use Rattle.build_integrity_rules.specs.declared.Verified.{Verified}
 use Rattle.dictionary_layout_rules.specs.declared.Position.TheVariants.{At}

@@ -8,7 +8,7 @@ use Rattle.std.proofs.Math.ListN.{length, take}
 use Rattle.std.proofs.lemmas.List.{length-replicate}
 use Rattle.std.proofs.Math.Seq.{length-take-le}
 use Rattle.field_rules.specs.Decimal.{written_at}
-use Rattle.field_rules.specs.DecimalLaws.{written_fits, written-length}
+use Rattle.field_rules.proofs.DecimalLaws.{written_fits, written-length}
 use Rattle.message_maps.specs.Rows.{Row, flat, padded, part, message_words, message_rows}
 use Rattle.message_maps.specs.RowsLaws.{padded-length}
 use Rattle.message_lent_rules.specs.MeaningLaws.{flat-length}

@@ -5,7 +5,7 @@ use Rattle.std.proofs.Common.{ap, ◌∙◌}
 use Rattle.promise_standard.specs.Reading.{standard_mode}
 use Rattle.field_rules.specs.Field.{start_at, field_at}
 use Rattle.field_rules.specs.Fields.{Fields, field, fields_from}
-use Rattle.field_rules.specs.FieldsLaws.{fields-field}
+use Rattle.field_rules.proofs.FieldsLaws.{fields-field}
 use Rattle.standard_rules.specs.Standard as standard
 use Rattle.standard_rules.specs.Standard.{Tables, Told, entries, Stands}
 use Rattle.field_rules.specs.declared.Cursor.{Cursor}

@@ -4,12 +4,12 @@ use Rattle.std.specs.Prelude.{◌≡◌, refl, Bool, true, false, List, [], ◌�
 use Rattle.std.proofs.Common.{sym, ap, ◌∙◌, append_assoc, append-nil, arith, length-append, take_at, eq-eqb}
 use Rattle.promise_standard.specs.Reading.{standard_mode}
 use Rattle.field_rules.specs.Number.{number_in}
-use Rattle.field_rules.specs.NumberLaws.{checksum_three}
+use Rattle.field_rules.proofs.NumberLaws.{checksum_three}
 use Rattle.field_rules.specs.CheckSum.{sum_of, checksum_of}
 use Rattle.field_rules.specs.Field.{start_at, field_at, value_of}
-use Rattle.field_rules.specs.FieldLaws.{past_end}
+use Rattle.field_rules.proofs.FieldLaws.{past_end}
 use Rattle.field_rules.specs.Fields.{unreadable, fields_from}
-use Rattle.field_rules.specs.FieldsLaws.{fields-end, step-lies}
+use Rattle.field_rules.proofs.FieldsLaws.{fields-end, step-lies}
 use Rattle.standard_rules.specs.Standard as standard
 use Rattle.standard_rules.specs.Standard.{Tables, told, Message}
 use Rattle.standard_rules.specs.Reading.{others}

@@ -6,7 +6,7 @@ use Rattle.std.proofs.Common.{◌∙◌, arith, length-append}
 use mathlib.Core.List.{List, [], ◌∷◌, ◌++◌}
 use Rattle.field_rules.specs.Field.{start_at, value_of}
 use Rattle.field_rules.specs.Fields.{Fields, unreadable, field, fields_from}
-use Rattle.field_rules.specs.FieldsLaws.{fields-field}
+use Rattle.field_rules.proofs.FieldsLaws.{fields-field}
 use Rattle.field_rules.specs.declared.Cause.TheVariants.{NoEquals}
 use Rattle.field_rules.specs.declared.Field.{Field}
 use Rattle.standard_rules.specs.Standard.{Tables, Told, told, Message}

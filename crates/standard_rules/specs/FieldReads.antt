@@ -4,12 +4,12 @@ use Rattle.std.specs.Prelude.{◌≡◌, refl, true, List, [], ◌∷◌, ◌++�
 use Rattle.std.proofs.Common.{ap, ◌∙◌, arith, le-leb}
 use Rattle.std.proofs.Math.Seq.{drop-append_seam}
 use Rattle.field_rules.specs.Number.{is_digit, all_digits, worth, number_in, tag_of}
-use Rattle.field_rules.specs.NumberLaws.{worth-least, number_good, tag_good}
-use Rattle.field_rules.specs.FindLaws.{Absent}
-use Rattle.field_rules.specs.FindLaws as find
+use Rattle.field_rules.proofs.NumberLaws.{worth-least, number_good, tag_good}
+use Rattle.field_rules.proofs.FindLaws.{Absent}
+use Rattle.field_rules.proofs.FindLaws as find
 use Rattle.field_rules.specs.Field.{separated_by, start_at, field_at, value_of}
-use Rattle.field_rules.specs.FieldTextLaws.{Spelled, spelt, spelled-read, bytes-size}
-use Rattle.field_rules.specs.FieldsLaws.{step_value}
+use Rattle.field_rules.proofs.FieldTextLaws.{Spelled, spelt, spelled-read, bytes-size}
+use Rattle.field_rules.proofs.FieldsLaws.{step_value}
 use Rattle.standard_rules.specs.Standard as standard
 use Rattle.standard_rules.specs.Standard.{All, Digit, SOH}
 use Rattle.field_rules.specs.declared.Number.TheVariants.{Worth}

@@ -4,7 +4,7 @@ use Rattle.std.specs.Prelude.{◌≡◌, refl, Bool, List, [], ◌∷◌, ◌++�
 use Rattle.std.proofs.Common.{sym, ap, ◌∙◌, subst, append_assoc, arith, length-append, ne_eqb}
 use Rattle.std.proofs.Math.Seq.{drop-append_seam, drop-append-add, take-append_seam}
 use Rattle.field_rules.specs.Choice.{pick}
-use Rattle.field_rules.specs.NumberLaws.{worth-least}
+use Rattle.field_rules.proofs.NumberLaws.{worth-least}
 use Rattle.standard_rules.specs.Standard.{Tables, All, Digit, SOH, Int, TagNum, Value, Field, DataField, Told, told, Fields, total, Message}
 use Rattle.standard_rules.specs.Reading.{Beside, Lookup, regroup, regroup₂, reading, listed, message-fields, fields_are}
 use Rattle.standard_rules.specs.FieldReads.{worth-same}

@@ -2,7 +2,7 @@
 -- after n. A number past the limit stays past it, whatever follows.
 use Rattle.std.proofs.Common.{◌≡◌, ◌+◌, ◌-◌, ◌*◌, ◌<◌, ◌≤◌, length, get_or, drop, sym, refl, ◌∙◌, arith, rules}
 use Rattle.field_rules.specs.Number.{worth, all_digits}
-use Rattle.field_rules.specs.NumberLaws.{digit_step, digit_low, digit_high, digit_end, worth-step, worth-end, worth-least, number-empty, number-bad, number_large, number_good}
+use Rattle.field_rules.proofs.NumberLaws.{digit_step, digit_low, digit_high, digit_end, worth-step, worth-end, worth-least, number-empty, number-bad, number_large, number_good}
 use Rattle.field_numbers.proofs.number_of.Statement.{statement}
 use Rattle.field_numbers.proofs.number_of.Tie as tie
 

@@ -1,6 +1,6 @@
 use Rattle.std.proofs.Common.{◌≡◌, ◌+◌, ◌-◌, ◌%◌, ◌<◌, ◌≤◌, length, drop, sym, refl, ◌∙◌, zero-add, arith, rules}
 use Rattle.field_rules.specs.CheckSum.{sum_of}
-use Rattle.field_rules.specs.NumberLaws.{sum_step, sum-end}
+use Rattle.field_rules.proofs.NumberLaws.{sum_step, sum-end}
 use Rattle.field_numbers.proofs.sum_of.Statement.{statement}
 use Rattle.field_numbers.proofs.sum_of.Tie as tie
 

@@ -5,7 +5,7 @@ use native.Mathlib.Omega.{arith}
 use borrow.Author.Rules.{rules}
 use lib.ListN.{length, drop}
 use Rattle.field_rules.specs.Find.{find_in}
-use Rattle.field_rules.specs.FindLaws.{find_hit, find_miss, find_end}
+use Rattle.field_rules.proofs.FindLaws.{find_hit, find_miss, find_end}
 use Rattle.field_tagvalue.proofs.find_from.Statement.{statement}
 use Rattle.field_tagvalue.proofs.find_from.Tie as tie
 

@@ -4,9 +4,9 @@ use Prim.Native.Nat.{ℕ, ◌+◌, ◌-◌, ◌≤◌, ◌<◌}
 use native.Mathlib.Omega.{arith}
 use borrow.Author.Rules.{rules}
 use lib.ListN.{length, drop, length-drop}
-use Rattle.field_rules.specs.FindLaws.{rest_part}
+use Rattle.field_rules.proofs.FindLaws.{rest_part}
 use Rattle.field_rules.specs.Field.{field_at}
-use Rattle.field_rules.specs.FieldLaws.{past_end}
+use Rattle.field_rules.proofs.FieldLaws.{past_end}
 use Rattle.field_tagvalue.proofs.next_field.Statement.{statement}
 use Rattle.field_tagvalue.proofs.next_field.Tie as tie
 

@@ -7,7 +7,7 @@ use native.Mathlib.Omega.{arith}
 use borrow.Author.Rules.{rules}
 use lib.ListN.{length, drop, take}
 use Rattle.field_rules.specs.Find.{find_in}
-use Rattle.field_rules.specs.FindLaws.{find_hit, find_miss, find_end}
+use Rattle.field_rules.proofs.FindLaws.{find_hit, find_miss, find_end}
 use Rattle.field_rules.specs.Number.{all_digits, worth}
 use Rattle.field_tagvalue.specs.Tagged.{tagged_at}
 use Rattle.field_tagvalue.specs.TaggedLaws.{NoDigit, digits_tell, stray_spoils, large_spoils, digit_worth, digit_more, equals-behind}

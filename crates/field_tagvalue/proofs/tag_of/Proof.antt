@@ -1,7 +1,7 @@
 -- `tag_of` meets its contract: what `number_of` answers, zero apart.
 use mathlib.Core.Path.{◌≡◌, sym, ◌∙◌}
 use borrow.Author.Rules.{rules}
-use Rattle.field_rules.specs.NumberLaws.{tag-none, tag_zero, tag_good}
+use Rattle.field_rules.proofs.NumberLaws.{tag-none, tag_zero, tag_good}
 use Rattle.field_tagvalue.proofs.tag_of.Statement.{statement}
 use Rattle.field_tagvalue.proofs.tag_of.Tie as tie
 

@@ -1,7 +1,7 @@
 -- `hunt` meets its contract. The invariant: the hunt from here, behind the places passed, has the outcome of the whole.
 -- Each turn is one law of `Moves`.
 use Rattle.std.proofs.Common.{◌≡◌, ◌-◌, ◌≤◌, length, drop, sym, ap, ◌∙◌, arith, rules}
-use Rattle.field_rules.specs.FindLaws.{rest_part}
+use Rattle.field_rules.proofs.FindLaws.{rest_part}
 use Rattle.frame_verdict_rules.specs.Verdict.{verdict_of}
 use Rattle.frame_hunter_rules.specs.Hunt.{act_on, hunt_from}
 use Rattle.frame_hunter.proofs.Moves.{behind, hunt_start, hunt_hand, hunt_stop, hunt_pass, hunt_end}

@@ -5,7 +5,7 @@ use Rattle.frame_hunter_rules.specs.BytesLaws.{Fit, fits, push_unfit, push_ended
 use Rattle.frame_hunter_rules.specs.declared.State.{State}
 use Rattle.frame_hunter_rules.specs.declared.Reply.{Reply}
 use Rattle.frame_hunter_rules.specs.declared.Answer.TheVariants.{Fine}
-use Rattle.field_rules.specs.FindLaws.{rest_part}
+use Rattle.field_rules.proofs.FindLaws.{rest_part}
 use Rattle.frame_hunter.proofs.Moves.{put-behind}
 use Rattle.frame_hunter.proofs.push.Statement.{statement}
 use Rattle.frame_hunter.proofs.push.Tie as tie

@@ -8,7 +8,7 @@ use native.Mathlib.Omega.{arith}
 use borrow.Author.Rules.{rules}
 use lib.ListN.{length, get_or, take, drop, set, length-set}
 use lib.ListN.{length-replicate}
-use Rattle.field_rules.specs.DecimalLaws.{written-length}
+use Rattle.field_rules.proofs.DecimalLaws.{written-length}
 use Rattle.message_maps.specs.RowsLaws.{splice_done}
 use Rattle.message_maps.proofs.turn_bytes.Statement.{statement}
 use Rattle.message_maps.proofs.turn_bytes.Tie as tie

@@ -9,7 +9,7 @@ use borrow.Author.Rules.{rules}
 use lib.ListN.{length, get_or, take, drop, set, length-set}
 use lib.ListN.{length-replicate}
 use Rattle.message_maps.specs.Rows.{message_words}
-use Rattle.field_rules.specs.DecimalLaws.{written-length}
+use Rattle.field_rules.proofs.DecimalLaws.{written-length}
 use Rattle.message_maps.specs.RowsLaws.{splice_done}
 use Rattle.message_maps.proofs.turn_words.Statement.{statement}
 use Rattle.message_maps.proofs.turn_words.Tie as tie

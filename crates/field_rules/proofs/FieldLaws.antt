@@ -4,7 +4,7 @@ use Rattle.std.proofs.Common.{sym, ap, ◌∙◌, arith, drop_of_length-le}
 use Rattle.std.proofs.Math.ListN.{length-drop}
 use Rattle.std.proofs.Math.Seq.{take_all, take-nil}
 use Rattle.field_rules.specs.Find.{find_in}
-use Rattle.field_rules.specs.FindLaws.{find_in_lem}
+use Rattle.field_rules.proofs.FindLaws.{find_in_lem}
 use Rattle.field_rules.specs.Number.{tag_of}
 use Rattle.field_rules.specs.Field.{start_at, field_from, field_at, value_of, with_equals, with_separator, with_tag}
 use Rattle.field_rules.specs.declared.Found.{Found}

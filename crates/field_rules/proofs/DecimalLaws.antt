@@ -7,7 +7,7 @@ use Rattle.std.proofs.Math.Seq.{take-length}
 use Rattle.std.proofs.lemmas.Bool.{lt-leb}
 use Rattle.field_rules.specs.Choice.{pick}
 use Rattle.field_rules.specs.Number.{is_digit, all_digits, worth, number_in, tag_of}
-use Rattle.field_rules.specs.NumberLaws.{number_good, tag_good}
+use Rattle.field_rules.proofs.NumberLaws.{number_good, tag_good}
 use Rattle.field_rules.specs.CheckSum.{checksum_of, checksum_digits}
 use Rattle.field_rules.specs.Decimal.{decimal_within, decimal, written_at, answer_at}
 use Rattle.field_rules.specs.declared.Number.TheVariants.{Worth}

@@ -5,13 +5,13 @@ use Rattle.std.proofs.Common.{sym, ap, ◌∙◌, arith, length-append, drop-dro
 use Rattle.std.proofs.Math.Seq.{drop-append_seam}
 use Rattle.std.proofs.lemmas.Bool.{eqb-false}
 use Rattle.field_rules.specs.Choice.{pick}
-use Rattle.field_rules.specs.FindLaws.{Absent, none, also}
+use Rattle.field_rules.proofs.FindLaws.{Absent, none, also}
 use Rattle.field_rules.specs.Number.{is_digit, all_digits, number_in, non_zero, tag_of}
-use Rattle.field_rules.specs.DecimalLaws.{all_digits-first}
+use Rattle.field_rules.proofs.DecimalLaws.{all_digits-first}
 use Rattle.field_rules.specs.Field.{start_at, field_at, field_bytes, value_of}
-use Rattle.field_rules.specs.FieldTextLaws.{Spelled, spelt, spelled-read, read-spelled, bytes-size, value_part}
+use Rattle.field_rules.proofs.FieldTextLaws.{Spelled, spelt, spelled-read, read-spelled, bytes-size, value_part}
 use Rattle.field_rules.specs.Fields.{field, fields_from}
-use Rattle.field_rules.specs.FieldsLaws.{step_value, fields-field}
+use Rattle.field_rules.proofs.FieldsLaws.{step_value, fields-field}
 use Rattle.field_rules.specs.declared.Mode.{Mode}
 use Rattle.field_rules.specs.declared.Cursor.{Cursor}
 use Rattle.field_rules.specs.declared.Field.{Field}

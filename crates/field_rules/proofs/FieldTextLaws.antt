@@ -5,11 +5,11 @@ use Rattle.std.proofs.Common.{sym, ap, ◌∙◌, append_assoc, add-one, arith, 
 use Rattle.std.proofs.Math.Seq.{drop-append-add, take-append_seam}
 use Rattle.std.proofs.lemmas.List.{take-append-le, drop-append-le}
 use Rattle.field_rules.specs.Find.{find_in}
-use Rattle.field_rules.specs.FindLaws.{Absent, Splits, find_splits, find_joins}
+use Rattle.field_rules.proofs.FindLaws.{Absent, Splits, find_splits, find_joins}
 use Rattle.field_rules.specs.Number.{tag_of}
-use Rattle.field_rules.specs.NumberLaws.{tag-some}
+use Rattle.field_rules.proofs.NumberLaws.{tag-some}
 use Rattle.field_rules.specs.Field.{start_at, field_from, field_at, field_bytes, value_of}
-use Rattle.field_rules.specs.FieldLaws.{no_equals, no_separator, bad-tag, one_field}
+use Rattle.field_rules.proofs.FieldLaws.{no_equals, no_separator, bad-tag, one_field}
 use Rattle.field_rules.specs.declared.Found.{Found}
 use Rattle.field_rules.specs.declared.Found.TheVariants.{At, Nothing}
 use Rattle.field_rules.specs.declared.Number.{Number}

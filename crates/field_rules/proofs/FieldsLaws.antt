@@ -8,8 +8,8 @@ use Rattle.std.proofs.Math.ListN.{length, take, drop}
 use Rattle.std.proofs.lemmas.List.{drop-append-le}
 use Rattle.std.proofs.Math.Seq.{take-append_seam}
 use Rattle.field_rules.specs.Field.{field_at, value_of}
-use Rattle.field_rules.specs.FieldLaws.{past_end}
-use Rattle.field_rules.specs.FieldTextLaws.{Spelled, Lies, field-lies, field_depends, value_part}
+use Rattle.field_rules.proofs.FieldLaws.{past_end}
+use Rattle.field_rules.proofs.FieldTextLaws.{Spelled, Lies, field-lies, field_depends, value_part}
 use Rattle.field_rules.specs.Fields.{Fields, unreadable, field, followed_by, fields_within, fields_from, Inside, Each, each_end, each_field}
 use Rattle.field_rules.specs.declared.Mode.{Mode}
 use Rattle.field_rules.specs.declared.Cursor.{Cursor}

@@ -7,7 +7,7 @@ use Rattle.field_rules.specs.Find.{find_in}
 use Rattle.field_rules.specs.Number.{tag_of}
 use Rattle.field_rules.specs.Field.{field_at, field_from, with_equals, with_separator, with_tag}
 use Rattle.field_rules.specs.Fields.{Fields, unreadable, field, fields_from, start_of}
-use Rattle.field_rules.specs.FieldsLaws.{step-lies, fields-field, fields-end}
+use Rattle.field_rules.proofs.FieldsLaws.{step-lies, fields-field, fields-end}
 use Rattle.field_rules.specs.declared.Mode.{Mode}
 use Rattle.field_rules.specs.declared.Cause.{Cause}
 use Rattle.field_rules.specs.declared.Cursor.{Cursor}
