@@ -8,7 +8,7 @@ use Rattle.build_config.specs.declared.Config.{Config}
 use Rattle.field_rules.specs.Fields.{fields_from}
 use Rattle.field_rules.specs.declared.Field.{Field}
 use Rattle.build_integrity_rules.specs.Integrity.{integrity_of}
-use Rattle.build_integrity_rules.specs.VerifiedLaws.{verified-read}
+use Rattle.build_integrity_rules.proofs.VerifiedLaws.{verified-read}
 use Rattle.build_integrity_rules.specs.declared.Integrity.TheVariants.{Sound, Garbled}
 use Rattle.build_integrity_rules.specs.declared.GarbledReason.{GarbledReason}
 use Rattle.build_integrity_rules.specs.declared.Verified.{Verified}

@@ -21,7 +21,7 @@ use Rattle.build_records.specs.declared.Record.{Record}
 use Rattle.build_parts.specs.Parts.{ended, part_record}
 use Rattle.build_parts.specs.Header.{header_from}
 use Rattle.build_rules.specs.Beginning.{verified_records, room_behind, header_of, msg_type_record}
-use Rattle.build_integrity_rules.specs.VerifiedLaws.{VerifiedRead, verified-read}
+use Rattle.build_integrity_rules.proofs.VerifiedLaws.{VerifiedRead, verified-read}
 
 -- a record's value lies in the message where its field's does
 abbrev RecordIn : List ℕ → Record → Type 0

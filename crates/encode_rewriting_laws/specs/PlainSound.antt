@@ -13,7 +13,7 @@ use Rattle.field_rules.specs.declared.FieldRead.TheVariants.{Read}
 use Rattle.field_rules.specs.declared.Number.{Number}
 use Rattle.field_rules.specs.declared.Number.TheVariants.{Worth, NoNumber}
 use Rattle.build_integrity_rules.specs.Integrity.{integrity_of, length_is, length_agrees}
-use Rattle.build_integrity_rules.specs.VerifiedLaws.{verified-read}
+use Rattle.build_integrity_rules.proofs.VerifiedLaws.{verified-read}
 use Rattle.build_integrity_rules.specs.declared.Integrity.TheVariants.{Sound}
 use Rattle.build_integrity_rules.specs.declared.Verified.{Verified}
 use Rattle.encode_rewriting_laws.specs.Plain.{is_plain, plain_length}

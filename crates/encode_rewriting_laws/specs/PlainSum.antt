@@ -18,7 +18,7 @@ use Rattle.field_rules.specs.declared.Field.{Field}
 use Rattle.field_rules.specs.declared.FieldRead.TheVariants.{Read}
 use Rattle.field_rules.specs.declared.Number.TheVariants.{Worth}
 use Rattle.build_integrity_rules.specs.Integrity.{sum_agrees}
-use Rattle.build_integrity_rules.specs.IntegrityLaws.{sum_is_lem}
+use Rattle.build_integrity_rules.proofs.IntegrityLaws.{sum_is_lem}
 use Rattle.encode_rules.specs.Encoding.{sum_digits}
 use Rattle.encode_rewriting_laws.specs.Plain.{three_digits}
 use Rattle.encode_rewriting_laws.specs.PlainLaws.{Digits, tag-text}

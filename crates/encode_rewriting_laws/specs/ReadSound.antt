@@ -22,7 +22,7 @@ use Rattle.field_rules.specs.declared.Field.{Field}
 use Rattle.field_rules.specs.declared.FieldRead.TheVariants.{Read}
 use Rattle.field_rules.specs.declared.Number.TheVariants.{Worth}
 use Rattle.build_integrity_rules.specs.Integrity.{integrity_of, length_agrees, sum_agrees}
-use Rattle.build_integrity_rules.specs.IntegrityLaws.{begun-on, counted-on, summed-on, typed-on, length_is_lem, sum_is_lem}
+use Rattle.build_integrity_rules.proofs.IntegrityLaws.{begun-on, counted-on, summed-on, typed-on, length_is_lem, sum_is_lem}
 use Rattle.build_integrity_rules.specs.declared.Integrity.TheVariants.{Sound}
 use Rattle.build_integrity_rules.specs.declared.Verified.{Verified}
 use Rattle.field_rules.proofs.SpelledLaws.{text-read, text_value, text-fields}

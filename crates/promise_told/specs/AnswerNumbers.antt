@@ -16,7 +16,7 @@ use Rattle.build_config.specs.declared.Config.{Config}
 use Rattle.build_integrity_rules.specs.Integrity.{integrity_of}
 use Rattle.build_integrity_rules.specs.declared.Integrity.{Integrity}
 use Rattle.build_integrity_rules.specs.declared.Integrity.TheVariants.{Sound, Garbled}
-use Rattle.build_integrity_rules.specs.VerifiedLaws.{verified-read}
+use Rattle.build_integrity_rules.proofs.VerifiedLaws.{verified-read}
 use Rattle.dictionary_rules.specs.Check.{check_of, number_of_check}
 use Rattle.dictionary_layout_rules.specs.Layout.{Layout, group_of, position_in}
 use Rattle.dictionary_layout_rules.specs.declared.Position.{Position}

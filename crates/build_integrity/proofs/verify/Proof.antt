@@ -11,7 +11,7 @@ use Rattle.field_rules.specs.declared.Mode.{Mode}
 use Rattle.field_rules.specs.declared.Field.{Field}
 use Rattle.field_rules.specs.declared.FieldRead.TheVariants.{Read}
 use Rattle.build_integrity_rules.specs.Integrity.{integrity_of, counted, summed, typed}
-use Rattle.build_integrity_rules.specs.IntegrityLaws.{begun-none, begun-tag, begun-on, counted_none, counted-tag, counted-wrong, counted-on, summed-none, summed-tag, summed-wrong, summed-on, typed-none, typed-tag, typed-on, length-room}
+use Rattle.build_integrity_rules.proofs.IntegrityLaws.{begun-none, begun-tag, begun-on, counted_none, counted-tag, counted-wrong, counted-on, summed-none, summed-tag, summed-wrong, summed-on, typed-none, typed-tag, typed-on, length-room}
 use borrow.Author.Rules.{rules}
 use Rattle.build_integrity.proofs.verify.Statement.{statement}
 use Rattle.build_integrity.proofs.verify.Tie as tie
