@@ -8,7 +8,8 @@ use Rattle.field_rules.specs.Fields.{Fields, field}
 use Rattle.field_rules.specs.declared.Field.{Field}
 use Rattle.dictionary_layout_rules.specs.Layout.{Layout, Group, group_since, group_of, position_in, larger}
 use Rattle.dictionary_layout_rules.specs.Layout.{end as layout-end, field as layout-field, group as layout-group, none as no_group, entries as entries-of, depth as nesting}
-use Rattle.dictionary_layout_rules.specs.Measures.{most_depth, larger-first, larger-second}
+use Rattle.dictionary_layout_rules.specs.Measures.{most_depth}
+use Rattle.dictionary_layout_rules.proofs.MeasuresLaws.{larger-first, larger-second}
 use Rattle.dictionary_layout_rules.specs.declared.Position.{Position}
 use Rattle.dictionary_layout_rules.specs.declared.Position.TheVariants.{At, Nowhere}
 use Rattle.build_group_rules.specs.Groups.{Rules, opens, Kind, plain, count, joins, wrong, ends, counting, declared, entry_kind, OpenGroup, OpenEntry, Frame, run, entry, Numbers, Move, adds, joins_at, disorders, leaves, numbers_in, outermost, in_entry_lem, decide, entry_record, Store, moved, walk}

@@ -18,7 +18,7 @@ use Rattle.dictionary_rules.specs.Index.{tag_at}
 use Rattle.dictionary_rules.specs.declared.Placed.{Placed}
 use Rattle.dictionary_rules.specs.declared.Placed.TheVariants.{At, Nowhere}
 use Rattle.dictionary_layout_rules.specs.Layout.{Layout, items}
-use Rattle.dictionary_layout_rules.specs.RowsLayout.{layout_held}
+use Rattle.dictionary_layout_rules.proofs.RowsLayoutLaws.{layout_held}
 use Rattle.dictionary_layout_rules.specs.Tree.{Choice, knows, header_tags_lem, trailer_tags_lem, layout_of}
 use Rattle.dictionary_tables_rules.specs.Laid.{table_of}
 use Rattle.dictionary_tables_rules.specs.Tabled.{tabled_whole}

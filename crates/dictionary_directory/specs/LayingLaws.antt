@@ -9,7 +9,8 @@ use Rattle.std.proofs.lemmas.Bool.{lt-leb}
 use Rattle.field_rules.proofs.DecimalLaws.{written_fits, written_copied}
 use Rattle.dictionary_layout_rules.specs.Layout.{Layout, items}
 use Rattle.dictionary_layout_rules.specs.Tabled.{Tabled}
-use Rattle.dictionary_layout_rules.specs.RowsLayout.{layout_in, layout_held}
+use Rattle.dictionary_layout_rules.specs.RowsLayout.{layout_in}
+use Rattle.dictionary_layout_rules.proofs.RowsLayoutLaws.{layout_held}
 use Rattle.dictionary_tables_rules.specs.Laid.{table_size, table_of}
 use Rattle.dictionary_tables_rules.specs.Tabled.{table-length}
 use Rattle.dictionary_tables_rules.specs.Tags.{fields_of}

@@ -9,7 +9,8 @@ use native.Mathlib.Omega.{arith}
 use Rattle.std.proofs.Math.ListN.{length}
 use Rattle.dictionary_layout_rules.specs.Layout.{Layout, end, group, followed_by, items, larger, depth}
 use Rattle.dictionary_layout_rules.specs.Tree.{flattened}
-use Rattle.dictionary_layout_rules.specs.Measures.{NoEmptyGroup, none-at_end, none-after-field, none_in_group, filled, BoundedSoFar, InnermostOpen, larger-first, larger-second, larger-least, filled-followed}
+use Rattle.dictionary_layout_rules.specs.Measures.{NoEmptyGroup, none-at_end, none-after-field, none_in_group, filled, BoundedSoFar, InnermostOpen}
+use Rattle.dictionary_layout_rules.proofs.MeasuresLaws.{larger-first, larger-second, larger-least, filled-followed}
 use Rattle.dictionary_layout_rules.specs.Measures.{innermost as innermost-here}
 use Rattle.dictionary_rules.specs.Records.{whole}
 use Rattle.dictionary_rules.specs.Step.{depth_of, opened, deeper, opens, grown}

@@ -8,7 +8,8 @@ use Prim.Native.Nat.{ℕ, suc, ◌+◌, ◌-◌, ◌≤◌}
 use borrow.Author.Tests.{eqb-true, eqb-false, ltb-true, ltb-false}
 use Rattle.field_rules.specs.Choice.{pick}
 use Rattle.dictionary_layout_rules.specs.Layout.{Layout, end, items, depth}
-use Rattle.dictionary_layout_rules.specs.Measures.{Bounded, InnermostOpen, Each, each_more, larger-second}
+use Rattle.dictionary_layout_rules.specs.Measures.{Bounded, InnermostOpen, Each, each_more}
+use Rattle.dictionary_layout_rules.proofs.MeasuresLaws.{larger-second}
 use Rattle.dictionary_rules.specs.Records.{Records, ends, whole}
 use Rattle.dictionary_rules.specs.Step.{depth_of, opened, deeper, opens, grown, held_with, stands_for, at_top_lem, inside, closed_before, known_before, not_empty, not_too_deep, once_component, once_message, not_too_many, on_tag, on_component, on_message, on_field, on_item, on_group, closes_owner, closes_group, closes_innermost, on_close, step_of}
 use Rattle.dictionary_rules.specs.Names.{Names, is_known, component_in, message_in, looks_in, named}

@@ -4,7 +4,8 @@ use Rattle.std.specs.Prelude.{◌≡◌, refl, List, ◌∷◌, ℕ, zero, suc, 
 use Rattle.std.proofs.Common.{sym, ◌∙◌, arith}
 use Rattle.std.proofs.Math.Path.{ap, subst}
 use Rattle.dictionary_layout_rules.specs.Layout.{Layout}
-use Rattle.dictionary_layout_rules.specs.Measures.{Bounded, Each, each_none, each_more, bounded_closed}
+use Rattle.dictionary_layout_rules.specs.Measures.{Bounded, Each, each_none, each_more}
+use Rattle.dictionary_layout_rules.proofs.MeasuresLaws.{bounded_closed}
 use Rattle.dictionary_rules.specs.Records.{Records, ends, bad, whole}
 use Rattle.dictionary_rules.specs.Step.{depth_of, step_of, present, at_end}
 use Rattle.dictionary_rules.specs.Check.{on_step, walked, answer_of}

@@ -7,7 +7,8 @@ use Rattle.std.proofs.Math.Bool.{true, false}
 use Rattle.std.proofs.Math.Dec.{leb}
 use Rattle.field_rules.specs.Choice.{pick}
 use Rattle.dictionary_layout_rules.specs.Layout.{Layout, end, field, group, followed_by, items}
-use Rattle.dictionary_layout_rules.specs.Measures.{NoEmptyGroup, none-at_end, none-after-field, none_in_group, filled-followed}
+use Rattle.dictionary_layout_rules.specs.Measures.{NoEmptyGroup, none-at_end, none-after-field, none_in_group}
+use Rattle.dictionary_layout_rules.proofs.MeasuresLaws.{filled-followed}
 use Rattle.dictionary_layout_rules.specs.Tabled.{RowsStand, Tabled}
 use Rattle.dictionary_rules.specs.Index.{component_at}
 use Rattle.dictionary_rules.specs.Record.{record_at}

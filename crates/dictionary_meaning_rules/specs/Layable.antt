@@ -6,7 +6,7 @@ use Rattle.std.proofs.Math.Path.{refl, ap}
 use Rattle.std.proofs.Common.{sym, ◌∙◌, arith}
 use Rattle.std.proofs.Math.Bool.{true, false}
 use Rattle.dictionary_layout_rules.specs.Layout.{Layout, end, field, group, followed_by, items, depth as nesting}
-use Rattle.dictionary_layout_rules.specs.Measures.{larger-first, larger-second, depth-followed}
+use Rattle.dictionary_layout_rules.proofs.MeasuresLaws.{larger-first, larger-second, depth-followed}
 use Rattle.dictionary_layout_rules.specs.Tree.{Nodes, flattened}
 use Rattle.dictionary_rules.specs.Record.{record_at}
 use Rattle.dictionary_rules.specs.declared.Record.TheVariants.{FieldItem, ComponentItem, OpensGroup, Closes}

@@ -7,7 +7,8 @@ use Rattle.std.proofs.lemmas.Bool.{eqb-false}
 use Rattle.field_rules.specs.Choice.{pick}
 use Rattle.dictionary_layout_rules.specs.Layout.{Layout, end, items}
 use Rattle.dictionary_layout_rules.specs.Tree.{Nodes, flattened}
-use Rattle.dictionary_layout_rules.specs.Measures.{NoEmptyGroup, none-after-field, none_in_group, filled-after}
+use Rattle.dictionary_layout_rules.specs.Measures.{NoEmptyGroup, none-after-field, none_in_group}
+use Rattle.dictionary_layout_rules.proofs.MeasuresLaws.{filled-after}
 use Rattle.dictionary_rules.specs.Records.{Records, ends, bad, whole, records_from}
 use Rattle.dictionary_rules.specs.Step.{opens, stands_for, depth_of}
 use Rattle.dictionary_rules.specs.Names.{Names, named}

@@ -9,7 +9,8 @@ use native.Mathlib.Omega.{arith}
 use Rattle.std.proofs.Math.ListN.{length}
 use Rattle.dictionary_layout_rules.specs.Layout.{Layout, end, field, group, followed_by, items, larger, depth}
 use Rattle.dictionary_layout_rules.specs.Tree.{flattened}
-use Rattle.dictionary_layout_rules.specs.Measures.{NoEmptyGroup, FilledSoFar, filled_around, InnermostOpen, innermost-within, larger-first, larger-second, larger-least, depth-followed}
+use Rattle.dictionary_layout_rules.specs.Measures.{NoEmptyGroup, FilledSoFar, filled_around, InnermostOpen, innermost-within}
+use Rattle.dictionary_layout_rules.proofs.MeasuresLaws.{larger-first, larger-second, larger-least, depth-followed}
 use Rattle.dictionary_rules.specs.declared.Group.{Group}
 use Rattle.dictionary_meaning_rules.specs.Meaning.{Items, closed, field_then_lem, component_then_lem, group_then_lem, Defined, expanded}
 use Rattle.dictionary_meaning_rules.specs.Written.{items-followed}

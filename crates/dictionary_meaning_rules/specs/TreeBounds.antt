@@ -12,8 +12,9 @@ use Rattle.field_rules.specs.Choice.{pick}
 use Rattle.dictionary_layout_rules.specs.Layout.{Layout, end}
 use Rattle.dictionary_layout_rules.specs.Tree.{Message, flattened, laid_out, no_message, message_of, same_bytes}
 use Rattle.dictionary_layout_rules.specs.Tree.{layout_of as layout_in_tree}
-use Rattle.dictionary_layout_rules.specs.Measures.{Bounded, InnermostOpen, Each, each_none, each_more, some_open}
-use Rattle.dictionary_layout_rules.specs.Measures.{empty-breaks as empty-innermost}
+use Rattle.dictionary_layout_rules.specs.Measures.{Bounded, InnermostOpen, Each, each_none, each_more}
+use Rattle.dictionary_layout_rules.proofs.MeasuresLaws.{some_open}
+use Rattle.dictionary_layout_rules.proofs.MeasuresLaws.{empty-breaks as empty-innermost}
 use Rattle.dictionary_rules.specs.Records.{Records, ends, bad, whole, records_from}
 use Rattle.dictionary_rules.specs.declared.Record.{Record}
 use Rattle.dictionary_rules.specs.declared.Record.TheVariants.{Closes}

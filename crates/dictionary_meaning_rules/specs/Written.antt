@@ -5,7 +5,8 @@ use Rattle.std.proofs.Common.{sym, ap, ◌∙◌, append_assoc, append-nil, arit
 use Rattle.std.proofs.lemmas.List.{set_at}
 use Rattle.dictionary_layout_rules.specs.Layout.{Layout, end, field, group, followed_by, items}
 use Rattle.dictionary_layout_rules.specs.Table.{marks, rows_from}
-use Rattle.dictionary_layout_rules.specs.Tabled.{row_before, rows_length, RowsStand}
+use Rattle.dictionary_layout_rules.specs.Tabled.{row_before, RowsStand}
+use Rattle.dictionary_layout_rules.proofs.TabledLaws.{rows_length}
 use Rattle.dictionary_meaning_rules.specs.Laying.{put_row}
 use Rattle.dictionary_meaning_rules.specs.LayingLaws.{put-length}
 

@@ -7,7 +7,8 @@ use Rattle.std.proofs.Math.ListN.{length}
 use Rattle.std.proofs.lemmas.Bool.{eqb-false}
 use Rattle.dictionary_layout_rules.specs.Layout.{Layout, end, field, group, items}
 use Rattle.dictionary_layout_rules.specs.Table.{tag_at, required_at, group_at, link_at, siblings_from}
-use Rattle.dictionary_layout_rules.specs.Tabled.{RowSays, RowsStand, Tabled, field-rest, group-inner, group-rest, stands-length}
+use Rattle.dictionary_layout_rules.specs.Tabled.{RowSays, RowsStand, Tabled}
+use Rattle.dictionary_layout_rules.proofs.TabledLaws.{field-rest, group-inner, group-rest, stands-length}
 use Rattle.dictionary_tables_rules.specs.Table.{heads_for}
 use Rattle.dictionary_tables_rules.specs.Laid.{own_count, part_size, inner_size, table_size, level_words}
 use Rattle.dictionary_tables_rules.specs.Tabled.{level_length}

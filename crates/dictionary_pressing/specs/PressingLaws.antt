@@ -4,7 +4,7 @@ use Rattle.std.specs.Prelude.{◌≡◌, refl, Bool, List, [], ◌∷◌, ◌++�
 use Rattle.std.proofs.Common.{sym, ap, ◌∙◌, append_assoc, length-append, length-drop, take-append-drop, length-take-le, get_or-append-add, take_at, drop_at, take-take, drop-drop}
 use native.Mathlib.Omega.{arith}
 use Rattle.std.proofs.lemmas.List.{take-append-le}
-use Rattle.dictionary_layout_rules.specs.Tabled.{mark-read}
+use Rattle.dictionary_layout_rules.proofs.TabledLaws.{mark-read}
 use Rattle.dictionary_layout_rules.specs.Layout.{Layout, end, field, group}
 use Rattle.dictionary_layout_rules.specs.Table.{mark}
 use Rattle.dictionary_tables_rules.specs.Table.{tag_at}

@@ -2,7 +2,7 @@
 use mathlib.Core.Path.{sym, ◌∙◌}
 use native.Mathlib.Omega.{arith}
 use borrow.Author.Rules.{rules}
-use Rattle.dictionary_layout_rules.specs.TableLaws.{sibling_link, sibling_stop}
+use Rattle.dictionary_layout_rules.proofs.TableLaws.{sibling_link, sibling_stop}
 use Rattle.dictionary_pressing.proofs.next_sibling.Statement.{statement}
 use Rattle.dictionary_pressing.proofs.next_sibling.Tie as tie
 

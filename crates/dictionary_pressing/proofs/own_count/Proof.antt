@@ -4,7 +4,7 @@ use Prim.Native.Nat.{◌+◌, ◌-◌, ◌≤◌, ◌<◌}
 use native.Mathlib.Omega.{arith}
 use lib.ListN.{length}
 use Rattle.dictionary_layout_rules.specs.Table.{siblings_from}
-use Rattle.dictionary_layout_rules.specs.TableLaws.{sibling_rises}
+use Rattle.dictionary_layout_rules.proofs.TableLaws.{sibling_rises}
 use Rattle.dictionary_pressing.specs.RowsLaws.{counted-on, counted-end}
 use Rattle.dictionary_pressing.proofs.own_count.Statement.{statement}
 use Rattle.dictionary_pressing.proofs.own_count.Tie as tie

@@ -7,7 +7,7 @@ use borrow.Author.Rules.{rules}
 use lib.ListN.{length}
 use Rattle.dictionary_layout_rules.specs.Table.{siblings_from, link_at}
 use Rattle.dictionary_tables_rules.specs.Laid.{part_size}
-use Rattle.dictionary_layout_rules.specs.Tabled.{stands-length}
+use Rattle.dictionary_layout_rules.proofs.TabledLaws.{stands-length}
 use Rattle.dictionary_pressing.specs.Sizing.{least, least-within, parts_from, size_in, size_rows, size-start, counted_most, part_most, parts-on, parts_in, parts-end}
 use Rattle.dictionary_pressing.proofs.table_size.Statement.{statement}
 use Rattle.dictionary_pressing.proofs.table_size.Tie as tie
