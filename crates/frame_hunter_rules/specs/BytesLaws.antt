@@ -7,7 +7,7 @@ use borrow.Author.Tests.{eqb-true, ltb-false, eq-eqb, le-ltb, lt-ltb}
 use Rattle.field_rules.specs.Choice.{pick}
 use Rattle.frame_verdict_rules.specs.Frame.{frame_most}
 use Rattle.frame_verdict_rules.specs.Verdict.{verdict_of}
-use Rattle.frame_verdict_rules.specs.VerdictLaws.{verdict_laws}
+use Rattle.frame_verdict_rules.proofs.VerdictLaws.{verdict_laws}
 use Rattle.frame_hunter_rules.specs.Hunt.{Framer, framer, store_size, count_wrap, took_by, hunt_from, take_one, Given, accepted, refused, give_chunk, give_end}
 use Rattle.frame_hunter_rules.specs.TakeLaws.{step, places, took_small}
 use Rattle.frame_hunter_rules.specs.RunLaws.{chunk_fits, end_open}

@@ -6,7 +6,7 @@ use Rattle.std.proofs.Common.{◌∙◌, le_refl, arith, ne_eqb}
 use Rattle.std.proofs.lemmas.List.{length-replicate}
 use Rattle.frame_verdict_rules.specs.Frame.{frame_most}
 use Rattle.frame_verdict_rules.specs.Verdict.{verdict_of}
-use Rattle.frame_verdict_rules.specs.VerdictLaws.{verdict_laws}
+use Rattle.frame_verdict_rules.proofs.VerdictLaws.{verdict_laws}
 use Rattle.frame_hunter_rules.specs.Hunt.{store_size, take_one}
 use Rattle.frame_hunter_rules.specs.TakeLaws.{step}
 use Rattle.frame_hunter_rules.specs.Bytes.{number_of_hunter, framer_of, unfit, pushed, finished, Handout, refused_take_lem, unmoved, took_from, fresh_state, Pushes, Finishes, Takes}

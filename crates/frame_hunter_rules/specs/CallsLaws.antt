@@ -8,7 +8,7 @@ use Rattle.std.proofs.Math.ListN.{length}
 use Rattle.std.proofs.Math.Seq.{take-append_seam}
 use Rattle.frame_verdict_rules.specs.Frame.{frame_most}
 use Rattle.frame_verdict_rules.specs.Verdict.{verdict_of}
-use Rattle.frame_verdict_rules.specs.VerdictLaws.{verdict_laws}
+use Rattle.frame_verdict_rules.proofs.VerdictLaws.{verdict_laws}
 use Rattle.frame_hunter_rules.specs.Hunt.{Framer, framer, fresh_framer, store_size, count_wrap, Took, take_one, accepted, give_chunk, Drained, dry, more, Run, reset, chunk, Ended, ends, Hunt, joined}
 use Rattle.frame_hunter_rules.specs.TakeLaws.{step}
 use Rattle.frame_hunter_rules.specs.RunLaws.{run_is, held_small, chunk-accepted, end_open, ended_is, Same, unique, conserved}

@@ -4,7 +4,7 @@ use Rattle.std.proofs.Common.{arith}
 use Rattle.std.proofs.lemmas.List.{drop-append-le}
 use Rattle.frame_verdict_rules.specs.Frame.{IsFrame, Starts}
 use Rattle.frame_verdict_rules.specs.Verdict.{verdict_of}
-use Rattle.frame_verdict_rules.specs.VerdictLaws.{verdict_laws, frame_is, frame_iff}
+use Rattle.frame_verdict_rules.proofs.VerdictLaws.{verdict_laws, frame_is, frame_iff}
 use Rattle.frame_hunter_rules.specs.Hunt.{IsWhole, NoStraddle, Contains, w-none, w_skip, w_cut, Each, each_none, each_more, joined}
 use Rattle.frame_hunter_rules.specs.Recovery.{Whole, Handed, recovered}
 use Rattle.frame_hunter_rules.specs.Calls.{Calls}

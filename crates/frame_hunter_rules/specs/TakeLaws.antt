@@ -7,7 +7,7 @@ use Rattle.std.proofs.Math.ListN.{length, length-drop}
 use Rattle.std.proofs.Math.Seq.{length-take-le}
 use Rattle.frame_verdict_rules.specs.Frame.{frame_most}
 use Rattle.frame_hunter_rules.specs.Hunt.{act_on, followed, Framer, count_wrap, Took, took_by, hunt_from, take_one, Hunt, h_empty, h_stop, h_hand, h_pass}
-use Rattle.frame_verdict_rules.specs.VerdictLaws.{Laws}
+use Rattle.frame_verdict_rules.proofs.VerdictLaws.{Laws}
 use Rattle.frame_verdict_rules.specs.declared.Verdict.{Verdict}
 use Rattle.frame_verdict_rules.specs.declared.Verdict.TheVariants.{Frame, Never, Wait}
 use Rattle.frame_hunter_rules.specs.declared.Act.{Act}

@@ -3,7 +3,7 @@ use Rattle.std.specs.Prelude.{◌≡◌, refl, ◌⊎◌, Bool, true, false, Lis
 use Rattle.std.proofs.Common.{ap, ◌∙◌, inl, inr, ⊎_elim, arith}
 use Rattle.frame_verdict_rules.specs.Frame.{frame_most, Starts, StartsFrame, CanStart}
 use Rattle.frame_verdict_rules.specs.Verdict.{verdict_of}
-use Rattle.frame_verdict_rules.specs.VerdictLaws.{verdict_laws, frame_iff, never_iff, wait_iff}
+use Rattle.frame_verdict_rules.proofs.VerdictLaws.{verdict_laws, frame_iff, never_iff, wait_iff}
 use Rattle.frame_hunter_rules.specs.Hunt.{act_on, count_wrap, hunt_from}
 use Rattle.frame_hunter_rules.specs.TakeLaws.{act_hand, act_stop, Places, places}
 use Rattle.frame_hunter_rules.specs.Bytes.{Takes, took_from}

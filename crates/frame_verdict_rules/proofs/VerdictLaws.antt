@@ -7,7 +7,7 @@ use Rattle.frame_verdict_rules.specs.Frame.{frame_most, All, all_none, Byte, IsF
 use Rattle.frame_verdict_rules.specs.Readers.{Out, on, bad, short}
 use Rattle.frame_verdict_rules.specs.Verdict.{frame_reader, stage_of, as_verdict, verdict_of}
 use Rattle.frame_verdict_rules.specs.Exact.{bad-stays, short_on, on-rest}
-use Rattle.frame_verdict_rules.specs.FrameExact.{frame_exact, frame_size}
+use Rattle.frame_verdict_rules.proofs.FrameExact.{frame_exact, frame_size}
 use Rattle.frame_verdict_rules.specs.declared.Verdict.{Verdict}
 use Rattle.frame_verdict_rules.specs.declared.Verdict.TheVariants.{Frame, Never, Wait}
 
