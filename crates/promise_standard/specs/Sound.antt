@@ -22,7 +22,7 @@ use Rattle.field_rules.specs.declared.Cause.TheVariants.{NoEquals}
 use Rattle.build_integrity_rules.specs.Integrity.{integrity_of, begun, counted, summed, typed, length_is, length_agrees, sum_is, sum_agrees}
 use Rattle.build_integrity_rules.specs.declared.Integrity.TheVariants.{Sound}
 use Rattle.build_integrity_rules.specs.declared.Verified.{Verified}
-use Rattle.frame_parser_rules.specs.MessageLaws.{seven_bytes}
+use Rattle.frame_parser_rules.proofs.MessageLaws.{seven_bytes}
 use Rattle.promise_standard.specs.Texts.{sum_same}
 use Rattle.promise_standard.specs.Reading.{ReadsAs, no_field, Readable, reads-one, reads_then, reads-append, fields_read, first_read}
 

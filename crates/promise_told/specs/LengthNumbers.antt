@@ -16,7 +16,7 @@ use Rattle.frame_verdict_rules.specs.Frame.{frame_most}
 use Rattle.frame_parser_rules.specs.Announced.{announced_in}
 use Rattle.frame_parser_rules.specs.AnnouncedLaws.{announced_limit}
 use Rattle.frame_parser_rules.specs.Framer.{length_returned, held, unusable, ready_of, ready_answer, take_answer, taken}
-use Rattle.frame_parser_rules.specs.FramerLaws.{ready_in}
+use Rattle.frame_parser_rules.proofs.FramerLaws.{ready_in}
 use Rattle.frame_parser_rules.specs.declared.State.{State}
 use Rattle.frame_parser_rules.specs.declared.Ready.{Ready}
 use Rattle.frame_parser_rules.specs.declared.Ready.TheVariants as ready

@@ -3,7 +3,7 @@
 use Rattle.std.proofs.Common.{◌≡◌, ◌+◌, ◌<◌, ◌≤◌, false, length, sym, ◌∙◌, arith, rules}
 use Rattle.field_rules.proofs.DecimalLaws.{written_copied}
 use Rattle.frame_parser_rules.specs.Framer.{unusable, with_chunk}
-use Rattle.frame_parser_rules.specs.FramerLaws.{usable_is, push_bad, push_ended, push_over, push_full, push_accepted}
+use Rattle.frame_parser_rules.proofs.FramerLaws.{usable_is, push_bad, push_ended, push_over, push_full, push_accepted}
 use Rattle.frame_parser.proofs.push.Statement.{statement}
 use Rattle.frame_parser.proofs.push.Tie as tie
 

@@ -14,8 +14,8 @@ use Rattle.field_rules.proofs.DecimalLaws.{written_fits, written-length}
 use Rattle.frame_parser_rules.specs.Announced.{announced_in, with_first, value_from, with_equals, find_from}
 use Rattle.field_rules.specs.Find.{find_in}
 use Rattle.frame_parser_rules.specs.Framer.{answers_with, held, unusable, with_chunk, pushed, pushed_store, ready_of, take_state, taken, moved_to_front, taken_output}
-use Rattle.frame_parser_rules.specs.FramerLaws.{usable, push_accepted, take_short, take-message, ready_whole, ready_short}
-use Rattle.frame_parser_rules.specs.MessageLaws.{head_announced, whole_announced}
+use Rattle.frame_parser_rules.proofs.FramerLaws.{usable, push_accepted, take_short, take-message, ready_whole, ready_short}
+use Rattle.frame_parser_rules.proofs.MessageLaws.{head_announced, whole_announced}
 use Rattle.frame_parser_rules.specs.Stream.{Fits, Takes}
 use Rattle.frame_parser_rules.specs.declared.State.{State}
 use Rattle.frame_parser_rules.specs.declared.Answer.TheVariants.{Accepted, Message, ShortOutput}

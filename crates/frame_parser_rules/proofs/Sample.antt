@@ -8,7 +8,7 @@ use Rattle.standard_rules.specs.Standard.{Fields, Stands}
 use Rattle.standard_rules.specs.Samples.{Sample, no_data, a-field, int, once, outside}
 use Rattle.frame_parser_rules.specs.Stream.{Fits, begins}
 use Rattle.frame_parser_rules.specs.Stream as stream
-use Rattle.frame_parser_rules.specs.Framing.{Further, framing-goes_on, framing-whole}
+use Rattle.frame_parser_rules.proofs.Framing.{Further, framing-goes_on, framing-whole}
 
 abbrev sample : List ℕ
 sample = bytes "8=FIX.4.4|9=5|35=0|10=163|"

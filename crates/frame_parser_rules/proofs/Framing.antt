@@ -8,9 +8,9 @@ use Rattle.standard_rules.specs.Standard.{Tables}
 use Rattle.field_rules.specs.Decimal.{written_at}
 use Rattle.frame_parser_rules.specs.Announced.{announced_in}
 use Rattle.frame_parser_rules.specs.Framer.{fresh, held, push_answer, with_chunk, pushed, ready_of, ready_answer, take_answer, take_state, moved_to_front}
-use Rattle.frame_parser_rules.specs.FramerLaws.{take_judges}
-use Rattle.frame_parser_rules.specs.MessageLaws.{message-some, front-message}
-use Rattle.frame_parser_rules.specs.FramingLaws.{Running, running_usable, held-length, chunk-accepted, chunk-runs, chunk-held, take_runs, take-held, take_does, take_did, nothing_ready, whole_ready, part_not_ready, stream_behind}
+use Rattle.frame_parser_rules.proofs.FramerLaws.{take_judges}
+use Rattle.frame_parser_rules.proofs.MessageLaws.{message-some, front-message}
+use Rattle.frame_parser_rules.proofs.FramingLaws.{Running, running_usable, held-length, chunk-accepted, chunk-runs, chunk-held, take_runs, take-held, take_does, take_did, nothing_ready, whole_ready, part_not_ready, stream_behind}
 use Rattle.frame_parser_rules.specs.Stream.{Each, joined, Fits, Pushes, Takes, Drained, dry, more, Run, begins, chunk, Framed}
 use Rattle.frame_parser_rules.specs.Stream as stream
 use Rattle.frame_parser_rules.specs.declared.State.{State}
