@@ -11,7 +11,7 @@ use Rattle.field_rules.specs.Fields.{Fields, fields_from}
 use Rattle.field_rules.specs.declared.Cursor.{Cursor}
 use Rattle.build_config.specs.declared.Config.{Config}
 use Rattle.dictionary_layout_rules.specs.Layout.{Layout, Group as LayoutGroup}
-use Rattle.dictionary_tables_rules.specs.Tabled.{Tabled, Opens, neither, both, position_means, delimiter_means, group_means}
+use Rattle.dictionary_tables_rules.proofs.Tabled.{Tabled, Opens, neither, both, position_means, delimiter_means, group_means}
 use Rattle.build_records.specs.Records.{records_of, leftover, inserted, between, held_from, stored_between, stored}
 use Rattle.build_records.specs.WordLaws.{records_on, leftover-on, on_same}
 use Rattle.build_records.specs.RecordLaws.{HeldAs, inserted-parts, between-new, stored-new, stored-held, stored-parts-held}

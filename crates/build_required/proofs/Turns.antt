@@ -9,7 +9,7 @@ use lib.Dec.{eqb}
 use borrow.Author.Tests.{eqb-true, eqb-false}
 use Rattle.field_rules.specs.Choice.{pick}
 use Rattle.dictionary_tables_rules.specs.Table.{item_of}
-use Rattle.dictionary_tables_rules.specs.Tabled.{group_of_item}
+use Rattle.dictionary_tables_rules.proofs.Tabled.{group_of_item}
 use Rattle.build_records.specs.Records.{records_of, record_at, between, stride}
 use Rattle.build_records.specs.WordLaws.{records_length}
 use Rattle.build_records.specs.declared.Record.{Record}

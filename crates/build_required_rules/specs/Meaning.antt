@@ -4,7 +4,7 @@ use Rattle.std.proofs.Math.Path.{refl}
 use Rattle.std.proofs.Common.{ap}
 use mathlib.Core.List.{List, [], ◌∷◌}
 use Rattle.dictionary_layout_rules.specs.Layout.{Layout, required_tags}
-use Rattle.dictionary_tables_rules.specs.Tabled.{Tabled, delimiter_means, group_means, required_means}
+use Rattle.dictionary_tables_rules.proofs.Tabled.{Tabled, delimiter_means, group_means, required_means}
 use Rattle.build_records.specs.declared.Record.{Record}
 use Rattle.build_group_rules.specs.Groups.{Opened}
 use Rattle.build_group_rules.specs.Alike.{OpenedAlike, none_alike, opened_alike}

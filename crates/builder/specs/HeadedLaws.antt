@@ -17,7 +17,7 @@ use Rattle.dictionary_rules.specs.declared.Placed.{Placed}
 use Rattle.dictionary_rules.specs.declared.Placed.TheVariants as placed
 use Rattle.dictionary_layout_rules.specs.RowsLayout.{layout_in}
 use Rattle.dictionary_tables_rules.specs.Laid.{table_size, table_of}
-use Rattle.dictionary_tables_rules.specs.Tabled.{tabled_whole}
+use Rattle.dictionary_tables_rules.proofs.Tabled.{tabled_whole}
 use Rattle.dictionary_directory.specs.Directory.{kept_at, laid_alone}
 use Rattle.dictionary_directory.specs.declared.Kept.TheVariants.{Table, Nowhere}
 use Rattle.dictionary_meaning_rules.specs.MsgTypeText.{Bytes, no_bytes, a_byte}

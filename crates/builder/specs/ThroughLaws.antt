@@ -21,8 +21,8 @@ use Rattle.dictionary_layout_rules.specs.Layout.{Layout, items}
 use Rattle.dictionary_layout_rules.proofs.RowsLayoutLaws.{layout_held}
 use Rattle.dictionary_layout_rules.specs.Tree.{Choice, knows, header_tags_lem, trailer_tags_lem, layout_of}
 use Rattle.dictionary_tables_rules.specs.Laid.{table_of}
-use Rattle.dictionary_tables_rules.specs.Tabled.{tabled_whole}
-use Rattle.dictionary_tables_rules.specs.TagsLaws.{tags_found_lem}
+use Rattle.dictionary_tables_rules.proofs.Tabled.{tabled_whole}
+use Rattle.dictionary_tables_rules.proofs.TagsLaws.{tags_found_lem}
 use Rattle.dictionary_directory.specs.Directory.{kept_at, listed_tags, tags_listed, tags_at, lay_tables}
 use Rattle.dictionary_directory.specs.KeptLaws.{kept-short, tags-short}
 use Rattle.dictionary_directory.specs.DirectoryLaws.{Leads, nowhere, a-table as leads-table, laid_leads, TagsLead, tags-nowhere, a-tags-table, tags-lead}

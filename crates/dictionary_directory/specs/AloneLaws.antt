@@ -6,7 +6,7 @@ use Rattle.std.proofs.Math.ListN.{length, drop, length-append, length-drop, leng
 use Rattle.std.proofs.Math.Seq.{take_at}
 use Rattle.dictionary_layout_rules.specs.RowsLayout.{layout_in}
 use Rattle.dictionary_tables_rules.specs.Laid.{table_size, table_of}
-use Rattle.dictionary_tables_rules.specs.Tabled.{table-length}
+use Rattle.dictionary_tables_rules.proofs.Tabled.{table-length}
 use Rattle.dictionary_rules.specs.declared.Placed.TheVariants.{At}
 use Rattle.dictionary_meaning_rules.specs.MessageTable.{Tabling, tabling, placed_table}
 use Rattle.dictionary_meaning_rules.specs.LaidLayout.{placed_layout}

@@ -12,7 +12,7 @@ use Rattle.dictionary_layout_rules.specs.Tabled.{Tabled}
 use Rattle.dictionary_layout_rules.specs.RowsLayout.{layout_in}
 use Rattle.dictionary_layout_rules.proofs.RowsLayoutLaws.{layout_held}
 use Rattle.dictionary_tables_rules.specs.Laid.{table_size, table_of}
-use Rattle.dictionary_tables_rules.specs.Tabled.{table-length}
+use Rattle.dictionary_tables_rules.proofs.Tabled.{table-length}
 use Rattle.dictionary_tables_rules.specs.Tags.{fields_of}
 use Rattle.dictionary_pressing.specs.Pressing.{Pressable}
 use Rattle.dictionary_pressing.specs.Sizing.{size_bound}

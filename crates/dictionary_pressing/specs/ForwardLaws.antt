@@ -11,7 +11,7 @@ use Rattle.dictionary_layout_rules.specs.Tabled.{RowSays, RowsStand, Tabled}
 use Rattle.dictionary_layout_rules.proofs.TabledLaws.{field-rest, group-inner, group-rest, stands-length}
 use Rattle.dictionary_tables_rules.specs.Table.{heads_for}
 use Rattle.dictionary_tables_rules.specs.Laid.{own_count, part_size, inner_size, table_size, level_words}
-use Rattle.dictionary_tables_rules.specs.Tabled.{level_length}
+use Rattle.dictionary_tables_rules.proofs.Tabled.{level_length}
 use Rattle.dictionary_pressing.specs.Linking.{items_start, linked}
 use Rattle.dictionary_pressing.specs.Pressing.{put_item, pressed, press_items, Pressing, Pressed, Forward}
 use Rattle.dictionary_pressing.specs.PressingLaws.{press_linked}

@@ -9,7 +9,7 @@ use Rattle.dictionary_layout_rules.specs.Layout.{Layout, end, field, group}
 use Rattle.dictionary_layout_rules.specs.Table.{mark}
 use Rattle.dictionary_tables_rules.specs.Table.{tag_at}
 use Rattle.dictionary_tables_rules.specs.Laid.{Own, own_count, part_size, inner_size, table_size, own_items, part_words, inner_words, level_words}
-use Rattle.dictionary_tables_rules.specs.Tabled.{own_items-length, level_length}
+use Rattle.dictionary_tables_rules.proofs.Tabled.{own_items-length, level_length}
 use Rattle.dictionary_pressing.specs.Linking.{own_at, owns_from, items_start, linked}
 use Rattle.dictionary_pressing.specs.HeadLaws.{set_in}
 use Rattle.dictionary_pressing.specs.Pressing.{put_item, pressed, press_items, raw_item, raw_items}

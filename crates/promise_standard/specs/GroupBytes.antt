@@ -13,7 +13,7 @@ use Rattle.field_rules.specs.declared.Field.{Field}
 use Rattle.field_rules.specs.declared.FieldRead.TheVariants.{Read}
 use Rattle.build_config.specs.declared.Config.{Config}
 use Rattle.dictionary_layout_rules.specs.Layout.{Layout}
-use Rattle.dictionary_tables_rules.specs.Tabled.{Tabled}
+use Rattle.dictionary_tables_rules.proofs.Tabled.{Tabled}
 use Rattle.build_records.specs.declared.Record.{Record}
 use Rattle.build_group_rules.specs.Groups.{run, outermost, ended, walk}
 use Rattle.build_group_rules.specs.Alike.{on_level, OutcomeAlike}

@@ -8,7 +8,7 @@ use borrow.Fn.Kinds.{In}
 use borrow.Fn.PlainCycle.{Measures, is, falls, and}
 use lib.ListN.{length}
 use Rattle.dictionary_tables_rules.specs.Laid.{own_count, part_size}
-use Rattle.dictionary_tables_rules.specs.TableLaws.{heads_bounds}
+use Rattle.dictionary_tables_rules.proofs.TableLaws.{heads_bounds}
 use Rattle.dictionary_pressing.specs.Linking.{linked}
 use Rattle.dictionary_pressing.specs.Pressing.{Pressing, Forward}
 use Rattle.dictionary_pressing.specs.ForwardLaws.{pressing_within, pressing_count, pressing_few, forward_begin, forward_end, forward_field, forward_room, forward_link, forward_inside, forward_group}

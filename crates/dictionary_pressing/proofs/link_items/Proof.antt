@@ -10,7 +10,7 @@ use mathlib.Core.List.{List}
 use lib.ListN.{length, get_or}
 use lib.Dec.{eqb}
 use Rattle.dictionary_tables_rules.specs.Table.{heads_for}
-use Rattle.dictionary_tables_rules.specs.TableLaws.{heads_bounds}
+use Rattle.dictionary_tables_rules.proofs.TableLaws.{heads_bounds}
 use Rattle.dictionary_tables_rules.specs.Laid.{part_size}
 use Rattle.dictionary_pressing.specs.Linking.{Linking, items_start, cleared, linked}
 use Rattle.dictionary_pressing.specs.HeadLaws.{heads-mod}

@@ -2,7 +2,7 @@
 use native.Mathlib.Omega.{arith}
 use borrow.Author.Rules.{rules}
 use Rattle.dictionary_tables_rules.specs.Laid.{part_size}
-use Rattle.dictionary_tables_rules.specs.TableLaws.{heads_bounds}
+use Rattle.dictionary_tables_rules.proofs.TableLaws.{heads_bounds}
 use Rattle.dictionary_pressing.proofs.part_size.Statement.{statement}
 use Rattle.dictionary_pressing.proofs.part_size.Tie as tie
 

@@ -2,7 +2,7 @@
 use mathlib.Core.Path.{sym}
 use borrow.Author.Rules.{rules}
 use Rattle.dictionary_tables_rules.specs.Table.{heads_at}
-use Rattle.dictionary_tables_rules.specs.TableLaws.{heads-few, heads-many}
+use Rattle.dictionary_tables_rules.proofs.TableLaws.{heads-few, heads-many}
 use Rattle.dictionary_tables.proofs.heads_at.Statement.{statement}
 use Rattle.dictionary_tables.proofs.heads_at.Tie as tie
 

@@ -2,7 +2,7 @@
 use mathlib.Core.Path.{sym, ap, ◌∙◌}
 use borrow.Author.Rules.{rules}
 use Rattle.dictionary_tables_rules.specs.Tags.{is_item}
-use Rattle.dictionary_tables_rules.specs.TagsLaws.{found-holds}
+use Rattle.dictionary_tables_rules.proofs.TagsLaws.{found-holds}
 use Rattle.dictionary_tables.proofs.holds.Statement.{statement}
 use Rattle.dictionary_tables.proofs.holds.Tie as tie
 

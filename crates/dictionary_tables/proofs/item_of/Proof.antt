@@ -7,7 +7,7 @@ use native.Mathlib.Nat.{mod-lt}
 use borrow.Author.Rules.{rules}
 use lib.ListN.{length}
 use Rattle.dictionary_tables_rules.specs.Table.{items_at, item_at, tag_at, group_at, later_at, followed, item_of}
-use Rattle.dictionary_tables_rules.specs.TableLaws.{heads_at_bounds, item_no_head, follow_none, follow_past, follow_hit, follow_stop, follow_on}
+use Rattle.dictionary_tables_rules.proofs.TableLaws.{heads_at_bounds, item_no_head, follow_none, follow_past, follow_hit, follow_stop, follow_on}
 use Rattle.dictionary_tables.proofs.item_of.Statement.{statement}
 use Rattle.dictionary_tables.proofs.item_of.Tie as tie
 

@@ -6,8 +6,8 @@ use native.Mathlib.Omega.{arith}
 use borrow.Author.Rules.{rules}
 use lib.ListN.{length, get_or, get_or-eq_default}
 use Rattle.dictionary_tables_rules.specs.Table.{items_at, item_at, mark_at, mark_from}
-use Rattle.dictionary_tables_rules.specs.TableLaws.{heads_at_bounds, items_from}
-use Rattle.dictionary_tables_rules.specs.MarkLaws.{links_left, links_fall, mark-empty, mark-none, mark_past, mark_hit, mark_on}
+use Rattle.dictionary_tables_rules.proofs.TableLaws.{heads_at_bounds, items_from}
+use Rattle.dictionary_tables_rules.proofs.MarkLaws.{links_left, links_fall, mark-empty, mark-none, mark_past, mark_hit, mark_on}
 use Rattle.dictionary_tables.proofs.next_required.Statement.{statement}
 use Rattle.dictionary_tables.proofs.next_required.Tie as tie
 

@@ -10,7 +10,7 @@ use Rattle.std.proofs.Math.Dec.{eqb, leb}
 use borrow.Author.Tests.{eq-eqb, ne_eqb, eqb-true, eqb-false, lt-ltb, le-ltb, leb-true, leb-false, ltb-true}
 use Rattle.field_rules.specs.Choice.{pick, pick_same}
 use Rattle.dictionary_tables_rules.specs.Table.{items_at, item_at, lies, tag_at, mark_at, marked_behind, required_within, required_from, mark_within, mark_from}
-use Rattle.dictionary_tables_rules.specs.TableLaws.{item-lies, item_past, link_past}
+use Rattle.dictionary_tables_rules.proofs.TableLaws.{item-lies, item_past, link_past}
 use Rattle.dictionary_tables_rules.specs.declared.Mark.{Mark}
 use Rattle.dictionary_tables_rules.specs.declared.Mark.TheVariants.{Required, NoMore}
 

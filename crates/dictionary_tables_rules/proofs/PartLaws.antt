@@ -13,8 +13,8 @@ use Rattle.dictionary_layout_rules.specs.Table.{mark}
 use Rattle.dictionary_layout_rules.specs.declared.FirstTag.{FirstTag}
 use Rattle.dictionary_layout_rules.specs.declared.FirstTag.TheVariants.{First, NoTag}
 use Rattle.dictionary_tables_rules.specs.Table.{heads_for, heads_at, items_at, item_at, tag_at, group_at, mark_at, later_at, followed, item_of, delimiter_at, marked_behind, required_from, required_of}
-use Rattle.dictionary_tables_rules.specs.TableLaws.{heads_bounds, follow_none, follow_hit, follow_stop, follow_on, delimiter_empty, delimiter_some}
-use Rattle.dictionary_tables_rules.specs.MarkLaws.{behind_rises, behind-ends, all-empty, all_none, all_hit, all-on}
+use Rattle.dictionary_tables_rules.proofs.TableLaws.{heads_bounds, follow_none, follow_hit, follow_stop, follow_on, delimiter_empty, delimiter_some}
+use Rattle.dictionary_tables_rules.proofs.MarkLaws.{behind_rises, behind-ends, all-empty, all_none, all_hit, all-on}
 use Rattle.dictionary_tables_rules.specs.Laid.{Own, part_size, first_under, last_group, first_marked, item_words, items_words, head_words, part_words}
 use Rattle.dictionary_tables_rules.specs.declared.Item.{Item}
 use Rattle.dictionary_tables_rules.specs.declared.Item.TheVariants.{At, Nowhere}

@@ -12,10 +12,10 @@ use borrow.Author.Tests.{eq-eqb, eqb-true, eqb-false, leb-true, le-leb}
 use Rattle.field_rules.specs.Choice.{pick, pick_same}
 use Rattle.dictionary_layout_rules.specs.Tree.{holds_tag}
 use Rattle.dictionary_tables_rules.specs.Table.{heads_for, items_at, item_at, lies, tag_at, group_at, later_at, chased, followed, item_of}
-use Rattle.dictionary_tables_rules.specs.TableLaws.{heads_bounds, item-lies, item_past}
+use Rattle.dictionary_tables_rules.proofs.TableLaws.{heads_bounds, item-lies, item_past}
 use Rattle.dictionary_tables_rules.specs.Laid.{own_count, part_size, inner_size, table_size, own_items, items_words, part_words, inner_words, table_of}
-use Rattle.dictionary_tables_rules.specs.PartLaws.{Stands, item_among, heads-read, item-first, items-behind, items_stand, item_among_lem}
-use Rattle.dictionary_tables_rules.specs.Tabled.{own_items-length, table-length}
+use Rattle.dictionary_tables_rules.proofs.PartLaws.{Stands, item_among, heads-read, item-first, items-behind, items_stand, item_among_lem}
+use Rattle.dictionary_tables_rules.proofs.Tabled.{own_items-length, table-length}
 use Rattle.dictionary_tables_rules.specs.Tags.{fields_of, place_at, item_tags, is_item, found_of, tags_found}
 use Rattle.dictionary_tables_rules.specs.declared.Item.{Item}
 use Rattle.dictionary_tables_rules.specs.declared.Item.TheVariants.{At, Nowhere}

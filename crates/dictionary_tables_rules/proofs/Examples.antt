@@ -8,7 +8,7 @@ use Rattle.dictionary_layout_rules.specs.declared.FirstTag.{FirstTag}
 use Rattle.dictionary_layout_rules.specs.declared.FirstTag.TheVariants.{First, NoTag}
 use Rattle.dictionary_tables_rules.specs.Table.{heads_for, heads_at, items_at, item_at, lies, tag_at, group_at, mark_at, later_at, chased, followed, item_of, delimiter_at, marked_behind, required_within, required_from, required_of, mark_within, mark_from}
 use Rattle.dictionary_tables_rules.specs.Laid.{own_count, part_size, inner_size, own_items, first_under, last_group, first_marked, item_words, items_words, head_words, part_words, inner_words, table_of}
-use Rattle.dictionary_tables_rules.specs.Tabled.{place_of, group_of_item}
+use Rattle.dictionary_tables_rules.proofs.Tabled.{place_of, group_of_item}
 use Rattle.dictionary_tables_rules.specs.Tags.{fields_of, item_tags, is_item, found_of, tags_found}
 use Rattle.dictionary_tables_rules.specs.declared.Item.{Item}
 use Rattle.dictionary_tables_rules.specs.declared.Item.TheVariants.{At, Nowhere}

@@ -9,7 +9,7 @@ use Rattle.dictionary_layout_rules.specs.declared.Position.{Position}
 use Rattle.dictionary_layout_rules.specs.declared.Position.TheVariants as position
 use Rattle.dictionary_tables_rules.specs.Table.{item_of, delimiter_at, required_of}
 use Rattle.dictionary_tables_rules.specs.Laid.{Own, own_count, part_size, inner_size, table_size, own_items, last_group, part_words, inner_words, level_words, table_of}
-use Rattle.dictionary_tables_rules.specs.PartLaws.{Stands, stands-first, stands-second, part_length, part-some, item_among, required_among, first_among, item_among_lem, delimiter_among, required_among_lem}
+use Rattle.dictionary_tables_rules.proofs.PartLaws.{Stands, stands-first, stands-second, part_length, part-some, item_among, required_among, first_among, item_among_lem, delimiter_among, required_among_lem}
 use Rattle.dictionary_tables_rules.specs.declared.Item.{Item}
 use Rattle.dictionary_tables_rules.specs.declared.Item.TheVariants.{At, Nowhere}
 
