@@ -12,7 +12,7 @@ use Rattle.field_rules.specs.Decimal.{decimal, decimal_within}
 use Rattle.field_rules.proofs.DecimalLaws.{decimal_unique}
 use Rattle.standard_rules.specs.Standard as standard
 use Rattle.standard_rules.specs.Standard.{Tables, Message, SOH, equals}
-use Rattle.standard_rules.specs.FieldReads.{digits_all, worth-same, absent_all}
+use Rattle.standard_rules.proofs.FieldReads.{digits_all, worth-same, absent_all}
 use Rattle.frame_parser_rules.specs.Announced.{nominal, find_from, value_from, message_end, limited, announced_in}
 use Rattle.frame_parser_rules.specs.AnnouncedLaws.{nominal-worth, from-joins, value_between, announced_second, announced_stays, limit_ends}
 use Rattle.frame_parser_rules.specs.declared.Value.TheVariants.{Between}

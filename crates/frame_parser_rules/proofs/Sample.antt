@@ -5,7 +5,7 @@ use Rattle.std.proofs.Common.{arith}
 use Rattle.std.proofs.lemmas.List.{length-replicate}
 use Rattle.field_rules.specs.Text.{bytes}
 use Rattle.standard_rules.specs.Standard.{Fields, Stands}
-use Rattle.standard_rules.specs.Samples.{Sample, no_data, a-field, int, once, outside}
+use Rattle.standard_rules.proofs.Samples.{Sample, no_data, a-field, int, once, outside}
 use Rattle.frame_parser_rules.specs.Stream.{Fits, begins}
 use Rattle.frame_parser_rules.specs.Stream as stream
 use Rattle.frame_parser_rules.proofs.Framing.{Further, framing-goes_on, framing-whole}

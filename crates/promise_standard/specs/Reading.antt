@@ -8,7 +8,7 @@ use Rattle.field_rules.specs.Fields.{Fields, field, fields_from}
 use Rattle.field_rules.proofs.FieldsLaws.{fields-field}
 use Rattle.standard_rules.specs.Standard as standard
 use Rattle.standard_rules.specs.Standard.{Tables, SOH, All, NotDelimiter, Told, told}
-use Rattle.standard_rules.specs.FieldReads.{standard_field}
+use Rattle.standard_rules.proofs.FieldReads.{standard_field}
 use Rattle.field_rules.specs.declared.Cursor.{Cursor}
 use Rattle.field_rules.specs.declared.Field.{Field}
 use Rattle.field_rules.specs.declared.FieldRead.TheVariants.{Read}

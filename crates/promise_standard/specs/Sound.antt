@@ -13,7 +13,7 @@ use Rattle.field_rules.proofs.FieldsLaws.{fields-end, step-lies}
 use Rattle.standard_rules.specs.Standard as standard
 use Rattle.standard_rules.specs.Standard.{Tables, told, Message}
 use Rattle.standard_rules.specs.Reading.{others}
-use Rattle.standard_rules.specs.FieldReads.{int_read}
+use Rattle.standard_rules.proofs.FieldReads.{int_read}
 use Rattle.field_rules.specs.declared.Cursor.{Cursor}
 use Rattle.field_rules.specs.declared.Field.{Field}
 use Rattle.field_rules.specs.declared.FieldRead.TheVariants.{Read}

@@ -15,7 +15,7 @@ use Rattle.field_rules.proofs.FieldTextLaws.{bytes-size}
 use Rattle.standard_rules.specs.Standard as standard
 use Rattle.standard_rules.specs.Standard.{Tables, Body, NoData, All, Int, Value, Distinct, placed, Once, total}
 use Rattle.standard_rules.specs.Reading.{fields-append}
-use Rattle.standard_rules.specs.StandardLaws.{all_map, numbers_append, one_of, distinct_append, once_of}
+use Rattle.standard_rules.proofs.StandardLaws.{all_map, numbers_append, one_of, distinct_append, once_of}
 use Rattle.message_maps.specs.Map.{Map, end, field, entry, holds, without_field, some, value_under}
 use Rattle.message_lent_rules.specs.Meaning.{Message}
 use Rattle.message_lent_rules.specs.Formed.{Formed}

@@ -5,9 +5,9 @@ use Prim.Native.String.{String}
 use Rattle.std.proofs.Common.{arith}
 use Rattle.standard_rules.specs.Standard.{Body, Told, told, Fields, placed, members, entries, Stands, total, Message}
 use Rattle.standard_rules.specs.Reading.{nothing}
-use Rattle.standard_rules.specs.StandardLaws.{one_of}
+use Rattle.standard_rules.proofs.StandardLaws.{one_of}
 use Rattle.field_rules.specs.Text.{bytes}
-use Rattle.standard_rules.specs.Samples.{length_of, delimiter_of, header_tags, trailer_tags, Sample, no_data, no_count, in_body_lem, tag_test, value_test, int_test, distinct_test, once, outside_test, outside, int, written, a-field, a_data, of-group}
+use Rattle.standard_rules.proofs.Samples.{length_of, delimiter_of, header_tags, trailer_tags, Sample, no_data, no_count, in_body_lem, tag_test, value_test, int_test, distinct_test, once, outside_test, outside, int, written, a-field, a_data, of-group}
 
 -- ===== pieces, each with its tests =====
 

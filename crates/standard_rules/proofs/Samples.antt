@@ -8,8 +8,8 @@ use Rattle.field_rules.specs.Choice.{pick}
 use Rattle.standard_rules.specs.Standard.{Tables, NoData, NoCount, Body, All, Digit, NotDelimiter, worth_after, Int, TagNum, Value, Field, DataField, Distinct, placed, Once, total}
 use Rattle.field_rules.specs.Text.{bytes}
 use Rattle.standard_rules.specs.Reading.{Beside, nothing, just, Lookup}
-use Rattle.standard_rules.specs.StandardLaws.{one_of, Only}
-use Rattle.standard_rules.specs.WritingLaws.{upto}
+use Rattle.standard_rules.proofs.StandardLaws.{one_of, Only}
+use Rattle.standard_rules.proofs.WritingLaws.{upto}
 
 -- ===== tables =====
 

@@ -7,7 +7,7 @@ use Rattle.field_rules.specs.Choice.{pick}
 use Rattle.field_rules.proofs.NumberLaws.{worth-least}
 use Rattle.standard_rules.specs.Standard.{Tables, All, Digit, SOH, Int, TagNum, Value, Field, DataField, Told, told, Fields, total, Message}
 use Rattle.standard_rules.specs.Reading.{Beside, Lookup, regroup, regroup₂, reading, listed, message-fields, fields_are}
-use Rattle.standard_rules.specs.FieldReads.{worth-same}
+use Rattle.standard_rules.proofs.FieldReads.{worth-same}
 
 -- ===== each field =====
 

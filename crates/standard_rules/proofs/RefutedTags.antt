@@ -8,8 +8,8 @@ use Rattle.field_rules.specs.Choice.{pick}
 use Rattle.field_rules.specs.Text.{bytes}
 use Rattle.standard_rules.specs.Standard.{All, worth_after, Told, told, Distinct, placed, Message}
 use Rattle.standard_rules.specs.Reading.{just, walk, step, goes, end, by_length, others, others_are}
-use Rattle.standard_rules.specs.StandardLaws.{tags, times, Followed, followed, stand, OpensNone, distinct_behind, all_once, one_of, placed-refused, Later, header-first, trailer-last, once_at_most, counted, counted-at_most}
-use Rattle.standard_rules.specs.Samples.{delimiter_of, header_tags, trailer_tags, Sample, lookup, no_member, only_allocations, never, apart, framed}
+use Rattle.standard_rules.proofs.StandardLaws.{tags, times, Followed, followed, stand, OpensNone, distinct_behind, all_once, one_of, placed-refused, Later, header-first, trailer-last, once_at_most, counted, counted-at_most}
+use Rattle.standard_rules.proofs.Samples.{delimiter_of, header_tags, trailer_tags, Sample, lookup, no_member, only_allocations, never, apart, framed}
 
 -- ===== a tag twice =====
 

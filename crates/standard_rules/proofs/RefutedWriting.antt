@@ -7,8 +7,8 @@ use Prim.Native.String.{String}
 use Rattle.field_rules.specs.Text.{bytes}
 use Rattle.standard_rules.specs.Standard.{All, Digit, worth_after, TagNum, told, Message}
 use Rattle.standard_rules.specs.Reading.{walk, step, goes, end, by_length, fields, fields_are, begin_string_is, body_length_is, check-sum_is, never_stuck}
-use Rattle.standard_rules.specs.WritingLaws.{StartsWith, message-written, sum_of-bytes, length_of-bytes}
-use Rattle.standard_rules.specs.Samples.{Sample, lookup, never, apart, framed, lengths_right, sums_right}
+use Rattle.standard_rules.proofs.WritingLaws.{StartsWith, message-written, sum_of-bytes, length_of-bytes}
+use Rattle.standard_rules.proofs.Samples.{Sample, lookup, never, apart, framed, lengths_right, sums_right}
 
 -- ===== tags =====
 
