@@ -3,7 +3,7 @@ use Rattle.std.proofs.Common.{◌≡◌, ℕ, suc, ◌+◌, ◌-◌, ◌<◌, �
 use lib.Seq.{set_at, append_snoc, take-length}
 use Rattle.field_rules.proofs.FindLaws.{rest_part}
 use Rattle.frame_hunter_rules.specs.Hunt.{act_on, hunt_from}
-use Rattle.frame_hunter_rules.specs.TakeLaws.{first-none, first_hand, first_pass, first-stop}
+use Rattle.frame_hunter_rules.proofs.TakeLaws.{first-none, first_hand, first_pass, first-stop}
 use Rattle.frame_verdict_rules.specs.declared.Verdict.{Verdict}
 use Rattle.frame_hunter_rules.specs.declared.Act.TheVariants.{Hand, Pass, Stop}
 use Rattle.frame_hunter_rules.specs.declared.Hunted.{Hunted}

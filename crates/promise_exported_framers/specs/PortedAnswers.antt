@@ -15,7 +15,7 @@ use Rattle.frame_parser_rules.specs.declared.Ready.{Ready}
 use Rattle.frame_parser_rules.specs.declared.Ready.TheVariants.{Length}
 use Rattle.frame_parser_rules.specs.declared.Ready.TheVariants as ready
 use Rattle.frame_hunter_rules.specs.Calls.{InVain, output_short, after_the_end, bad-store}
-use Rattle.frame_hunter_rules.specs.InVainLaws.{not_done}
+use Rattle.frame_hunter_rules.proofs.InVainLaws.{not_done}
 
 -- ---- answered 0
 

@@ -1,7 +1,7 @@
 -- `push` meets its contract: each return cites the law of `BytesLaws` for its way.
 use Rattle.std.proofs.Common.{◌≡◌, ℕ, ◌+◌, false, length, sym, ap, ◌∙◌, arith, length-drop, rules}
 use Rattle.frame_hunter_rules.specs.Bytes.{unfit}
-use Rattle.frame_hunter_rules.specs.BytesLaws.{Fit, fits, push_unfit, push_ended, push_full, push_fine}
+use Rattle.frame_hunter_rules.proofs.BytesLaws.{Fit, fits, push_unfit, push_ended, push_full, push_fine}
 use Rattle.frame_hunter_rules.specs.declared.State.{State}
 use Rattle.frame_hunter_rules.specs.declared.Reply.{Reply}
 use Rattle.frame_hunter_rules.specs.declared.Answer.TheVariants.{Fine}

@@ -8,8 +8,8 @@ use Rattle.std.proofs.Math.Seq.{drop-drop, take-append_seam, drop-append_seam, t
 use Rattle.frame_verdict_rules.specs.Frame.{frame_most}
 use Rattle.frame_hunter_rules.specs.Hunt.{act_on, Hunt, h_empty, h_stop, h_hand, h_pass, IsWhole, NoStraddle, Contains, w-none, w_skip, w_cut, Each, each_none, each_more, joined}
 use Rattle.frame_verdict_rules.proofs.VerdictLaws.{Laws}
-use Rattle.frame_hunter_rules.specs.TakeLaws.{act_hand, act_pass, frame_act}
-use Rattle.frame_hunter_rules.specs.RunLaws.{two_acts, held_small, none_left}
+use Rattle.frame_hunter_rules.proofs.TakeLaws.{act_hand, act_pass, frame_act}
+use Rattle.frame_hunter_rules.proofs.RunLaws.{two_acts, held_small, none_left}
 use Rattle.frame_verdict_rules.specs.declared.Verdict.{Verdict}
 use Rattle.frame_verdict_rules.specs.declared.Verdict.TheVariants.{Frame, Never}
 use Rattle.frame_hunter_rules.specs.declared.Act.TheVariants.{Pass, Stop}

@@ -6,9 +6,9 @@ use Rattle.field_rules.specs.Choice.{pick}
 use Rattle.frame_verdict_rules.specs.Frame.{frame_most}
 use Rattle.frame_verdict_rules.specs.Verdict.{verdict_of}
 use Rattle.frame_hunter_rules.specs.Hunt.{act_on, count_wrap, hunt_from, Took, take_one, Given, accepted, refused}
-use Rattle.frame_hunter_rules.specs.TakeLaws.{first-none, first-stop}
+use Rattle.frame_hunter_rules.proofs.TakeLaws.{first-none, first-stop}
 use Rattle.frame_hunter_rules.specs.Bytes.{number_of_hunter, framer_of, unfit, left_by, pushed, finished, Handout, unmoved, refused_take_lem, moved_by, took_from, Pushes, Finishes, Takes}
-use Rattle.frame_hunter_rules.specs.BytesLaws.{Fit, fit_is, take_fine, Moved}
+use Rattle.frame_hunter_rules.proofs.BytesLaws.{Fit, fit_is, take_fine, Moved}
 use Rattle.frame_hunter_rules.specs.Calls.{InVain, output_short, after_the_end, bad-store, Refused, refused_push, refused_take, refused_end}
 use Rattle.frame_hunter_rules.specs.declared.State.{State}
 use Rattle.frame_hunter_rules.specs.declared.Reply.{Reply}

@@ -6,9 +6,9 @@ use Rattle.frame_verdict_rules.specs.Frame.{IsFrame, Starts}
 use Rattle.frame_verdict_rules.specs.Verdict.{verdict_of}
 use Rattle.frame_verdict_rules.proofs.VerdictLaws.{verdict_laws, frame_is, frame_iff}
 use Rattle.frame_hunter_rules.specs.Hunt.{IsWhole, NoStraddle, Contains, w-none, w_skip, w_cut, Each, each_none, each_more, joined}
-use Rattle.frame_hunter_rules.specs.Recovery.{Whole, Handed, recovered}
+use Rattle.frame_hunter_rules.proofs.Recovery.{Whole, Handed, recovered}
 use Rattle.frame_hunter_rules.specs.Calls.{Calls}
-use Rattle.frame_hunter_rules.specs.CallsLaws.{outcome}
+use Rattle.frame_hunter_rules.proofs.CallsLaws.{outcome}
 use Rattle.frame_hunter_rules.specs.declared.State.{State}
 
 -- "no frame that starts in the damage ends after it": D is the damage, and S the whole stream

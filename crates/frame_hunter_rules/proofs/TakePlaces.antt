@@ -5,9 +5,9 @@ use Rattle.frame_verdict_rules.specs.Frame.{frame_most, Starts, StartsFrame, Can
 use Rattle.frame_verdict_rules.specs.Verdict.{verdict_of}
 use Rattle.frame_verdict_rules.proofs.VerdictLaws.{verdict_laws, frame_iff, never_iff, wait_iff}
 use Rattle.frame_hunter_rules.specs.Hunt.{act_on, count_wrap, hunt_from}
-use Rattle.frame_hunter_rules.specs.TakeLaws.{act_hand, act_stop, Places, places}
+use Rattle.frame_hunter_rules.proofs.TakeLaws.{act_hand, act_stop, Places, places}
 use Rattle.frame_hunter_rules.specs.Bytes.{Takes, took_from}
-use Rattle.frame_hunter_rules.specs.BytesLaws.{Fit, fit_is, take_fine, Moved}
+use Rattle.frame_hunter_rules.proofs.BytesLaws.{Fit, fit_is, take_fine, Moved}
 use Rattle.frame_hunter_rules.specs.declared.State.{State}
 use Rattle.frame_hunter_rules.specs.declared.Taken.{Taken}
 use Rattle.frame_verdict_rules.specs.declared.Verdict.{Verdict}

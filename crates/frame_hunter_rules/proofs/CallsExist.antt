@@ -8,12 +8,12 @@ use Rattle.frame_verdict_rules.specs.Frame.{frame_most}
 use Rattle.frame_verdict_rules.specs.Verdict.{verdict_of}
 use Rattle.frame_verdict_rules.proofs.VerdictLaws.{verdict_laws}
 use Rattle.frame_hunter_rules.specs.Hunt.{store_size, take_one}
-use Rattle.frame_hunter_rules.specs.TakeLaws.{step}
+use Rattle.frame_hunter_rules.proofs.TakeLaws.{step}
 use Rattle.frame_hunter_rules.specs.Bytes.{number_of_hunter, framer_of, unfit, pushed, finished, Handout, refused_take_lem, unmoved, took_from, fresh_state, Pushes, Finishes, Takes}
-use Rattle.frame_hunter_rules.specs.BytesLaws.{Fit, fit_is, push_unfit, push_ended, end-unfit, end-ended, take-unfit, take_short}
+use Rattle.frame_hunter_rules.proofs.BytesLaws.{Fit, fit_is, push_unfit, push_ended, end-unfit, end-ended, take-unfit, take_short}
 use Rattle.frame_hunter_rules.specs.Calls.{TakenAll, last-take, next-take, Calls, after_reset, after-chunk, after-end}
-use Rattle.frame_hunter_rules.specs.CallsLaws.{holds_used, TakeIs, take_simulates, is_run_lem, taken_in, end_simulates, open_state, outcome}
-use Rattle.frame_hunter_rules.specs.RunLaws.{run_is}
+use Rattle.frame_hunter_rules.proofs.CallsLaws.{holds_used, TakeIs, take_simulates, is_run_lem, taken_in, end_simulates, open_state, outcome}
+use Rattle.frame_hunter_rules.proofs.RunLaws.{run_is}
 use Rattle.frame_hunter_rules.specs.declared.State.{State}
 use Rattle.frame_hunter_rules.specs.declared.Reply.{Reply}
 use Rattle.frame_hunter_rules.specs.declared.Taken.{Taken}

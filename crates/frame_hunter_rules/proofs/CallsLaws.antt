@@ -10,12 +10,12 @@ use Rattle.frame_verdict_rules.specs.Frame.{frame_most}
 use Rattle.frame_verdict_rules.specs.Verdict.{verdict_of}
 use Rattle.frame_verdict_rules.proofs.VerdictLaws.{verdict_laws}
 use Rattle.frame_hunter_rules.specs.Hunt.{Framer, framer, fresh_framer, store_size, count_wrap, Took, take_one, accepted, give_chunk, Drained, dry, more, Run, reset, chunk, Ended, ends, Hunt, joined}
-use Rattle.frame_hunter_rules.specs.TakeLaws.{step}
-use Rattle.frame_hunter_rules.specs.RunLaws.{run_is, held_small, chunk-accepted, end_open, ended_is, Same, unique, conserved}
+use Rattle.frame_hunter_rules.proofs.TakeLaws.{step}
+use Rattle.frame_hunter_rules.proofs.RunLaws.{run_is, held_small, chunk-accepted, end_open, ended_is, Same, unique, conserved}
 use Rattle.frame_hunter_rules.specs.Bytes.{framer_of, state_of, stored_over, unfit, Left, left_by, Handout, moved_by, fresh_state, Pushes, Finishes, Takes}
-use Rattle.frame_hunter_rules.specs.BytesLaws.{Fit, fit_is, held-length, push_unfit, pushed_is, push_ended, push_fine, end_fine, take_is}
+use Rattle.frame_hunter_rules.proofs.BytesLaws.{Fit, fit_is, held-length, push_unfit, pushed_is, push_ended, push_fine, end_fine, take_is}
 use Rattle.frame_hunter_rules.specs.Calls.{Refused, TakenAll, last-take, next-take, after-refusal, Calls, after_reset, after-chunk, after-end, take_again, call_in_vain}
-use Rattle.frame_hunter_rules.specs.InVainLaws.{refused-leaves, AtRest, Nothing, take-at-rest}
+use Rattle.frame_hunter_rules.proofs.InVainLaws.{refused-leaves, AtRest, Nothing, take-at-rest}
 use Rattle.frame_hunter_rules.specs.declared.State.{State}
 use Rattle.frame_hunter_rules.specs.declared.Reply.{Reply}
 use Rattle.frame_hunter_rules.specs.declared.Taken.{Taken}

@@ -6,7 +6,7 @@ use Rattle.field_rules.specs.Choice.{pick}
 use Rattle.frame_verdict_rules.specs.Frame.{frame_most}
 use Rattle.frame_hunter_rules.specs.Hunt.{act_on, Framer, framer, count_wrap, store_size, Took, take_one, accepted, refused, give_chunk, give_end, Drained, dry, more, Run, reset, chunk, Ended, ends, Hunt, h_empty, h_stop, h_hand, h_pass, joined}
 use Rattle.frame_verdict_rules.proofs.VerdictLaws.{Laws}
-use Rattle.frame_hunter_rules.specs.TakeLaws.{act_hand, act_pass, act_stop, frame_act, never_act, Step, step}
+use Rattle.frame_hunter_rules.proofs.TakeLaws.{act_hand, act_pass, act_stop, frame_act, never_act, Step, step}
 use Rattle.frame_verdict_rules.specs.declared.Verdict.{Verdict}
 use Rattle.frame_verdict_rules.specs.declared.Verdict.TheVariants.{Frame}
 use Rattle.frame_hunter_rules.specs.declared.Act.{Act}

@@ -9,8 +9,8 @@ use Rattle.frame_verdict_rules.specs.Frame.{frame_most}
 use Rattle.frame_verdict_rules.specs.Verdict.{verdict_of}
 use Rattle.frame_verdict_rules.proofs.VerdictLaws.{verdict_laws}
 use Rattle.frame_hunter_rules.specs.Hunt.{Framer, framer, store_size, count_wrap, took_by, hunt_from, take_one, Given, accepted, refused, give_chunk, give_end}
-use Rattle.frame_hunter_rules.specs.TakeLaws.{step, places, took_small}
-use Rattle.frame_hunter_rules.specs.RunLaws.{chunk_fits, end_open}
+use Rattle.frame_hunter_rules.proofs.TakeLaws.{step, places, took_small}
+use Rattle.frame_hunter_rules.proofs.RunLaws.{chunk_fits, end_open}
 use Rattle.frame_hunter_rules.specs.Bytes.{framer_of, state_of, stored_over, unfit, Left, left_by, pushed, finished, Handout, refused_take_lem, unmoved, moved_by, took_from, Pushes, Finishes, Takes}
 use Rattle.frame_hunter_rules.specs.declared.State.{State}
 use Rattle.frame_hunter_rules.specs.declared.Answer.{Answer}
