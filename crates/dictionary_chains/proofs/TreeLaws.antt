@@ -6,8 +6,8 @@ use Rattle.std.proofs.Math.Path.{ap}
 use Prim.Native.Nat.{ℕ, zero, suc, ◌+◌, ◌*◌, ◌/◌, ◌%◌, ◌≤◌, ◌<◌, ◌^◌}
 use Rattle.std.proofs.Math.Nat.{two-pow-succ}
 use Rattle.dictionary_chains.specs.Chain.{head_words, entry_start, entry_room, key_room, most_turns, key_of, word_at, entry_at, link_at, branch_of, strayed}
-use Rattle.dictionary_chains.specs.WordLaws.{head_small, head_table, head_slot}
-use Rattle.dictionary_chains.specs.WayLaws.{strayed_facts, rest_after, Comes, starts, turns}
+use Rattle.dictionary_chains.proofs.WordLaws.{head_small, head_table, head_slot}
+use Rattle.dictionary_chains.proofs.WayLaws.{strayed_facts, rest_after, Comes, starts, turns}
 use Rattle.dictionary_chains.specs.declared.Table.{Table}
 use Rattle.dictionary_chains.specs.declared.Table.TheVariants.{Tags, Components, MsgTypes}
 

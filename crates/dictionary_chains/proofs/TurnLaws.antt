@@ -4,8 +4,8 @@ use Rattle.std.specs.Prelude.{◌≡◌, true, false, List, ℕ, zero, suc, ◌+
 use Rattle.std.proofs.Math.Path.{sym}
 use Rattle.std.proofs.Common.{◌∙◌, arith}
 use Rattle.dictionary_chains.specs.Chain.{entry_start, entry_room, key_room, most_turns, key_of, head_of, word_at, entry_at, link_at, branch_of, strayed, climbed, way_of}
-use Rattle.dictionary_chains.specs.WordLaws.{key_small}
-use Rattle.dictionary_chains.specs.WayLaws.{strayed-late, Meets, nothing, itself, stranger, another, meets, climb_none, climb_hit, climb_stray, climb_on, rest_after, way_from, from-none, from_hit, from_stray, from_on}
+use Rattle.dictionary_chains.proofs.WordLaws.{key_small}
+use Rattle.dictionary_chains.proofs.WayLaws.{strayed-late, Meets, nothing, itself, stranger, another, meets, climb_none, climb_hit, climb_stray, climb_on, rest_after, way_from, from-none, from_hit, from_stray, from_on}
 use Rattle.dictionary_chains.specs.declared.Table.{Table}
 
 -- an entry in words of 16 bits has a key of its table

@@ -4,8 +4,8 @@ use Rattle.std.specs.Prelude.{◌≡◌, refl, ◌⊎◌, Bool, true, false, Lis
 use Rattle.std.proofs.Common.{sym, ap, ◌∙◌, inl, inr, arith, eqb-true}
 use Rattle.std.proofs.lemmas.Bool.{eqb-false}
 use Rattle.dictionary_chains.specs.Chain.{entry_start, entry_room, key_of, head_of, entry_at, link_at, branch_of, ends, strayed, way_of, found}
-use Rattle.dictionary_chains.specs.WayLaws.{link-none, link-some, link_rises, rest_after, number_of, way_from, Comes, starts, turns, Climbs, stops, hits, strays, goes, climbs, from-none, from_hit, from_stray, from_on, same_hit, same_stray, same_turn, comes_low}
-use Rattle.dictionary_chains.specs.TreeLaws.{Alike, Stands, none, reached, stands_as, Apart, equal, lower, higher, Bounded, together, stands_bounded, comes_bounded, comes_before, comes_apart, same-entry, same-link}
+use Rattle.dictionary_chains.proofs.WayLaws.{link-none, link-some, link_rises, rest_after, number_of, way_from, Comes, starts, turns, Climbs, stops, hits, strays, goes, climbs, from-none, from_hit, from_stray, from_on, same_hit, same_stray, same_turn, comes_low}
+use Rattle.dictionary_chains.proofs.TreeLaws.{Alike, Stands, none, reached, stands_as, Apart, equal, lower, higher, Bounded, together, stands_bounded, comes_bounded, comes_before, comes_apart, same-entry, same-link}
 use Rattle.dictionary_chains.specs.declared.Table.{Table}
 use Rattle.dictionary_chains.specs.declared.Way.{Way}
 

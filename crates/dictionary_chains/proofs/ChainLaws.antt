@@ -10,10 +10,10 @@ use Rattle.std.proofs.Math.Seq.{append_snoc}
 use borrow.Author.Tests.{eq-eqb, ne_eqb, le-leb, lt-leb}
 use Rattle.field_rules.specs.Choice.{pick_same}
 use Rattle.dictionary_chains.specs.Chain.{head_words, entry_start, entry_room, index_words, key_of, head_of, entry_at, link_at, branch_of, ends, way_of, found, written, branched, number_at, entered_at, entered}
-use Rattle.dictionary_chains.specs.WordLaws.{head_small, written-length, written-other, written_entry, branched-length, branched_cell, branched-other, branched_branch}
-use Rattle.dictionary_chains.specs.WayLaws.{link-none, link_rises, number_of, Comes, starts, turns, Ends, free, taken, astray, way_ends, comes_low}
-use Rattle.dictionary_chains.specs.TreeLaws.{Stands, none, reached, equal, Bounded, more_bounded, stands_bounded, never_strays, comes_before}
-use Rattle.dictionary_chains.specs.GrowLaws.{Grows, older_entry, grows_bounded, grows_way, grows_elsewhere}
+use Rattle.dictionary_chains.proofs.WordLaws.{head_small, written-length, written-other, written_entry, branched-length, branched_cell, branched-other, branched_branch}
+use Rattle.dictionary_chains.proofs.WayLaws.{link-none, link_rises, number_of, Comes, starts, turns, Ends, free, taken, astray, way_ends, comes_low}
+use Rattle.dictionary_chains.proofs.TreeLaws.{Stands, none, reached, equal, Bounded, more_bounded, stands_bounded, never_strays, comes_before}
+use Rattle.dictionary_chains.proofs.GrowLaws.{Grows, older_entry, grows_bounded, grows_way, grows_elsewhere}
 use Rattle.dictionary_chains.specs.declared.Table.{Table}
 use Rattle.dictionary_chains.specs.declared.Entry.{Entry}
 use Rattle.dictionary_chains.specs.declared.Way.{Way}
