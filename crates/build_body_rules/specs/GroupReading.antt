@@ -10,8 +10,8 @@ use Rattle.field_rules.specs.declared.Cursor.{Cursor}
 use Rattle.field_rules.specs.declared.Field.{Field}
 use Rattle.build_config.specs.declared.Config.{Config}
 use Rattle.build_records.specs.Records.{records_of, between, stride}
-use Rattle.build_records.specs.WordLaws.{records_length}
-use Rattle.build_records.specs.RecordLaws.{between-parts}
+use Rattle.build_records.proofs.WordLaws.{records_length}
+use Rattle.build_records.proofs.RecordLaws.{between-parts}
 use Rattle.build_records.specs.declared.Record.{Record}
 use Rattle.build_group_rules.specs.Groups.{run, outermost, RunOutcome, ended, refused, walk}
 use Rattle.build_group_rules.specs.Reading.{Memory, memory, list_store, table_rules, told_by, run_of, Fits, answer_of}

@@ -9,8 +9,8 @@ use Rattle.std.proofs.Math.Seq.{take-add}
 use borrow.Author.Tests.{eq-eqb, ne_eqb}
 use Rattle.field_rules.specs.Choice.{pick}
 use Rattle.build_records.specs.Records.{records_of, on_records, blank, record_at, between, held_from, stored_between, removed, stored, stride}
-use Rattle.build_records.specs.WordLaws.{records_length, records_on}
-use Rattle.build_records.specs.RecordLaws.{between-on, between_past, between-end, between-parts, removed-parts, stored-held, stored-new}
+use Rattle.build_records.proofs.WordLaws.{records_length, records_on}
+use Rattle.build_records.proofs.RecordLaws.{between-on, between_past, between-end, between-parts, removed-parts, stored-held, stored-new}
 use Rattle.build_records.specs.declared.Record.{Record}
 use Rattle.build_records.specs.declared.Standing.{Standing}
 use Rattle.build_records.specs.declared.Standing.TheVariants.{At, Nowhere}

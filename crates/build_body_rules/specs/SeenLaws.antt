@@ -14,8 +14,8 @@ use Rattle.field_rules.specs.Fields.{Fields, unreadable, field, fields_from}
 use Rattle.field_rules.specs.declared.Mode.{Mode}
 use Rattle.field_rules.specs.declared.Field.{Field}
 use Rattle.build_records.specs.Records.{records_of, on_records, replaced, between, held_from, stored_between, stored, stride}
-use Rattle.build_records.specs.WordLaws.{records_length, on_same}
-use Rattle.build_records.specs.RecordLaws.{inserted-last, between-new, between-end}
+use Rattle.build_records.proofs.WordLaws.{records_length, on_same}
+use Rattle.build_records.proofs.RecordLaws.{inserted-last, between-new, between-end}
 use Rattle.build_records.specs.declared.Record.{Record}
 use Rattle.build_records.specs.declared.Standing.TheVariants.{At as held_at, Nowhere}
 use Rattle.build_group_rules.specs.Groups.{Rules, run, outermost, RunOutcome, walk}

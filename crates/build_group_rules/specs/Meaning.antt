@@ -13,8 +13,8 @@ use Rattle.build_config.specs.declared.Config.{Config}
 use Rattle.dictionary_layout_rules.specs.Layout.{Layout, Group as LayoutGroup}
 use Rattle.dictionary_tables_rules.proofs.Tabled.{Tabled, Opens, neither, both, position_means, delimiter_means, group_means}
 use Rattle.build_records.specs.Records.{records_of, leftover, inserted, between, held_from, stored_between, stored}
-use Rattle.build_records.specs.WordLaws.{records_on, leftover-on, on_same}
-use Rattle.build_records.specs.RecordLaws.{HeldAs, inserted-parts, between-new, stored-new, stored-held, stored-parts-held}
+use Rattle.build_records.proofs.WordLaws.{records_on, leftover-on, on_same}
+use Rattle.build_records.proofs.RecordLaws.{HeldAs, inserted-parts, between-new, stored-new, stored-held, stored-parts-held}
 use Rattle.build_records.specs.declared.Record.{Record}
 use Rattle.build_records.specs.declared.Standing.{Standing}
 use Rattle.build_records.specs.declared.Standing.TheVariants.{At as held_at, Nowhere as not_held}

@@ -11,7 +11,7 @@ use Rattle.field_rules.specs.Choice.{pick}
 use Rattle.dictionary_tables_rules.specs.Table.{item_of}
 use Rattle.dictionary_tables_rules.proofs.Tabled.{group_of_item}
 use Rattle.build_records.specs.Records.{records_of, record_at, between, stride}
-use Rattle.build_records.specs.WordLaws.{records_length}
+use Rattle.build_records.proofs.WordLaws.{records_length}
 use Rattle.build_records.specs.declared.Record.{Record}
 use Rattle.build_group_rules.specs.Groups.{none, opened}
 use Rattle.build_group_rules.specs.ReadingLaws.{opened-none, opened_some}

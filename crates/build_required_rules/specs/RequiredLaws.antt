@@ -11,7 +11,7 @@ use Rattle.std.proofs.Math.Seq.{take-take, length-take-le}
 use borrow.Author.Tests.{eq-eqb, ne_eqb, le-leb, lt-leb, leb-false}
 use Rattle.field_rules.specs.Choice.{pick, pick_same}
 use Rattle.build_records.specs.Records.{record_at, between, held_from}
-use Rattle.build_records.specs.RecordLaws.{between-on, between-end}
+use Rattle.build_records.proofs.RecordLaws.{between-on, between-end}
 use Rattle.build_records.specs.declared.Record.{Record}
 use Rattle.build_records.specs.declared.Standing.TheVariants.{At, Nowhere}
 use Rattle.build_group_rules.specs.Groups.{Opened, none, opened}

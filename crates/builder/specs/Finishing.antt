@@ -9,7 +9,7 @@ use Rattle.field_rules.specs.declared.Mode.{Mode}
 use Rattle.field_rules.specs.Fields.{field, fields_from}
 use Rattle.field_rules.specs.declared.Field.{Field}
 use Rattle.build_records.specs.Records.{records_of, stored}
-use Rattle.build_records.specs.RecordLaws.{between-end}
+use Rattle.build_records.proofs.RecordLaws.{between-end}
 use Rattle.build_records.specs.declared.Record.{Record}
 use Rattle.build_answers.specs.declared.Answer.TheVariants.{Valid, TooManyFields}
 use Rattle.build_parts.specs.declared.Progress.{Progress}

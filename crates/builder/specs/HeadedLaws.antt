@@ -10,7 +10,7 @@ use Rattle.field_rules.specs.Fields.{Fields, field, fields_from}
 use Rattle.field_rules.specs.declared.Mode.{Mode}
 use Rattle.field_rules.specs.declared.Field.{Field}
 use Rattle.build_records.specs.Records.{record_at, between, blank, value_at}
-use Rattle.build_records.specs.RecordLaws.{between-on, between-end}
+use Rattle.build_records.proofs.RecordLaws.{between-on, between-end}
 use Rattle.build_records.specs.declared.Record.{Record}
 use Rattle.dictionary_rules.specs.Index.{tag_at}
 use Rattle.dictionary_rules.specs.declared.Placed.{Placed}

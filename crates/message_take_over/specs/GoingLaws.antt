@@ -7,7 +7,7 @@ use mathlib.Core.List.{List, [], ◌∷◌, ◌++◌, append_assoc}
 use Rattle.std.proofs.Math.ListN.{length, set, length-append}
 use Rattle.field_rules.specs.Choice.{pick}
 use Rattle.build_records.specs.Records.{record_at, between}
-use Rattle.build_records.specs.RecordLaws.{between-on, between-end}
+use Rattle.build_records.proofs.RecordLaws.{between-on, between-end}
 use Rattle.build_records.specs.declared.Record.{Record}
 use Rattle.message_maps.specs.Rows.{Row, row, flat, padded, message_words, message_rows}
 use Rattle.message_maps.specs.RowsLaws.{padded-length}

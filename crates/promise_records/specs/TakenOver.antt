@@ -22,7 +22,7 @@ use Rattle.dictionary_rules.specs.Check.{check_of, number_of_check}
 use Rattle.dictionary_meaning_rules.specs.Meaning.{dictionary_of}
 use Rattle.dictionary_layout_rules.specs.Tree.{Dictionary, knows, header_tags_lem, trailer_tags_lem, Choice, no_message, laid_out, layout_of}
 use Rattle.build_records.specs.Records.{laid, records_of, between, record_words, stride, value_at}
-use Rattle.build_records.specs.WordLaws.{records_laid, laid-length}
+use Rattle.build_records.proofs.WordLaws.{records_laid, laid-length}
 use Rattle.build_records.specs.declared.Record.{Record}
 use Rattle.message_lent_rules.specs.Meaning.{words_of, value_bytes_of}
 use Rattle.message_lent_rules.specs.FormedLaws.{Lends, layout_lends}

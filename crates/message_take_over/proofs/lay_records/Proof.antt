@@ -6,7 +6,7 @@ use borrow.Author.Rules.{rules}
 use lib.ListN.{length, length-set, length-replicate}
 use Rattle.message_maps.specs.Rows.{message_words}
 use Rattle.build_records.specs.Records.{records_of}
-use Rattle.build_records.specs.WordLaws.{records_length}
+use Rattle.build_records.proofs.WordLaws.{records_length}
 use Rattle.message_take_over.specs.Newest.{Newest, newest_start}
 use Rattle.message_take_over.specs.GoingLaws.{Going, going_start, going-whole, going_ready, going-refused, going_on, going-deep, going_newest}
 use Rattle.message_take_over.specs.GoingLaws.{going_done}

@@ -4,7 +4,7 @@ use Prim.Native.Nat.{◌-◌}
 use native.Mathlib.Omega.{arith}
 use borrow.Author.Rules.{rules}
 use Rattle.build_records.specs.Records.{records_of}
-use Rattle.build_records.specs.WordLaws.{records_length}
+use Rattle.build_records.proofs.WordLaws.{records_length}
 use Rattle.build_records.specs.declared.Record.{Record}
 use Rattle.message_take_over.specs.Storing.{Storing, storing-start, storing_fits, storing-on, storing-done}
 use Rattle.message_take_over.proofs.put_values.Statement.{statement}
