@@ -13,7 +13,7 @@ use Rattle.field_rules.specs.Decimal.{decimal, written_at}
 use Rattle.field_rules.proofs.DecimalLaws.{written_fits}
 use Rattle.message_maps.specs.Map.{stored, without_field}
 use Rattle.message_lent_rules.specs.Meaning.{Message, words_of, value_bytes_of, message_in}
-use Rattle.message_lent_rules.specs.FormedLaws.{Lends}
+use Rattle.message_lent_rules.proofs.FormedLaws.{Lends}
 use Rattle.message_rules.specs.Changes.{after, part_of, with_part, field_total, value_total, judged, storing, removing}
 use Rattle.message_rules.specs.RowChanges.{Blank}
 use Rattle.message_rules.specs.BlankLaws.{left-blank}

@@ -15,7 +15,7 @@ use Rattle.message_lent_rules.specs.Formed.{stands, goes_on, is_formed, entries_
 use Rattle.message_lent_rules.specs.StandLaws.{never, nor, formed_entry}
 use Rattle.message_lent_rules.specs.StoredLaws.{formed_stored}
 use Rattle.message_lent_rules.specs.HungLaws.{formed_hung}
-use Rattle.message_lent_rules.specs.FormedLaws.{lent_formed, Lends, IsLayout, is_layout_lends}
+use Rattle.message_lent_rules.proofs.FormedLaws.{lent_formed, Lends, IsLayout, is_layout_lends}
 use Rattle.message_rules.specs.Changes.{after, part_of, with_part, map_words, map_values, judged_map, of_message}
 use Rattle.message_rules.specs.Runs.{is_draft, run_in, judged_run, of_draft, starting, entering, is_empty, in_last, storing_last, has_untagged, is_whole, hung_run, hanging_last, hanging}
 use Rattle.message_rules.specs.Drafts.{lent-run, LendsDraft, IsRunLayout, run_layout_lends}

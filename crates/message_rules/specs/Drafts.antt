@@ -13,10 +13,10 @@ use Rattle.message_lent_rules.specs.Lent.{rows_allowed, rows_of, fields_in, is_l
 use Rattle.message_lent_rules.specs.LentLaws.{both, laid_out}
 use Rattle.message_lent_rules.specs.LaidLaws.{sizes-laid, fields_laid, rows_few, shallow}
 use Rattle.message_lent_rules.specs.Meaning.{LaysOut}
-use Rattle.message_lent_rules.specs.MeaningLaws.{laid_means, lent_laid}
-use Rattle.message_lent_rules.specs.MeantLaws.{rows_laid, map-meant}
+use Rattle.message_lent_rules.proofs.MeaningLaws.{laid_means, lent_laid}
+use Rattle.message_lent_rules.proofs.MeantLaws.{rows_laid, map-meant}
 use Rattle.message_lent_rules.specs.Formed.{entries_formed}
-use Rattle.message_lent_rules.specs.FormedLaws.{entries_formed_lem, lays_laid, padded_lays}
+use Rattle.message_lent_rules.proofs.FormedLaws.{entries_formed_lem, lays_laid, padded_lays}
 use Rattle.message_rules.specs.Changes.{map_words, map_values}
 use Rattle.message_rules.specs.Runs.{is_draft, run_in}
 

@@ -11,7 +11,7 @@ use Rattle.message_maps.specs.Map.{Map, end, without_field, stored, field_count,
 use Rattle.message_lent_rules.specs.Lent.{is_message}
 use Rattle.message_lent_rules.specs.Meaning.{Message, parts, words_of, value_bytes_of, message_in}
 use Rattle.message_lent_rules.specs.Formed.{is_formed, Formed, Within}
-use Rattle.message_lent_rules.specs.FormedLaws.{lent_formed, Lends, IsLayout, is_layout_lends}
+use Rattle.message_lent_rules.proofs.FormedLaws.{lent_formed, Lends, IsLayout, is_layout_lends}
 use Rattle.message_lent_rules.specs.StoredLaws.{formed_stored, formed_without}
 use Rattle.message_rules.specs.Changes.{after, part_of, with_part, field_total, value_total, judged, of_message, no_fields, emptying, new_message, making, storing, removing}
 use Rattle.message_rules.specs.ChangeLaws.{remove-on}

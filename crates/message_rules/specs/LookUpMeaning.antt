@@ -10,8 +10,8 @@ use Rattle.message_maps.specs.Rows.{sizes}
 use Rattle.message_lent_rules.specs.Lent.{rows_of, is_message}
 use Rattle.message_lent_rules.specs.LentLaws.{message-held}
 use Rattle.message_lent_rules.specs.Meaning.{Message, parts, message_in}
-use Rattle.message_lent_rules.specs.MeaningLaws.{means}
-use Rattle.message_lent_rules.specs.FormedLaws.{lent_formed}
+use Rattle.message_lent_rules.proofs.MeaningLaws.{means}
+use Rattle.message_lent_rules.proofs.FormedLaws.{lent_formed}
 use Rattle.message_lent_rules.specs.StandLaws.{never}
 use Rattle.message_rules.specs.Changes.{part_of}
 use Rattle.message_rules.specs.LookUps.{rows_in, Standing, standing, map_at, value_in, entry_in, part_row, value_of_map, entry_of, part_found, field_found, entry_found}

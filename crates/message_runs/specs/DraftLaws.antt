@@ -11,7 +11,7 @@ use Rattle.message_maps.specs.Rows.{Row, row, laid, flat, part, padded, spliced,
 use Rattle.message_lent_rules.specs.Lent.{row_count, rows_of, fields_in, is_laid}
 use Rattle.message_lent_rules.specs.LentLaws.{both, Laid, laid_out}
 use Rattle.message_lent_rules.specs.Meaning.{open_in, outermost}
-use Rattle.message_lent_rules.specs.MeaningLaws.{laid_means}
+use Rattle.message_lent_rules.proofs.MeaningLaws.{laid_means}
 use Rattle.message_rules.specs.Changes.{After, after, of_store, map_words, map_values, judged_map}
 use Rattle.message_rules.specs.RowChanges.{Cuttable, changed_at, put_at, Ready}
 use Rattle.message_rules.specs.LayoutLaws.{laid-joined, values-joined, count-joined, sizes-append, sizes-laid}

@@ -6,7 +6,7 @@ use Rattle.message_lent_rules.specs.Lent.{is_message}
 use Rattle.message_lent_rules.specs.LentLaws.{message-held}
 use Rattle.message_lent_rules.specs.StandLaws.{never}
 use Rattle.message_lent_rules.specs.Meaning.{Message, message_in}
-use Rattle.message_lent_rules.specs.FormedLaws.{IsLayout, is_layout_lends}
+use Rattle.message_lent_rules.proofs.FormedLaws.{IsLayout, is_layout_lends}
 use Rattle.message_rules.specs.Answered.{NotLent}
 use Rattle.message_rules.specs.FormedLaws.{empty-answered, new-answered, store-answered, remove-answered}
 use Rattle.message_rules.specs.DraftLaws.{hang-answered}

@@ -25,7 +25,7 @@ use Rattle.build_records.specs.Records.{laid, records_of, between, record_words,
 use Rattle.build_records.proofs.WordLaws.{records_laid, laid-length}
 use Rattle.build_records.specs.declared.Record.{Record}
 use Rattle.message_lent_rules.specs.Meaning.{words_of, value_bytes_of}
-use Rattle.message_lent_rules.specs.FormedLaws.{Lends, layout_lends}
+use Rattle.message_lent_rules.proofs.FormedLaws.{Lends, layout_lends}
 use Rattle.build_group_rules.specs.Reading.{accepted, layout_rules}
 use Rattle.build_required_rules.specs.Checking.{layout_demands}
 use Rattle.build_nesting_laws.specs.Entries.{layout_first}

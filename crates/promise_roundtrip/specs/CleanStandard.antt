@@ -26,7 +26,7 @@ use Rattle.message_take_over.specs.Taking.{after}
 use Rattle.message_take_over.specs.declared.Taken.TheVariants.{Made}
 use Rattle.message_maps.specs.Rows.{message_words}
 use Rattle.message_lent_rules.specs.Meaning.{Message, words_of, value_bytes_of}
-use Rattle.message_lent_rules.specs.MeantLaws.{layout_meant}
+use Rattle.message_lent_rules.proofs.MeantLaws.{layout_meant}
 use Rattle.build_order_laws.specs.Follows.{no_field, one_field}
 use Rattle.build_order_laws.specs.InOrder.{InOrder}
 use Rattle.encode_rewriting_laws.specs.EncodedBuilt.{encoding-rewritten}

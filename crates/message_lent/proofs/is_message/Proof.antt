@@ -2,7 +2,7 @@
 use mathlib.Core.Path.{◌≡◌, ap, ◌∙◌}
 use borrow.Author.Rules.{rules}
 use Rattle.message_lent_rules.specs.Standing.{is_standing}
-use Rattle.message_lent_rules.specs.StandingLaws.{message-stands}
+use Rattle.message_lent_rules.proofs.StandingLaws.{message-stands}
 use Rattle.message_lent.proofs.is_message.Statement.{statement}
 use Rattle.message_lent.proofs.is_message.Tie as tie
 

@@ -5,7 +5,7 @@ use borrow.Author.Rules.{rules}
 use borrow.Author.Tests.{eq-eqb, ne_eqb, le-leb, lt-leb}
 use Rattle.message_lent_rules.specs.Lent.{row_count, rows_of, is_laid}
 use Rattle.message_lent_rules.specs.Standing.{laid_standing}
-use Rattle.message_lent_rules.specs.StandingLaws.{too_large, stands-laid}
+use Rattle.message_lent_rules.proofs.StandingLaws.{too_large, stands-laid}
 use Rattle.message_lent.proofs.laid_standing.Statement.{statement}
 use Rattle.message_lent.proofs.laid_standing.Tie as tie
 

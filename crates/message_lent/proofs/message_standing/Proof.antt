@@ -9,7 +9,7 @@ use borrow.Author.Tests.{le-leb, lt-leb, ltb-true, ltb-false, not-true, not-fals
 use Rattle.message_lent_rules.specs.Lent.{row_count, rows_of, is_laid, fields_in}
 use Rattle.message_lent_rules.specs.LentLaws.{Laid, laid_out}
 use Rattle.message_lent_rules.specs.Standing.{is_standing}
-use Rattle.message_lent_rules.specs.StandingLaws.{laid-stands, not_laid, no_parts, too_many, stands-message}
+use Rattle.message_lent_rules.proofs.StandingLaws.{laid-stands, not_laid, no_parts, too_many, stands-message}
 use Rattle.message_lent.proofs.message_standing.Statement.{statement}
 use Rattle.message_lent.proofs.message_standing.Tie as tie
 

@@ -8,7 +8,7 @@ use lib.Dec.{ltb}
 use Rattle.message_maps.specs.Rows.{rows_from}
 use Rattle.message_lent_rules.specs.Lent.{fields_in}
 use Rattle.message_lent_rules.specs.LentLaws.{fields-few}
-use Rattle.message_lent_rules.specs.MeaningLaws.{rows_length}
+use Rattle.message_lent_rules.proofs.MeaningLaws.{rows_length}
 use Rattle.message_lent.proofs.passes_limit.Statement.{statement}
 use Rattle.message_lent.proofs.passes_limit.Tie as tie
 

@@ -7,7 +7,7 @@ use Rattle.message_maps.specs.Map.{Map, end, field, entry, joined, values_in}
 use Rattle.message_maps.specs.Rows.{Row, row, laid, flat, row_at, rows_from, padded, size_of, message_words}
 use Rattle.message_lent_rules.specs.Lent.{row_count, rows_of}
 use Rattle.message_lent_rules.specs.Meaning.{Message, parts, words_of, value_bytes_of, LaysOut, opened, with_field, with_entry, with_row, open_in, outermost, third_of, second_of, parts_in, message_in}
-use Rattle.message_lent_rules.specs.MeaningLaws.{opened-length}
+use Rattle.message_lent_rules.proofs.MeaningLaws.{opened-length}
 
 -- the rows that words hold are those that they were made from
 pub rows_back : (rows : List Row) (i : ℕ) (words behind : List ℕ) → drop (4 * i + 1) words ≡ flat rows ++ behind → rows_from (length rows) i words ≡ rows

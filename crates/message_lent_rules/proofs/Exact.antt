@@ -7,10 +7,10 @@ use Rattle.message_maps.specs.Rows.{Row}
 use Rattle.message_lent_rules.specs.Lent.{parts_from, rows_of, is_message}
 use Rattle.message_lent_rules.specs.LentLaws.{message-held}
 use Rattle.message_lent_rules.specs.Meaning.{Message, parts, LaysOut, open_in, outermost, message_in}
-use Rattle.message_lent_rules.specs.MeaningLaws.{laid_means, lent_laid, parts-of}
-use Rattle.message_lent_rules.specs.MeantLaws.{message-meant}
+use Rattle.message_lent_rules.proofs.MeaningLaws.{laid_means, lent_laid, parts-of}
+use Rattle.message_lent_rules.proofs.MeantLaws.{message-meant}
 use Rattle.message_lent_rules.specs.Formed.{Within}
-use Rattle.message_lent_rules.specs.FormedLaws.{lent_formed, lays_message}
+use Rattle.message_lent_rules.proofs.FormedLaws.{lent_formed, lays_message}
 
 -- a message within the limits that words and values lay out
 pub record MessageLaid (words values : List ℕ) : Type 0 where

@@ -13,8 +13,8 @@ use Rattle.message_maps.specs.RowsLaws.{padded-length}
 use Rattle.message_lent_rules.specs.Lent.{deepest, field_allowed, head_allowed, row_allowed, rows_allowed, delimiter_is, is_part, next_part, parts_from, fields_in, row_count, is_laid, is_message}
 use Rattle.message_lent_rules.specs.LentLaws.{both, message-held}
 use Rattle.message_lent_rules.specs.Meaning.{Message, parts, words_of, value_bytes_of, LaysOut, message_in}
-use Rattle.message_lent_rules.specs.MeaningLaws.{means, parts_below, flat-length}
-use Rattle.message_lent_rules.specs.MeantLaws.{rows_laid, layout_meant}
+use Rattle.message_lent_rules.proofs.MeaningLaws.{means, parts_below, flat-length}
+use Rattle.message_lent_rules.proofs.MeantLaws.{rows_laid, layout_meant}
 use Rattle.message_lent_rules.specs.Formed.{is_formed, entries_formed, Formed, Within}
 use Rattle.message_lent_rules.specs.StandLaws.{never}
 use Rattle.message_lent_rules.specs.LaidLaws.{sizes-laid, fields-parts, rows_parts}
