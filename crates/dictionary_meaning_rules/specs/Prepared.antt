@@ -15,7 +15,7 @@ use Rattle.dictionary_rules.specs.Names.{Names, looks_in, named, no_names, messa
 use Rattle.dictionary_rules.specs.Index.{component_at, message_at}
 use Rattle.dictionary_rules.specs.Check.{prepared_of}
 use Rattle.dictionary_rules.specs.Agreement.{Agrees}
-use Rattle.dictionary_rules.specs.Prepared.{prepared_names}
+use Rattle.dictionary_rules.proofs.Prepared.{prepared_names}
 use Rattle.dictionary_rules.specs.declared.Checked.{Checked}
 use Rattle.dictionary_rules.specs.declared.Checked.TheVariants.{Passes, TooLong}
 use Rattle.dictionary_rules.specs.declared.Component.{Component}

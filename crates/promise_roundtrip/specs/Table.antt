@@ -2,7 +2,7 @@
 -- lent; P12: what the hunt hands out. Each crate's own table computes its part.
 use Rattle.std.specs.Prelude.{◌≡◌, false, List, [], ◌++◌, map, ℕ}
 use Rattle.build_config.specs.Settings.{validating}
-use Rattle.dictionary_rules.specs.Examples.{examples}
+use Rattle.dictionary_rules.proofs.Examples.{examples}
 use Rattle.builder.specs.Build.{build_of}
 use Rattle.build_rules.specs.Examples.{Row, table}
 use Rattle.builder.specs.Examples.{answers, expected, all_hold}

@@ -4,7 +4,7 @@ use native.Mathlib.Omega.{arith}
 use borrow.Author.Rules.{rules}
 use Rattle.dictionary_rules.specs.Check.{outcome, answer_of}
 use Rattle.dictionary_rules.specs.Check.{prepared_of}
-use Rattle.dictionary_rules.specs.Prepared.{prepared_long, prepared-short, prepared-answer, check_long}
+use Rattle.dictionary_rules.proofs.Prepared.{prepared_long, prepared-short, prepared-answer, check_long}
 use Rattle.dictionary_check.proofs.prepare.Statement.{statement}
 use Rattle.dictionary_check.proofs.prepare.Tie as tie
 

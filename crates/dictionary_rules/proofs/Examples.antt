@@ -12,7 +12,7 @@ use Rattle.dictionary_rules.specs.Step.{depth_of, opened, opens, deeper, grown, 
 use Rattle.dictionary_rules.specs.Step.{not_empty, not_too_deep, once_component, once_message, not_too_many, on_tag, on_component, on_message, on_field, on_item}
 use Rattle.dictionary_rules.specs.Step.{on_group, closes_owner, closes_group, closes_innermost, on_close, step_of, present, at_end}
 use Rattle.dictionary_rules.specs.Check.{on_step, walked, too_long, read_of, answer_of, check_of, number_of_check, values_of_check}
-use Rattle.dictionary_rules.specs.Prepared.{check_long}
+use Rattle.dictionary_rules.proofs.Prepared.{check_long}
 use Rattle.dictionary_rules.specs.declared.Checked.TheVariants.{TooLong}
 use Rattle.dictionary_rules.specs.Names.{is_known, component_in, message_in, looks_in, named, no_names}
 
