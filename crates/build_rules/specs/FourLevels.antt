@@ -8,7 +8,7 @@ use Rattle.dictionary_layout_rules.specs.Tree.{laid_out, layout_of}
 use Rattle.dictionary_rules.specs.Check.{check_of}
 use Rattle.dictionary_rules.specs.declared.Checked.TheVariants.{Passes}
 use Rattle.dictionary_meaning_rules.specs.Meaning.{dictionary_of}
-use Rattle.dictionary_meaning_rules.specs.TreeBounds.{message_bounded}
+use Rattle.dictionary_meaning_rules.proofs.TreeBounds.{message_bounded}
 use Rattle.build_group_rules.specs.Groups.{count, counting, OpenGroup, OpenEntry, Frame, run, outermost, entry, Store}
 use Rattle.build_group_rules.specs.Reading.{opened_as, layout_rules}
 use Rattle.build_group_rules.specs.FourLevels.{ComesTo, WithinFour, run-within, nested-runs}

@@ -20,7 +20,7 @@ use Rattle.dictionary_tables_rules.specs.Laid.{table_size, table_of}
 use Rattle.dictionary_tables_rules.proofs.Tabled.{tabled_whole}
 use Rattle.dictionary_directory.specs.Directory.{kept_at, laid_alone}
 use Rattle.dictionary_directory.specs.declared.Kept.TheVariants.{Table, Nowhere}
-use Rattle.dictionary_meaning_rules.specs.MsgTypeText.{Bytes, no_bytes, a_byte}
+use Rattle.dictionary_meaning_rules.proofs.MsgTypeText.{Bytes, no_bytes, a_byte}
 use Rattle.dictionary_meaning_rules.specs.MessageTable.{Tabling, tabling, place_of, placed_table}
 use Rattle.dictionary_meaning_rules.specs.declared.MessageTable.TheVariants.{Rows, NoMessage, Unprepared}
 use Rattle.build_group_rules.specs.Groups.{Rules}

@@ -32,12 +32,12 @@ use Rattle.build_answers.specs.declared.Answer.TheVariants.{NotPrepared}
 use Rattle.dictionary_prepared.specs.MemoryLaws.{ready_passes, ready_stands, ready_records, ready_index, ready_tables}
 use Rattle.dictionary_prepared.specs.declared.Preparing.TheVariants.{Ready}
 use Rattle.dictionary_meaning_rules.specs.Meaning.{dictionary_of}
-use Rattle.dictionary_meaning_rules.specs.MsgTypeText.{Bytes, take-bytes, drop-bytes}
+use Rattle.dictionary_meaning_rules.proofs.MsgTypeText.{Bytes, take-bytes, drop-bytes}
 use Rattle.dictionary_meaning_rules.specs.MessageTable.{Tabling, place_of, placed_table, message_table}
 use Rattle.dictionary_meaning_rules.specs.PlainTags.{plain_tags}
-use Rattle.dictionary_meaning_rules.specs.TagsMeant.{header-listed, trailer-listed}
-use Rattle.dictionary_meaning_rules.specs.Theorem.{TableOf, no_table, a-table, tables_mean_tree}
-use Rattle.dictionary_meaning_rules.specs.KnownTags.{tags-known}
+use Rattle.dictionary_meaning_rules.proofs.TagsMeant.{header-listed, trailer-listed}
+use Rattle.dictionary_meaning_rules.proofs.Theorem.{TableOf, no_table, a-table, tables_mean_tree}
+use Rattle.dictionary_meaning_rules.proofs.KnownTags.{tags-known}
 use Rattle.build_group_rules.specs.Reading.{accepted, table_rules, layout_rules}
 use Rattle.build_required_rules.specs.Checking.{table_demands, layout_demands}
 use Rattle.build_body_rules.specs.Kinds.{body_of}

@@ -24,7 +24,7 @@ use Rattle.dictionary_rules.specs.declared.Placed.TheVariants.{At}
 use Rattle.dictionary_meaning_rules.specs.MessageTable.{Tabling, tabling, placed_table}
 use Rattle.dictionary_meaning_rules.specs.LaidLayout.{LaidAs}
 use Rattle.dictionary_meaning_rules.specs.PlainTags.{listing, plain_tags}
-use Rattle.dictionary_meaning_rules.specs.Kept.{tags_kept}
+use Rattle.dictionary_meaning_rules.proofs.Kept.{tags_kept}
 use Rattle.dictionary_meaning_rules.specs.declared.MessageTable.TheVariants.{Rows, NoMessage, Unprepared}
 use Rattle.dictionary_meaning_rules.specs.declared.TagList.{TagList}
 use Rattle.dictionary_meaning_rules.specs.declared.TagList.TheVariants.{Listed, Unlisted}

@@ -2,7 +2,7 @@
 use Rattle.std.specs.Prelude.{ℕ, ◌≡◌, List, get_or, replicate}
 use Rattle.std.proofs.Common.{arith}
 use Rattle.dictionary_rules.specs.Check.{check_of, values_of_check}
-use Rattle.dictionary_meaning_rules.specs.MsgTypeText.{Bytes}
+use Rattle.dictionary_meaning_rules.proofs.MsgTypeText.{Bytes}
 use Rattle.build_config.specs.Settings.{config_of}
 use Rattle.build_records.specs.Records.{record_words}
 use Rattle.build_answers.specs.Answer.{values_of}

@@ -4,7 +4,7 @@ use Prim.Native.Nat.{ℕ, ◌+◌, ◌-◌, ◌*◌, ◌≤◌, ◌<◌}
 use native.Mathlib.Omega.{arith}
 use borrow.Author.Rules.{rules}
 use lib.ListN.{length, get_or}
-use Rattle.dictionary_meaning_rules.specs.MsgTypeLaws.{ReadBack, back_start, number_fits, back_on, name_empty, name_long, name_zero, name_good}
+use Rattle.dictionary_meaning_rules.proofs.MsgTypeLaws.{ReadBack, back_start, number_fits, back_on, name_empty, name_long, name_zero, name_good}
 use Rattle.dictionary_flattening.proofs.name_of.Statement.{statement}
 use Rattle.dictionary_flattening.proofs.name_of.Tie as tie
 

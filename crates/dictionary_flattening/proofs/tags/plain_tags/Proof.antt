@@ -2,7 +2,7 @@
 use mathlib.Core.Path.{◌≡◌, refl, sym, ap, ◌∙◌}
 use Prim.Native.Nat.{ℕ, ◌+◌}
 use borrow.Author.Rules.{rules}
-use Rattle.dictionary_meaning_rules.specs.PlainTagsLaws.{plain_missing, plain_closed}
+use Rattle.dictionary_meaning_rules.proofs.PlainTagsLaws.{plain_missing, plain_closed}
 use Rattle.dictionary_flattening.proofs.tags.plain_tags.Statement.{statement}
 use Rattle.dictionary_flattening.proofs.tags.plain_tags.Tie as tie
 

@@ -15,7 +15,7 @@ use Rattle.dictionary_layout_rules.specs.Tree.{same_bytes}
 use Rattle.dictionary_rules.specs.Record.{low_first, zero_filled}
 use Rattle.dictionary_meaning_rules.specs.Meaning.{bytes_within, msg_type_bytes}
 use Rattle.dictionary_meaning_rules.specs.MsgType.{no_zero, name_of}
-use Rattle.dictionary_meaning_rules.specs.MsgTypeLaws.{room}
+use Rattle.dictionary_meaning_rules.proofs.MsgTypeLaws.{room}
 use Rattle.dictionary_meaning_rules.specs.declared.MsgTypeName.TheVariants.{Named, Unnamed}
 
 -- numbers that are bytes

@@ -14,7 +14,7 @@ use Rattle.dictionary_layout_rules.proofs.MeasuresLaws.{larger-first, larger-sec
 use Rattle.dictionary_rules.specs.declared.Group.{Group}
 use Rattle.dictionary_meaning_rules.specs.Meaning.{Items, closed, field_then_lem, component_then_lem, group_then_lem, Defined, expanded}
 use Rattle.dictionary_meaning_rules.specs.Written.{items-followed}
-use Rattle.dictionary_meaning_rules.specs.Layable.{layout_of, flat}
+use Rattle.dictionary_meaning_rules.proofs.Layable.{layout_of, flat}
 
 -- a group that is open, with what stands before it in the level around it
 pub record OpenGroup : Type 0 where

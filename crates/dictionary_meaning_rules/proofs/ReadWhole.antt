@@ -12,11 +12,11 @@ use Rattle.dictionary_rules.specs.declared.Owner.TheVariants.{OfComponent, OfMes
 use Rattle.dictionary_rules.specs.declared.Record.TheVariants.{KnownTag, OpensComponent, OpensMessage, FieldItem, ComponentItem, OpensGroup, Closes}
 use Rattle.dictionary_rules.specs.declared.State.TheVariants.{TopLevel}
 use Rattle.dictionary_meaning_rules.specs.Meaning.{size_of, declarations_of}
-use Rattle.dictionary_meaning_rules.specs.Bodies.{Declared, declared-none, tag_then, component_then, message_then, declared-end, declared-tag, declared-component, declared-message}
+use Rattle.dictionary_meaning_rules.proofs.Bodies.{Declared, declared-none, tag_then, component_then, message_then, declared-end, declared-tag, declared-component, declared-message}
 use Rattle.dictionary_meaning_rules.specs.Steps.{Passing, tag-goes, component-opens, message-opens, field-stops, item-stops, group-stops, close-stops, bad-stops}
-use Rattle.dictionary_meaning_rules.specs.Inside.{next_of, closes-inside}
-use Rattle.dictionary_meaning_rules.specs.Passing.{one_level_of}
-use Rattle.dictionary_meaning_rules.specs.Prepared.{reads_passing}
+use Rattle.dictionary_meaning_rules.proofs.Inside.{next_of, closes-inside}
+use Rattle.dictionary_meaning_rules.proofs.Passing.{one_level_of}
+use Rattle.dictionary_meaning_rules.proofs.Prepared.{reads_passing}
 
 whole-within : (bytes : List ℕ) (final : Names) (fuel : ℕ) (rs : Records) (at : ℕ) (names : Names) → size_of rs < fuel → records_from bytes at ≡ rs →
     Passing final rs TopLevel names → Declared rs (declarations_of rs)

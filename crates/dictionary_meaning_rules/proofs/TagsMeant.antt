@@ -18,11 +18,11 @@ use Rattle.dictionary_rules.specs.declared.Component.{Component}
 use Rattle.dictionary_rules.specs.declared.Looked.TheVariants.{Closed}
 use Rattle.dictionary_meaning_rules.specs.Meaning.{Items, closed, field_then_lem, component_then_lem, group_then_lem, declarations_of, Defined, nodes_of, expanded, defined_after, meaning_of, dictionary_of}
 use Rattle.dictionary_meaning_rules.specs.Written.{items-followed}
-use Rattle.dictionary_meaning_rules.specs.Layable.{Reads, reads-close, reads-field, reads-component, reads-group}
-use Rattle.dictionary_meaning_rules.specs.Passing.{OwnItems, KnownAs}
-use Rattle.dictionary_meaning_rules.specs.Prepared.{component-laid, standard_there}
+use Rattle.dictionary_meaning_rules.proofs.Layable.{Reads, reads-close, reads-field, reads-component, reads-group}
+use Rattle.dictionary_meaning_rules.proofs.Passing.{OwnItems, KnownAs}
+use Rattle.dictionary_meaning_rules.proofs.Prepared.{component-laid, standard_there}
 use Rattle.dictionary_meaning_rules.specs.PlainTags.{Listing, listing, tags_from, plain_tags}
-use Rattle.dictionary_meaning_rules.specs.PlainTagsLaws.{tags-field, tags_within_lem, tags-component, tags-group, tags-closed, tags-closes, plain_closed}
+use Rattle.dictionary_meaning_rules.proofs.PlainTagsLaws.{tags-field, tags_within_lem, tags-component, tags-group, tags-closed, tags-closes, plain_closed}
 use Rattle.dictionary_meaning_rules.specs.declared.TagList.TheVariants.{Listed, Unlisted}
 
 -- tags written one after the other

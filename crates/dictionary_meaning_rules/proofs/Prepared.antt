@@ -24,12 +24,12 @@ use Rattle.dictionary_rules.specs.declared.Placed.TheVariants.{At, Nowhere}
 use Rattle.dictionary_rules.specs.declared.State.TheVariants.{TopLevel}
 use Rattle.dictionary_meaning_rules.specs.Meaning.{declarations_of, defined_after, nodes_of, meaning_of, dictionary_of}
 use Rattle.dictionary_meaning_rules.specs.MsgType.{name_of}
-use Rattle.dictionary_meaning_rules.specs.MsgTypeText.{Bytes}
+use Rattle.dictionary_meaning_rules.proofs.MsgTypeText.{Bytes}
 use Rattle.dictionary_meaning_rules.specs.declared.MsgTypeName.TheVariants.{Named}
-use Rattle.dictionary_meaning_rules.specs.Named.{Standard, standard}
-use Rattle.dictionary_meaning_rules.specs.Passing.{KnownAs}
-use Rattle.dictionary_meaning_rules.specs.TreeBounds.{passes_kept}
-use Rattle.dictionary_meaning_rules.specs.Tables.{MessageAs, Meant, meant}
+use Rattle.dictionary_meaning_rules.proofs.Named.{Standard, standard}
+use Rattle.dictionary_meaning_rules.proofs.Passing.{KnownAs}
+use Rattle.dictionary_meaning_rules.proofs.TreeBounds.{passes_kept}
+use Rattle.dictionary_meaning_rules.proofs.Tables.{MessageAs, Meant, meant}
 
 whole-outcome : {S : Type 0} (x : CheckOutcome S) (checked : Checked) → answer_of x ≡ checked → x ≡ outcome checked (store_of x)
 unfolding answer_of store_of

@@ -8,7 +8,7 @@ use Rattle.dictionary_rules.specs.Records.{Records, ends, bad, whole, records_fr
 use Rattle.dictionary_rules.specs.RecordsLaws.{records_whole}
 use Rattle.dictionary_rules.specs.declared.Record.TheVariants.{KnownTag, OpensComponent, OpensMessage, FieldItem, ComponentItem, OpensGroup, Closes}
 use Rattle.dictionary_meaning_rules.specs.Meaning.{Items, closed, field_then_lem, component_then_lem, group_then_lem, item_before, no_items, body_of, msg_type_bytes, Declaration, known_tag, component, message, declarations_in, size_of, declarations_of}
-use Rattle.dictionary_meaning_rules.specs.Layable.{Reads, reads-close, reads-field, reads-component, reads-group}
+use Rattle.dictionary_meaning_rules.proofs.Layable.{Reads, reads-close, reads-field, reads-component, reads-group}
 
 pub data Holds : Records → Items → Records → Type 0 where
   holds-close : {place : ℕ} {rest : Records} → Holds (whole place Closes rest) closed rest

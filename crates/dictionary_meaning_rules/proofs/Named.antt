@@ -21,7 +21,7 @@ use Rattle.dictionary_rules.specs.declared.State.TheVariants.{TopLevel, Inside}
 use Rattle.dictionary_rules.specs.declared.Note.TheVariants.{Unchanged, ClosesComponent, KnowsTag, NamesMessage}
 use Rattle.dictionary_meaning_rules.specs.Steps.{Passing, note_of, tag-goes, component-opens, message-opens, field-stops, item-stops, group-stops, close-stops, bad-stops, end_passes}
 use Rattle.dictionary_meaning_rules.specs.Meaning.{size_of}
-use Rattle.dictionary_meaning_rules.specs.Inside.{Next, next_of, look_in, Closing, closes-inside}
+use Rattle.dictionary_meaning_rules.proofs.Inside.{Next, next_of, look_in, Closing, closes-inside}
 
 abbrev pub place_in : Names → ℕ → Placed
 place_in names = message_in names.messages

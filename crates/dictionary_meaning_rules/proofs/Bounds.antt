@@ -20,13 +20,13 @@ use Rattle.dictionary_rules.specs.declared.State.TheVariants.{TopLevel, Inside}
 use Rattle.dictionary_rules.specs.declared.Note.{Note}
 use Rattle.dictionary_rules.specs.declared.Step.{Step}
 use Rattle.dictionary_meaning_rules.specs.Meaning.{component}
-use Rattle.dictionary_meaning_rules.specs.Bodies.{declared-end}
-use Rattle.dictionary_meaning_rules.specs.Layable.{flat}
+use Rattle.dictionary_meaning_rules.proofs.Bodies.{declared-end}
+use Rattle.dictionary_meaning_rules.proofs.Layable.{flat}
 use Rattle.dictionary_meaning_rules.specs.ClosedOff.{open_after, closes, closed_off, open_of, records_after, layouts_after, goes_on, taken_from, AllBounded, nothing_read, latest_bounded, KeepsBounds, FirstWith, FirstEmpty, FiveDeep, OverThousand}
-use Rattle.dictionary_meaning_rules.specs.SoFar.{wrapped}
-use Rattle.dictionary_meaning_rules.specs.TreeSoFar.{Tree, tree_off}
-use Rattle.dictionary_meaning_rules.specs.Beside.{bounded_so_far}
-use Rattle.dictionary_meaning_rules.specs.BesideSteps.{Beside, at_top, within, things_of, Breaks, nests_too_deep, holds_too_many, closes_an_empty, bad_record, no_component, unknown_tag, twice, Stepped, goes, refuses, step_beside}
+use Rattle.dictionary_meaning_rules.proofs.SoFar.{wrapped}
+use Rattle.dictionary_meaning_rules.proofs.TreeSoFar.{Tree, tree_off}
+use Rattle.dictionary_meaning_rules.proofs.Beside.{bounded_so_far}
+use Rattle.dictionary_meaning_rules.proofs.BesideSteps.{Beside, at_top, within, things_of, Breaks, nests_too_deep, holds_too_many, closes_an_empty, bad_record, no_component, unknown_tag, twice, Stepped, goes, refuses, step_beside}
 
 all_bounded : {layouts : List Layout} → Each Bounded layouts → AllBounded 0 layouts
 all_bounded each_none = nothing_read

@@ -35,12 +35,12 @@ use Rattle.dictionary_rules.specs.declared.Record.TheVariants.{KnownTag, OpensCo
 use Rattle.dictionary_rules.specs.declared.Step.{Step}
 use Rattle.dictionary_rules.specs.declared.Step.TheVariants.{Refuses, Goes}
 use Rattle.dictionary_meaning_rules.specs.Meaning.{Items, closed, component_then_lem, group_then_lem, msg_type_bytes, Declaration, component, message, declarations_of, Defined, defined_by}
-use Rattle.dictionary_meaning_rules.specs.Layable.{flat}
+use Rattle.dictionary_meaning_rules.proofs.Layable.{flat}
 use Rattle.dictionary_meaning_rules.specs.ClosedOff.{open_after, closes, layouts_by, layouts_after, Latest, FiveDeep, OverThousand}
-use Rattle.dictionary_meaning_rules.specs.Bodies.{Holds, HoldsAll, holds-none, holds_more, declared-tag, declared-component, declared-message}
-use Rattle.dictionary_meaning_rules.specs.SoFar.{OpenGroup, innermost, continued, joined, wrapped}
-use Rattle.dictionary_meaning_rules.specs.TreeSoFar.{AllMeasured, measured-more, Declares, declares_component, declares_message, Tree, OpenTree, tree_field, tree_component, tree_group, tree_close, tree_owner, latest_off}
-use Rattle.dictionary_meaning_rules.specs.Beside.{listed, listed-opened, Counted, count-whole, counted-opens, field-whole, field-shallow, counted-field, component-whole, component-deep, component-shallow, counted-component, group-whole, group-deep, group-shallow, counted-group, closes-empty, counted-close}
+use Rattle.dictionary_meaning_rules.proofs.Bodies.{Holds, HoldsAll, holds-none, holds_more, declared-tag, declared-component, declared-message}
+use Rattle.dictionary_meaning_rules.proofs.SoFar.{OpenGroup, innermost, continued, joined, wrapped}
+use Rattle.dictionary_meaning_rules.proofs.TreeSoFar.{AllMeasured, measured-more, Declares, declares_component, declares_message, Tree, OpenTree, tree_field, tree_component, tree_group, tree_close, tree_owner, latest_off}
+use Rattle.dictionary_meaning_rules.proofs.Beside.{listed, listed-opened, Counted, count-whole, counted-opens, field-whole, field-shallow, counted-field, component-whole, component-deep, component-shallow, counted-component, group-whole, group-deep, group-shallow, counted-group, closes-empty, counted-close}
 
 -- the state of the check, with the names so far, beside the tree that was read
 pub data Beside : State → Names → (Records → List Layout) → Type 0 where

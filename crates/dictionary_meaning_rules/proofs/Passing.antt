@@ -24,13 +24,13 @@ use Rattle.dictionary_rules.specs.declared.Note.TheVariants.{Unchanged, ClosesCo
 use Rattle.dictionary_meaning_rules.specs.Laying.{behind_opening, stands_at}
 use Rattle.dictionary_meaning_rules.specs.LayingLaws.{stands-empty, stands-behind, stands_somewhere}
 use Rattle.dictionary_meaning_rules.specs.Meaning.{Items, closed, field_then_lem, component_then_lem, group_then_lem, Defined, nodes_of, expanded}
-use Rattle.dictionary_meaning_rules.specs.Layable.{Reads, Layable, layout_of, flat, Lays, lays_nothing, lays_items, AllLay, all-close, all-field, all-component, all-group, Room, level_layable, room-any}
-use Rattle.dictionary_meaning_rules.specs.Bodies.{Holds, reads_hold}
-use Rattle.dictionary_meaning_rules.specs.Counted.{Agrees, agrees_close, agrees_field, agrees_component, agrees_group, count_of, held_from, count_agrees, items-none, items-some, Single, empty-none, only_one, room_proper}
+use Rattle.dictionary_meaning_rules.proofs.Layable.{Reads, Layable, layout_of, flat, Lays, lays_nothing, lays_items, AllLay, all-close, all-field, all-component, all-group, Room, level_layable, room-any}
+use Rattle.dictionary_meaning_rules.proofs.Bodies.{Holds, reads_hold}
+use Rattle.dictionary_meaning_rules.proofs.Counted.{Agrees, agrees_close, agrees_field, agrees_component, agrees_group, count_of, held_from, count_agrees, items-none, items-some, Single, empty-none, only_one, room_proper}
 use Rattle.dictionary_meaning_rules.specs.Steps.{note_of}
 use Rattle.dictionary_meaning_rules.specs.declared.Expansion.TheVariants.{ItemsAt, NoItems}
-use Rattle.dictionary_meaning_rules.specs.Inside.{look_in, Resolved, resolved_close, resolved_field, resolved_component, resolved_group, AllResolved, none_resolved, one_resolved, ReadsAll, no_level, one_level, count_all, held_all, Closing}
-use Rattle.dictionary_meaning_rules.specs.Named.{component-new, component_old}
+use Rattle.dictionary_meaning_rules.proofs.Inside.{look_in, Resolved, resolved_close, resolved_field, resolved_component, resolved_group, AllResolved, none_resolved, one_resolved, ReadsAll, no_level, one_level, count_all, held_all, Closing}
+use Rattle.dictionary_meaning_rules.proofs.Named.{component-new, component_old}
 
 -- what nodes mean stands at a place
 pub record OwnItems (bytes : List ℕ) (at : ℕ) (nodes : Nodes) : Type 0 where

@@ -10,7 +10,7 @@ use Rattle.dictionary_rules.specs.declared.Record.TheVariants.{OpensMessage, Clo
 use Rattle.dictionary_rules.specs.declared.Body.{Body}
 use Rattle.dictionary_rules.specs.declared.Body.TheVariants.{Good, Wrong}
 use Rattle.dictionary_rules.specs.declared.RecordRead.TheVariants.{Whole}
-use Rattle.dictionary_meaning_rules.specs.MsgTypeText.{Bytes, take-bytes, drop-bytes, NameNumber, filled-number}
+use Rattle.dictionary_meaning_rules.proofs.MsgTypeText.{Bytes, take-bytes, drop-bytes, NameNumber, filled-number}
 
 tag-body : (tag : ℕ) (x r : Record) → with_tag tag x ≡ Good r → x ≡ r
 unfolding with_tag

@@ -22,10 +22,10 @@ use Rattle.dictionary_rules.specs.declared.State.TheVariants.{TopLevel, Inside}
 use Rattle.dictionary_rules.specs.declared.Note.TheVariants.{NamesMessage}
 use Rattle.dictionary_meaning_rules.specs.Meaning.{Declaration, known_tag, tag_in, tags_from, meaning_of, dictionary_of, size_of, declarations_of}
 use Rattle.dictionary_meaning_rules.specs.Steps.{Passing, note_of, TagGoes, tag-goes, component-opens, message-opens, field-stops, item-stops, group-stops, close-stops, bad-stops, end_passes}
-use Rattle.dictionary_meaning_rules.specs.Bodies.{declared-end, declared-tag, declared-component, declared-message}
-use Rattle.dictionary_meaning_rules.specs.Inside.{Next, next_of, Closing, closes-inside}
-use Rattle.dictionary_meaning_rules.specs.Passing.{one_level_of}
-use Rattle.dictionary_meaning_rules.specs.Prepared.{reads_passing, agreeing}
+use Rattle.dictionary_meaning_rules.proofs.Bodies.{declared-end, declared-tag, declared-component, declared-message}
+use Rattle.dictionary_meaning_rules.proofs.Inside.{Next, next_of, Closing, closes-inside}
+use Rattle.dictionary_meaning_rules.proofs.Passing.{one_level_of}
+use Rattle.dictionary_meaning_rules.proofs.Prepared.{reads_passing, agreeing}
 
 -- known so far, or among declarations
 abbrev known_with : Names → List Declaration → ℕ → Bool

@@ -16,11 +16,11 @@ use Rattle.dictionary_rules.specs.declared.Placed.TheVariants.{At, Nowhere}
 use Rattle.dictionary_meaning_rules.specs.Meaning.{dictionary_of}
 use Rattle.dictionary_meaning_rules.specs.Written.{written, written-length, written_stands}
 use Rattle.dictionary_meaning_rules.specs.MsgType.{name_of}
-use Rattle.dictionary_meaning_rules.specs.MsgTypeText.{Bytes}
+use Rattle.dictionary_meaning_rules.proofs.MsgTypeText.{Bytes}
 use Rattle.dictionary_meaning_rules.specs.MessageTable.{Tabling, tabling, place_of, message_table}
 use Rattle.dictionary_meaning_rules.specs.MessageTableLaws.{place_unnamed, place_named_lem, table-nowhere, table_rows}
-use Rattle.dictionary_meaning_rules.specs.Tables.{MessageAs}
-use Rattle.dictionary_meaning_rules.specs.Prepared.{message-laid, message-none}
+use Rattle.dictionary_meaning_rules.proofs.Tables.{MessageAs}
+use Rattle.dictionary_meaning_rules.proofs.Prepared.{message-laid, message-none}
 use Rattle.dictionary_meaning_rules.specs.declared.MsgTypeName.{MsgTypeName}
 use Rattle.dictionary_meaning_rules.specs.declared.MsgTypeName.TheVariants.{Named, Unnamed}
 use Rattle.dictionary_meaning_rules.specs.declared.MessageTable.TheVariants.{Rows, NoMessage, Unprepared}

@@ -26,12 +26,12 @@ use Rattle.dictionary_rules.specs.declared.Component.{Component}
 use Rattle.dictionary_rules.specs.declared.Looked.TheVariants.{Closed, Missing}
 use Rattle.dictionary_rules.specs.declared.State.TheVariants.{TopLevel}
 use Rattle.dictionary_meaning_rules.specs.Meaning.{Items, Declaration, known_tag, component, message, declarations_of, Defined, defined_by, defined_after, message_in, messages_from, meaning_of, dictionary_of}
-use Rattle.dictionary_meaning_rules.specs.Layable.{layout_of, flat}
-use Rattle.dictionary_meaning_rules.specs.Inside.{look_in}
+use Rattle.dictionary_meaning_rules.proofs.Layable.{layout_of, flat}
+use Rattle.dictionary_meaning_rules.proofs.Inside.{look_in}
 use Rattle.dictionary_meaning_rules.specs.ClosedOff.{open_after, open_of, records_after, layouts_by, layouts_after, layouts_of, taken_from, taken, AllBounded, latest_bounded, Latest, latest, KeepsBounds, ClosesEmpty, FiveDeep, NestsTooDeep, OverThousand, HoldsTooMany}
-use Rattle.dictionary_meaning_rules.specs.TreeSoFar.{Measured}
-use Rattle.dictionary_meaning_rules.specs.BesideSteps.{Beside, at_top, things_of}
-use Rattle.dictionary_meaning_rules.specs.Bounds.{taken_bounded, Verdict, it_passes, it_nests, it_holds, it_closes, verdict}
+use Rattle.dictionary_meaning_rules.proofs.TreeSoFar.{Measured}
+use Rattle.dictionary_meaning_rules.proofs.BesideSteps.{Beside, at_top, things_of}
+use Rattle.dictionary_meaning_rules.proofs.Bounds.{taken_bounded, Verdict, it_passes, it_nests, it_holds, it_closes, verdict}
 
 abbrev pub component_layout : Defined → Layout
 component_layout d = flattened d.nodes

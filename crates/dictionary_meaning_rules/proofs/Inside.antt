@@ -25,8 +25,8 @@ use Rattle.dictionary_rules.specs.declared.Held.TheVariants.{Empty, Only, Severa
 use Rattle.dictionary_rules.specs.declared.Open.{Open}
 use Rattle.dictionary_rules.specs.declared.State.TheVariants.{TopLevel, Inside}
 use Rattle.dictionary_meaning_rules.specs.Meaning.{Items, closed, field_then_lem, component_then_lem, group_then_lem, size_of}
-use Rattle.dictionary_meaning_rules.specs.Layable.{Reads, reads-close, reads-field, reads-component, reads-group}
-use Rattle.dictionary_meaning_rules.specs.Counted.{items_in, held_by, count_of, held_from}
+use Rattle.dictionary_meaning_rules.proofs.Layable.{Reads, reads-close, reads-field, reads-component, reads-group}
+use Rattle.dictionary_meaning_rules.proofs.Counted.{items_in, held_by, count_of, held_from}
 use Rattle.dictionary_meaning_rules.specs.Steps.{Passing, note_of, field-goes, group-goes, item-goes, known-stops, component-stops, message-stops, close-goes, bad-stops, end-stops}
 
 -- the record that stands at a place, and the records after it

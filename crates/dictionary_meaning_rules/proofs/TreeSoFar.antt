@@ -19,11 +19,11 @@ use Rattle.dictionary_rules.specs.declared.Owner.TheVariants.{OfComponent, OfMes
 use Rattle.dictionary_rules.specs.declared.Record.{Record}
 use Rattle.dictionary_rules.specs.declared.Record.TheVariants.{FieldItem, ComponentItem, OpensGroup, Closes}
 use Rattle.dictionary_meaning_rules.specs.Meaning.{Items, closed, field_then_lem, component_then_lem, group_then_lem, Declaration, component, message, declarations_of, Defined, nodes_of, expanded, defined_by}
-use Rattle.dictionary_meaning_rules.specs.Layable.{layout_of, flat}
-use Rattle.dictionary_meaning_rules.specs.Bodies.{Holds, holds-close, holds-field, holds-component, holds-group, HoldsAll, holds-none, holds_more, declared-end}
-use Rattle.dictionary_meaning_rules.specs.Inside.{look_in}
+use Rattle.dictionary_meaning_rules.proofs.Layable.{layout_of, flat}
+use Rattle.dictionary_meaning_rules.proofs.Bodies.{Holds, holds-close, holds-field, holds-component, holds-group, HoldsAll, holds-none, holds_more, declared-end}
+use Rattle.dictionary_meaning_rules.proofs.Inside.{look_in}
 use Rattle.dictionary_meaning_rules.specs.ClosedOff.{closes, layouts_by, layouts_after, Latest, latest}
-use Rattle.dictionary_meaning_rules.specs.SoFar.{OpenGroup, innermost, below, continued, joined, wrapped, continued-closed, joined-more, joined-close, joined-closes}
+use Rattle.dictionary_meaning_rules.proofs.SoFar.{OpenGroup, innermost, below, continued, joined, wrapped, continued-closed, joined-more, joined-close, joined-closes}
 
 -- a closed component's numbers are those of what it means
 pub record Measured (c : Component) (layout : Layout) : Type 0 where

@@ -31,17 +31,17 @@ use Rattle.dictionary_meaning_rules.specs.MessageTable.{most_calls}
 use Rattle.dictionary_meaning_rules.specs.LayingLaws.{lay_down}
 use Rattle.dictionary_meaning_rules.specs.Meaning.{Items, Declaration, known_tag, component, message, Defined, nodes_of, expanded, defined_by, defined_after, msg_type_bytes, message_in, messages_from, size_of, declarations_of}
 use Rattle.dictionary_meaning_rules.specs.Written.{written}
-use Rattle.dictionary_meaning_rules.specs.Layable.{Reads, layout_of, flat, Lays, lay_level, room-any}
-use Rattle.dictionary_meaning_rules.specs.Bodies.{declared-end, declared-tag, declared-component, declared-message}
-use Rattle.dictionary_meaning_rules.specs.Counted.{count_of, held_from, count_agrees}
+use Rattle.dictionary_meaning_rules.proofs.Layable.{Reads, layout_of, flat, Lays, lay_level, room-any}
+use Rattle.dictionary_meaning_rules.proofs.Bodies.{declared-end, declared-tag, declared-component, declared-message}
+use Rattle.dictionary_meaning_rules.proofs.Counted.{count_of, held_from, count_agrees}
 use Rattle.dictionary_meaning_rules.specs.Steps.{Passing, note_of, tag-goes, component-opens, message-opens, field-stops, item-stops, group-stops, close-stops, bad-stops, end_passes}
-use Rattle.dictionary_meaning_rules.specs.Inside.{Next, next_of, look_in, Closing, closes-inside}
-use Rattle.dictionary_meaning_rules.specs.Named.{place_in, Kept, kept, component-new, component_old, message-new, message_old}
-use Rattle.dictionary_meaning_rules.specs.Passing.{KnownAs, Known, agrees_known, lay_known, OneLevel, one_level_of, closed_lays}
-use Rattle.dictionary_meaning_rules.specs.TreeBounds.{KeptFrom, kept-tag, kept-component, kept-message}
+use Rattle.dictionary_meaning_rules.proofs.Inside.{Next, next_of, look_in, Closing, closes-inside}
+use Rattle.dictionary_meaning_rules.proofs.Named.{place_in, Kept, kept, component-new, component_old, message-new, message_old}
+use Rattle.dictionary_meaning_rules.proofs.Passing.{KnownAs, Known, agrees_known, lay_known, OneLevel, one_level_of, closed_lays}
+use Rattle.dictionary_meaning_rules.proofs.TreeBounds.{KeptFrom, kept-tag, kept-component, kept-message}
 use Rattle.dictionary_meaning_rules.specs.MsgType.{name_of}
-use Rattle.dictionary_meaning_rules.specs.MsgTypeText.{Bytes, NameNumber, same-named, named-same}
-use Rattle.dictionary_meaning_rules.specs.MsgTypeRecords.{message-number}
+use Rattle.dictionary_meaning_rules.proofs.MsgTypeText.{Bytes, NameNumber, same-named, named-same}
+use Rattle.dictionary_meaning_rules.proofs.MsgTypeRecords.{message-number}
 use Rattle.dictionary_meaning_rules.specs.declared.MsgTypeName.TheVariants.{Named}
 use Rattle.dictionary_meaning_rules.specs.declared.Laid.TheVariants.{Upto, Broken}
 
