@@ -22,7 +22,7 @@ use Rattle.dictionary_rules.specs.declared.Held.{Held}
 use Rattle.dictionary_rules.specs.declared.Owner.{Owner}
 use Rattle.dictionary_rules.specs.declared.Open.{Open}
 use Rattle.dictionary_meaning_rules.specs.Meaning.{Items, closed, field_then_lem, component_then_lem, group_then_lem, Defined, expanded}
-use Rattle.dictionary_meaning_rules.specs.Written.{followed-end}
+use Rattle.dictionary_meaning_rules.proofs.Written.{followed-end}
 use Rattle.dictionary_meaning_rules.proofs.Layable.{layout_of, flat}
 use Rattle.dictionary_meaning_rules.proofs.Counted.{items-none}
 use Rattle.dictionary_meaning_rules.proofs.SoFar.{OpenGroup, continued, wrapped, flat-continued, flat_around, items-continued, depth-more, depth_above, Counts, counts-own, counts_in, counts_grow, counts_whole, FilledBefore, before-none, before_more, filled-wrapped, innermost-wrapped}

@@ -17,7 +17,7 @@ use Rattle.dictionary_rules.specs.declared.Looked.TheVariants.{Closed, Missing}
 use Rattle.dictionary_rules.specs.declared.Held.{Held}
 use Rattle.dictionary_rules.specs.declared.Held.TheVariants.{Empty, Only, Several}
 use Rattle.dictionary_meaning_rules.specs.Meaning.{Items, closed, field_then_lem, component_then_lem, group_then_lem, Defined, nodes_of, expanded}
-use Rattle.dictionary_meaning_rules.specs.Written.{followed-end}
+use Rattle.dictionary_meaning_rules.proofs.Written.{followed-end}
 use Rattle.dictionary_meaning_rules.proofs.Layable.{layout_of, flat, calls_for, Room, room-close, room-field, room-component, room-group, count-field, count-component, count-group, nest_field, nest_component, nest_group}
 
 unfoldable pub items_in : Looked → ℕ

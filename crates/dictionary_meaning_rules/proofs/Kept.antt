@@ -19,7 +19,7 @@ use Rattle.dictionary_rules.specs.declared.Record.TheVariants.{KnownTag, OpensCo
 use Rattle.dictionary_rules.specs.declared.RecordRead.{RecordRead}
 use Rattle.dictionary_rules.specs.declared.RecordRead.TheVariants.{Whole, Bad, End}
 use Rattle.dictionary_meaning_rules.specs.Laying.{Laying, laying, Step, stands_at, put_row, after_group, after_component, on_component, on_record, on_read, items_within, items_from, lay_items}
-use Rattle.dictionary_meaning_rules.specs.LayingLaws.{put-length}
+use Rattle.dictionary_meaning_rules.proofs.LayingLaws.{put-length}
 use Rattle.dictionary_meaning_rules.specs.MessageTable.{most_calls, Tabling, tabling, as_table, placed_table}
 use Rattle.dictionary_meaning_rules.specs.PlainTags.{Listing, listing, TagStep, tag_on, tag_read, tags_within, tags_from, component_tags, plain_tags}
 use Rattle.dictionary_meaning_rules.specs.declared.Laid.{Laid}

@@ -13,9 +13,9 @@ use Rattle.dictionary_rules.specs.declared.Record.TheVariants.{FieldItem, Compon
 use Rattle.dictionary_rules.specs.declared.RecordRead.TheVariants.{Whole}
 use Rattle.dictionary_rules.specs.declared.Looked.{Looked}
 use Rattle.dictionary_meaning_rules.specs.Laying.{Laying, laying, stands_at, put_row, items_from, lay_items}
-use Rattle.dictionary_meaning_rules.specs.LayingLaws.{lay_advances, lay_field, lay_group, lay_empty, lay_component, lay_close, lay_down}
+use Rattle.dictionary_meaning_rules.proofs.LayingLaws.{lay_advances, lay_field, lay_group, lay_empty, lay_component, lay_close, lay_down}
 use Rattle.dictionary_meaning_rules.specs.Meaning.{Items, closed, field_then_lem, component_then_lem, group_then_lem, Defined, nodes_of, expanded}
-use Rattle.dictionary_meaning_rules.specs.Written.{written, items-followed, written-followed}
+use Rattle.dictionary_meaning_rules.proofs.Written.{written, items-followed, written-followed}
 use Rattle.dictionary_meaning_rules.specs.declared.Laid.TheVariants.{Upto, Broken}
 use Rattle.dictionary_meaning_rules.specs.declared.Expansion.TheVariants.{ItemsAt, NoItems}
 

@@ -1,3 +1,6 @@
+pub mod LayingLaws
+pub mod Written
+pub mod LaidLayoutLaws
 pub mod Layable
 pub mod Bodies
 pub mod Counted

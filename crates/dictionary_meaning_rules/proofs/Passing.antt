@@ -22,7 +22,7 @@ use Rattle.dictionary_rules.specs.declared.Owner.TheVariants.{OfComponent, OfMes
 use Rattle.dictionary_rules.specs.declared.Open.{Open}
 use Rattle.dictionary_rules.specs.declared.Note.TheVariants.{Unchanged, ClosesComponent}
 use Rattle.dictionary_meaning_rules.specs.Laying.{behind_opening, stands_at}
-use Rattle.dictionary_meaning_rules.specs.LayingLaws.{stands-empty, stands-behind, stands_somewhere}
+use Rattle.dictionary_meaning_rules.proofs.LayingLaws.{stands-empty, stands-behind, stands_somewhere}
 use Rattle.dictionary_meaning_rules.specs.Meaning.{Items, closed, field_then_lem, component_then_lem, group_then_lem, Defined, nodes_of, expanded}
 use Rattle.dictionary_meaning_rules.proofs.Layable.{Reads, Layable, layout_of, flat, Lays, lays_nothing, lays_items, AllLay, all-close, all-field, all-component, all-group, Room, level_layable, room-any}
 use Rattle.dictionary_meaning_rules.proofs.Bodies.{Holds, reads_hold}

@@ -13,7 +13,7 @@ use Rattle.dictionary_layout_rules.specs.Measures.{NoEmptyGroup, FilledSoFar, fi
 use Rattle.dictionary_layout_rules.proofs.MeasuresLaws.{larger-first, larger-second, larger-least, depth-followed}
 use Rattle.dictionary_rules.specs.declared.Group.{Group}
 use Rattle.dictionary_meaning_rules.specs.Meaning.{Items, closed, field_then_lem, component_then_lem, group_then_lem, Defined, expanded}
-use Rattle.dictionary_meaning_rules.specs.Written.{items-followed}
+use Rattle.dictionary_meaning_rules.proofs.Written.{items-followed}
 use Rattle.dictionary_meaning_rules.proofs.Layable.{layout_of, flat}
 
 -- a group that is open, with what stands before it in the level around it

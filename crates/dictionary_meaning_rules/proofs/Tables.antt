@@ -28,9 +28,9 @@ use Rattle.dictionary_rules.specs.declared.State.TheVariants.{TopLevel, Inside}
 use Rattle.dictionary_rules.specs.declared.Note.TheVariants.{Unchanged, ClosesComponent, NamesMessage}
 use Rattle.dictionary_meaning_rules.specs.Laying.{laying, lay_items}
 use Rattle.dictionary_meaning_rules.specs.MessageTable.{most_calls}
-use Rattle.dictionary_meaning_rules.specs.LayingLaws.{lay_down}
+use Rattle.dictionary_meaning_rules.proofs.LayingLaws.{lay_down}
 use Rattle.dictionary_meaning_rules.specs.Meaning.{Items, Declaration, known_tag, component, message, Defined, nodes_of, expanded, defined_by, defined_after, msg_type_bytes, message_in, messages_from, size_of, declarations_of}
-use Rattle.dictionary_meaning_rules.specs.Written.{written}
+use Rattle.dictionary_meaning_rules.proofs.Written.{written}
 use Rattle.dictionary_meaning_rules.proofs.Layable.{Reads, layout_of, flat, Lays, lay_level, room-any}
 use Rattle.dictionary_meaning_rules.proofs.Bodies.{declared-end, declared-tag, declared-component, declared-message}
 use Rattle.dictionary_meaning_rules.proofs.Counted.{count_of, held_from, count_agrees}

@@ -17,7 +17,7 @@ use Rattle.dictionary_rules.specs.declared.Checked.TheVariants.{Passes}
 use Rattle.dictionary_rules.specs.declared.Component.{Component}
 use Rattle.dictionary_rules.specs.declared.Looked.TheVariants.{Closed}
 use Rattle.dictionary_meaning_rules.specs.Meaning.{Items, closed, field_then_lem, component_then_lem, group_then_lem, declarations_of, Defined, nodes_of, expanded, defined_after, meaning_of, dictionary_of}
-use Rattle.dictionary_meaning_rules.specs.Written.{items-followed}
+use Rattle.dictionary_meaning_rules.proofs.Written.{items-followed}
 use Rattle.dictionary_meaning_rules.proofs.Layable.{Reads, reads-close, reads-field, reads-component, reads-group}
 use Rattle.dictionary_meaning_rules.proofs.Passing.{OwnItems, KnownAs}
 use Rattle.dictionary_meaning_rules.proofs.Prepared.{component-laid, standard_there}

@@ -14,7 +14,7 @@ use Rattle.dictionary_rules.specs.declared.Checked.TheVariants.{Passes}
 use Rattle.dictionary_rules.specs.declared.Placed.{Placed}
 use Rattle.dictionary_rules.specs.declared.Placed.TheVariants.{At, Nowhere}
 use Rattle.dictionary_meaning_rules.specs.Meaning.{dictionary_of}
-use Rattle.dictionary_meaning_rules.specs.Written.{written, written-length, written_stands}
+use Rattle.dictionary_meaning_rules.proofs.Written.{written, written-length, written_stands}
 use Rattle.dictionary_meaning_rules.specs.MsgType.{name_of}
 use Rattle.dictionary_meaning_rules.proofs.MsgTypeText.{Bytes}
 use Rattle.dictionary_meaning_rules.specs.MessageTable.{Tabling, tabling, place_of, message_table}

@@ -1,7 +1,5 @@
 pub mod Laying
-pub mod LayingLaws
 pub mod Meaning
-pub mod Written
 pub mod Steps
 pub mod MsgType
 pub mod MessageTable

@@ -4,7 +4,7 @@ use mathlib.Core.Bool.{true, false}
 use Prim.Native.Nat.{ℕ}
 use native.Mathlib.Omega.{arith}
 use borrow.Author.Rules.{rules}
-use Rattle.dictionary_rules.specs.Passing.{passed-field}
+use Rattle.dictionary_rules.proofs.PassingLaws.{passed-field}
 use Rattle.dictionary_check.proofs.field_counts.Statement.{statement}
 use Rattle.dictionary_check.proofs.field_counts.Tie as tie
 

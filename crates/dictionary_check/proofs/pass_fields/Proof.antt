@@ -2,7 +2,8 @@
 use Prim.Native.Nat.{◌+◌, ◌-◌}
 use native.Mathlib.Omega.{arith}
 use lib.ListN.{length}
-use Rattle.dictionary_rules.specs.Passing.{Passed, passed_none, passed_on, with_field}
+use Rattle.dictionary_rules.specs.Passing.{Passed, with_field}
+use Rattle.dictionary_rules.proofs.PassingLaws.{passed_none, passed_on}
 use Rattle.dictionary_rules.specs.declared.State.TheVariants.{Inside}
 use Rattle.dictionary_check.proofs.pass_fields.Statement.{statement}
 use Rattle.dictionary_check.proofs.pass_fields.Tie as tie

@@ -7,7 +7,8 @@ use lib.ListN.{length}
 use Rattle.dictionary_chains.specs.Chain.{index_words}
 use Rattle.dictionary_rules.specs.Record.{record_at}
 use Rattle.dictionary_rules.specs.RecordsLaws.{record_falls}
-use Rattle.dictionary_rules.specs.Passing.{Passed, passed_none, passed_on, passed-tag}
+use Rattle.dictionary_rules.specs.Passing.{Passed}
+use Rattle.dictionary_rules.proofs.PassingLaws.{passed_none, passed_on, passed-tag}
 use Rattle.dictionary_rules.specs.declared.Record.TheVariants.{KnownTag}
 use Rattle.dictionary_rules.specs.declared.RecordRead.TheVariants.{Whole}
 use Rattle.dictionary_rules.specs.declared.State.TheVariants.{TopLevel}

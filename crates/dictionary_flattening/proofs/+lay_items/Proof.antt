@@ -17,9 +17,9 @@ use Rattle.dictionary_rules.specs.declared.Record.{Record}
 use Rattle.dictionary_rules.specs.declared.Record.TheVariants.{FieldItem, ComponentItem, OpensGroup, Closes}
 use Rattle.dictionary_rules.specs.declared.RecordRead.TheVariants.{Whole}
 use Rattle.dictionary_meaning_rules.specs.Laying.{Laying, laying, stands_at, put_row, items_from, lay_items}
-use Rattle.dictionary_meaning_rules.specs.LayingLaws.{lay_advances, lay_field, lay_field_full, lay_group, lay_group_broken, lay_group-empty}
-use Rattle.dictionary_meaning_rules.specs.LayingLaws.{lay_group_full, lay_component, lay_component_broken, lay_component_still, lay_close}
-use Rattle.dictionary_meaning_rules.specs.LayingLaws.{lay_deep, lay_down}
+use Rattle.dictionary_meaning_rules.proofs.LayingLaws.{lay_advances, lay_field, lay_field_full, lay_group, lay_group_broken, lay_group-empty}
+use Rattle.dictionary_meaning_rules.proofs.LayingLaws.{lay_group_full, lay_component, lay_component_broken, lay_component_still, lay_close}
+use Rattle.dictionary_meaning_rules.proofs.LayingLaws.{lay_deep, lay_down}
 use Rattle.dictionary_meaning_rules.specs.declared.Laid.{Laid}
 use Rattle.dictionary_meaning_rules.specs.declared.Laid.TheVariants.{Upto, Broken}
 use Rattle.dictionary_meaning_rules.specs.declared.Expansion.TheVariants.{ItemsAt, NoItems}

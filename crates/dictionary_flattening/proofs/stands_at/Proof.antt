@@ -4,7 +4,7 @@ use Prim.Native.Nat.{ℕ, ◌+◌}
 use borrow.Author.Rules.{rules}
 use Rattle.dictionary_rules.specs.Index.{component_at}
 use Rattle.dictionary_rules.specs.declared.Looked.TheVariants.{Closed, Missing}
-use Rattle.dictionary_meaning_rules.specs.LayingLaws.{stands_missing, stands-empty, stands_lost, stands_somewhere}
+use Rattle.dictionary_meaning_rules.proofs.LayingLaws.{stands_missing, stands-empty, stands_lost, stands_somewhere}
 use Rattle.dictionary_meaning_rules.specs.declared.Expansion.TheVariants.{ItemsAt}
 use Rattle.dictionary_flattening.proofs.stands_at.Statement.{statement}
 use Rattle.dictionary_flattening.proofs.stands_at.Tie as tie

@@ -8,7 +8,7 @@ use Rattle.dictionary_layout_rules.specs.Table.{marks, rows_from}
 use Rattle.dictionary_layout_rules.specs.Tabled.{row_before, RowsStand}
 use Rattle.dictionary_layout_rules.proofs.TabledLaws.{rows_length}
 use Rattle.dictionary_meaning_rules.specs.Laying.{put_row}
-use Rattle.dictionary_meaning_rules.specs.LayingLaws.{put-length}
+use Rattle.dictionary_meaning_rules.proofs.LayingLaws.{put-length}
 
 unfoldable pub written : ℕ → Layout → List ℕ → List ℕ
 written row end table = table
