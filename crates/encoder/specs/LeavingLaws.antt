@@ -18,7 +18,7 @@ use Rattle.message_rules.specs.Changes.{after, part_of, with_part, field_total, 
 use Rattle.message_rules.specs.RowChanges.{Blank}
 use Rattle.message_rules.specs.BlankLaws.{left-blank}
 use Rattle.message_rules.specs.ChangeLaws.{store-on}
-use Rattle.message_rules.specs.FormedLaws.{store_lends, remove_lends, remove-made}
+use Rattle.message_rules.proofs.FormedLaws.{store_lends, remove_lends, remove-made}
 use Rattle.message_rules.specs.declared.Part.{Part}
 use Rattle.message_rules.specs.declared.Part.TheVariants.{Header, Trailer}
 use Rattle.message_rules.specs.declared.Change.{Change}

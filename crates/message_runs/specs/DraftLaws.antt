@@ -21,7 +21,7 @@ use Rattle.message_rules.specs.FrameLaws.{Frame}
 use Rattle.message_rules.specs.declared.Span.{Span}
 use Rattle.message_rules.specs.declared.Change.TheVariants.{Made, NoMessage, NotStorable, NoRun}
 use Rattle.message_rules.specs.Runs.{is_draft, run_in, of_draft, judged_run, starting, entering, is_empty, in_last, storing_last}
-use Rattle.message_rules.specs.Drafts.{lent-run, few_rows}
+use Rattle.message_rules.proofs.Drafts.{lent-run, few_rows}
 use Rattle.message_runs.specs.RunLaws.{only_entries, entries_only, LastSplit, Last, none_last, one_last, last_of}
 
 -- what is known of a draft

@@ -9,7 +9,7 @@ use borrow.Author.Rules.{rules}
 use lib.ListN.{length, get_or, take, drop, set, length-set}
 use borrow.Author.Tests.{not-true, not-false, leb-true}
 use Rattle.message_rules.specs.Changes.{after, making}
-use Rattle.message_rules.specs.NewLaws.{new-short, new-store, new_large, new-done}
+use Rattle.message_rules.proofs.NewLaws.{new-short, new-store, new_large, new-done}
 use Rattle.message.proofs.new.Statement.{statement}
 use Rattle.message.proofs.new.Tie as tie
 

@@ -18,9 +18,9 @@ use Rattle.message_lent_rules.specs.HungLaws.{formed_hung}
 use Rattle.message_lent_rules.proofs.FormedLaws.{lent_formed, Lends, IsLayout, is_layout_lends}
 use Rattle.message_rules.specs.Changes.{after, part_of, with_part, map_words, map_values, judged_map, of_message}
 use Rattle.message_rules.specs.Runs.{is_draft, run_in, judged_run, of_draft, starting, entering, is_empty, in_last, storing_last, has_untagged, is_whole, hung_run, hanging_last, hanging}
-use Rattle.message_rules.specs.Drafts.{lent-run, LendsDraft, IsRunLayout, run_layout_lends}
+use Rattle.message_rules.proofs.Drafts.{lent-run, LendsDraft, IsRunLayout, run_layout_lends}
 use Rattle.message_rules.specs.Answered.{Answered, made-with, none_lent, said_of-made, answered_by, not_storable, no_run, answered-judged, NotLent, answered-store}
-use Rattle.message_rules.specs.FormedLaws.{part_formed, with_part_formed, judged-answered}
+use Rattle.message_rules.proofs.FormedLaws.{part_formed, with_part_formed, judged-answered}
 use Rattle.message_rules.specs.declared.Part.{Part}
 use Rattle.message_rules.specs.declared.Change.TheVariants.{Made}
 

@@ -9,7 +9,7 @@ use Rattle.message_lent_rules.specs.Meaning.{parts, message_in}
 use Rattle.message_lent_rules.proofs.MeaningLaws.{means}
 use Rattle.message_rules.specs.LookUps.{rows_in, part_found, field_found, entry_found}
 use Rattle.message_rules.specs.LookUpNames.{named-row}
-use Rattle.message_rules.specs.LookUpMeaning.{Names, RowNames, names_map, names_nothing, row_names, field_no_message, field_no_map, field_looked_up, part_no_message, part_looked_up, entry_no_message, entry_no_map, entry_looked_up}
+use Rattle.message_rules.proofs.LookUpMeaning.{Names, RowNames, names_map, names_nothing, row_names, field_no_message, field_no_map, field_looked_up, part_no_message, part_looked_up, entry_no_message, entry_no_map, entry_looked_up}
 use Rattle.message_rules.specs.PlaceLaws.{parts_at}
 use Rattle.message_rules.specs.declared.Part.{Part}
 use Rattle.message_rules.specs.declared.Value.{Value}

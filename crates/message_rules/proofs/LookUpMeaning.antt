@@ -16,7 +16,7 @@ use Rattle.message_lent_rules.specs.StandLaws.{never}
 use Rattle.message_rules.specs.Changes.{part_of}
 use Rattle.message_rules.specs.LookUps.{rows_in, Standing, standing, map_at, value_in, entry_in, part_row, value_of_map, entry_of, part_found, field_found, entry_found}
 use Rattle.message_rules.specs.LookUpNames.{NamedIn, at_head, past_entry, NamedAt, named-at, named-within, found-named, named-nowhere, named_once, named-parts_formed}
-use Rattle.message_rules.specs.LookUpFinds.{entry_number, FieldTold, told_at, told_none, value_told, value_answered, EntryTold, told-entry, told_no_entry, entry-told, entry-answered}
+use Rattle.message_rules.proofs.LookUpFinds.{entry_number, FieldTold, told_at, told_none, value_told, value_answered, EntryTold, told-entry, told_no_entry, entry-told, entry-answered}
 use Rattle.message_rules.specs.declared.Part.{Part}
 use Rattle.message_rules.specs.declared.Part.TheVariants.{Header, Body, Trailer}
 use Rattle.message_rules.specs.declared.Value.{Value}
