@@ -10,7 +10,7 @@ use Rattle.build_records.specs.Records.{stored}
 use Rattle.build_records.specs.declared.Record.{Record}
 use Rattle.build_group_rules.specs.Groups.{Rules, run, outermost, RunOutcome, walk}
 use Rattle.build_group_rules.specs.Groups.{ended as ran, refused as stops}
-use Rattle.build_group_rules.specs.GroupLaws.{keeps}
+use Rattle.build_group_rules.proofs.GroupLaws.{keeps}
 use Rattle.build_group_rules.specs.Reading.{list_store}
 use Rattle.build_required_rules.specs.Required.{Demands, run_lack}
 use Rattle.build_required_rules.specs.declared.Lack.{Lack}

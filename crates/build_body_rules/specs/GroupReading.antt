@@ -15,7 +15,7 @@ use Rattle.build_records.proofs.RecordLaws.{between-parts}
 use Rattle.build_records.specs.declared.Record.{Record}
 use Rattle.build_group_rules.specs.Groups.{run, outermost, RunOutcome, ended, refused, walk}
 use Rattle.build_group_rules.specs.Reading.{Memory, memory, list_store, table_rules, told_by, run_of, Fits, answer_of}
-use Rattle.build_group_rules.specs.ReadingLaws.{room_of, told_follows}
+use Rattle.build_group_rules.proofs.ReadingLaws.{room_of, told_follows}
 use Rattle.build_group_rules.specs.declared.Reading.{Reading}
 use Rattle.build_group_rules.specs.declared.Reading.TheVariants.{At, Refused}
 use Rattle.build_group_rules.specs.declared.Progress.{Progress}

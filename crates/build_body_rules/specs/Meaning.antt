@@ -16,10 +16,10 @@ use Rattle.dictionary_layout_rules.specs.declared.Position.{Position}
 use Rattle.dictionary_layout_rules.specs.declared.Position.TheVariants.{At, Nowhere}
 use Rattle.build_records.specs.Records.{stored}
 use Rattle.build_records.specs.declared.Record.{Record}
-use Rattle.build_group_rules.specs.Alike.{OpenedAlike, none_alike, opened_alike, RulesAlike}
+use Rattle.build_group_rules.proofs.Alike.{OpenedAlike, none_alike, opened_alike, RulesAlike}
 use Rattle.build_group_rules.specs.Groups.{Opened, Rules, outermost, RunOutcome}
 use Rattle.build_group_rules.specs.Groups.{ended as ran, refused as stops}
-use Rattle.build_group_rules.specs.Meaning.{rules_alike, table-reads}
+use Rattle.build_group_rules.proofs.Meaning.{rules_alike, table-reads}
 use Rattle.build_group_rules.specs.Reading.{accepted, table_rules, layout_rules, list_store}
 use Rattle.build_required_rules.specs.Checking.{table_demands, layout_demands}
 use Rattle.build_required_rules.specs.Meaning.{table_checks}

@@ -7,8 +7,8 @@ use Rattle.dictionary_layout_rules.specs.Layout.{Layout, required_tags}
 use Rattle.dictionary_tables_rules.proofs.Tabled.{Tabled, delimiter_means, group_means, required_means}
 use Rattle.build_records.specs.declared.Record.{Record}
 use Rattle.build_group_rules.specs.Groups.{Opened}
-use Rattle.build_group_rules.specs.Alike.{OpenedAlike, none_alike, opened_alike}
-use Rattle.build_group_rules.specs.Meaning.{opens_alike}
+use Rattle.build_group_rules.proofs.Alike.{OpenedAlike, none_alike, opened_alike}
+use Rattle.build_group_rules.proofs.Meaning.{opens_alike}
 use Rattle.build_group_rules.specs.Reading.{opens_at}
 use Rattle.build_group_rules.specs.declared.Group.{Group}
 use Rattle.build_required_rules.specs.Required.{or_else, fields_lack, before, shallow, run_lacks, nested_lack, entries_lack, opens_entry, entry_lack, run_lack}

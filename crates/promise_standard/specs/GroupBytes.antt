@@ -16,8 +16,8 @@ use Rattle.dictionary_layout_rules.specs.Layout.{Layout}
 use Rattle.dictionary_tables_rules.proofs.Tabled.{Tabled}
 use Rattle.build_records.specs.declared.Record.{Record}
 use Rattle.build_group_rules.specs.Groups.{run, outermost, ended, walk}
-use Rattle.build_group_rules.specs.Alike.{on_level, OutcomeAlike}
-use Rattle.build_group_rules.specs.Meaning.{Holds, Lays, run_means}
+use Rattle.build_group_rules.proofs.Alike.{on_level, OutcomeAlike}
+use Rattle.build_group_rules.proofs.Meaning.{Holds, Lays, run_means}
 use Rattle.build_group_rules.specs.Reading.{accepted, layout_rules, list_store, memory, open_group, run_of}
 use Rattle.build_group_rules.specs.declared.Group.{Group}
 use Rattle.build_group_rules.specs.declared.Progress.{Progress}

@@ -20,7 +20,9 @@ pub nonzero_rem-head : goal.nonzero_rem-head
 nonzero_rem-head c = omega (arith, (heads c).0)
 
 pub overflow_add-head-2 : goal.overflow_add-head-2
-overflow_add-head-2 c = omega (arith, (heads c).1, mod-lt c.args.tag (omega (arith, (heads c).0)), c.if-table-level.false)
+overflow_add-head-2 c =
+    let some : 1 ≤ c.heads_at-heads.result = omega (arith, (heads c).0) in
+    omega (arith, (heads c).1, mod-lt c.args.tag some, c.if-table-level.false)
 
 pub returns-then-table-head : goal.returns-then-table-head
 returns-then-table-head c = sym (item_no_head _ _ _ (rw c.heads_at-heads.ensures at c.if-table-head.true))

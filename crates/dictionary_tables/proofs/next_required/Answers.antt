@@ -1,5 +1,5 @@
 use mathlib.Core.Path.{◌≡◌, refl, sym, ap, ◌∙◌}
-use Prim.Native.Nat.{ℕ, ◌+◌, ◌%◌}
+use Prim.Native.Nat.{◌≤◌, ◌-◌, ◌*◌, ℕ, ◌+◌, ◌%◌}
 use native.Mathlib.Omega.{arith}
 use lib.ListN.{get_or, get_or-eq_default}
 use Rattle.dictionary_tables_rules.specs.Table.{items_at, item_at, mark_at}
@@ -33,42 +33,51 @@ returns-then-room-link c =
     sym (c.loop-link.invariant ∙ mark_past _ _ (filled) _ (omega (arith, from (goal.at.returns-then-room-link c).After-heads_at, c.if-table-from.false, c.if-room-link.true)))
 
 pub overflow_add-at : goal.overflow_add-at
-overflow_add-at c = omega (arith, within c)
+overflow_add-at c = omega (arith, c.if-table-from.false, c.if-room-link.false, c.loop-link-test.true)
 
 pub overflow_add-at-in-loop-link : goal.overflow_add-at-in-loop-link
-overflow_add-at-in-loop-link c = omega (arith, within c)
+overflow_add-at-in-loop-link c = omega (arith, c.if-table-from.false, c.if-room-link.false, c.loop-link-test.true)
 
 pub offset_bounds-table-at : goal.offset_bounds-table-at
-offset_bounds-table-at c = omega (arith, within c)
+offset_bounds-table-at c = omega (arith, c.if-table-from.false, c.if-room-link.false, c.loop-link-test.true)
 
 pub bounds-table-at : goal.bounds-table-at
-bounds-table-at c = omega (arith, within c)
+bounds-table-at c = omega (arith, c.if-table-from.false, c.if-room-link.false, c.loop-link-test.true)
+
+-- the item of the link starts where the code says, and lies in the table
+place : (c : After-wide-word) → c.args.level + 1 + c.heads_at.result + 5 * (c.loop-link.link - 1) ≡ item_at (items_at c.args.table.now c.args.level) c.loop-link.link
+unfolding item_at
+place c = ap (λ (start : ℕ). start + 5 * (c.loop-link.link - 1)) (items_from _ _ _ c.heads_at.ensures)
+
+within : (c : After-wide-word) → c.args.level + 1 + c.heads_at.result + 5 * (c.loop-link.link - 1) + 5 ≤ length c.args.table.now
+within c = omega (arith, c.if-table-from.false, c.if-room-link.false, c.loop-link-test.true)
 
 pub tag_at-requires : goal.tag_at-requires
-tag_at-requires c = within c
+tag_at-requires c = within (goal.at.tag_at-requires c).After-wide-word
 
 -- the word of marks that was read is the item's, and so is where they go on
-read : (c : After-wide-word) → let a = (start (l c)).args in
-    c.wide-word.result ≡ mark_at a.table.now (item_at (items_at a.table.now a.level) (l c).loop.link)
+read : (c : After-wide-word) → c.wide-word.result ≡ mark_at c.args.table.now (item_at (items_at c.args.table.now c.args.level) c.loop-link.link)
 unfolding mark_at
-read c = c.wide-word.ensures ∙ ap (mark_at (start (l c)).args.table.now) (place c)
+read c = c.wide-word.ensures ∙ ap (mark_at c.args.table.now) (place c)
 
 pub returns-then-word-eq1 : goal.returns-then-word-eq1
 returns-then-word-eq1 c =
+    let w = (goal.at.returns-then-word-eq1 c).After-wide-word in
     let filled : get_or c.args.table.now c.args.level 0 ≡ 0 → ⊥ = c.if-table-level-eq0.false in
-    sym ((l c).loop.invariant
-    ∙ mark_hit _ _ (filled (l c)) _ (λ z. omega arith) (rw (place c) at (within c)) (ap (λ (word : ℕ). word % 2) (sym (read (goal.at.returns-then-word-eq1 c).After-wide-word)) ∙ c.if-word-eq1.true)
-    ∙ rw (c.tag_at.ensures, c.marked_behind-behind.ensures, place c, read (goal.at.returns-then-word-eq1 c).After-wide-word))
+    sym (c.loop-link.invariant
+    ∙ mark_hit _ _ filled _ (λ z. omega arith) (rw (place w) at (within w)) (ap (λ (word : ℕ). word % 2) (sym (read w)) ∙ c.if-word-eq1.true)
+    ∙ rw (c.tag_at.ensures, c.marked_behind-behind.ensures, place w, read w))
 
 pub loop-link-smaller : goal.loop-link-smaller
 loop-link-smaller c = rw c.marked_behind-behind.ensures (links_fall _ _ _ c.loop-link-test.true c.if-room-link.false)
 
 pub loop-link-preserved : goal.loop-link-preserved
 loop-link-preserved c =
+    let w = (goal.at.loop-link-preserved c).After-wide-word in
     let filled : get_or c.args.table.now c.args.level 0 ≡ 0 → ⊥ = c.if-table-level-eq0.false in
-    (l c).loop.invariant
-    ∙ mark_on _ _ (filled (l c)) _ (λ z. omega arith) (rw (place c) at (within c)) (λ m. c.if-word-eq1.false (ap (λ (word : ℕ). word % 2) (read (goal.at.loop-link-preserved c).After-wide-word) ∙ m))
-    ∙ rw (c.marked_behind-behind.ensures, read (goal.at.loop-link-preserved c).After-wide-word)
+    c.loop-link.invariant
+    ∙ mark_on _ _ filled _ (λ z. omega arith) (rw (place w) at (within w)) (λ m. c.if-word-eq1.false (ap (λ (word : ℕ). word % 2) (read w) ∙ m))
+    ∙ rw (c.marked_behind-behind.ensures, read w)
 
 pub returns : goal.returns
 returns c =
