@@ -42,6 +42,7 @@ module _ (before after : List Record) where
 
   agrees_ended : {f : Field} {rest : Fields} {room : ℕ} {m : Memory} (o : RunOutcome (List Record) (List Record)) → Agrees before after (ended f rest room m) o → Ended f rest room m o
   agrees_ended (ended f rest room entries) (both_end s) = record { entries = entries; is = refl; stands = s }
+  agrees_ended (refused why entries) never = elim never [ ]
 
   record Stopped (refusal : Refusal) (words : List ℕ) (o : RunOutcome (List Record) (List Record)) : Type 0 where
     entries : List Record
@@ -50,6 +51,7 @@ module _ (before after : List Record) where
 
   agrees_refused : {refusal : Refusal} {words : List ℕ} (o : RunOutcome (List Record) (List Record)) → Agrees before after (refused refusal words) o → Stopped refusal words o
   agrees_refused (refused refusal entries) (both_refuse front) = record { entries = entries; is = refl; front = front }
+  agrees_refused (ended f rest room entries) never = elim never [ ]
 
 pub front_is : (n : ℕ) (rs : List Record) → between 0 n rs ≡ take n rs
 unfolding between

@@ -22,7 +22,7 @@ use Rattle.build_group_rules.specs.Groups.{ended as ran, refused as stops}
 use Rattle.build_group_rules.proofs.Meaning.{rules_alike, table-reads}
 use Rattle.build_group_rules.specs.Reading.{accepted, table_rules, layout_rules, list_store}
 use Rattle.build_required_rules.specs.Checking.{table_demands, layout_demands}
-use Rattle.build_required_rules.specs.Meaning.{table_checks}
+use Rattle.build_required_rules.proofs.Meaning.{table_checks}
 use Rattle.build_parts.specs.Parts.{Reading, ended, refused, part_record}
 use Rattle.build_body_rules.specs.Body.{Kind, plain, counts, other, Body, and_then, next_from, with_run, takes, body_within, body_from}
 use Rattle.build_body_rules.specs.Kinds.{group_kind, placed_kind, body_kind, checked, ran_as, run_from, body_of}

@@ -11,7 +11,7 @@ use Rattle.build_records.specs.declared.Record.{Record}
 use Rattle.build_required_rules.specs.Required.{Demands}
 use Rattle.build_required_rules.specs.Tree.{Run, no_entry, entry, Entry, no_field, field, laid, laid_fields, RunKeeps, keeps_none, keeps_entry, FieldsKeep}
 use Rattle.build_required_rules.specs.Tree.{keep-none, keep-field, Hangs, hangs-none}
-use Rattle.build_required_rules.specs.TreeLaws.{Each, each_none, each_more, Below, hangs-deeper}
+use Rattle.build_required_rules.proofs.TreeLaws.{Each, each_none, each_more, Below, hangs-deeper}
 
 unfoldable pub with_entry : Run → Entry → Run
 with_entry no_entry fields = entry fields no_entry
