@@ -17,8 +17,8 @@ use Rattle.build_parts.specs.declared.TrailerRead.{TrailerRead}
 use Rattle.build_parts.specs.declared.TrailerRead.TheVariants.{Stopped, Unstopped, TooManyFields as Crowded}
 use Rattle.build_rules.specs.declared.Stop.TheVariants.{At as stops, Nowhere}
 use Rattle.build_parts.specs.Parts.{ended, part_record, part_of, Kept}
-use Rattle.build_body_rules.specs.RunLaws.{between_split}
-use Rattle.build_body_rules.specs.GroupReading.{front_is, front-parts}
+use Rattle.build_body_rules.proofs.RunLaws.{between_split}
+use Rattle.build_body_rules.proofs.GroupReading.{front_is, front-parts}
 use Rattle.build_parts.specs.Trailer.{trailer_from, trailer_told, trailer_counts}
 use Rattle.build_rules.specs.Message.{Outcome, refusal, after_trailer, after_body}
 use Rattle.builder.specs.Reading.{read_told}

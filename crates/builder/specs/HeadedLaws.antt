@@ -33,7 +33,7 @@ use Rattle.build_parts.specs.declared.PartRead.TheVariants.{Refused}
 use Rattle.build_parts.specs.Parts.{part_of, part_told}
 use Rattle.build_body_rules.specs.Body.{must_follow, body_from}
 use Rattle.build_body_rules.specs.Kinds.{body_of}
-use Rattle.build_body_rules.specs.Meaning.{body_means}
+use Rattle.build_body_rules.proofs.Meaning.{body_means}
 use Rattle.builder.specs.declared.Headed.{Headed}
 use Rattle.build_rules.specs.Beginning.{msg_type_record}
 use Rattle.build_rules.specs.Message.{after_body}

@@ -42,7 +42,7 @@ use Rattle.build_group_rules.specs.Reading.{accepted, table_rules, layout_rules}
 use Rattle.build_required_rules.specs.Checking.{table_demands, layout_demands}
 use Rattle.build_body_rules.specs.Kinds.{body_of}
 use Rattle.build_body_rules.specs.Body.{body_from}
-use Rattle.build_body_rules.specs.Meaning.{body_means}
+use Rattle.build_body_rules.proofs.Meaning.{body_means}
 use Rattle.build_rules.specs.Beginning.{Start, started, unsound, start_of, msg_type_record}
 use Rattle.build_rules.specs.Message.{after_body, after_type, after_header, message_read}
 use Rattle.builder.specs.Build.{untouched, judged, build_of, checked_read}

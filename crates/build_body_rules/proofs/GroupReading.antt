@@ -30,7 +30,7 @@ use Rattle.build_parts.specs.Parts.{part_of, part_told, Stays, Reading as Read, 
 use Rattle.build_body_rules.specs.Kinds.{checked, ran_as, run_from}
 use Rattle.build_parts.specs.PartLaws.{parted, part_length, stays-refused, stays_at}
 use Rattle.build_body_rules.specs.Body.{stored_run, with_run, Opened}
-use Rattle.build_body_rules.specs.RunLaws.{between_split}
+use Rattle.build_body_rules.proofs.RunLaws.{between_split}
 use Rattle.build_body_rules.specs.RunWords.{shifted, WordsStand, Agrees, both_end, both_refuse, walk_agrees}
 
 module _ (before after : List Record) where

@@ -21,7 +21,7 @@ use Rattle.build_parts.specs.declared.PartRead.{PartRead}
 use Rattle.build_parts.specs.declared.PartRead.TheVariants.{At, Refused}
 use Rattle.build_parts.specs.Parts.{Reading, ended, part_record, part_of, part_told, Stays}
 use Rattle.build_body_rules.specs.Body.{plain, counts, other, and_then, next_from, with_run, must_follow, body_from}
-use Rattle.build_body_rules.specs.BodyLaws.{Falls, body-plain, body_run, body-other}
+use Rattle.build_body_rules.proofs.BodyLaws.{Falls, body-plain, body_run, body-other}
 use Rattle.build_body_rules.specs.Kinds.{body_kind, checked, ran_as, run_from, body_of}
 
 -- how many fields may still be read, the one that is read already counted in
