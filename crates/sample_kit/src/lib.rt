@@ -18,5 +18,6 @@
 #![tactic(auto)]
 
 pub mod dictionaries;
+pub mod reading;
 pub mod saying;
 pub mod scripts;
