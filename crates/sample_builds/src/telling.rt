@@ -222,31 +222,9 @@ pub fn prepared(
     let mut memory = [7u16; dictionary_prepared::HEAD];
     let mut short_memory = [7u16; 96156];
     match kind {
-        b'c' => over(
-            rt,
-            config,
-            dictionary,
-            lent,
-            &mut short_copy[..],
-            &mut memory[..],
-        )?,
-        b'w' => over(
-            rt,
-            config,
-            dictionary,
-            lent,
-            &mut copy[..],
-            &mut short_memory[..],
-        )?,
-        b'l' => over(
-            rt,
-            config,
-            dictionary,
-            lent,
-            &mut long_copy[..],
-            &mut memory[..],
-        )?,
-        _ => over(rt, config, dictionary, lent, &mut copy[..], &mut memory[..])?,
+        b'c' => over(rt, config, dictionary, lent, &mut short_copy, &mut memory),
+        b'w' => over(rt, config, dictionary, lent, &mut copy, &mut short_memory),
+        b'l' => over(rt, config, dictionary, lent, &mut long_copy, &mut memory),
+        _ => over(rt, config, dictionary, lent, &mut copy, &mut memory),
     }
-    Ok(())
 }
