@@ -97,7 +97,7 @@ pub fn prepare(dictionary: &[u8], copy: &mut [u8], memory: &mut [u16]) -> Prepar
     if dictionary_check::number_of(checked) != 0 {
         return Preparing::Refused(checked);
     }
-    bytes::copy(dictionary, copy);
+    copies::copy(dictionary, copy);
     put_head(dictionary.len() as u16, &index[..], memory);
     dictionary_directory::lay_tables(dictionary, &index[..], &mut memory[HEAD..]);
     Preparing::Ready

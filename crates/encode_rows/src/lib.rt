@@ -22,7 +22,7 @@ fn write_bytes(output: &mut [u8], at: usize, text: &[u8]) -> usize
     ensures value { result ≡ at + length text.now }
     ensures output_after { output.new ≡ written_at at text.now output.old }
 {
-    bytes::copy(text, &mut output[at..]);
+    copies::copy(text, &mut output[at..]);
     at + text.len()
 }
 

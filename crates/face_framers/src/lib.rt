@@ -5,7 +5,7 @@
 ghost use Rattle.std.specs.Prelude.{◌≡◌};
 ghost use Rattle.face_told.specs.Told.{told};
 ghost use Rattle.frame_parser_rules.specs.Framer.{length_returned, pushed, pushed_store, finished, taken, taken_store, taken_output};
-ghost use Rattle.frame_hunter_rules.specs.Bytes.{pushed as hunterPushed, finished as hunterFinished, took_from};
+ghost use Rattle.frame_hunter_rules.specs.Bytes.{pushed as hunter_pushed, finished as hunter_finished, took_from};
 ghost use Rattle.face_framers.specs.States.{is_set, mark_left, ported_in, ported_told, ported_reset, hunter_in, hunter_told, hunter_reset};
 
 // The ported framer's state: how many bytes of the store are used, and whether the end, or a length over 8,192 bytes, was met.
@@ -188,8 +188,8 @@ pub fn hunter_push(
     chunk: &[u8],
     out: &mut [u32; 4],
 ) -> HunterReply
-    ensures { (result ≡ hunter_told state (hunterPushed (hunter_in state) store.old chunk.now).reply.state (hunterPushed (hunter_in state) store.old chunk.now).reply.answer)
-        × (store.new ≡ (hunterPushed (hunter_in state) store.old chunk.now).store)
+    ensures { (result ≡ hunter_told state (hunter_pushed (hunter_in state) store.old chunk.now).reply.state (hunter_pushed (hunter_in state) store.old chunk.now).reply.answer)
+        × (store.new ≡ (hunter_pushed (hunter_in state) store.old chunk.now).store)
         × (out.new ≡ told 0 (0, 0)) }
 {
     face_told::tell(out, 0, 0, 0);
@@ -201,7 +201,7 @@ pub fn hunter_push(
 
 // The stream's end for the hunting framer.
 pub fn hunter_end(state: HunterState, store: &[u8], out: &mut [u32; 4]) -> HunterReply
-    ensures { (result ≡ hunter_told state (hunterFinished (hunter_in state) store.now).reply.state (hunterFinished (hunter_in state) store.now).reply.answer) × (out.new ≡ told 0 (0, 0)) }
+    ensures { (result ≡ hunter_told state (hunter_finished (hunter_in state) store.now).reply.state (hunter_finished (hunter_in state) store.now).reply.answer) × (out.new ≡ told 0 (0, 0)) }
 {
     face_told::tell(out, 0, 0, 0);
     let reply = frame_hunter::end(hunter_in(state), store);

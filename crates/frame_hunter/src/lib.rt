@@ -111,7 +111,7 @@ pub fn push(state: State, store: &mut [u8], chunk: &[u8]) -> Reply
             state,
         };
     }
-    let more = bytes::copy(chunk, &mut store[used..]);
+    let more = copies::copy(chunk, &mut store[used..]);
     let next = State {
         used: used + more,
         dropped: state.dropped,
@@ -175,7 +175,7 @@ pub fn take(state: State, store: &mut [u8], output: &mut [u8]) -> Taken
     let hunted = hunt(&store[..used], state.ended);
     let frame = hunted.passed;
     let rest = frame + hunted.length;
-    let length = bytes::copy(&store[frame..rest], output);
+    let length = copies::copy(&store[frame..rest], output);
     keep(store, rest, used);
     let next = State {
         used: used - rest,

@@ -187,7 +187,7 @@ pub fn push(state: State, store: &mut [u8], chunk: &[u8]) -> Outcome
     if STORE_SIZE - used < chunk.len() {
         return answers(state, Answer::StoreFull);
     }
-    bytes::copy(chunk, &mut store[used..]);
+    copies::copy(chunk, &mut store[used..]);
     let next = State {
         used: used + chunk.len(),
         ended: state.ended,
@@ -239,7 +239,7 @@ pub fn take(state: State, store: &mut [u8], output: &mut [u8]) -> Outcome
     if length == 0 {
         return answers(state, Answer::Message(0));
     }
-    bytes::copy(&store[..length], output);
+    copies::copy(&store[..length], output);
     move_to_front(store, length, used);
     let next = State {
         used: used - length,

@@ -22,8 +22,8 @@ apart : {X : Type 0} → ◌≡◌ {A = ℕ} 0 1 → X
 apart z = absurd (omega arith)
 
 -- what the else of a let-else knows
-pub refused : (k : Stage) → OneOf (1 ∷ 2 ∷ []) (tag_of the_type k) → (k ≡ Bad) ⊎ (k ≡ Short)
-refused (On e) h = absurd (⊎_elim (λ (x : _). omega (arith, x)) (λ (x : _). omega (arith, x)) h)
+pub refused : (k : Stage) → ((e : ℕ) → k ≡ On e → ⊥) → (k ≡ Bad) ⊎ (k ≡ Short)
+refused (On e) h = absurd (h e refl)
 refused Bad h = inl refl
 refused Short h = inr refl
 

@@ -1,7 +1,7 @@
 // The two framers. A state and a store of 16,384 bytes are lent to each call; a state of zeros is fresh.
 ghost use Rattle.std.specs.Prelude.{◌≡◌};
 ghost use Rattle.frame_parser_rules.specs.Framer.{number_of_parser, length_returned, pushed, pushed_store, finished, taken, taken_store, taken_output};
-ghost use Rattle.frame_hunter_rules.specs.Bytes.{number_of_hunter, pushed as hunterPushed, finished as hunterFinished, took_from};
+ghost use Rattle.frame_hunter_rules.specs.Bytes.{number_of_hunter, pushed as hunter_pushed, finished as hunter_finished, took_from};
 ghost use Rattle.face_told.specs.Told.{told};
 ghost use Rattle.face_framers.specs.States.{ported_in, ported_out, ported_fresh, hunter_in, hunter_out, hunter_fresh};
 
@@ -69,9 +69,9 @@ pub fn gateway_hunter_push(
     chunk: &[u8],
     out: &mut [u32; 4],
 ) -> u32
-    ensures { (result ≡ number_of_hunter (hunterPushed (hunter_in state.old) store.old chunk.now).reply.answer)
-        × (state.new ≡ hunter_out state.old (hunterPushed (hunter_in state.old) store.old chunk.now).reply.state)
-        × (store.new ≡ (hunterPushed (hunter_in state.old) store.old chunk.now).store)
+    ensures { (result ≡ number_of_hunter (hunter_pushed (hunter_in state.old) store.old chunk.now).reply.answer)
+        × (state.new ≡ hunter_out state.old (hunter_pushed (hunter_in state.old) store.old chunk.now).reply.state)
+        × (store.new ≡ (hunter_pushed (hunter_in state.old) store.old chunk.now).store)
         × (out.new ≡ told 0 (0, 0)) }
 {
     let reply = face_framers::hunter_push(*state, store, chunk, out);
@@ -81,8 +81,8 @@ pub fn gateway_hunter_push(
 
 // The stream's end for the hunting framer.
 pub fn gateway_hunter_end(state: &mut HunterState, store: &[u8], out: &mut [u32; 4]) -> u32
-    ensures { (result ≡ number_of_hunter (hunterFinished (hunter_in state.old) store.now).reply.answer)
-        × (state.new ≡ hunter_out state.old (hunterFinished (hunter_in state.old) store.now).reply.state)
+    ensures { (result ≡ number_of_hunter (hunter_finished (hunter_in state.old) store.now).reply.answer)
+        × (state.new ≡ hunter_out state.old (hunter_finished (hunter_in state.old) store.now).reply.state)
         × (out.new ≡ told 0 (0, 0)) }
 {
     let reply = face_framers::hunter_end(*state, store, out);

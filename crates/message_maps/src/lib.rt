@@ -160,7 +160,7 @@ pub fn put_bytes(target: &mut [u8], at: usize, source: &[u8], from: usize, to: u
     ensures value { result ≡ at + (to - from) }
     ensures target_after { target.new ≡ written_at at (part from to source.now) target.old }
 {
-    bytes::copy(&source[from..to], &mut target[at..]);
+    copies::copy(&source[from..to], &mut target[at..]);
     at + (to - from)
 }
 
@@ -321,7 +321,7 @@ fn turn_bytes(
     let third = put_bytes(room, second, new, 0, new.len());
     let fourth = put_bytes(room, third, values, kept, to);
     put_bytes(room, fourth, values, end, used);
-    bytes::copy(room, values);
+    copies::copy(room, values);
 }
 
 // The words from `from` to `to` are taken out; what stood from there to `end` moves up, then come the new ones and those taken out from
