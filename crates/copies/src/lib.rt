@@ -1,14 +1,15 @@
-// copies: bytes from one place to another, as many as there are and find room. It knows nothing of messages, and it demands nothing of its callers.
+// copies: bytes from one place to another that has room for them. It knows nothing of messages.
 #![tactic(auto)]
 
-ghost use Rattle.std.specs.Prelude.{◌≡◌, ◌++◌, length, take, drop, min};
+ghost use Rattle.std.specs.Prelude.{◌≡◌, ◌++◌, ◌≤◌, length, take, drop};
 
-// How many were copied: the source's first ones, onto the target's first ones; what stands behind stays.
+// How many were copied: the whole source, onto the target's first bytes; what stands behind them stays.
 pub fn copy(source: &[u8], target: &mut [u8]) -> usize
-    ensures value { result ≡ min (length source.now) (length target.old) }
-    ensures target_after { target.new ≡ take (min (length source.now) (length target.old)) source.now ++ drop (min (length source.now) (length target.old)) target.old }
+    requires { length source.now ≤ length target.old }
+    ensures value { result ≡ length source.now }
+    ensures target_after { target.new ≡ take (length source.now) source.now ++ drop (length source.now) target.old }
 {
-    let count = source.len().min(target.len());
-    target[..count].copy_from_slice(&source[..count]);
+    let count = source.len();
+    target[..count].copy_from_slice(source);
     count
 }

@@ -276,7 +276,7 @@ can_drain {state = state} {store = store} output rest (message ∷ messages) lon
     let n : ℕ = length message in
     let some : n ≡ suc (n - 1) = omega (arith, message-some message f.message f.size) in
     let still = take-held r n ready arrived in
-    let d = can_drain output rest messages long (take_runs r n ready arrived) fit (ap (λ (l : List ℕ). l ++ rest) still ∙ stream_behind r message rest (joined messages) f flows arrived) in
+    let d = can_drain {state = take_state state (Message n)} {store = moved_to_front (drop n (held state store)) store} output rest messages long (take_runs r n ready arrived) fit (ap (λ (l : List ℕ). l ++ rest) still ∙ stream_behind r message rest (joined messages) f flows arrived) in
     record {
       messages = take n (held state store) ∷ d.messages;
       after = d.after;

@@ -1,0 +1,12 @@
+use native.Mathlib.Omega.{arith}
+use Rattle.message_maps.specs.MoveLaws.{forward_start, clear_on, clear_done}
+use Rattle.message_maps.proofs.clear_bytes.Goals as goal
+
+pub loop-i-preserved : goal.loop-i-preserved
+loop-i-preserved c = clear_on c.args.from c.args.to c.args.values.now (omega arith) (omega arith) _ _ c.loop-i.invariant c.loop-i-test.true
+
+pub returns : goal.returns
+returns c = clear_done c.args.from c.args.to c.args.values.now (omega arith) (omega arith) _ _ c.loop-i.invariant c.loop-i-test.false
+
+pub loop-i-init : goal.loop-i-init
+loop-i-init c = forward_start _ _ _
