@@ -1,7 +1,7 @@
 -- Rows of items that stand for nothing. A component may hold thousands of them and be used a thousand times, so what was passed once is
 -- kept in words: from a place on, laying comes to the same as from a later one. Answers know nothing of it.
 use Rattle.std.proofs.Math.Path.{◌≡◌, refl, sym}
-use Rattle.std.proofs.Common.{ap, ◌∙◌}
+use Rattle.std.proofs.Common.{◌∙◌}
 use Rattle.std.specs.Prelude.{Bool, List, ℕ, ◌+◌, ◌-◌, ◌*◌, ◌/◌, ◌%◌, ◌≤◌, ◌<◌, length, set, replicate}
 use Rattle.std.proofs.Math.Bool.{true, false}
 use native.Mathlib.Omega.{arith}
@@ -16,7 +16,7 @@ use Rattle.dictionary_rules.specs.declared.Record.TheVariants.{ComponentItem}
 use Rattle.dictionary_rules.specs.declared.RecordRead.TheVariants.{Whole}
 use Rattle.dictionary_rules.specs.declared.Looked.{Looked}
 use Rattle.dictionary_meaning_rules.specs.Laying.{Step, stands_at, items_from, lay_items}
-use Rattle.dictionary_meaning_rules.specs.LayingLaws.{Advancing, lay_advances, lay_empty, lay_down}
+use Rattle.dictionary_meaning_rules.proofs.LayingLaws.{Advancing, lay_advances, lay_empty, lay_down}
 use Rattle.dictionary_meaning_rules.specs.declared.Expansion.TheVariants.{NoItems}
 
 -- only items that stand for nothing lie between: whatever lays what lies within, laying from the one place on is laying from the other on

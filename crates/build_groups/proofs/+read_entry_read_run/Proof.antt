@@ -10,7 +10,7 @@ use Rattle.field_rules.specs.declared.Field.{Field}
 use Rattle.dictionary_chains.specs.Chain.{index_words}
 use Rattle.dictionary_rules.specs.Index.{tag_at}
 use Rattle.build_group_rules.specs.Reading.{FitsAt, run_of, entry_of}
-use Rattle.build_group_rules.specs.ReadingLaws.{Follows, room_of, makes_one, next_follows}
+use Rattle.build_group_rules.proofs.ReadingLaws.{Follows, room_of, makes_one, next_follows}
 use Rattle.build_group_rules.specs.declared.Progress.{Progress}
 use Rattle.build_group_rules.specs.declared.Reading.TheVariants.{At}
 use Rattle.build_groups.proofs.Turns.{entry_left, run_left, run-starts, entry-starts, left-refused, left-ends, left-wrong, turn_joins, turn_plain, turn_count, turn_entry, left-first, left_over, count-below, entry_follows, room_falls, stored_fits, stored_follows, count_follows}

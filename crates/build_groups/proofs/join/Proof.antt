@@ -2,7 +2,7 @@
 use mathlib.Core.Path.{sym, ◌∙◌}
 use borrow.Author.Rules.{rules}
 use Rattle.build_group_rules.specs.Reading.{further, standing_in}
-use Rattle.build_group_rules.specs.ReadingLaws.{further-held, further-new}
+use Rattle.build_group_rules.proofs.ReadingLaws.{further-held, further-new}
 use Rattle.build_groups.proofs.join.Statement.{statement}
 use Rattle.build_groups.proofs.join.Tie as tie
 

@@ -1,7 +1,7 @@
 -- `next_field` meets its contract: a field that can't be read is refused first, then one for which there is no room.
 use mathlib.Core.Path.{sym, ◌∙◌}
 use borrow.Author.Rules.{rules}
-use Rattle.build_group_rules.specs.ReadingLaws.{next-unreadable, next_full, next_field as next-field-law}
+use Rattle.build_group_rules.proofs.ReadingLaws.{next-unreadable, next_full, next_field as next-field-law}
 use Rattle.build_groups.proofs.next_field.Statement.{statement}
 use Rattle.build_groups.proofs.next_field.Tie as tie
 

@@ -7,7 +7,7 @@ use native.Mathlib.Omega.{arith}
 use lib.ListN.{length}
 use borrow.Author.Rules.{rules}
 use Rattle.build_records.specs.Records.{records_of, record_at, between, stride}
-use Rattle.build_records.specs.WordLaws.{records_length}
+use Rattle.build_records.proofs.WordLaws.{records_length}
 use Rattle.build_required_rules.specs.Required.{or_else}
 use Rattle.build_required_rules.specs.Checking.{starts_at, lack_of_entry, lack_of_run}
 use Rattle.build_required_rules.specs.RequiredLaws.{else_missing, else_complete}

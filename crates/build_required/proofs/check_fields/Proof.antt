@@ -6,7 +6,7 @@ use native.Mathlib.Omega.{arith}
 use borrow.Author.Rules.{rules}
 use lib.ListN.{length}
 use Rattle.dictionary_tables_rules.specs.Table.{required_from, required_of}
-use Rattle.dictionary_tables_rules.specs.MarkLaws.{required_none, required_first}
+use Rattle.dictionary_tables_rules.proofs.MarkLaws.{required_none, required_first}
 use Rattle.build_records.specs.Records.{records_of, between}
 use Rattle.build_required_rules.specs.Required.{fields_lack}
 use Rattle.build_required_rules.specs.Checking.{table_demands, lack_of_fields}

@@ -5,7 +5,7 @@ use Prim.Native.Nat.{◌-◌}
 use native.Mathlib.Omega.{arith}
 use borrow.Author.Rules.{rules}
 use Rattle.build_records.specs.Records.{records_of, between}
-use Rattle.build_records.specs.WordLaws.{records_length}
+use Rattle.build_records.proofs.WordLaws.{records_length}
 use Rattle.build_required_rules.specs.Checking.{starts_at, end_from}
 use Rattle.build_required_rules.specs.RequiredLaws.{end-here, end_later, end-over}
 use Rattle.build_required.proofs.entry_end.Statement.{statement}

@@ -5,7 +5,7 @@ use Prim.Native.Nat.{◌-◌}
 use native.Mathlib.Omega.{arith}
 use borrow.Author.Rules.{rules}
 use Rattle.build_records.specs.Records.{records_of, between}
-use Rattle.build_records.specs.WordLaws.{records_length}
+use Rattle.build_records.proofs.WordLaws.{records_length}
 use Rattle.build_required_rules.specs.Required.{shallow}
 use Rattle.build_required_rules.specs.Checking.{end_from}
 use Rattle.build_required_rules.specs.RequiredLaws.{end-here, end_later, end-over, shallow-here, shallow_not}
