@@ -23,7 +23,8 @@ use Rattle.dictionary_meaning_rules.proofs.LayingLaws.{lay_deep, lay_down}
 use Rattle.dictionary_meaning_rules.specs.declared.Laid.{Laid}
 use Rattle.dictionary_meaning_rules.specs.declared.Laid.TheVariants.{Upto, Broken}
 use Rattle.dictionary_meaning_rules.specs.declared.Expansion.TheVariants.{ItemsAt, NoItems}
-use Rattle.dictionary_flattening.specs.Leaps.{Leaps, leads_past, leads_on}
+use Rattle.dictionary_flattening.specs.Leaps.{Leaps}
+use Rattle.dictionary_flattening.proofs.LeapsLaws.{leads_past, leads_on}
 use Rattle.dictionary_flattening.proofs.Arms.{unread, top_level, reached, read_as, laid_as}
 use Rattle.dictionary_flattening.proofs.lay_items.Reads as lay-items
 use Rattle.dictionary_flattening.proofs.lay_items.Kinds as lay-items-kinds
