@@ -33,7 +33,7 @@ use Rattle.build_order_laws.specs.TrailerStores.{trailer_at}
 use Rattle.build_order_laws.specs.VerifiedTags.{VerifiedTags, verified-tags}
 use Rattle.build_order_laws.specs.InParts.{InParts}
 use Rattle.build_order_laws.specs.InOrder.{InOrder}
-use Rattle.build_order_laws.specs.TwiceMessage.{three_verified}
+use Rattle.build_order_laws.proofs.TwiceMessage.{three_verified}
 use Rattle.build_order_laws.specs.Agree.{Agree, same, Similar, none, more}
 use Rattle.build_order_laws.specs.AgreeLaws.{agree_less}
 use Rattle.build_order_laws.specs.SimilarLaws.{similar_length, alike_field}
