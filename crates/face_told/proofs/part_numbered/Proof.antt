@@ -1,6 +1,6 @@
 -- `part_numbered` meets its contract: one law for each way.
 use mathlib.Core.Path.{sym}
-use Rattle.face_told.specs.PartLaws.{numbered-header, numbered-body, numbered-trailer}
+use Rattle.face_told.proofs.PartLaws.{numbered-header, numbered-body, numbered-trailer}
 use Rattle.face_told.proofs.part_numbered.Statement.{statement}
 use Rattle.face_told.proofs.part_numbered.Tie as tie
 

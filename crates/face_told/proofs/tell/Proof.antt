@@ -1,5 +1,5 @@
 -- `tell` meets its contract: four words are set one after the other.
-use Rattle.face_told.specs.ToldLaws.{told-set}
+use Rattle.face_told.proofs.ToldLaws.{told-set}
 use borrow.Author.Rules.{rules}
 use Rattle.face_told.proofs.tell.Statement.{statement}
 use Rattle.face_told.proofs.tell.Tie as tie

@@ -1,5 +1,5 @@
 -- `tell_map` meets its contract: each arm knows what was found.
-use Rattle.face_told.specs.FoundLaws.{map-refused, map_absent, map_at}
+use Rattle.face_told.proofs.FoundLaws.{map-refused, map_absent, map_at}
 use borrow.Author.Rules.{rules}
 use Rattle.face_told.proofs.tell_map.Statement.{statement}
 use Rattle.face_told.proofs.tell_map.Tie as tie

@@ -1,5 +1,5 @@
 -- `tell_value` meets its contract: each arm knows what was found.
-use Rattle.face_told.specs.FoundLaws.{value_refused, value_absent, value_at}
+use Rattle.face_told.proofs.FoundLaws.{value_refused, value_absent, value_at}
 use borrow.Author.Rules.{rules}
 use Rattle.face_told.proofs.tell_value.Statement.{statement}
 use Rattle.face_told.proofs.tell_value.Tie as tie

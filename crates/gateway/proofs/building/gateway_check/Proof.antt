@@ -1,5 +1,5 @@
 -- `gateway_check` meets its contract: it tells the verdict's number and value.
-use Rattle.face_told.specs.ToldLaws.{checked-number, checked_out}
+use Rattle.face_told.proofs.ToldLaws.{checked-number, checked_out}
 use borrow.Author.Rules.{rules}
 use Rattle.gateway.proofs.building.gateway_check.Statement.{statement}
 use Rattle.gateway.proofs.building.gateway_check.Tie as tie
