@@ -1,5 +1,5 @@
 -- `hunter_end` meets its contract: the call is made from the state that was lent.
-use Rattle.face_framers.specs.CallLaws.{finishes_from, hunter_tells}
+use Rattle.face_framers.proofs.CallLaws.{finishes_from, hunter_tells}
 use borrow.Author.Rules.{rules}
 use Rattle.face_framers.proofs.hunter_end.Statement.{statement}
 use Rattle.face_framers.proofs.hunter_end.Tie as tie

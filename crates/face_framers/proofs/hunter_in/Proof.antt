@@ -1,5 +1,5 @@
 -- `hunter_in` meets its contract: the mark is read.
-use Rattle.face_framers.specs.StateLaws.{hunter-read}
+use Rattle.face_framers.proofs.StateLaws.{hunter-read}
 use borrow.Author.Rules.{rules}
 use Rattle.face_framers.proofs.hunter_in.Statement.{statement}
 use Rattle.face_framers.proofs.hunter_in.Tie as tie

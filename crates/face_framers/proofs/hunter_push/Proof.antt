@@ -1,5 +1,5 @@
 -- `hunter_push` meets its contract: the call is made from the state that was lent.
-use Rattle.face_framers.specs.CallLaws.{pushes_from, hunter_tells}
+use Rattle.face_framers.proofs.CallLaws.{pushes_from, hunter_tells}
 use borrow.Author.Rules.{rules}
 use Rattle.face_framers.proofs.hunter_push.Statement.{statement}
 use Rattle.face_framers.proofs.hunter_push.Tie as tie

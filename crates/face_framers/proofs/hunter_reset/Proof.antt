@@ -4,7 +4,7 @@ use Rattle.frame_hunter_rules.specs.declared.State.{State}
 use Rattle.frame_hunter_rules.specs.declared.Answer.TheVariants.{Fine}
 use Rattle.frame_hunter_rules.specs.Bytes.{number_of_hunter}
 use Rattle.face_framers.specs.States.{hunter_told, hunter_fresh}
-use Rattle.face_framers.specs.StateLaws.{hunter-zeros}
+use Rattle.face_framers.proofs.StateLaws.{hunter-zeros}
 use Rattle.face_framers.specs.declared.HunterState.{HunterState}
 use Rattle.face_framers.specs.declared.HunterReply.{HunterReply}
 use borrow.Author.Rules.{rules}

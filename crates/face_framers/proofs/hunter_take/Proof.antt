@@ -1,5 +1,5 @@
 -- `hunter_take` meets its contract: the call is made from the state that was lent.
-use Rattle.face_framers.specs.CallLaws.{takes-from, hunter_took, hunter-length}
+use Rattle.face_framers.proofs.CallLaws.{takes-from, hunter_took, hunter-length}
 use borrow.Author.Rules.{rules}
 use Rattle.face_framers.proofs.hunter_take.Statement.{statement}
 use Rattle.face_framers.proofs.hunter_take.Tie as tie

@@ -1,5 +1,5 @@
 -- `hunter_told` meets its contract: the mark is written.
-use Rattle.face_framers.specs.StateLaws.{hunter-reply}
+use Rattle.face_framers.proofs.StateLaws.{hunter-reply}
 use borrow.Author.Rules.{rules}
 use Rattle.face_framers.proofs.hunter_told.Statement.{statement}
 use Rattle.face_framers.proofs.hunter_told.Tie as tie

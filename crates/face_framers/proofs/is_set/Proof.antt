@@ -1,5 +1,5 @@
 -- `is_set` meets its contract: the mark is read.
-use Rattle.face_framers.specs.StateLaws.{unset, set-mark}
+use Rattle.face_framers.proofs.StateLaws.{unset, set-mark}
 use Rattle.face_framers.proofs.is_set.Statement.{statement}
 use Rattle.face_framers.proofs.is_set.Tie as tie
 

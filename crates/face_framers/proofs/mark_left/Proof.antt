@@ -1,5 +1,5 @@
 -- `mark_left` meets its contract: a new mark is 1, one that stays set is the byte that was lent, and an unset one is 0.
-use Rattle.face_framers.specs.StateLaws.{left-new, left-kept, left_unset}
+use Rattle.face_framers.proofs.StateLaws.{left-new, left-kept, left_unset}
 use Rattle.face_framers.proofs.mark_left.Statement.{statement}
 use Rattle.face_framers.proofs.mark_left.Tie as tie
 

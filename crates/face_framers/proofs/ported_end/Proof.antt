@@ -1,5 +1,5 @@
 -- `ported_end` meets its contract: the call is made from the state that was lent.
-use Rattle.face_framers.specs.CallLaws.{finished_from, ported_tells}
+use Rattle.face_framers.proofs.CallLaws.{finished_from, ported_tells}
 use borrow.Author.Rules.{rules}
 use Rattle.face_framers.proofs.ported_end.Statement.{statement}
 use Rattle.face_framers.proofs.ported_end.Tie as tie

@@ -1,5 +1,5 @@
 -- `ported_in` meets its contract: both marks are read.
-use Rattle.face_framers.specs.StateLaws.{ported-read}
+use Rattle.face_framers.proofs.StateLaws.{ported-read}
 use borrow.Author.Rules.{rules}
 use Rattle.face_framers.proofs.ported_in.Statement.{statement}
 use Rattle.face_framers.proofs.ported_in.Tie as tie

@@ -1,5 +1,5 @@
 -- `ported_push` meets its contract: the call is made from the state that was lent.
-use Rattle.face_framers.specs.CallLaws.{pushed-from, pushed_store-from, ported_tells}
+use Rattle.face_framers.proofs.CallLaws.{pushed-from, pushed_store-from, ported_tells}
 use borrow.Author.Rules.{rules}
 use Rattle.face_framers.proofs.ported_push.Statement.{statement}
 use Rattle.face_framers.proofs.ported_push.Tie as tie

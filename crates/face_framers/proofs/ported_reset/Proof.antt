@@ -4,7 +4,7 @@ use Rattle.frame_parser_rules.specs.declared.State.{State}
 use Rattle.frame_parser_rules.specs.declared.Answer.TheVariants.{Accepted}
 use Rattle.frame_parser_rules.specs.Framer.{number_of_parser}
 use Rattle.face_framers.specs.States.{ported_told, ported_fresh}
-use Rattle.face_framers.specs.StateLaws.{ported-zeros}
+use Rattle.face_framers.proofs.StateLaws.{ported-zeros}
 use Rattle.face_framers.specs.declared.PortedState.{PortedState}
 use Rattle.face_framers.specs.declared.PortedReply.{PortedReply}
 use borrow.Author.Rules.{rules}

@@ -1,5 +1,5 @@
 -- `ported_take` meets its contract: the call is made from the state that was lent.
-use Rattle.face_framers.specs.CallLaws.{taken_from, taken_store-from, taken_output-from, ported_tells, ported-length}
+use Rattle.face_framers.proofs.CallLaws.{taken_from, taken_store-from, taken_output-from, ported_tells, ported-length}
 use borrow.Author.Rules.{rules}
 use Rattle.face_framers.proofs.ported_take.Statement.{statement}
 use Rattle.face_framers.proofs.ported_take.Tie as tie

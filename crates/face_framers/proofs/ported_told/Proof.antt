@@ -1,5 +1,5 @@
 -- `ported_told` meets its contract: both marks are written.
-use Rattle.face_framers.specs.StateLaws.{ported-reply}
+use Rattle.face_framers.proofs.StateLaws.{ported-reply}
 use borrow.Author.Rules.{rules}
 use Rattle.face_framers.proofs.ported_told.Statement.{statement}
 use Rattle.face_framers.proofs.ported_told.Tie as tie
