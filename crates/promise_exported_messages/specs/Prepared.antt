@@ -6,7 +6,7 @@ use Rattle.build_config.specs.Settings.{config_of}
 use Rattle.build_records.specs.Records.{record_words}
 use Rattle.build_answers.specs.Answer.{number_of, values_of}
 use Rattle.builder.specs.Build.{BuildOutcome}
-use Rattle.builder.specs.ThroughLaws.{over_means}
+use Rattle.builder.proofs.ThroughLaws.{over_means}
 use Rattle.dictionary_meaning_rules.proofs.MsgTypeText.{Bytes}
 use Rattle.dictionary_prepared.specs.Memory.{preparation, prepared, preparing_of, copy_of, memory_of}
 use Rattle.dictionary_prepared.specs.MemoryLaws.{zero_ready}

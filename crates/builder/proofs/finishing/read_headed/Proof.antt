@@ -15,7 +15,7 @@ use Rattle.dictionary_directory.specs.declared.Kept.TheVariants.{Table}
 use Rattle.build_parts.specs.PartLaws.{stays-refused}
 use Rattle.builder.specs.Reading.{start_told}
 use Rattle.builder.specs.Through.{after_start}
-use Rattle.builder.specs.HeadedLaws.{type-inside, type-placed, unknown, placed-none, placed-kept, placed-laid}
+use Rattle.builder.proofs.HeadedLaws.{type-inside, type-placed, unknown, placed-none, placed-kept, placed-laid}
 use Rattle.builder.proofs.finishing.read_headed.Statement.{statement}
 use Rattle.builder.proofs.finishing.read_headed.Tie as tie
 

@@ -47,7 +47,7 @@ use Rattle.build_rules.specs.Beginning.{Start, started, unsound, start_of, msg_t
 use Rattle.build_rules.specs.Message.{after_body, after_type, after_header, message_read}
 use Rattle.builder.specs.Build.{untouched, judged, build_of, checked_read}
 use Rattle.builder.specs.BuildLaws.{check-reads}
-use Rattle.builder.specs.HeadedLaws.{layout_after}
+use Rattle.builder.proofs.HeadedLaws.{layout_after}
 use Rattle.builder.specs.Reading.{Prepared}
 use Rattle.builder.specs.Through.{unknown_type, after_level, after_table, after_kept, after_placed, after_start, message_by, message_listed, message_kept, message_through, build_over}
 
