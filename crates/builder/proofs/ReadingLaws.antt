@@ -40,7 +40,7 @@ use Rattle.builder.specs.declared.Read.{Read}
 use Rattle.builder.specs.declared.Built.{Built}
 use Rattle.builder.specs.Build.{untouched, shown, shown_words, judged, checked_read, first_refusal, build_of, built_told}
 use Rattle.builder.specs.Through.{after_start, message_by, message_through}
-use Rattle.dictionary_prepared.specs.MemoryLaws.{zero_passes}
+use Rattle.dictionary_prepared.proofs.MemoryLaws.{zero_passes}
 use Rattle.builder.specs.BuildLaws.{blanked, part_count, check-refuses, check-reads}
 use Rattle.builder.specs.Finishing.{part-empty}
 use Rattle.builder.proofs.TagLaws.{through_tags}

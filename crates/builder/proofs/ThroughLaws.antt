@@ -29,7 +29,7 @@ use Rattle.dictionary_directory.specs.DirectoryLaws.{Leads, nowhere, a-table as 
 use Rattle.dictionary_directory.specs.declared.Kept.{Kept}
 use Rattle.dictionary_prepared.specs.Memory.{head_words, is_prepared, records_in, index_in, tables_in, index_for, preparation, prepared}
 use Rattle.build_answers.specs.declared.Answer.TheVariants.{NotPrepared}
-use Rattle.dictionary_prepared.specs.MemoryLaws.{ready_passes, ready_stands, ready_records, ready_index, ready_tables}
+use Rattle.dictionary_prepared.proofs.MemoryLaws.{ready_passes, ready_stands, ready_records, ready_index, ready_tables}
 use Rattle.dictionary_prepared.specs.declared.Preparing.TheVariants.{Ready}
 use Rattle.dictionary_meaning_rules.specs.Meaning.{dictionary_of}
 use Rattle.dictionary_meaning_rules.proofs.MsgTypeText.{Bytes, take-bytes, drop-bytes}

@@ -9,7 +9,7 @@ use Rattle.builder.specs.Build.{BuildOutcome}
 use Rattle.builder.proofs.ThroughLaws.{over_means}
 use Rattle.dictionary_meaning_rules.proofs.MsgTypeText.{Bytes}
 use Rattle.dictionary_prepared.specs.Memory.{preparation, prepared, preparing_of, copy_of, memory_of}
-use Rattle.dictionary_prepared.specs.MemoryLaws.{zero_ready}
+use Rattle.dictionary_prepared.proofs.MemoryLaws.{zero_ready}
 use Rattle.dictionary_prepared.specs.declared.Preparing.TheVariants.{Ready}
 use Rattle.face_told.specs.Told.{told}
 use Rattle.face_messages.specs.declared.FieldRecord.{FieldRecord}

@@ -6,7 +6,7 @@ use native.Mathlib.Omega.{arith}
 use lib.ListN.{length, length-replicate}
 use borrow.Author.Rules.{rules}
 use Rattle.dictionary_chains.specs.Chain.{index_words}
-use Rattle.dictionary_prepared.specs.MemoryLaws.{index-length, index-left, zero_passes}
+use Rattle.dictionary_prepared.proofs.MemoryLaws.{index-length, index-left, zero_passes}
 use Rattle.builder.proofs.HeadedLaws.{bytes_of}
 use Rattle.builder.proofs.ReadingLaws.{refused-dictionary, passing_dictionary, prepared_by}
 use Rattle.builder.proofs.ThroughLaws.{through_means, sound_none}
