@@ -24,8 +24,8 @@ use Rattle.dictionary_tables_rules.specs.Laid.{table_of}
 use Rattle.dictionary_tables_rules.proofs.Tabled.{tabled_whole}
 use Rattle.dictionary_tables_rules.proofs.TagsLaws.{tags_found_lem}
 use Rattle.dictionary_directory.specs.Directory.{kept_at, listed_tags, tags_listed, tags_at, lay_tables}
-use Rattle.dictionary_directory.specs.KeptLaws.{kept-short, tags-short}
-use Rattle.dictionary_directory.specs.DirectoryLaws.{Leads, nowhere, a-table as leads-table, laid_leads, TagsLead, tags-nowhere, a-tags-table, tags-lead}
+use Rattle.dictionary_directory.proofs.KeptLaws.{kept-short, tags-short}
+use Rattle.dictionary_directory.proofs.DirectoryLaws.{Leads, nowhere, a-table as leads-table, laid_leads, TagsLead, tags-nowhere, a-tags-table, tags-lead}
 use Rattle.dictionary_directory.specs.declared.Kept.{Kept}
 use Rattle.dictionary_prepared.specs.Memory.{head_words, is_prepared, records_in, index_in, tables_in, index_for, preparation, prepared}
 use Rattle.build_answers.specs.declared.Answer.TheVariants.{NotPrepared}

@@ -10,7 +10,7 @@ use Rattle.build_parts.specs.Parts.{part_of}
 use Rattle.build_rules.specs.Beginning.{msg_type_record}
 use Rattle.dictionary_meaning_rules.specs.MessageTable.{place_of}
 use Rattle.dictionary_directory.specs.Directory.{kept_at}
-use Rattle.dictionary_directory.specs.DirectoryLaws.{table-lies}
+use Rattle.dictionary_directory.proofs.DirectoryLaws.{table-lies}
 use Rattle.dictionary_directory.specs.declared.Kept.TheVariants.{Table}
 use Rattle.build_parts.specs.PartLaws.{stays-refused}
 use Rattle.builder.specs.Reading.{start_told}
