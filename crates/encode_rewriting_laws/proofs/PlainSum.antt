@@ -21,7 +21,7 @@ use Rattle.build_integrity_rules.specs.Integrity.{sum_agrees}
 use Rattle.build_integrity_rules.proofs.IntegrityLaws.{sum_is_lem}
 use Rattle.encode_rules.specs.Encoding.{sum_digits}
 use Rattle.encode_rewriting_laws.specs.Plain.{three_digits}
-use Rattle.encode_rewriting_laws.specs.PlainLaws.{Digits, tag-text}
+use Rattle.encode_rewriting_laws.proofs.PlainLaws.{Digits, tag-text}
 use Rattle.field_rules.proofs.SpelledLaws.{spells, value_is, value_stands, value_size}
 
 -- three digits are those of the number that they are worth

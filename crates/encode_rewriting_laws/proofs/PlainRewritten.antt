@@ -16,8 +16,8 @@ use Rattle.build_integrity_rules.specs.declared.Verified.{Verified}
 use Rattle.encode_rules.specs.Encoding.{summed, sum_digits}
 use Rattle.build_order_laws.specs.VerifiedTags.{verified-checked}
 use Rattle.encode_rewriting_laws.specs.Plain.{plain_length, three_digits}
-use Rattle.encode_rewriting_laws.specs.PlainSound.{right_length, plain_second, plain_value}
-use Rattle.encode_rewriting_laws.specs.PlainSum.{last_seven}
+use Rattle.encode_rewriting_laws.proofs.PlainSound.{right_length, plain_second, plain_value}
+use Rattle.encode_rewriting_laws.proofs.PlainSum.{last_seven}
 use Rattle.field_rules.proofs.SpelledLaws.{value_ends}
 use Rattle.encode_rewriting_laws.specs.ReadSound.{tagged, placed, placed-read, placed-next}
 

@@ -19,7 +19,7 @@ use Rattle.message_take_over.specs.Derived.{Stands, no_more as stands-none, own 
 use Rattle.encode_rules.specs.Encoding.{text, text_under, is_first, is_rest, header_text, message_text, bytes_of, dropped, body_length, measured, summed, encoding}
 use Rattle.encode_rows.specs.WritingLaws.{text-length}
 use Rattle.encode_rewriting_laws.specs.Written.{written, rewritten}
-use Rattle.encode_rewriting_laws.specs.EncodedText.{written-append, text-written}
+use Rattle.encode_rewriting_laws.proofs.EncodedText.{written-append, text-written}
 
 -- a message that stands for the records of a build: 8, 9 and 35 first in the header, 10 first in the trailer, no groups in either
 pub record Built (bytes : List ℕ) (m : Message) (begin size type : Record) (others of_body : List Record) (check : Record)

@@ -24,12 +24,12 @@ use Rattle.dictionary_tables_rules.specs.Laid.{table_of}
 use Rattle.dictionary_tables_rules.proofs.Tabled.{tabled_whole}
 use Rattle.dictionary_tables_rules.proofs.TagsLaws.{tags_found_lem}
 use Rattle.dictionary_directory.specs.Directory.{kept_at, listed_tags, tags_listed, tags_at, lay_tables}
-use Rattle.dictionary_directory.specs.KeptLaws.{kept-short, tags-short}
-use Rattle.dictionary_directory.specs.DirectoryLaws.{Leads, nowhere, a-table as leads-table, laid_leads, TagsLead, tags-nowhere, a-tags-table, tags-lead}
+use Rattle.dictionary_directory.proofs.KeptLaws.{kept-short, tags-short}
+use Rattle.dictionary_directory.proofs.DirectoryLaws.{Leads, nowhere, a-table as leads-table, laid_leads, TagsLead, tags-nowhere, a-tags-table, tags-lead}
 use Rattle.dictionary_directory.specs.declared.Kept.{Kept}
 use Rattle.dictionary_prepared.specs.Memory.{head_words, is_prepared, records_in, index_in, tables_in, index_for, preparation, prepared}
 use Rattle.build_answers.specs.declared.Answer.TheVariants.{NotPrepared}
-use Rattle.dictionary_prepared.specs.MemoryLaws.{ready_passes, ready_stands, ready_records, ready_index, ready_tables}
+use Rattle.dictionary_prepared.proofs.MemoryLaws.{ready_passes, ready_stands, ready_records, ready_index, ready_tables}
 use Rattle.dictionary_prepared.specs.declared.Preparing.TheVariants.{Ready}
 use Rattle.dictionary_meaning_rules.specs.Meaning.{dictionary_of}
 use Rattle.dictionary_meaning_rules.proofs.MsgTypeText.{Bytes, take-bytes, drop-bytes}
@@ -47,7 +47,7 @@ use Rattle.build_rules.specs.Beginning.{Start, started, unsound, start_of, msg_t
 use Rattle.build_rules.specs.Message.{after_body, after_type, after_header, message_read}
 use Rattle.builder.specs.Build.{untouched, judged, build_of, checked_read}
 use Rattle.builder.specs.BuildLaws.{check-reads}
-use Rattle.builder.specs.HeadedLaws.{layout_after}
+use Rattle.builder.proofs.HeadedLaws.{layout_after}
 use Rattle.builder.specs.Reading.{Prepared}
 use Rattle.builder.specs.Through.{unknown_type, after_level, after_table, after_kept, after_placed, after_start, message_by, message_listed, message_kept, message_through, build_over}
 

@@ -14,7 +14,7 @@ use Rattle.dictionary_rules.specs.declared.Placed.TheVariants.{At}
 use Rattle.dictionary_meaning_rules.specs.MessageTable.{tabling, placed_table}
 use Rattle.dictionary_meaning_rules.specs.declared.MessageTable.TheVariants.{Rows}
 use Rattle.dictionary_directory.specs.Directory.{longest, directory_words, block_stride, tags_place, next_block, with_block, tags_listed, clear_directory}
-use Rattle.dictionary_directory.specs.BlockLaws.{slot_now, word_kept, part-kept, size_now, place_now, table_now}
+use Rattle.dictionary_directory.proofs.BlockLaws.{slot_now, word_kept, part-kept, size_now, place_now, table_now}
 
 -- the layout whose table is laid for a place: that of the message whose record stands there, or the tags of the header or of the trailer
 pub data LaidFor (d index : List ℕ) : ℕ → Layout → Type 0 where

@@ -22,8 +22,8 @@ use Rattle.encoder.specs.FoundLaws.{hangs}
 use Rattle.encoder.specs.VerdictLaws.{refused_long, found_fit, encodes, refuses}
 use Rattle.encode_rules.specs.declared.Encoding.TheVariants.{Written, TooLong}
 use Rattle.encode_rewriting_laws.specs.Written.{rewritten}
-use Rattle.encode_rewriting_laws.specs.EncodedText.{stands-count, stands-counted}
-use Rattle.encode_rewriting_laws.specs.EncodedBuilt.{Built, built_maps, encoding-rewritten}
+use Rattle.encode_rewriting_laws.proofs.EncodedText.{stands-count, stands-counted}
+use Rattle.encode_rewriting_laws.proofs.EncodedBuilt.{Built, built_maps, encoding-rewritten}
 
 pub no_run : {bytes : List ℕ} {part start entries : ℕ} {map : Map} {rs : List Record} (tag : ℕ) → Stands bytes part 0 0 start entries map rs → All (Own 0 0) rs → hangs tag map ≡ false
 unfolding hangs

@@ -12,7 +12,7 @@ use Rattle.dictionary_meaning_rules.specs.MessageTable.{Tabling, tabling, placed
 use Rattle.dictionary_meaning_rules.proofs.LaidLayoutLaws.{placed_layout}
 use Rattle.dictionary_meaning_rules.specs.declared.MessageTable.TheVariants.{Rows, NoMessage, Unprepared}
 use Rattle.dictionary_directory.specs.Directory.{table_words, laid_alone, laid_over}
-use Rattle.dictionary_directory.specs.LayingLaws.{held_fits}
+use Rattle.dictionary_directory.proofs.LayingFacts.{held_fits}
 use Rattle.dictionary_directory.specs.declared.Kept.{Kept}
 use Rattle.dictionary_directory.specs.declared.Kept.TheVariants.{Table, Nowhere}
 

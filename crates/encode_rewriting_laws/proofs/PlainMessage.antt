@@ -15,14 +15,14 @@ use Rattle.build_records.specs.declared.Record.{Record}
 use Rattle.build_parts.specs.Parts.{part_record}
 use Rattle.encode_rules.specs.Encoding.{summed}
 use Rattle.build_order_laws.specs.VerifiedTags.{verified-checked}
-use Rattle.encode_rewriting_laws.specs.EncodedText.{written-append}
+use Rattle.encode_rewriting_laws.proofs.EncodedText.{written-append}
 use Rattle.encode_rewriting_laws.specs.Plain.{plain_tags, plain_length, three_digits}
-use Rattle.encode_rewriting_laws.specs.PlainRewritten.{clean_rewritten}
-use Rattle.encode_rewriting_laws.specs.ReadMessage.{Followed}
+use Rattle.encode_rewriting_laws.proofs.PlainRewritten.{clean_rewritten}
+use Rattle.encode_rewriting_laws.proofs.ReadMessage.{Followed}
 use Rattle.encode_rewriting_laws.specs.ReadPlaces.{follows_cursor, stop-verified}
 use Rattle.field_rules.specs.Fields.{start_of}
 use Rattle.field_rules.proofs.PlaceLaws.{fields-start}
-use Rattle.encode_rewriting_laws.specs.ReadWritten.{follows_written}
+use Rattle.encode_rewriting_laws.proofs.ReadWritten.{follows_written}
 use Rattle.encode_rewriting_laws.specs.Written.{written, rewritten}
 
 -- where the trailer stops at a field that starts where the CheckSum stands, all before it is the text of the records

@@ -9,7 +9,7 @@ use Rattle.dictionary_tables_rules.proofs.Tabled.{table-length}
 use Rattle.dictionary_tables_rules.specs.Tags.{fields_of, tags_found}
 use Rattle.dictionary_tables_rules.proofs.TagsLaws.{tags_found_lem}
 use Rattle.dictionary_directory.specs.Directory.{tags_listed, tags_at, tag_words}
-use Rattle.dictionary_directory.specs.DirectoryLaws.{tags_lie}
+use Rattle.dictionary_directory.proofs.DirectoryLaws.{tags_lie}
 use Rattle.dictionary_directory.specs.declared.Kept.{Kept}
 use Rattle.dictionary_directory.specs.declared.Kept.TheVariants.{Table, Nowhere}
 use Rattle.builder.specs.declared.Tags.{Tags}

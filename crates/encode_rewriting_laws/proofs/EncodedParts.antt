@@ -12,7 +12,7 @@ use Rattle.build_nesting_laws.specs.Entries.{All, all_none, all_more, all_append
 use Rattle.message_read_laws.specs.ShapeLaws.{all_first}
 use Rattle.message_take_over.specs.Derived.{Stands, StandFor, no_more as stands-none, own as stands-own, in_entry as stands-entry}
 use Rattle.build_order_laws.specs.Follows.{Follows, no_field, one_field}
-use Rattle.encode_rewriting_laws.specs.EncodedBuilt.{Built}
+use Rattle.encode_rewriting_laws.proofs.EncodedBuilt.{Built}
 
 -- a record of a part, and one of another
 pub record InPart (part : ℕ) (r : Record) : Type 0 where

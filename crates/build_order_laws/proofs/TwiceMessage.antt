@@ -24,7 +24,7 @@ use Rattle.build_order_laws.specs.InParts.{InParts, in_parts}
 use Rattle.build_order_laws.specs.InOrder.{Sizes, sizes}
 use Rattle.build_order_laws.specs.Twice.{twice_in_header, twice_in_trailer, twice_in_body, twice_behind, twice_from_body, twice_from_header, stored_twice}
 use Rattle.build_order_laws.specs.TwiceLaws.{Tells, tells_as, tells_then}
-use Rattle.build_order_laws.specs.TwiceInParts.{header_tells, trailer_tells, body_tells}
+use Rattle.build_order_laws.proofs.TwiceInParts.{header_tells, trailer_tells, body_tells}
 
 -- 8, 9 and 35 are stored side by side
 pub three_verified : (v : Verified) → VerifiedTags v → length (verified_records v) ≡ 3

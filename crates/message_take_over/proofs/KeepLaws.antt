@@ -19,9 +19,9 @@ use Rattle.message_take_over.specs.Taking.{nearest_in, joins_of, is_joined, is_n
 use Rattle.message_take_over.specs.StepLaws.{next_is}
 use Rattle.message_take_over.specs.Derived.{Stands, no_more, own, in_entry, StandFor}
 use Rattle.message_take_over.specs.StandLaws.{passed, passed-append}
-use Rattle.message_take_over.specs.BackLaws.{entry-deep}
-use Rattle.message_take_over.specs.MapBackLaws.{next_cons, nowhere_not, lower-none, lower-row, part-back}
-use Rattle.message_take_over.specs.TakenLaws.{Later, later-none, later-some, rows_open, next_open}
+use Rattle.message_take_over.proofs.BackLaws.{entry-deep}
+use Rattle.message_take_over.proofs.MapBackLaws.{next_cons, nowhere_not, lower-none, lower-row, part-back}
+use Rattle.message_take_over.proofs.TakenLaws.{Later, later-none, later-some, rows_open, next_open}
 
 -- every record before is of a part or an earlier one
 record UpTo (part : ℕ) (before : List Record) : Type 0 where

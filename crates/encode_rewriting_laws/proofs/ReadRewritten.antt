@@ -21,11 +21,11 @@ use Rattle.build_records.specs.declared.Record.{Record}
 use Rattle.build_nesting_laws.specs.Entries.{All}
 use Rattle.encode_rules.specs.Encoding.{summed, sum_digits}
 use Rattle.field_rules.specs.Separator.{is_refused_separator}
-use Rattle.encode_rewriting_laws.specs.Copied.{onto, Copied, CopiedAt, copied_read}
+use Rattle.encode_rewriting_laws.proofs.Copied.{onto, Copied, CopiedAt, copied_read}
 use Rattle.field_rules.proofs.SpelledLaws.{digits_absent}
 use Rattle.encode_rewriting_laws.specs.ReadSound.{tagged, placed, framed, framed_fields, Unseparated, framed_sound, framed-start, framed-end}
 use Rattle.encode_rewriting_laws.specs.ReadSound.{framed-begin, framed-type, framed-size, placed-tag, placed_first}
-use Rattle.encode_rewriting_laws.specs.ReadWritten.{Writable}
+use Rattle.encode_rewriting_laws.proofs.ReadWritten.{Writable}
 use Rattle.encode_rewriting_laws.specs.Written.{written, rewritten}
 
 -- a separator that is not refused is no digit

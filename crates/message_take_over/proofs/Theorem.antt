@@ -30,9 +30,9 @@ use Rattle.message_take_over.specs.Taking.{no_records, layout_from, after, judge
 use Rattle.message_take_over.specs.StepLaws.{next_is}
 use Rattle.message_take_over.specs.Derived.{derived, given, StandFor}
 use Rattle.message_take_over.specs.GoesLaws.{value_size}
-use Rattle.message_take_over.specs.MapBackLaws.{next_cons, nowhere_not}
-use Rattle.message_take_over.specs.TakenLaws.{given-derived}
-use Rattle.message_take_over.specs.KeepLaws.{stand_back}
+use Rattle.message_take_over.proofs.MapBackLaws.{next_cons, nowhere_not}
+use Rattle.message_take_over.proofs.TakenLaws.{given-derived}
+use Rattle.message_take_over.proofs.KeepLaws.{stand_back}
 
 -- the rows that are laid say how many bytes the values have
 sizes-heads : (n part : ℕ) → sizes (part_heads n part) ≡ 0

@@ -17,7 +17,7 @@ use Rattle.build_integrity_rules.proofs.VerifiedLaws.{verified-read}
 use Rattle.build_integrity_rules.specs.declared.Integrity.TheVariants.{Sound}
 use Rattle.build_integrity_rules.specs.declared.Verified.{Verified}
 use Rattle.encode_rewriting_laws.specs.Plain.{is_plain, plain_length}
-use Rattle.encode_rewriting_laws.specs.PlainLaws.{number_digits, plain_digits, plain_leads}
+use Rattle.encode_rewriting_laws.proofs.PlainLaws.{number_digits, plain_digits, plain_leads}
 use Rattle.field_rules.proofs.SpelledLaws.{value_stands, value_size}
 
 -- a BodyLength that is right

@@ -14,7 +14,7 @@ use Rattle.message_allowed.specs.DistinctLaws.{allowed_reach}
 use Rattle.message_allowed.specs.LooseLaws.{loose-next, loose-on, loose-end, refused, allowed}
 use Rattle.message_allowed.specs.RowLaws.{before-next}
 use Rattle.message_allowed.specs.Branch.{cell_of, tag_of, Sized, Known, grown}
-use Rattle.message_allowed.specs.KnownLaws.{allowed_tagged, cell_small, known-none, known_on, grown-length}
+use Rattle.message_allowed.proofs.KnownLaws.{allowed_tagged, cell_small, known-none, known_on, grown-length}
 
 pub record Turn (words : List ℕ) (tops to : ℕ) (table : List ℕ) (flag : Bool) (i : ℕ) : Type 0 where
   pub within : i ≤ to

@@ -14,7 +14,7 @@ use Rattle.field_rules.specs.Fields.{Fields, field, fields_from}
 use Rattle.field_rules.specs.declared.Field.{Field}
 use Rattle.build_records.specs.declared.Record.{Record}
 use Rattle.build_nesting_laws.specs.Entries.{All, all_none, all_more}
-use Rattle.encode_rewriting_laws.specs.ReadWritten.{Writable}
+use Rattle.encode_rewriting_laws.proofs.ReadWritten.{Writable}
 use Rattle.encode_rewriting_laws.specs.Written.{written}
 
 -- fields that are read before others

@@ -17,10 +17,11 @@ use Rattle.dictionary_rules.specs.declared.Placed.TheVariants.{At}
 use Rattle.dictionary_meaning_rules.specs.MessageTable.{Tabling, tabling, placed_table}
 use Rattle.dictionary_meaning_rules.specs.declared.MessageTable.TheVariants.{Rows, NoMessage, Unprepared}
 use Rattle.dictionary_directory.specs.Directory.{longest, directory_words, block_stride, tags_slot, tags_place, block_at, kept_at, tags_at, Filling, filling, next_block, with_block, room_for, put_block, tags_listed, lay_listed, put_rows, lay_message, messages_from, lay_messages, clear_directory, lay_tables}
-use Rattle.dictionary_directory.specs.KeptLaws.{kept-short, tags-short, Found, kept-found, found-tags}
-use Rattle.dictionary_directory.specs.BlockLaws.{with-length}
-use Rattle.dictionary_directory.specs.FillingLaws.{LaidFor, for_message, for_tags, BlockStands, Fills, clear_fills, block_fills}
-use Rattle.dictionary_directory.specs.LayingLaws.{room-here, lay_short, lay_all}
+use Rattle.dictionary_directory.proofs.KeptLaws.{kept-short, tags-short, Found, kept-found, found-tags}
+use Rattle.dictionary_directory.proofs.BlockLaws.{with-length}
+use Rattle.dictionary_directory.proofs.FillingLaws.{LaidFor, for_message, for_tags, BlockStands, Fills, clear_fills, block_fills}
+use Rattle.dictionary_directory.specs.LayingLaws.{lay_short, lay_all}
+use Rattle.dictionary_directory.proofs.LayingFacts.{room-here}
 use Rattle.dictionary_directory.specs.declared.Kept.{Kept}
 use Rattle.dictionary_directory.specs.declared.Kept.TheVariants.{Table, Nowhere}
 

@@ -10,10 +10,10 @@ use Rattle.field_rules.specs.declared.Field.{Field}
 use Rattle.build_records.specs.declared.Record.{Record}
 use Rattle.message_read_laws.specs.Counting.{Of}
 use Rattle.build_order_laws.specs.Follows.{Follows, no_field, one_field}
-use Rattle.encode_rewriting_laws.specs.Copied.{onto, Copied, copied_none, copied_more}
-use Rattle.encode_rewriting_laws.specs.ReadMessage.{Followed}
-use Rattle.encode_rewriting_laws.specs.ReadRewritten.{ReadsLike}
-use Rattle.encode_rewriting_laws.specs.ReadWritten.{of_value}
+use Rattle.encode_rewriting_laws.proofs.Copied.{onto, Copied, copied_none, copied_more}
+use Rattle.encode_rewriting_laws.proofs.ReadMessage.{Followed}
+use Rattle.encode_rewriting_laws.proofs.ReadRewritten.{ReadsLike}
+use Rattle.encode_rewriting_laws.proofs.ReadWritten.{of_value}
 
 -- the text of two lists of records was copied: so was that of each
 pub record CopiedParts (bytes copy : List ℕ) (rs ss : List Record) (fs : List Field) : Type 0 where

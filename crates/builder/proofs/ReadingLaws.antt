@@ -40,10 +40,10 @@ use Rattle.builder.specs.declared.Read.{Read}
 use Rattle.builder.specs.declared.Built.{Built}
 use Rattle.builder.specs.Build.{untouched, shown, shown_words, judged, checked_read, first_refusal, build_of, built_told}
 use Rattle.builder.specs.Through.{after_start, message_by, message_through}
-use Rattle.dictionary_prepared.specs.MemoryLaws.{zero_passes}
+use Rattle.dictionary_prepared.proofs.MemoryLaws.{zero_passes}
 use Rattle.builder.specs.BuildLaws.{blanked, part_count, check-refuses, check-reads}
 use Rattle.builder.specs.Finishing.{part-empty}
-use Rattle.builder.specs.TagLaws.{through_tags}
+use Rattle.builder.proofs.TagLaws.{through_tags}
 
 -- what is shown with a refusal, as a list and as a count
 shown-part : (answer : Answer) (header : ℕ) (words : List ℕ) → part_of 0 (shown_count answer header) words ≡ shown_with answer (part_of 0 header words)

@@ -21,7 +21,7 @@ use Rattle.message_take_over.specs.StepLaws.{next_is}
 use Rattle.message_take_over.specs.Derived.{Own, Stands, no_more, own, in_entry}
 use Rattle.message_take_over.specs.StandLaws.{passed, passed-append, Context, own_context, past_entry, past_map}
 use Rattle.message_take_over.specs.GoesLaws.{value_size}
-use Rattle.message_take_over.specs.BackLaws.{open_top, open_number, entry_number, First, first-row}
+use Rattle.message_take_over.proofs.BackLaws.{open_top, open_number, entry_number, First, first-row}
 
 pub next_cons : (size part used : ℕ) (before : List Record) (r : Record) (rs : List Record)
     → are_next size part used before (r ∷ rs) ≡ pick (is_next size part used before r) (are_next size r.part (used + r.length) (r ∷ before) rs) false

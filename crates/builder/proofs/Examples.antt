@@ -18,7 +18,7 @@ use Rattle.dictionary_rules.specs.Records.{records_from, records_within, followe
 use Rattle.dictionary_meaning_rules.specs.Meaning.{item_before, no_items, body_of, size_of, declarations_in, declarations_of, nodes_of, expanded, defined_by, defined_after, bytes_within, msg_type_bytes, message_in, messages_from, tag_in, tags_from, meaning_of, dictionary_of}
 use Rattle.builder.specs.Build.{BuildOutcome, words_with, shown, checked_read, build_of}
 use Rattle.builder.specs.BuildLaws.{check-reads}
-use Rattle.builder.specs.ReadingLaws.{build_reads}
+use Rattle.builder.proofs.ReadingLaws.{build_reads}
 use Rattle.build_rules.specs.Message.{message_read}
 use Rattle.build_rules.specs.Examples.{dictionary, Row, table, Answered, answered, all_read}
 

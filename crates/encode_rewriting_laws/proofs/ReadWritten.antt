@@ -23,7 +23,7 @@ use Rattle.build_nesting_laws.specs.Entries.{All, all_none, all_more}
 use Rattle.message_read_laws.specs.Counting.{Of}
 use Rattle.build_order_laws.specs.Follows.{Follows, no_field, one_field}
 use Rattle.encode_rewriting_laws.specs.Plain.{is_plain, plain_tags}
-use Rattle.encode_rewriting_laws.specs.PlainLaws.{tag-text, plain_leads, plain_digits}
+use Rattle.encode_rewriting_laws.proofs.PlainLaws.{tag-text, plain_leads, plain_digits}
 use Rattle.encode_rewriting_laws.specs.ReadPlaces.{follows_cursor}
 use Rattle.field_rules.proofs.PlaceLaws.{first_read, one_place}
 use Rattle.field_rules.proofs.SpelledLaws.{spells, value_is, value_ends, behind-text}

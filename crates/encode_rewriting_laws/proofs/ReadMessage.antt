@@ -9,8 +9,8 @@ use Rattle.build_records.specs.declared.Record.{Record}
 use Rattle.build_nesting_laws.specs.Entries.{All, all_more, all_append}
 use Rattle.build_order_laws.specs.Follows.{Follows}
 use Rattle.encode_rewriting_laws.specs.ReadPlaces.{follows_cursor}
-use Rattle.encode_rewriting_laws.specs.ReadRewritten.{ReadsLike, rewritten_sound}
-use Rattle.encode_rewriting_laws.specs.ReadWritten.{Writable, follows_writable}
+use Rattle.encode_rewriting_laws.proofs.ReadRewritten.{ReadsLike, rewritten_sound}
+use Rattle.encode_rewriting_laws.proofs.ReadWritten.{Writable, follows_writable}
 use Rattle.encode_rewriting_laws.specs.Written.{rewritten}
 
 -- header, body and trailer were read one behind the other, and their records stand in that order
