@@ -6,6 +6,7 @@ ghost use Rattle.std.specs.Prelude.{◌≡◌};
 ghost use Rattle.frame_parser_rules.specs.Framer.{number_of_parser, length_returned};
 ghost use Rattle.frame_hunter_rules.specs.Bytes.{number_of_hunter};
 
+#[tactic(auto, unfolding(frame_parser_rules::specs::Framer::number_of_parser))]
 pub fn parser_number(answer: frame_parser_rules::Answer) -> u32
     ensures { result ≡ number_of_parser answer }
 {
@@ -21,6 +22,7 @@ pub fn parser_number(answer: frame_parser_rules::Answer) -> u32
 }
 
 // The length that a take returns, and 0 for every other answer.
+#[tactic(auto, unfolding(frame_parser_rules::specs::Framer::length_returned))]
 pub fn parser_length(answer: frame_parser_rules::Answer) -> usize
     ensures { result ≡ length_returned answer }
 {
@@ -35,6 +37,7 @@ pub fn parser_length(answer: frame_parser_rules::Answer) -> usize
     }
 }
 
+#[tactic(auto, unfolding(frame_hunter_rules::specs::Bytes::number_of_hunter))]
 pub fn hunter_number(answer: frame_hunter_rules::Answer) -> u32
     ensures { result ≡ number_of_hunter answer }
 {

@@ -1,0 +1,31 @@
+-- `length_agrees` meets its contract: the number is compared with what is left behind the field and before the CheckSum,
+-- which no sum can overflow.
+use mathlib.Core.Path.{◌≡◌, sym, ◌∙◌}
+use Prim.Native.Nat.{◌+◌, ◌-◌}
+use native.Mathlib.Omega.{arith}
+use lib.ListN.{length}
+use Rattle.field_rules.specs.Number.{number_in}
+use Rattle.field_rules.specs.Field.{value_of}
+use Rattle.field_rules.specs.declared.Number.TheVariants.{Worth}
+use Rattle.build_integrity_rules.specs.IntegrityLaws.{length_none, length-other, length_is_lem}
+use Rattle.build_integrity.proofs.Tests.{eqb_same}
+use Rattle.build_integrity.proofs.length_agrees.Goals as goal
+use Rattle.build_integrity.proofs.length_agrees.Goals.{In-Worth}
+
+pub returns-in_default : goal.returns-in_default
+returns-in_default c = sym (length_none _ _ (rw c.value_of.ensures at (sym c.number_of.ensures ∙ c.in_default.is)))
+
+-- what the field's value is worth
+number : (c : In-Worth) → number_in (value_of c.args.message.now c.args.body_length) ≡ Worth c.in-Worth.n
+number c = rw c.value_of.ensures at (sym c.number_of.ensures ∙ c.in-Worth.is)
+
+pub returns-then-message-after : goal.returns-then-message-after
+returns-then-message-after c = sym (length-other _ _ _ (number (goal.at.returns-then-message-after c).In-Worth) (λ e. omega arith))
+
+pub returns-then-left-lt7 : goal.returns-then-left-lt7
+returns-then-left-lt7 c = sym (length-other _ _ _ (number (goal.at.returns-then-left-lt7 c).In-Worth) (λ e. omega arith))
+
+pub returns : goal.returns
+returns c = let n = c.in-Worth.n in
+    eqb_same (length c.args.message.now - c.args.body_length.next.at - 7) c.wide.result (length c.args.message.now) (c.args.body_length.next.at + n + 7) (λ e. omega arith) (λ e. omega arith)
+    ∙ sym (length_is_lem _ _ _ (number (goal.at.returns c).In-Worth))
