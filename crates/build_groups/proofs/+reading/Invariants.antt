@@ -1,6 +1,6 @@
 -- What the run reader and the entry reader keep. The loops' invariant: what is left to be read from where reading stands has the outcome of
 -- the whole, and reading stands within the message. A run's depth is twice what is left of it and one, an entry's is twice.
-use Rattle.std.proofs.Common.{◌≡◌, ℕ, ◌+◌, ◌-◌, ◌*◌, ◌≤◌, length}
+use Rattle.std.proofs.Common.{◌≡◌, ◌+◌, ◌-◌, ◌*◌, ◌≤◌}
 use Rattle.field_rules.specs.declared.Field.{Field}
 use Rattle.dictionary_rules.specs.Index.{tag_at}
 use Rattle.build_group_rules.specs.Reading.{FitsAt}
