@@ -32,14 +32,14 @@ raw-own p z own at e =
     word words k place e = rw (e, get_or-append-add)
 
 pub raw_owns : (p z : List ℕ) (owns : List Own) (at count : ℕ) → length p ≡ at → length owns ≡ count → owns_from (p ++ (raw_items owns ++ z)) at count ≡ owns
-unfolding owns_from raw_items
+unfolding owns_from raw_items raw_item
 raw_owns p z [] at zero e n = refl
 raw_owns p z [] at (suc count) e n = absurd (omega arith)
 raw_owns p z (own ∷ owns) at zero e n = absurd (omega arith)
 raw_owns p z (own ∷ owns) at (suc count) e n =
     rw (append_assoc (raw_item own) (raw_items owns) z, raw-own p (raw_items owns ++ z) own at e)
     (ap (λ (l : List Own). own ∷ l) (ap (λ (l : List ℕ). owns_from l (at + 5) count) (sym (append_assoc p (raw_item own) (raw_items owns ++ z)))
-    ∙ raw_owns (p ++ raw_item own) z owns (at + 5) count (length-append p (raw_item own) ∙ unfold raw_item in omega arith) (omega arith)))
+    ∙ raw_owns (p ++ raw_item own) z owns (at + 5) count (length-append p (raw_item own) ∙ omega arith) (omega arith)))
 
 -- an item is written over five words
 put-over : (before more : List ℕ) (a b c d e at tag leads : ℕ) (required : Bool) → length before ≡ at →

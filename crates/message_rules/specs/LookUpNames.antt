@@ -50,7 +50,7 @@ named-parts_formed m f (past_entry n e (at_head g)) = f.body
 named-parts_formed m f (past_entry n e (in_entry k g more)) = named_formed f.body more
 named-parts_formed m f (past_entry n e (past_entry k g (at_head h))) = f.trailer
 named-parts_formed m f (past_entry n e (past_entry k g (in_entry j h more))) = named_formed f.trailer more
-named-parts_formed m f (past_entry n e (past_entry k g (past_entry j h none))) = elim none [ ]
+named-parts_formed m f (past_entry n e (past_entry k g (past_entry j h more))) = elim more [ ]
 
 -- where the values of a map that is named stand among all values, and that the row is found there
 pub record NamedAt (row : ℕ) (own m : Map) : Type 0 where

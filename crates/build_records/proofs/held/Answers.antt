@@ -22,8 +22,9 @@ loop-at-preserved c = let e = c.record_at-found.ensures in
     let h = records_length c.args.words.now in
     c.loop-at.invariant
     ∙ elim c.if-found-depth.branch [
-      then-found-depth+else-found-tag w ↦ held-other _ _ _ _ _ (omega arith) (omega (arith, h)) (λ t. w.if-found-tag.false (ap (λ (r : Record). r.tag) e ∙ t))
-      | else-found-depth w ↦ held-shallow _ _ _ _ _ (omega arith) (omega (arith, h)) (λ d. w.if-found-depth.false (ap (λ (r : Record). r.depth) e ∙ d)) ]
+      | then-found-depth+else-found-tag w ↦ held-other _ _ _ _ _ (omega arith) (omega (arith, h)) (λ t. w.if-found-tag.false (ap (λ (r : Record). r.tag) e ∙ t))
+      | else-found-depth w ↦ held-shallow _ _ _ _ _ (omega arith) (omega (arith, h)) (λ d. w.if-found-depth.false (ap (λ (r : Record). r.depth) e ∙ d))
+    ]
 
 pub returns : goal.returns
 returns c = sym (c.loop-at.invariant ∙ held-end _ _ _ _ _ (omega arith))

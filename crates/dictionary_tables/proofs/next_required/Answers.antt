@@ -1,5 +1,5 @@
 use mathlib.Core.Path.{◌≡◌, refl, sym, ap, ◌∙◌}
-use Prim.Native.Nat.{◌-◌, ◌*◌, ℕ, ◌+◌, ◌%◌}
+use Prim.Native.Nat.{◌≤◌, ◌-◌, ◌*◌, ℕ, ◌+◌, ◌%◌}
 use native.Mathlib.Omega.{arith}
 use lib.ListN.{get_or, get_or-eq_default}
 use Rattle.dictionary_tables_rules.specs.Table.{items_at, item_at, mark_at}

@@ -22,11 +22,11 @@ returns-then-n-gt4294967295 c = let s = c.args.text.now in
 
 pub loop-i-preserved : goal.loop-i-preserved
 loop-i-preserved c = let h = c.loop-i-test.true in (
-      omega arith,
-      omega arith,
-      c.loop-i.invariant.2 ∙ digit_step _ _ h (omega arith) (omega arith),
-      c.loop-i.invariant.3 ∙ worth-step _ _ _ h ∙ rw c.widened.ensures,
-    )
+  omega arith,
+  omega arith,
+  c.loop-i.invariant.2 ∙ digit_step _ _ h (omega arith) (omega arith),
+  c.loop-i.invariant.3 ∙ worth-step _ _ _ h ∙ rw c.widened.ensures,
+)
 
 pub returns : goal.returns
 returns c = let h = c.loop-i-test.false in
