@@ -55,6 +55,8 @@ module _ {L M : Type 0} (Same : L → M → Type 0) where
   counting_alike : (depth position : ℕ) (o : Opened L) (p : Opened M) → OpenedAlike o p → KindAlike (counting depth position o) (counting depth position p)
   unfolding counting
   counting_alike depth position none none none_alike = plain_alike
+  counting_alike depth position none (opened m) never = elim never [ ]
+  counting_alike depth position (opened l) none never = elim never [ ]
   counting_alike depth position (opened l) (opened m) (opened_alike s) = go (ltb depth 4)
     where
       go : (b : Bool) → KindAlike (pick b (count l position) (plain position)) (pick b (count m position) (plain position))
