@@ -1,18 +1,14 @@
 -- What an arm says that stands for several cases: none of the dictionary's records can be read, or it is none of an item.
-use mathlib.Core.Path.{◌≡◌, refl, sym, ap, ◌∙◌}
-use mathlib.Core.Logic.{◌⊎◌, inl, inr, ⊎_elim}
-use mathlib.Core.List.{List, [], ◌∷◌}
-use Prim.Native.Nat.{ℕ, ◌+◌, ◌-◌, ◌≤◌, ◌<◌}
+use mathlib.Core.Path.{◌≡◌, refl, sym}
+use Rattle.std.proofs.Common.{Bool}
+use mathlib.Core.List.{List}
+use Prim.Native.Nat.{ℕ, ◌≤◌, ◌<◌}
 use native.Mathlib.Omega.{arith}
 use lib.ListN.{length}
-use types.Run.{OneOf}
-use denote.Enum.Declared.{tag_of}
 use Rattle.dictionary_rules.specs.Record.{record_at}
 use Rattle.dictionary_rules.specs.declared.Record.{Record}
-use Rattle.dictionary_rules.specs.contracts.Record as record-type
 use Rattle.dictionary_rules.specs.declared.Record.TheVariants.{KnownTag, OpensComponent, OpensMessage, FieldItem, ComponentItem, OpensGroup, Closes}
 use Rattle.dictionary_rules.specs.declared.RecordRead.{RecordRead}
-use Rattle.dictionary_rules.specs.contracts.RecordRead as read-type
 use Rattle.dictionary_rules.specs.declared.RecordRead.TheVariants.{Whole, Bad, End}
 use Rattle.dictionary_rules.specs.declared.Looked.{Looked}
 use Rattle.dictionary_meaning_rules.specs.Laying.{Laying, laying, Step, items_from}
@@ -27,23 +23,25 @@ read_as e n = cc
 pub laid_as : {outcome : Laying} {r named : Laid} {table : List ℕ} → laying r table ≡ outcome → r ≡ named → outcome ≡ laying named table
 laid_as e n = cc
 
-pub never : {A B C D : Type 0} → (A ⊎ (B ⊎ C)) → (A → D) → (B → D) → (C → D) → D
-never k a b c = ⊎_elim a (⊎_elim b c) k
-
 module _ (inner : Step) (bytes : List ℕ) (components : ℕ → Looked) (rises : Advancing (length bytes) inner) (at row : ℕ) (table : List ℕ) where
-  pub unread : (read : RecordRead) → read ≡ record_at bytes at → OneOf (1 ∷ 2 ∷ []) (tag_of read-type.the_type read) → items_from inner bytes components at row table ≡ laying Broken table
-  unread (Whole r next) e k = ⊎_elim (λ (z : 0 ≡ 1). absurd (omega arith)) (λ (z : 0 ≡ 2). absurd (omega arith)) k
+  pub unread : (read : RecordRead) → read ≡ record_at bytes at → ((r : Record) (next : ℕ) → read ≡ Whole r next → ⊥)
+      → items_from inner bytes components at row table ≡ laying Broken table
+  unread (Whole r next) e k = absurd (k r next refl)
   unread Bad e k = lay_bad inner bytes components rises at row table (sym e)
   unread End e k = lay_end inner bytes components rises at row table (sym e)
 
-  pub top_level : (r : Record) (next : ℕ) → record_at bytes at ≡ Whole r next → OneOf (0 ∷ 1 ∷ 2 ∷ []) (tag_of record-type.the_type r) → items_from inner bytes components at row table ≡ laying Broken table
-  top_level (KnownTag tag) next e k = lay_known_tag inner bytes components rises at row table tag next e
-  top_level (OpensComponent number) next e k = lay_opens_component inner bytes components rises at row table number next e
-  top_level (OpensMessage msg_type) next e k = lay_opens_message inner bytes components rises at row table msg_type next e
-  top_level (FieldItem tag required) next e k = never k (λ (z : 3 ≡ 0). absurd (omega arith)) (λ (z : 3 ≡ 1). absurd (omega arith)) (λ (z : 3 ≡ 2). absurd (omega arith))
-  top_level (ComponentItem required number) next e k = never k (λ (z : 4 ≡ 0). absurd (omega arith)) (λ (z : 4 ≡ 1). absurd (omega arith)) (λ (z : 4 ≡ 2). absurd (omega arith))
-  top_level (OpensGroup tag required) next e k = never k (λ (z : 5 ≡ 0). absurd (omega arith)) (λ (z : 5 ≡ 1). absurd (omega arith)) (λ (z : 5 ≡ 2). absurd (omega arith))
-  top_level Closes next e k = never k (λ (z : 6 ≡ 0). absurd (omega arith)) (λ (z : 6 ≡ 1). absurd (omega arith)) (λ (z : 6 ≡ 2). absurd (omega arith))
+  pub top_level : (r : Record) (next : ℕ) → record_at bytes at ≡ Whole r next
+      → ((tag : ℕ) (required : Bool) → r ≡ FieldItem tag required → ⊥)
+      → ((required : Bool) (number : ℕ) → r ≡ ComponentItem required number → ⊥)
+      → ((tag : ℕ) (required : Bool) → r ≡ OpensGroup tag required → ⊥) → (r ≡ Closes → ⊥)
+      → items_from inner bytes components at row table ≡ laying Broken table
+  top_level (KnownTag tag) next e f c g s = lay_known_tag inner bytes components rises at row table tag next e
+  top_level (OpensComponent number) next e f c g s = lay_opens_component inner bytes components rises at row table number next e
+  top_level (OpensMessage msg_type) next e f c g s = lay_opens_message inner bytes components rises at row table msg_type next e
+  top_level (FieldItem tag required) next e f c g s = absurd (f tag required refl)
+  top_level (ComponentItem required number) next e f c g s = absurd (c required number refl)
+  top_level (OpensGroup tag required) next e f c g s = absurd (g tag required refl)
+  top_level Closes next e f c g s = absurd (s refl)
 
 -- what an outcome says of the place and the row that it names
 pub reached : {limit at row after end : ℕ} {outcome : Laying} {table : List ℕ} → Advances limit at row outcome → outcome ≡ laying (Upto after end) table → (at < after) × (after ≤ limit) × (row ≤ end) × (end ≤ 1024)

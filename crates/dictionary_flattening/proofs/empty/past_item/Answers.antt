@@ -5,7 +5,7 @@ use Rattle.dictionary_flattening.proofs.Arms.{read_as}
 use Rattle.dictionary_flattening.proofs.empty.past_item.Goals as goal
 
 pub returns-in-NoItems : goal.returns-in-NoItems
-returns-in-NoItems c = leads_past (read_as (sym c.record_at.ensures ∙ c.«record».given.1) c.in-ComponentItem.is)
+returns-in-NoItems c = leads_past (read_as (sym c.record_at.ensures ∙ c.in-Whole.is) c.in-ComponentItem.is)
     (sym c.stands_at.ensures ∙ c.in-NoItems.is)
 
 pub returns-in_default : goal.returns-in_default

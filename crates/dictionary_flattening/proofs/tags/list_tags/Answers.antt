@@ -1,7 +1,6 @@
 use mathlib.Core.Path.{◌≡◌, refl, sym, ◌∙◌}
 use Prim.Native.Nat.{◌≤◌, ◌<◌}
 use native.Mathlib.Omega.{arith}
-use borrow.Author.Rules.{rules}
 use lib.ListN.{length, length-set}
 use Rattle.dictionary_rules.specs.Record.{record_at}
 use Rattle.dictionary_rules.specs.RecordsLaws.{record_falls}
@@ -13,91 +12,56 @@ use Rattle.dictionary_flattening.proofs.TagArms.{unread_tags, top_level_tags}
 use Rattle.dictionary_flattening.proofs.tags.list_tags.Goals as goal
 use Rattle.dictionary_flattening.proofs.tags.list_tags.Goals.{In-Whole}
 
--- src/tags.rt:24:5
 pub loop-record-init : goal.loop-record-init
 loop-record-init c = (omega arith, omega arith, refl, refl)
 
--- src/tags.rt:25:47
-pub record_at-requires : goal.record_at-requires
-record_at-requires c = search rules
-
--- src/tags.rt:25:31
-pub enum_known-record : goal.enum_known-record
-enum_known-record c = search rules
-
--- src/tags.rt:26:13
-pub shape_of-tags-in_default : goal.shape_of-tags-in_default
-shape_of-tags-in_default c = search rules
-
--- src/tags.rt:26:13
 pub returns-in_default : goal.returns-in_default
 returns-in_default c = sym (c.loop-record.invariant.3 ∙ unread_tags _ _ _ _ _ _ c.record_at.ensures c.in_default.not-Whole)
 
--- src/tags.rt:29:31
-read_here : (c : In-Whole) → record_at c.args.dictionary.now c.loop-record.at ≡ Whole c.«record».given.0.0 c.«record».given.0.1.0
-read_here c = sym c.record_at.ensures ∙ c.«record».given.1
+read_here : (c : In-Whole) → record_at c.args.dictionary.now c.loop-record.at ≡ Whole c.in-Whole.record c.in-Whole.next
+read_here c = sym c.record_at.ensures ∙ c.in-Whole.is
 
-read-rises : (c : In-Whole) → (c.loop-record.at < c.«record».given.0.1.0) × (c.«record».given.0.1.0 ≤ length c.args.dictionary.now)
+read-rises : (c : In-Whole) → (c.loop-record.at < c.in-Whole.next) × (c.in-Whole.next ≤ length c.args.dictionary.now)
 read-rises c = record_falls _ _ _ _ (read_here c)
 
--- src/tags.rt:33:25
 pub returns-then-count-ge1024 : goal.returns-then-count-ge1024
 returns-then-count-ge1024 c =
     let field-here : record_at c.args.dictionary.now c.loop-record.at ≡ Whole (FieldItem c.in-FieldItem.tag c.in-FieldItem.field-1)
-    c.«record».given.0.1.0 = read_as (read_here (goal.at.returns-then-count-ge1024 c).In-Whole) c.in-FieldItem.is in
+    c.in-Whole.next = read_as (read_here (goal.at.returns-then-count-ge1024 c).In-Whole) c.in-FieldItem.is in
     sym (c.loop-record.invariant.3 ∙ tags_full _ _ _ _ _ _ _ _ (field-here) c.if-groups-eq0.true c.if-count-ge1024.true)
 
--- src/tags.rt:35:21
-pub offset_bounds-tags-count : goal.offset_bounds-tags-count
-offset_bounds-tags-count c = search rules
-
--- src/tags.rt:35:21
 pub bounds-tags-count : goal.bounds-tags-count
 bounds-tags-count c = omega (arith, c.if-count-ge1024.false, c.loop-record.invariant.2)
 
--- src/tags.rt:36:21
-pub overflow_add-count : goal.overflow_add-count
-overflow_add-count c = search rules
-
--- src/tags.rt:24:5
 pub loop-record-smaller-then-groups-eq0 : goal.loop-record-smaller-then-groups-eq0
 loop-record-smaller-then-groups-eq0 c = omega (arith, read-rises (goal.at.loop-record-smaller-then-groups-eq0 c).In-Whole)
 
--- src/tags.rt:24:5
 pub loop-record-preserved-then-groups-eq0 : goal.loop-record-preserved-then-groups-eq0
 loop-record-preserved-then-groups-eq0 c =
     let field-here : record_at c.args.dictionary.now c.loop-record.at ≡ Whole (FieldItem c.in-FieldItem.tag c.in-FieldItem.field-1)
-    c.«record».given.0.1.0 = read_as (read_here (goal.at.loop-record-preserved-then-groups-eq0 c).In-Whole) c.in-FieldItem.is in (
+    c.in-Whole.next = read_as (read_here (goal.at.loop-record-preserved-then-groups-eq0 c).In-Whole) c.in-FieldItem.is in (
       omega (arith, c.if-count-ge1024.false),
       omega (arith, read-rises (goal.at.loop-record-preserved-then-groups-eq0 c).In-Whole, c.loop-record.invariant.1),
       simp length-set c.loop-record.invariant.2,
       c.loop-record.invariant.3 ∙ tags-field _ _ _ _ _ _ _ _ (field-here) c.if-groups-eq0.true c.if-count-ge1024.false,
     )
 
--- src/tags.rt:24:5
 pub loop-record-smaller-else-groups-eq0 : goal.loop-record-smaller-else-groups-eq0
 loop-record-smaller-else-groups-eq0 c = omega (arith, read-rises (goal.at.loop-record-smaller-else-groups-eq0 c).In-Whole)
 
--- src/tags.rt:24:5
 pub loop-record-preserved-else-groups-eq0 : goal.loop-record-preserved-else-groups-eq0
 loop-record-preserved-else-groups-eq0 c =
     let field-here : record_at c.args.dictionary.now c.loop-record.at ≡ Whole (FieldItem c.in-FieldItem.tag c.in-FieldItem.field-1)
-    c.«record».given.0.1.0 = read_as (read_here (goal.at.loop-record-preserved-else-groups-eq0 c).In-Whole) c.in-FieldItem.is in (
+    c.in-Whole.next = read_as (read_here (goal.at.loop-record-preserved-else-groups-eq0 c).In-Whole) c.in-FieldItem.is in (
       c.loop-record.invariant.0,
       omega (arith, read-rises (goal.at.loop-record-preserved-else-groups-eq0 c).In-Whole, c.loop-record.invariant.1),
       c.loop-record.invariant.2,
       c.loop-record.invariant.3 ∙ tags_within_lem _ _ _ _ _ _ _ _ (field-here) c.if-groups-eq0.false,
     )
 
--- src/tags.rt:40:17
-pub enum_told-1 : goal.enum_told-1
-enum_told-1 c = search rules
-
--- src/tags.rt:24:5
 pub loop-record-smaller-in-ComponentItem : goal.loop-record-smaller-in-ComponentItem
 loop-record-smaller-in-ComponentItem c = omega (arith, read-rises (goal.at.loop-record-smaller-in-ComponentItem c).In-Whole)
 
--- src/tags.rt:24:5
 pub loop-record-preserved-in-ComponentItem : goal.loop-record-preserved-in-ComponentItem
 loop-record-preserved-in-ComponentItem c = (
   c.loop-record.invariant.0,
@@ -106,19 +70,12 @@ loop-record-preserved-in-ComponentItem c = (
   c.loop-record.invariant.3 ∙ tags-component _ _ _ _ _ _ _ _ (read_as (read_here (goal.at.loop-record-preserved-in-ComponentItem c).In-Whole) c.in-ComponentItem.is),
 )
 
--- src/tags.rt:43:17
-pub enum_told-in-OpensGroup : goal.enum_told-in-OpensGroup
-enum_told-in-OpensGroup c = search rules
-
--- src/tags.rt:44:17
 pub overflow_add-groups : goal.overflow_add-groups
 overflow_add-groups c = omega (arith, read-rises (goal.at.overflow_add-groups c).In-Whole, c.loop-record.invariant.1)
 
--- src/tags.rt:24:5
 pub loop-record-smaller-in-OpensGroup : goal.loop-record-smaller-in-OpensGroup
 loop-record-smaller-in-OpensGroup c = omega (arith, read-rises (goal.at.loop-record-smaller-in-OpensGroup c).In-Whole)
 
--- src/tags.rt:24:5
 pub loop-record-preserved-in-OpensGroup : goal.loop-record-preserved-in-OpensGroup
 loop-record-preserved-in-OpensGroup c = (
   c.loop-record.invariant.0,
@@ -127,27 +84,12 @@ loop-record-preserved-in-OpensGroup c = (
   c.loop-record.invariant.3 ∙ tags-group _ _ _ _ _ _ _ _ (read_as (read_here (goal.at.loop-record-preserved-in-OpensGroup c).In-Whole) c.in-OpensGroup.is),
 )
 
--- src/tags.rt:47:17
-pub enum_told-in-Closes : goal.enum_told-in-Closes
-enum_told-in-Closes c = search rules
-
--- src/tags.rt:49:21
-pub shape_of-tags-then-groups-eq0-2 : goal.shape_of-tags-then-groups-eq0-2
-shape_of-tags-then-groups-eq0-2 c = search rules
-
--- src/tags.rt:49:21
 pub returns-then-groups-eq0-2 : goal.returns-then-groups-eq0-2
 returns-then-groups-eq0-2 c = sym (c.loop-record.invariant.3 ∙ tags-closed _ _ _ _ _ _ (read_as (read_here (goal.at.returns-then-groups-eq0-2 c).In-Whole) c.in-Closes.is) c.if-groups-eq0-2.true)
 
--- src/tags.rt:51:17
-pub overflow_sub-groups : goal.overflow_sub-groups
-overflow_sub-groups c = search rules
-
--- src/tags.rt:24:5
 pub loop-record-smaller : goal.loop-record-smaller
 loop-record-smaller c = omega (arith, read-rises (goal.at.loop-record-smaller c).In-Whole)
 
--- src/tags.rt:24:5
 pub loop-record-preserved : goal.loop-record-preserved
 loop-record-preserved c = (
   c.loop-record.invariant.0,
@@ -156,10 +98,6 @@ loop-record-preserved c = (
   c.loop-record.invariant.3 ∙ tags-closes _ _ _ _ _ _ (read_as (read_here (goal.at.loop-record-preserved c).In-Whole) c.in-Closes.is) c.if-groups-eq0-2.false,
 )
 
--- src/tags.rt:54:17
-pub shape_of-tags-in_default-record : goal.shape_of-tags-in_default-record
-shape_of-tags-in_default-record c = search rules
-
--- src/tags.rt:54:17
 pub returns-in_default-record : goal.returns-in_default-record
-returns-in_default-record c = sym (c.loop-record.invariant.3 ∙ top_level_tags _ _ _ _ _ _ _ (read_here (goal.at.returns-in_default-record c).In-Whole) c.in_default-record.not-FieldItem)
+returns-in_default-record c = sym (c.loop-record.invariant.3 ∙ top_level_tags _ _ _ _ _ _ _ (read_here (goal.at.returns-in_default-record c).In-Whole)
+    c.in_default-record.not-FieldItem c.in_default-record.not-ComponentItem c.in_default-record.not-OpensGroup c.in_default-record.not-Closes)

@@ -1,0 +1,39 @@
+-- `number_of` meets its contract, case by case.
+use Rattle.dictionary_rules.specs.Check.{number_of_check}
+use Rattle.dictionary_check.proofs.number_of.Goals as goal
+
+pub returns-in-Passes : goal.returns-in-Passes
+unfolding number_of_check
+returns-in-Passes c = rw c.in-Passes.is
+
+pub returns-in-TooLong : goal.returns-in-TooLong
+unfolding number_of_check
+returns-in-TooLong c = rw c.in-TooLong.is
+
+pub returns-in-BadRecord : goal.returns-in-BadRecord
+unfolding number_of_check
+returns-in-BadRecord c = rw c.in-BadRecord.is
+
+pub returns-in-NoComponent : goal.returns-in-NoComponent
+unfolding number_of_check
+returns-in-NoComponent c = rw c.in-NoComponent.is
+
+pub returns-in-UnknownTag : goal.returns-in-UnknownTag
+unfolding number_of_check
+returns-in-UnknownTag c = rw c.in-UnknownTag.is
+
+pub returns-in-EmptyGroup : goal.returns-in-EmptyGroup
+unfolding number_of_check
+returns-in-EmptyGroup c = rw c.in-EmptyGroup.is
+
+pub returns-in-TooDeep : goal.returns-in-TooDeep
+unfolding number_of_check
+returns-in-TooDeep c = rw c.in-TooDeep.is
+
+pub returns-in-Twice : goal.returns-in-Twice
+unfolding number_of_check
+returns-in-Twice c = rw c.in-Twice.is
+
+pub returns-in-TooManyItems : goal.returns-in-TooManyItems
+unfolding number_of_check
+returns-in-TooManyItems c = rw c.in-TooManyItems.is

@@ -1,0 +1,140 @@
+-- `cut_rows` meets its contract: the sizes of rows are places of values, and both splices are the cut.
+use mathlib.Core.Path.{◌≡◌, sym, ◌∙◌}
+use mathlib.Core.Bool.{true, false}
+use Prim.Native.Nat.{◌+◌, ◌-◌, ◌≤◌}
+use native.Mathlib.Omega.{arith}
+use lib.ListN.{length}
+use lib.Dec.{leb}
+use borrow.Author.Tests.{leb-true}
+use Rattle.message_rules.specs.RowChanges.{BlankFrom, cut_rows, cut_size, cut_words, cut_values}
+use Rattle.message_rules.specs.ChangeLaws.{change_large, change_run, change_many, change_made, Places, places_of}
+use Rattle.message.proofs.cut_rows.Goals as goal
+use Rattle.message.proofs.cut_rows.Goals.{After-places_of-places}
+
+pub places_of-places-requires : goal.places_of-places-requires
+places_of-places-requires c = (c.requires.cuttable.forwards, c.requires.cuttable.back, c.requires.cuttable.on, c.requires.cuttable.last, c.requires.cuttable.few, c.requires.cuttable.whole, c.requires.cuttable.within)
+
+places-at : (c : After-places_of-places) → Places c.args.words.now c.args.cut c.places_of-places.result.from c.places_of-places.result.to c.places_of-places.result.kept c.places_of-places.result.until
+    c.places_of-places.result.used
+places-at c = places_of _ _ _ _ _ _ _ _ _ _ _ c.requires.cuttable c.places_of-places.ensures.0 c.places_of-places.ensures.2 c.places_of-places.ensures.1 c.places_of-places.ensures.3 c.places_of-places.ensures.4
+
+pub overflow_sub-fourth : goal.overflow_sub-fourth
+overflow_sub-fourth c = let p = places-at c in omega (arith, p.forwards, p.back, p.on, p.last, p.within)
+
+pub overflow_add-first : goal.overflow_add-first
+overflow_add-first c = let p = places-at c in omega (arith, p.forwards, p.back, p.on, p.last, p.within)
+
+pub overflow_sub-second : goal.overflow_sub-second
+overflow_sub-second c = let p = places-at c in omega (arith, p.forwards, p.back, p.on, p.last, p.within)
+
+pub overflow_add-first-2 : goal.overflow_add-first-2
+overflow_add-first-2 c = let p = places-at c in omega (arith, p.forwards, p.back, p.on, p.last, p.within)
+
+pub overflow_sub-used : goal.overflow_sub-used
+overflow_sub-used c = let p = places-at c in omega (arith, p.forwards, p.back, p.on, p.last, p.within)
+
+pub overflow_add-first-3 : goal.overflow_add-first-3
+overflow_add-first-3 c = let p = places-at c in omega (arith, p.forwards, p.back, p.on, p.last, p.within)
+
+room_at : (c : tie.After-fits2)
+    → let s = c.before.before.before.before.before.before.before.args in
+    c.fits2.result ≡ true → let p = c.before.places_of.result in
+    p.from + (p.until - p.to) + (p.to - p.kept) + (p.used - p.until) + length s.bytes.now ≤ 8192
+room_at c h = leb-true _ _ (sym c.fits2.ensures ∙ h)
+
+size-at : (c : tie.After-fits2)
+    → let s = c.before.before.before.before.before.before.before.args in
+    leb (cut_size s.words.now s.cut + length s.bytes.now) 8192 ≡ c.fits2.result
+unfolding cut_size
+size-at c =
+    let e = c.before.places_of.ensures in
+    sym (rw (e.0, e.1, e.2, e.3, e.4) at c.fits2.ensures)
+
+pub returns-then-not-fits : goal.returns-then-not-fits
+returns-then-not-fits c = sym (change_large _ _ _ _ _ _ _ _ (size-at c ∙ c.if-not-fits.true))
+
+pub returns-then-not-whole : goal.returns-then-not-whole
+returns-then-not-whole c = sym (change_run _ _ _ _ _ _ _ _ (size-at c ∙ c.if-not-fits.false) (c.if-not-whole.true))
+
+pub returns-then-fields-gt1024 : goal.returns-then-fields-gt1024
+returns-then-fields-gt1024 c = sym (change_many _ _ _ _ _ _ _ _ (size-at c ∙ c.if-not-fits.false) (c.if-not-whole.false)
+    c.if-fields-gt1024.true)
+
+pub overflow_sub-left : goal.overflow_sub-left
+overflow_sub-left c = omega (arith, c.requires.cuttable.forwards, c.requires.cuttable.back, c.requires.cuttable.on, c.requires.cuttable.last, c.requires.cuttable.few)
+
+pub overflow_add-left : goal.overflow_add-left
+overflow_add-left c = omega (arith, c.requires.cuttable.forwards, c.requires.cuttable.back, c.requires.cuttable.on, c.requires.cuttable.last, c.requires.cuttable.few)
+
+pub overflow_sub-left-2 : goal.overflow_sub-left-2
+overflow_sub-left-2 c = omega (arith, c.requires.cuttable.forwards, c.requires.cuttable.back, c.requires.cuttable.on, c.requires.cuttable.last, c.requires.cuttable.few)
+
+pub overflow_add-left-2 : goal.overflow_add-left-2
+overflow_add-left-2 c = omega (arith, c.requires.cuttable.forwards, c.requires.cuttable.back, c.requires.cuttable.on, c.requires.cuttable.last, c.requires.cuttable.few)
+
+pub overflow_sub-left-3 : goal.overflow_sub-left-3
+overflow_sub-left-3 c = omega (arith, c.requires.cuttable.forwards, c.requires.cuttable.back, c.requires.cuttable.on, c.requires.cuttable.last, c.requires.cuttable.few)
+
+pub overflow_add-left-3 : goal.overflow_add-left-3
+overflow_add-left-3 c = omega (arith, c.requires.cuttable.forwards, c.requires.cuttable.back, c.requires.cuttable.on, c.requires.cuttable.last, c.requires.cuttable.few)
+
+pub overflow_mul-from : goal.overflow_mul-from
+overflow_mul-from c = omega (arith, c.requires.cuttable.forwards, c.requires.cuttable.back, c.requires.cuttable.on, c.requires.cuttable.last, c.requires.cuttable.few)
+
+pub overflow_add-from : goal.overflow_add-from
+overflow_add-from c = omega (arith, c.requires.cuttable.forwards, c.requires.cuttable.back, c.requires.cuttable.on, c.requires.cuttable.last, c.requires.cuttable.few)
+
+pub overflow_mul-to : goal.overflow_mul-to
+overflow_mul-to c = omega (arith, c.requires.cuttable.forwards, c.requires.cuttable.back, c.requires.cuttable.on, c.requires.cuttable.last, c.requires.cuttable.few)
+
+pub overflow_add-to : goal.overflow_add-to
+overflow_add-to c = omega (arith, c.requires.cuttable.forwards, c.requires.cuttable.back, c.requires.cuttable.on, c.requires.cuttable.last, c.requires.cuttable.few)
+
+pub overflow_mul-kept : goal.overflow_mul-kept
+overflow_mul-kept c = omega (arith, c.requires.cuttable.forwards, c.requires.cuttable.back, c.requires.cuttable.on, c.requires.cuttable.last, c.requires.cuttable.few)
+
+pub overflow_add-kept : goal.overflow_add-kept
+overflow_add-kept c = omega (arith, c.requires.cuttable.forwards, c.requires.cuttable.back, c.requires.cuttable.on, c.requires.cuttable.last, c.requires.cuttable.few)
+
+pub overflow_mul-until : goal.overflow_mul-until
+overflow_mul-until c = omega (arith, c.requires.cuttable.forwards, c.requires.cuttable.back, c.requires.cuttable.on, c.requires.cuttable.last, c.requires.cuttable.few)
+
+pub overflow_add-until : goal.overflow_add-until
+overflow_add-until c = omega (arith, c.requires.cuttable.forwards, c.requires.cuttable.back, c.requires.cuttable.on, c.requires.cuttable.last, c.requires.cuttable.few)
+
+pub overflow_mul-count : goal.overflow_mul-count
+overflow_mul-count c = omega (arith, c.requires.cuttable.forwards, c.requires.cuttable.back, c.requires.cuttable.on, c.requires.cuttable.last, c.requires.cuttable.few)
+
+pub overflow_add-count : goal.overflow_add-count
+overflow_add-count c = omega (arith, c.requires.cuttable.forwards, c.requires.cuttable.back, c.requires.cuttable.on, c.requires.cuttable.last, c.requires.cuttable.few)
+
+pub splice_words-requires : goal.splice_words-requires
+unfolding BlankFrom
+splice_words-requires c = let room = c.requires.cuttable.room c.if-fields-gt1024.false in record {
+  from_le_to = (
+    omega (arith, c.requires.cuttable.forwards, c.requires.cuttable.back),
+    omega (arith, c.requires.cuttable.back),
+    omega (arith, c.requires.cuttable.on),
+    omega (arith, c.requires.cuttable.last),
+    omega (arith, c.requires.cuttable.few),
+    c.requires.cuttable.whole,
+    omega (arith, room, c.requires.cuttable.four, c.requires.cuttable.forwards, c.requires.cuttable.back, c.requires.cuttable.on, c.requires.cuttable.last, c.requires.cuttable.few),
+  );
+  words_value = λ e. (c.requires.blank_from e).0;
+}
+
+pub overflow_add-words : goal.overflow_add-words
+overflow_add-words c = let room = c.requires.cuttable.room c.if-fields-gt1024.false in omega (arith, room, c.requires.cuttable.forwards, c.requires.cuttable.back, c.requires.cuttable.on, c.requires.cuttable.last, c.requires.cuttable.few)
+
+pub overflow_cast-words : goal.overflow_cast-words
+overflow_cast-words c = let room = c.requires.cuttable.room c.if-fields-gt1024.false in omega (arith, room, c.requires.cuttable.forwards, c.requires.cuttable.back, c.requires.cuttable.on, c.requires.cuttable.last, c.requires.cuttable.few)
+
+pub splice_bytes-requires : goal.splice_bytes-requires
+unfolding BlankFrom
+splice_bytes-requires c = let p = places-at (goal.at.splice_bytes-requires c).After-places_of-places in
+    let s = room_at c (c.if-not-fits.false) in record { from_le_to = (omega (arith, p.forwards, p.back), p.back, p.on, p.last, p.within, c.requires.cuttable.store, omega (arith, s, p.forwards, p.back, p.on, p.last)); values_value = λ e. rw c.places_of-places.ensures.4 (c.requires.blank_from e).1 }
+
+pub returns : goal.returns
+returns c = sym
+    (change_made _ _ _ _ _ _ _ _ (size-at c ∙ c.if-not-fits.false) (c.if-not-whole.false) c.if-fields-gt1024.false
+    ∙ (unfold cut_words cut_values cut_rows in rw (← c.places_of-places.ensures.0, ← c.places_of-places.ensures.1, ← c.places_of-places.ensures.2, ← c.places_of-places.ensures.3, ← c.places_of-places.ensures.4, ← c.splice_words.ensures, ← c.splice_bytes.ensures)))
