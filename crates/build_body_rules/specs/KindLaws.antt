@@ -2,10 +2,10 @@
 use Rattle.std.specs.Prelude.{◌≡◌, Bool, true, false, List, ℕ}
 use Rattle.build_config.specs.declared.Config.{Config}
 use Rattle.dictionary_tables_rules.specs.Table.{item_of}
-use Rattle.dictionary_tables_rules.specs.Tabled.{place_of, group_of_item}
+use Rattle.dictionary_tables_rules.proofs.Tabled.{place_of, group_of_item}
 use Rattle.dictionary_tables_rules.specs.declared.Item.TheVariants.{At, Nowhere}
 use Rattle.build_group_rules.specs.Reading.{accepted, table_rules}
-use Rattle.build_group_rules.specs.ReadingLaws.{opened-none, opened_some}
+use Rattle.build_group_rules.proofs.ReadingLaws.{opened-none, opened_some}
 use Rattle.build_body_rules.specs.Body.{plain, counts, other}
 use Rattle.build_body_rules.specs.Kinds.{group_kind, placed_kind, body_kind}
 

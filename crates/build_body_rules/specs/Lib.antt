@@ -1,12 +1,6 @@
 pub mod Body
-pub mod BodyLaws
 pub mod Kinds
 pub mod KindLaws
-pub mod RunLaws
 pub mod RunWords
-pub mod GroupReading
-pub mod BodyReading
-pub mod Meaning
 pub mod Seen
-pub mod SeenLaws
 pub mod RunTree

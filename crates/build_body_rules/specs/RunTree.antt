@@ -21,9 +21,9 @@ use Rattle.build_required_rules.specs.Required.{Demands, run_lack}
 use Rattle.build_required_rules.specs.Checking.{layout_demands}
 use Rattle.build_required_rules.specs.Tree.{Run, no_entry, Entry, no_field, field, tree_lack, laid, laid_fields, RunKeeps, keeps_none, keep-none, hangs-none}
 use Rattle.build_required_rules.specs.Tree.{hangs-run}
-use Rattle.build_required_rules.specs.TreeLaws.{tree_lack_lem}
-use Rattle.build_required_rules.specs.Growing.{with_entry, with_field, with_stored, laid-entry, laid-field, EntryKeeps, keeps_fields, run_grows, entry_grows}
-use Rattle.build_required_rules.specs.Growing.{entry_stores, entry-laid}
+use Rattle.build_required_rules.proofs.TreeLaws.{tree_lack_lem}
+use Rattle.build_required_rules.proofs.Growing.{with_entry, with_field, with_stored, laid-entry, laid-field, EntryKeeps, keeps_fields, run_grows, entry_grows}
+use Rattle.build_required_rules.proofs.Growing.{entry_stores, entry-laid}
 use Rattle.build_parts.specs.Parts.{Reading, refused}
 use Rattle.build_body_rules.specs.Kinds.{checked, ran_as, run_from}
 

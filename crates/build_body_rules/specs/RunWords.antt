@@ -12,8 +12,8 @@ use Rattle.field_rules.specs.Choice.{pick}
 use Rattle.field_rules.specs.Fields.{Fields, unreadable, field}
 use Rattle.field_rules.specs.declared.Field.{Field}
 use Rattle.build_records.specs.Records.{records_of, on_records, between, held_from, inserted, stored_between, stored}
-use Rattle.build_records.specs.WordLaws.{records_on, on_same}
-use Rattle.build_records.specs.RecordLaws.{inserted-parts, between-parts, between-end, between-new, stored-held, stored-new, stored-parts-held, stored-parts-new}
+use Rattle.build_records.proofs.WordLaws.{records_on, on_same}
+use Rattle.build_records.proofs.RecordLaws.{inserted-parts, between-parts, between-end, between-new, stored-held, stored-new, stored-parts-held, stored-parts-new}
 use Rattle.build_records.specs.declared.Record.{Record}
 use Rattle.build_records.specs.declared.Standing.{Standing}
 use Rattle.build_records.specs.declared.Standing.TheVariants.{At, Nowhere}

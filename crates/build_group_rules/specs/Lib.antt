@@ -1,8 +1,3 @@
 pub mod Groups
 pub mod Reading
-pub mod GroupLaws
-pub mod ReadingLaws
-pub mod Alike
-pub mod Meaning
-pub mod FourLevels
 pub mod Examples

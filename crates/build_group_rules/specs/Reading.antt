@@ -13,7 +13,7 @@ use Rattle.build_answers.specs.declared.Answer.{Answer}
 use Rattle.build_answers.specs.declared.Answer.TheVariants.{Malformed as malformed, TooManyFields as too-many-fields, InvalidOrderInGroup as invalid-order}
 use Rattle.dictionary_layout_rules.specs.Layout.{Layout, Group as LayoutGroup, none as no_group, entries, position_in, group_of, delimiter_of_lem}
 use Rattle.dictionary_tables_rules.specs.Table.{item_of, delimiter_at}
-use Rattle.dictionary_tables_rules.specs.Tabled.{place_of, group_of_item}
+use Rattle.dictionary_tables_rules.proofs.Tabled.{place_of, group_of_item}
 use Rattle.build_records.specs.Records.{records_of, on_records, inserted, between, held_from, stored_between, stored}
 use Rattle.build_records.specs.declared.Record.{Record}
 use Rattle.build_records.specs.declared.Standing.{Standing}

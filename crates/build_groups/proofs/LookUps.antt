@@ -9,11 +9,11 @@ use Rattle.field_rules.specs.Choice.{pick, pick_same}
 use Rattle.build_config.specs.declared.Config.{Config}
 use Rattle.dictionary_layout_rules.specs.declared.FirstTag.TheVariants.{First, NoTag}
 use Rattle.dictionary_tables_rules.specs.Table.{item_of, delimiter_at}
-use Rattle.dictionary_tables_rules.specs.Tabled.{place_of, group_of_item}
+use Rattle.dictionary_tables_rules.proofs.Tabled.{place_of, group_of_item}
 use Rattle.dictionary_tables_rules.specs.declared.Item.TheVariants.{At, Nowhere}
 use Rattle.build_group_rules.specs.Groups.{is_delimiter, opens, plain, count, joins, wrong, ends, counting, declared, entry_kind}
 use Rattle.build_group_rules.specs.Reading.{accepted, table_rules, opens_at, kind_at}
-use Rattle.build_group_rules.specs.ReadingLaws.{opened-none, opened_some}
+use Rattle.build_group_rules.proofs.ReadingLaws.{opened-none, opened_some}
 use Rattle.build_group_rules.specs.declared.Group.{Group}
 
 module _ (config : Config) (known : ℕ → Bool) (tag : ℕ) where

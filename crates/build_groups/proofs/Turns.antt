@@ -19,9 +19,9 @@ use Rattle.dictionary_layout_rules.specs.declared.Position.TheVariants.{At as po
 use Rattle.build_records.specs.Records.{on_records, inserted, stored_between}
 use Rattle.build_records.specs.declared.Record.{Record}
 use Rattle.build_group_rules.specs.Groups.{Opened, none, opened, Rules, opens, plain, count, joins, wrong, ends, counting, declared, entry_kind, OpenEntry, Frame, run, entry, entry_record, RunOutcome, walk, taking}
-use Rattle.build_group_rules.specs.GroupLaws.{run-entry, run-first, run-over, entry-plain, entry-count, entry-joins, entry-wrong, entry-ends}
+use Rattle.build_group_rules.proofs.GroupLaws.{run-entry, run-first, run-over, entry-plain, entry-count, entry-joins, entry-wrong, entry-ends}
 use Rattle.build_group_rules.specs.Reading.{table_rules, opens_at, meant, kind_at, Memory, memory, added_words, makes, standing_in, joined_words, word_store, open_group, further, next_reading, told_by, run_of, entry_of, Fits, FitsAt}
-use Rattle.build_group_rules.specs.ReadingLaws.{going, walk-next, going_on, Follows, room_of, next_follows, told_follows}
+use Rattle.build_group_rules.proofs.ReadingLaws.{going, walk-next, going_on, Follows, room_of, next_follows, told_follows}
 use Rattle.build_group_rules.specs.declared.Group.{Group}
 use Rattle.build_group_rules.specs.declared.Progress.{Progress}
 use Rattle.build_group_rules.specs.declared.Refusal.{Refusal}

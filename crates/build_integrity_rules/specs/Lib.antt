@@ -1,4 +1,2 @@
 pub mod Integrity
-pub mod IntegrityLaws
-pub mod VerifiedLaws
 pub mod Examples

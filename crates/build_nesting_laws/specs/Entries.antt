@@ -101,7 +101,7 @@ pub data Once (depth : ℕ) : List Record → Type 0 where
   once_more : {r : Record} {rs : List Record} → (r.depth ≡ depth → All (Other depth r.tag) rs) → Once depth rs → Once depth (r ∷ rs)
 
 module _ (depth : ℕ) where
-  once_last : {rs : List Record} (r : Record) → All (Other depth r.tag) rs → Once depth rs → Once depth (rs ++ (r ∷ []))
+  once_last : (r : Record) {rs : List Record} → All (Other depth r.tag) rs → Once depth rs → Once depth (rs ++ (r ∷ []))
   once_last r all_none once_none = once_more (λ d. all_none) once_none
   once_last r (all_more {r = x} o a) (once_more m n) =
       once_more (λ d. all_append _ (m d) (all_more (record { other = λ e t. o.other d (sym t) }) all_none)) (once_last r a n)

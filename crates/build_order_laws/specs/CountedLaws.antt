@@ -5,7 +5,7 @@ use Rattle.std.proofs.Common.{ap, arith, eq-eqb, ne_eqb}
 use Rattle.field_rules.specs.declared.Mode.{Mode}
 use Rattle.field_rules.specs.Field.{start_at}
 use Rattle.field_rules.specs.Fields.{Fields, unreadable, field, fields_from}
-use Rattle.field_rules.specs.FieldsLaws.{step-lies, by_fields}
+use Rattle.field_rules.proofs.FieldsLaws.{step-lies, by_fields}
 use Rattle.field_rules.specs.declared.Cause.{Cause}
 use Rattle.field_rules.specs.declared.Cursor.{Cursor}
 use Rattle.field_rules.specs.declared.Field.{Field}

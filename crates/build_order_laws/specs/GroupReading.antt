@@ -9,7 +9,7 @@ use Rattle.field_rules.specs.declared.Field.{Field}
 use Rattle.build_records.specs.declared.Record.{Record}
 use Rattle.build_group_rules.specs.Groups.{Rules, Frame, Move, adds, joins_at, disorders, leaves, decide, moved, walk}
 use Rattle.build_group_rules.specs.Groups.{ended as ran, entry_record}
-use Rattle.build_group_rules.specs.GroupLaws.{keeps}
+use Rattle.build_group_rules.proofs.GroupLaws.{keeps}
 use Rattle.build_group_rules.specs.Reading.{list_store, joined_list}
 use Rattle.build_order_laws.specs.Agree.{Agree, enough, same, Similar, none, more}
 use Rattle.build_order_laws.specs.Alongside.{Alongside, one_more, at_first}

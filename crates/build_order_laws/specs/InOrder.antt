@@ -8,7 +8,7 @@ use Rattle.std.proofs.Math.ListN.{length, length-append}
 use Rattle.build_config.specs.declared.Config.{Config}
 use Rattle.field_rules.specs.Field.{start_at}
 use Rattle.field_rules.specs.Fields.{Fields, field, fields_from}
-use Rattle.build_integrity_rules.specs.VerifiedLaws.{verified-read}
+use Rattle.build_integrity_rules.proofs.VerifiedLaws.{verified-read}
 use Rattle.build_integrity_rules.specs.declared.Verified.{Verified}
 use Rattle.dictionary_layout_rules.specs.Tree.{Dictionary, knows, header_tags_lem, trailer_tags_lem}
 use Rattle.build_records.specs.Records.{stored}

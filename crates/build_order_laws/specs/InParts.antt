@@ -9,10 +9,10 @@ use Rattle.field_rules.specs.declared.Mode.{Mode}
 use Rattle.build_config.specs.declared.Config.{Config}
 use Rattle.field_rules.specs.Field.{start_at}
 use Rattle.field_rules.specs.Fields.{Fields, field, fields_from}
-use Rattle.field_rules.specs.FieldsLaws.{fields-field}
+use Rattle.field_rules.proofs.FieldsLaws.{fields-field}
 use Rattle.field_rules.specs.declared.Field.{Field}
 use Rattle.build_integrity_rules.specs.Integrity.{integrity_of}
-use Rattle.build_integrity_rules.specs.VerifiedLaws.{VerifiedRead}
+use Rattle.build_integrity_rules.proofs.VerifiedLaws.{VerifiedRead}
 use Rattle.build_integrity_rules.specs.declared.Integrity.{Integrity}
 use Rattle.build_integrity_rules.specs.declared.Integrity.TheVariants.{Sound, Garbled}
 use Rattle.build_integrity_rules.specs.declared.Verified.{Verified}

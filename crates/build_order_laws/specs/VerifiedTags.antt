@@ -5,7 +5,7 @@ use Rattle.std.proofs.Common.{arith, eqb-true}
 use Rattle.field_rules.specs.declared.Mode.{Mode}
 use Rattle.field_rules.specs.Choice.{pick}
 use Rattle.build_integrity_rules.specs.Integrity.{integrity_of, begun, counted, summed, typed, length_agrees, sum_agrees}
-use Rattle.build_integrity_rules.specs.VerifiedLaws.{verified-read}
+use Rattle.build_integrity_rules.proofs.VerifiedLaws.{verified-read}
 use Rattle.build_integrity_rules.specs.declared.Integrity.{Integrity}
 use Rattle.build_integrity_rules.specs.declared.Integrity.TheVariants.{Sound, Garbled}
 use Rattle.build_integrity_rules.specs.declared.GarbledReason.{GarbledReason}

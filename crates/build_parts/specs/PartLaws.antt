@@ -11,15 +11,15 @@ use Rattle.std.proofs.Math.Seq.{length-take-le}
 use Rattle.field_rules.specs.declared.Mode.{Mode}
 use Rattle.field_rules.specs.Field.{field_at}
 use Rattle.field_rules.specs.Fields.{field, fields_from, Inside}
-use Rattle.field_rules.specs.FieldsLaws.{fields-field, step-inside}
+use Rattle.field_rules.proofs.FieldsLaws.{fields-field, step-inside}
 use Rattle.field_rules.specs.declared.Cursor.{Cursor}
 use Rattle.field_rules.specs.declared.Cause.{Cause}
 use Rattle.field_rules.specs.declared.Field.{Field}
 use Rattle.field_rules.specs.declared.FieldRead.{FieldRead}
 use Rattle.field_rules.specs.declared.FieldRead.TheVariants.{Read, Unreadable}
 use Rattle.build_records.specs.Records.{records_of, on_records, blank, between, held_from, stored_between, stored, stride}
-use Rattle.build_records.specs.WordLaws.{records_length, records_on}
-use Rattle.build_records.specs.RecordLaws.{between-end, between-parts, stored-held, stored-new, stored-parts-held, stored-parts-new}
+use Rattle.build_records.proofs.WordLaws.{records_length, records_on}
+use Rattle.build_records.proofs.RecordLaws.{between-end, between-parts, stored-held, stored-new, stored-parts-held, stored-parts-new}
 use Rattle.build_records.specs.declared.Record.{Record}
 use Rattle.build_records.specs.declared.Standing.TheVariants.{At, Nowhere}
 use Rattle.build_parts.specs.Parts.{part_of, Kept, next_of, Ends, Stays}

@@ -5,7 +5,7 @@ use borrow.Author.Tests.{eq-eqb, ne_eqb}
 use Rattle.field_rules.specs.declared.Mode.{Mode}
 use Rattle.field_rules.specs.Field.{field_at}
 use Rattle.field_rules.specs.Fields.{Fields, unreadable, field, fields_from}
-use Rattle.field_rules.specs.FieldsLaws.{fields-field, fields-end}
+use Rattle.field_rules.proofs.FieldsLaws.{fields-field, fields-end}
 use Rattle.field_rules.specs.declared.Cause.{Cause}
 use Rattle.field_rules.specs.declared.Field.{Field}
 use Rattle.field_rules.specs.declared.FieldRead.TheVariants.{Read, Unreadable}

@@ -5,8 +5,8 @@ use Prim.Native.Nat.{ℕ, ◌+◌, ◌-◌, ◌/◌, ◌≤◌, ◌<◌}
 use native.Mathlib.Omega.{arith}
 use lib.ListN.{length}
 use Rattle.build_records.specs.Records.{records_of, on_records, record_at, replaced, inserted, removed, stride}
-use Rattle.build_records.specs.WordLaws.{records_length, on_again, on_same, on-nothing}
-use Rattle.build_records.specs.RecordLaws.{pushing, pushing-on, pushing-last, inserted-pushing, inserted_past, inserted_full, pulling, pulling-on, pulling-end, removed-pulling, removed_past, removed-many}
+use Rattle.build_records.proofs.WordLaws.{records_length, on_again, on_same, on-nothing}
+use Rattle.build_records.proofs.RecordLaws.{pushing, pushing-on, pushing-last, inserted-pushing, inserted_past, inserted_full, pulling, pulling-on, pulling-end, removed-pulling, removed_past, removed-many}
 use Rattle.build_records.specs.declared.Record.{Record}
 
 module _ (n : ℕ) (r : Record) (ws : List ℕ) where

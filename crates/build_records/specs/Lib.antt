@@ -1,4 +1,2 @@
 pub mod Records
-pub mod WordLaws
-pub mod RecordLaws
 pub mod Examples

@@ -9,12 +9,12 @@ use lib.Dec.{eqb}
 use borrow.Author.Tests.{eqb-true, eqb-false}
 use Rattle.field_rules.specs.Choice.{pick}
 use Rattle.dictionary_tables_rules.specs.Table.{item_of}
-use Rattle.dictionary_tables_rules.specs.Tabled.{group_of_item}
+use Rattle.dictionary_tables_rules.proofs.Tabled.{group_of_item}
 use Rattle.build_records.specs.Records.{records_of, record_at, between, stride}
-use Rattle.build_records.specs.WordLaws.{records_length}
+use Rattle.build_records.proofs.WordLaws.{records_length}
 use Rattle.build_records.specs.declared.Record.{Record}
 use Rattle.build_group_rules.specs.Groups.{none, opened}
-use Rattle.build_group_rules.specs.ReadingLaws.{opened-none, opened_some}
+use Rattle.build_group_rules.proofs.ReadingLaws.{opened-none, opened_some}
 use Rattle.build_group_rules.specs.declared.Group.{Group}
 use Rattle.build_required_rules.specs.Required.{or_else, shallow, nested_lack, entries_lack, entry_lack, run_lack}
 use Rattle.build_required_rules.specs.Checking.{table_demands, starts_at, count_at, end_from, lack_of_fields, lack_of_entry, lack_of_run}

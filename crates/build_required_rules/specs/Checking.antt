@@ -5,7 +5,7 @@ use Rattle.build_answers.specs.declared.Answer.{Answer}
 use Rattle.build_answers.specs.declared.Answer.TheVariants.{Valid, RequiredFieldMissing}
 use Rattle.dictionary_layout_rules.specs.Layout.{Layout, group_of, delimiter_of_lem, required_tags}
 use Rattle.dictionary_tables_rules.specs.Table.{item_of, required_of}
-use Rattle.dictionary_tables_rules.specs.Tabled.{group_of_item}
+use Rattle.dictionary_tables_rules.proofs.Tabled.{group_of_item}
 use Rattle.build_records.specs.declared.Record.{Record}
 use Rattle.build_group_rules.specs.Groups.{is_delimiter}
 use Rattle.build_group_rules.specs.Reading.{opens_at, opened_by, opened_as}

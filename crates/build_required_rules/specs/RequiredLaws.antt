@@ -11,7 +11,7 @@ use Rattle.std.proofs.Math.Seq.{take-take, length-take-le}
 use borrow.Author.Tests.{eq-eqb, ne_eqb, le-leb, lt-leb, leb-false}
 use Rattle.field_rules.specs.Choice.{pick, pick_same}
 use Rattle.build_records.specs.Records.{record_at, between, held_from}
-use Rattle.build_records.specs.RecordLaws.{between-on, between-end}
+use Rattle.build_records.proofs.RecordLaws.{between-on, between-end}
 use Rattle.build_records.specs.declared.Record.{Record}
 use Rattle.build_records.specs.declared.Standing.TheVariants.{At, Nowhere}
 use Rattle.build_group_rules.specs.Groups.{Opened, none, opened}
@@ -19,7 +19,7 @@ use Rattle.build_required_rules.specs.Required.{Demands, or_else, has, fields_la
 use Rattle.build_group_rules.specs.Reading.{opens_at}
 use Rattle.build_group_rules.specs.declared.Group.{Group}
 use Rattle.dictionary_tables_rules.specs.Table.{item_of}
-use Rattle.dictionary_tables_rules.specs.Tabled.{group_of_item}
+use Rattle.dictionary_tables_rules.proofs.Tabled.{group_of_item}
 use Rattle.dictionary_tables_rules.specs.declared.Item.TheVariants as item
 use Rattle.build_required_rules.specs.Checking.{table_demands, starts_at, count_at, end_from}
 use Rattle.build_required_rules.specs.declared.Lack.{Lack}

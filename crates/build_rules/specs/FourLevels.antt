@@ -8,10 +8,10 @@ use Rattle.dictionary_layout_rules.specs.Tree.{laid_out, layout_of}
 use Rattle.dictionary_rules.specs.Check.{check_of}
 use Rattle.dictionary_rules.specs.declared.Checked.TheVariants.{Passes}
 use Rattle.dictionary_meaning_rules.specs.Meaning.{dictionary_of}
-use Rattle.dictionary_meaning_rules.specs.TreeBounds.{message_bounded}
+use Rattle.dictionary_meaning_rules.proofs.TreeBounds.{message_bounded}
 use Rattle.build_group_rules.specs.Groups.{count, counting, OpenGroup, OpenEntry, Frame, run, outermost, entry, Store}
 use Rattle.build_group_rules.specs.Reading.{opened_as, layout_rules}
-use Rattle.build_group_rules.specs.FourLevels.{ComesTo, WithinFour, run-within, nested-runs}
+use Rattle.build_group_rules.proofs.FourLevels.{ComesTo, WithinFour, run-within, nested-runs}
 
 module _ (bytes : List ℕ) (passes : check_of bytes ≡ Passes) (msg_type : List ℕ) (layout : Layout) (laid : layout_of (dictionary_of bytes) msg_type ≡ laid_out layout) (accepts : ℕ → Bool) {S W : Type 0} (store : Store S W) (tag : ℕ) (inner : Layout) (counts : group_of tag layout ≡ entries-of inner) {room : ℕ} {s : S} {fields : Fields} where
   pub message-within : (later : List (Frame Layout)) → ComesTo (layout_rules accepts) store room (run (outermost tag inner) 0 ∷ []) s fields later

@@ -8,7 +8,7 @@ use Rattle.build_config.specs.declared.Config.{Config}
 use Rattle.field_rules.specs.Fields.{fields_from}
 use Rattle.field_rules.specs.declared.Field.{Field}
 use Rattle.build_integrity_rules.specs.Integrity.{integrity_of}
-use Rattle.build_integrity_rules.specs.VerifiedLaws.{verified-read}
+use Rattle.build_integrity_rules.proofs.VerifiedLaws.{verified-read}
 use Rattle.build_integrity_rules.specs.declared.Integrity.TheVariants.{Sound, Garbled}
 use Rattle.build_integrity_rules.specs.declared.GarbledReason.{GarbledReason}
 use Rattle.build_integrity_rules.specs.declared.Verified.{Verified}
@@ -19,7 +19,7 @@ use Rattle.build_parts.specs.declared.Progress.{Progress}
 use Rattle.build_parts.specs.declared.PartRead.{PartRead}
 use Rattle.build_parts.specs.declared.PartRead.TheVariants.{At, Refused}
 use Rattle.build_parts.specs.Parts.{ended, part_record, part_of, part_told, Kept}
-use Rattle.field_rules.specs.FieldsLaws.{step-inside}
+use Rattle.field_rules.proofs.FieldsLaws.{step-inside}
 use Rattle.build_parts.specs.Header.{header_from}
 use Rattle.builder.specs.declared.Headed.{Headed}
 use Rattle.builder.specs.declared.Begun.TheVariants.{Header, Refused as RefusedStart}

@@ -8,7 +8,7 @@ use Rattle.dictionary_rules.specs.Check.{number_of_check}
 use Rattle.dictionary_rules.specs.declared.Checked.{Checked}
 use Rattle.dictionary_meaning_rules.specs.Meaning.{dictionary_of}
 use Rattle.build_records.specs.Records.{records_of, leftover, laid, between, record_words, record_room, stride}
-use Rattle.build_records.specs.WordLaws.{words-whole, laid-append, laid-length, records_length}
+use Rattle.build_records.proofs.WordLaws.{words-whole, laid-append, laid-length, records_length}
 use Rattle.build_records.specs.declared.Record.{Record}
 use Rattle.build_answers.specs.declared.Answer.{Answer}
 use Rattle.build_answers.specs.declared.Answer.TheVariants.{BadDictionary}

@@ -11,7 +11,7 @@ use Rattle.field_rules.specs.Decimal.{decimal_within}
 use Rattle.dictionary_layout_rules.specs.Tree.{Dictionary}
 use Rattle.build_answers.specs.Answer.{number_of, values_of}
 use Rattle.dictionary_rules.specs.Check.{check_of}
-use Rattle.dictionary_rules.specs.Examples.{examples, examples_pass}
+use Rattle.dictionary_rules.proofs.Examples.{examples, examples_pass}
 use Rattle.dictionary_rules.specs.Record.{low_first, zero_filled, record_body_length, with_tag as tag_bytes, with_mark, known_tag, opens_component, opens_message, record_body as body_bytes, with_body, with_kind, record_from, record_at}
 use Rattle.dictionary_rules.specs.Record.{field_item_lem as field_body, component_item_lem as component_body, opens_group as group_body}
 use Rattle.dictionary_rules.specs.Records.{records_from, records_within, followed_by as records_then}

@@ -9,7 +9,7 @@ use Rattle.field_rules.specs.declared.Mode.{Mode}
 use Rattle.field_rules.specs.Fields.{field, fields_from}
 use Rattle.field_rules.specs.declared.Field.{Field}
 use Rattle.build_records.specs.Records.{records_of, stored}
-use Rattle.build_records.specs.RecordLaws.{between-end}
+use Rattle.build_records.proofs.RecordLaws.{between-end}
 use Rattle.build_records.specs.declared.Record.{Record}
 use Rattle.build_answers.specs.declared.Answer.TheVariants.{Valid, TooManyFields}
 use Rattle.build_parts.specs.declared.Progress.{Progress}
@@ -17,8 +17,8 @@ use Rattle.build_parts.specs.declared.TrailerRead.{TrailerRead}
 use Rattle.build_parts.specs.declared.TrailerRead.TheVariants.{Stopped, Unstopped, TooManyFields as Crowded}
 use Rattle.build_rules.specs.declared.Stop.TheVariants.{At as stops, Nowhere}
 use Rattle.build_parts.specs.Parts.{ended, part_record, part_of, Kept}
-use Rattle.build_body_rules.specs.RunLaws.{between_split}
-use Rattle.build_body_rules.specs.GroupReading.{front_is, front-parts}
+use Rattle.build_body_rules.proofs.RunLaws.{between_split}
+use Rattle.build_body_rules.proofs.GroupReading.{front_is, front-parts}
 use Rattle.build_parts.specs.Trailer.{trailer_from, trailer_told, trailer_counts}
 use Rattle.build_rules.specs.Message.{Outcome, refusal, after_trailer, after_body}
 use Rattle.builder.specs.Reading.{read_told}

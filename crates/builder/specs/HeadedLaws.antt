@@ -10,17 +10,17 @@ use Rattle.field_rules.specs.Fields.{Fields, field, fields_from}
 use Rattle.field_rules.specs.declared.Mode.{Mode}
 use Rattle.field_rules.specs.declared.Field.{Field}
 use Rattle.build_records.specs.Records.{record_at, between, blank, value_at}
-use Rattle.build_records.specs.RecordLaws.{between-on, between-end}
+use Rattle.build_records.proofs.RecordLaws.{between-on, between-end}
 use Rattle.build_records.specs.declared.Record.{Record}
 use Rattle.dictionary_rules.specs.Index.{tag_at}
 use Rattle.dictionary_rules.specs.declared.Placed.{Placed}
 use Rattle.dictionary_rules.specs.declared.Placed.TheVariants as placed
 use Rattle.dictionary_layout_rules.specs.RowsLayout.{layout_in}
 use Rattle.dictionary_tables_rules.specs.Laid.{table_size, table_of}
-use Rattle.dictionary_tables_rules.specs.Tabled.{tabled_whole}
+use Rattle.dictionary_tables_rules.proofs.Tabled.{tabled_whole}
 use Rattle.dictionary_directory.specs.Directory.{kept_at, laid_alone}
 use Rattle.dictionary_directory.specs.declared.Kept.TheVariants.{Table, Nowhere}
-use Rattle.dictionary_meaning_rules.specs.MsgTypeText.{Bytes, no_bytes, a_byte}
+use Rattle.dictionary_meaning_rules.proofs.MsgTypeText.{Bytes, no_bytes, a_byte}
 use Rattle.dictionary_meaning_rules.specs.MessageTable.{Tabling, tabling, place_of, placed_table}
 use Rattle.dictionary_meaning_rules.specs.declared.MessageTable.TheVariants.{Rows, NoMessage, Unprepared}
 use Rattle.build_group_rules.specs.Groups.{Rules}
@@ -33,7 +33,7 @@ use Rattle.build_parts.specs.declared.PartRead.TheVariants.{Refused}
 use Rattle.build_parts.specs.Parts.{part_of, part_told}
 use Rattle.build_body_rules.specs.Body.{must_follow, body_from}
 use Rattle.build_body_rules.specs.Kinds.{body_of}
-use Rattle.build_body_rules.specs.Meaning.{body_means}
+use Rattle.build_body_rules.proofs.Meaning.{body_means}
 use Rattle.builder.specs.declared.Headed.{Headed}
 use Rattle.build_rules.specs.Beginning.{msg_type_record}
 use Rattle.build_rules.specs.Message.{after_body}

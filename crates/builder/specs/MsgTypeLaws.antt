@@ -6,7 +6,7 @@ use Rattle.std.proofs.Math.Bool.{true, false}
 use mathlib.Core.List.{List, [], ◌∷◌}
 use Prim.Native.Nat.{ℕ, zero, suc, ◌+◌, ◌-◌, ◌≤◌}
 use native.Mathlib.Omega.{arith}
-use Rattle.field_rules.specs.FieldsLaws.{step-inside, all-inside}
+use Rattle.field_rules.proofs.FieldsLaws.{step-inside, all-inside}
 use Rattle.field_rules.specs.declared.Mode.{Mode}
 use Rattle.build_config.specs.declared.Config.{Config}
 use Rattle.field_rules.specs.Choice.{pick}
@@ -21,7 +21,7 @@ use Rattle.build_records.specs.declared.Record.{Record}
 use Rattle.build_parts.specs.Parts.{ended, part_record}
 use Rattle.build_parts.specs.Header.{header_from}
 use Rattle.build_rules.specs.Beginning.{verified_records, room_behind, header_of, msg_type_record}
-use Rattle.build_integrity_rules.specs.VerifiedLaws.{VerifiedRead, verified-read}
+use Rattle.build_integrity_rules.proofs.VerifiedLaws.{VerifiedRead, verified-read}
 
 -- a record's value lies in the message where its field's does
 abbrev RecordIn : List ℕ → Record → Type 0

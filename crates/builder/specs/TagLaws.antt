@@ -5,9 +5,9 @@ use Rattle.std.specs.Prelude.{List, ◌++◌, ℕ, ◌+◌, ◌≤◌, length, t
 use native.Mathlib.Omega.{arith}
 use Rattle.build_config.specs.declared.Config.{Config}
 use Rattle.dictionary_tables_rules.specs.Laid.{table_size, table_of}
-use Rattle.dictionary_tables_rules.specs.Tabled.{table-length}
+use Rattle.dictionary_tables_rules.proofs.Tabled.{table-length}
 use Rattle.dictionary_tables_rules.specs.Tags.{fields_of, tags_found}
-use Rattle.dictionary_tables_rules.specs.TagsLaws.{tags_found_lem}
+use Rattle.dictionary_tables_rules.proofs.TagsLaws.{tags_found_lem}
 use Rattle.dictionary_directory.specs.Directory.{tags_listed, tags_at, tag_words}
 use Rattle.dictionary_directory.specs.DirectoryLaws.{tags_lie}
 use Rattle.dictionary_directory.specs.declared.Kept.{Kept}

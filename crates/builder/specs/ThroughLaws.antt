@@ -18,11 +18,11 @@ use Rattle.dictionary_rules.specs.Index.{tag_at}
 use Rattle.dictionary_rules.specs.declared.Placed.{Placed}
 use Rattle.dictionary_rules.specs.declared.Placed.TheVariants.{At, Nowhere}
 use Rattle.dictionary_layout_rules.specs.Layout.{Layout, items}
-use Rattle.dictionary_layout_rules.specs.RowsLayout.{layout_held}
+use Rattle.dictionary_layout_rules.proofs.RowsLayoutLaws.{layout_held}
 use Rattle.dictionary_layout_rules.specs.Tree.{Choice, knows, header_tags_lem, trailer_tags_lem, layout_of}
 use Rattle.dictionary_tables_rules.specs.Laid.{table_of}
-use Rattle.dictionary_tables_rules.specs.Tabled.{tabled_whole}
-use Rattle.dictionary_tables_rules.specs.TagsLaws.{tags_found_lem}
+use Rattle.dictionary_tables_rules.proofs.Tabled.{tabled_whole}
+use Rattle.dictionary_tables_rules.proofs.TagsLaws.{tags_found_lem}
 use Rattle.dictionary_directory.specs.Directory.{kept_at, listed_tags, tags_listed, tags_at, lay_tables}
 use Rattle.dictionary_directory.specs.KeptLaws.{kept-short, tags-short}
 use Rattle.dictionary_directory.specs.DirectoryLaws.{Leads, nowhere, a-table as leads-table, laid_leads, TagsLead, tags-nowhere, a-tags-table, tags-lead}
@@ -32,17 +32,17 @@ use Rattle.build_answers.specs.declared.Answer.TheVariants.{NotPrepared}
 use Rattle.dictionary_prepared.specs.MemoryLaws.{ready_passes, ready_stands, ready_records, ready_index, ready_tables}
 use Rattle.dictionary_prepared.specs.declared.Preparing.TheVariants.{Ready}
 use Rattle.dictionary_meaning_rules.specs.Meaning.{dictionary_of}
-use Rattle.dictionary_meaning_rules.specs.MsgTypeText.{Bytes, take-bytes, drop-bytes}
+use Rattle.dictionary_meaning_rules.proofs.MsgTypeText.{Bytes, take-bytes, drop-bytes}
 use Rattle.dictionary_meaning_rules.specs.MessageTable.{Tabling, place_of, placed_table, message_table}
 use Rattle.dictionary_meaning_rules.specs.PlainTags.{plain_tags}
-use Rattle.dictionary_meaning_rules.specs.TagsMeant.{header-listed, trailer-listed}
-use Rattle.dictionary_meaning_rules.specs.Theorem.{TableOf, no_table, a-table, tables_mean_tree}
-use Rattle.dictionary_meaning_rules.specs.KnownTags.{tags-known}
+use Rattle.dictionary_meaning_rules.proofs.TagsMeant.{header-listed, trailer-listed}
+use Rattle.dictionary_meaning_rules.proofs.Theorem.{TableOf, no_table, a-table, tables_mean_tree}
+use Rattle.dictionary_meaning_rules.proofs.KnownTags.{tags-known}
 use Rattle.build_group_rules.specs.Reading.{accepted, table_rules, layout_rules}
 use Rattle.build_required_rules.specs.Checking.{table_demands, layout_demands}
 use Rattle.build_body_rules.specs.Kinds.{body_of}
 use Rattle.build_body_rules.specs.Body.{body_from}
-use Rattle.build_body_rules.specs.Meaning.{body_means}
+use Rattle.build_body_rules.proofs.Meaning.{body_means}
 use Rattle.build_rules.specs.Beginning.{Start, started, unsound, start_of, msg_type_record}
 use Rattle.build_rules.specs.Message.{after_body, after_type, after_header, message_read}
 use Rattle.builder.specs.Build.{untouched, judged, build_of, checked_read}

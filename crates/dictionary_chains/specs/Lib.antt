@@ -1,8 +1,2 @@
 pub mod Chain
-pub mod WordLaws
-pub mod WayLaws
-pub mod TreeLaws
-pub mod GrowLaws
-pub mod ChainLaws
-pub mod TurnLaws
 pub mod Examples

@@ -6,10 +6,10 @@ use Rattle.std.proofs.Math.ListN.{length, drop, length-append, length-drop, leng
 use Rattle.std.proofs.Math.Seq.{take_at}
 use Rattle.dictionary_layout_rules.specs.RowsLayout.{layout_in}
 use Rattle.dictionary_tables_rules.specs.Laid.{table_size, table_of}
-use Rattle.dictionary_tables_rules.specs.Tabled.{table-length}
+use Rattle.dictionary_tables_rules.proofs.Tabled.{table-length}
 use Rattle.dictionary_rules.specs.declared.Placed.TheVariants.{At}
 use Rattle.dictionary_meaning_rules.specs.MessageTable.{Tabling, tabling, placed_table}
-use Rattle.dictionary_meaning_rules.specs.LaidLayout.{placed_layout}
+use Rattle.dictionary_meaning_rules.proofs.LaidLayoutLaws.{placed_layout}
 use Rattle.dictionary_meaning_rules.specs.declared.MessageTable.TheVariants.{Rows, NoMessage, Unprepared}
 use Rattle.dictionary_directory.specs.Directory.{table_words, laid_alone, laid_over}
 use Rattle.dictionary_directory.specs.LayingLaws.{held_fits}

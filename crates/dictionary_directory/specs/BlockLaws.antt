@@ -7,7 +7,7 @@ use Rattle.std.proofs.Math.Seq.{take_at, drop-append-add, get_or-append-add, get
 use Rattle.std.proofs.lemmas.List.{take-append-le, drop-append-le}
 use Rattle.dictionary_layout_rules.specs.Layout.{Layout}
 use Rattle.dictionary_tables_rules.specs.Laid.{table_size, table_of}
-use Rattle.dictionary_tables_rules.specs.Tabled.{table-length}
+use Rattle.dictionary_tables_rules.proofs.Tabled.{table-length}
 use Rattle.dictionary_directory.specs.Directory.{block_stride, block_of, with_block}
 
 -- what lies in front of a word stays, whatever comes behind

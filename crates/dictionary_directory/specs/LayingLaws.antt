@@ -6,12 +6,13 @@ use Rattle.std.proofs.Math.ListN.{length-replicate}
 use Rattle.std.proofs.Math.Seq.{take-length}
 use Rattle.std.proofs.lemmas.List.{set_at}
 use Rattle.std.proofs.lemmas.Bool.{lt-leb}
-use Rattle.field_rules.specs.DecimalLaws.{written_fits, written_copied}
+use Rattle.field_rules.proofs.DecimalLaws.{written_fits, written_copied}
 use Rattle.dictionary_layout_rules.specs.Layout.{Layout, items}
 use Rattle.dictionary_layout_rules.specs.Tabled.{Tabled}
-use Rattle.dictionary_layout_rules.specs.RowsLayout.{layout_in, layout_held}
+use Rattle.dictionary_layout_rules.specs.RowsLayout.{layout_in}
+use Rattle.dictionary_layout_rules.proofs.RowsLayoutLaws.{layout_held}
 use Rattle.dictionary_tables_rules.specs.Laid.{table_size, table_of}
-use Rattle.dictionary_tables_rules.specs.Tabled.{table-length}
+use Rattle.dictionary_tables_rules.proofs.Tabled.{table-length}
 use Rattle.dictionary_tables_rules.specs.Tags.{fields_of}
 use Rattle.dictionary_pressing.specs.Pressing.{Pressable}
 use Rattle.dictionary_pressing.specs.Sizing.{size_bound}
@@ -23,7 +24,7 @@ use Rattle.dictionary_rules.specs.declared.Placed.TheVariants.{At}
 use Rattle.dictionary_meaning_rules.specs.MessageTable.{Tabling, tabling, placed_table}
 use Rattle.dictionary_meaning_rules.specs.LaidLayout.{LaidAs}
 use Rattle.dictionary_meaning_rules.specs.PlainTags.{listing, plain_tags}
-use Rattle.dictionary_meaning_rules.specs.Kept.{tags_kept}
+use Rattle.dictionary_meaning_rules.proofs.Kept.{tags_kept}
 use Rattle.dictionary_meaning_rules.specs.declared.MessageTable.TheVariants.{Rows, NoMessage, Unprepared}
 use Rattle.dictionary_meaning_rules.specs.declared.TagList.{TagList}
 use Rattle.dictionary_meaning_rules.specs.declared.TagList.TheVariants.{Listed, Unlisted}

@@ -12,7 +12,7 @@ use Rattle.dictionary_rules.specs.declared.RecordRead.{RecordRead}
 use Rattle.dictionary_rules.specs.declared.RecordRead.TheVariants.{Whole, Bad, End}
 use Rattle.dictionary_rules.specs.declared.Looked.{Looked}
 use Rattle.dictionary_meaning_rules.specs.Laying.{Laying, laying, Step, items_from}
-use Rattle.dictionary_meaning_rules.specs.LayingLaws.{Advances, breaks, reaches, Advancing, lay_bad, lay_end, lay_known_tag, lay_opens_component, lay_opens_message}
+use Rattle.dictionary_meaning_rules.proofs.LayingLaws.{Advances, breaks, reaches, Advancing, lay_bad, lay_end, lay_known_tag, lay_opens_component, lay_opens_message}
 use Rattle.dictionary_meaning_rules.specs.declared.Laid.{Laid}
 use Rattle.dictionary_meaning_rules.specs.declared.Laid.TheVariants.{Upto, Broken}
 

@@ -9,7 +9,7 @@ use Rattle.dictionary_rules.specs.declared.Record.TheVariants.{KnownTag, OpensCo
 use Rattle.dictionary_rules.specs.declared.RecordRead.{RecordRead}
 use Rattle.dictionary_rules.specs.declared.RecordRead.TheVariants.{Whole, Bad, End}
 use Rattle.dictionary_meaning_rules.specs.PlainTags.{listing, tags_from}
-use Rattle.dictionary_meaning_rules.specs.PlainTagsLaws.{tags-bad, tags-end, tags-known, tags-opens, tags-message}
+use Rattle.dictionary_meaning_rules.proofs.PlainTagsLaws.{tags-bad, tags-end, tags-known, tags-opens, tags-message}
 use Rattle.dictionary_meaning_rules.specs.declared.TagList.TheVariants.{Unlisted}
 
 module _ (d : List ℕ) (at groups count : ℕ) (tags : List ℕ) where

@@ -16,7 +16,7 @@ use Rattle.dictionary_rules.specs.declared.Record.TheVariants.{ComponentItem}
 use Rattle.dictionary_rules.specs.declared.RecordRead.TheVariants.{Whole}
 use Rattle.dictionary_rules.specs.declared.Looked.{Looked}
 use Rattle.dictionary_meaning_rules.specs.Laying.{Step, stands_at, items_from, lay_items}
-use Rattle.dictionary_meaning_rules.specs.LayingLaws.{Advancing, lay_advances, lay_empty, lay_down}
+use Rattle.dictionary_meaning_rules.proofs.LayingLaws.{Advancing, lay_advances, lay_empty, lay_down}
 use Rattle.dictionary_meaning_rules.specs.declared.Expansion.TheVariants.{NoItems}
 
 -- only items that stand for nothing lie between: whatever lays what lies within, laying from the one place on is laying from the other on

@@ -13,7 +13,7 @@ use borrow.Author.Tests.{eqb-true, eqb-false, ltb-true, ltb-false, leb-true, eq-
 use Rattle.field_rules.specs.Choice.{pick}
 use Rattle.dictionary_chains.specs.Chain.{index_words}
 use Rattle.dictionary_rules.specs.Check.{outcome, too_long, check_of, prepared_of, store_of, number_of_check}
-use Rattle.dictionary_rules.specs.Prepared.{check_long, prepared_names}
+use Rattle.dictionary_rules.proofs.Prepared.{check_long, prepared_names}
 use Rattle.dictionary_rules.specs.declared.Checked.{Checked}
 use Rattle.dictionary_rules.specs.declared.Checked.TheVariants.{Passes, TooLong, BadRecord, NoComponent, UnknownTag, EmptyGroup, TooDeep, Twice, TooManyItems}
 use Rattle.dictionary_directory.specs.Directory.{lay_tables}

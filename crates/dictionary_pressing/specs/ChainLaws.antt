@@ -8,7 +8,7 @@ use Rattle.std.proofs.lemmas.Bool.{eqb-false}
 use Rattle.field_rules.specs.Choice.{pick}
 use Rattle.dictionary_tables_rules.specs.Table.{tag_at}
 use Rattle.dictionary_tables_rules.specs.Laid.{Own, first_under, last_group, item_words, items_words}
-use Rattle.dictionary_tables_rules.specs.PartLaws.{items_words-length}
+use Rattle.dictionary_tables_rules.proofs.PartLaws.{items_words-length}
 use Rattle.dictionary_pressing.specs.Linking.{Chain}
 
 -- the group so far goes on only where no later item of the tag has one

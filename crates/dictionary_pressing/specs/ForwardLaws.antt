@@ -7,10 +7,11 @@ use Rattle.std.proofs.Math.ListN.{length}
 use Rattle.std.proofs.lemmas.Bool.{eqb-false}
 use Rattle.dictionary_layout_rules.specs.Layout.{Layout, end, field, group, items}
 use Rattle.dictionary_layout_rules.specs.Table.{tag_at, required_at, group_at, link_at, siblings_from}
-use Rattle.dictionary_layout_rules.specs.Tabled.{RowSays, RowsStand, Tabled, field-rest, group-inner, group-rest, stands-length}
+use Rattle.dictionary_layout_rules.specs.Tabled.{RowSays, RowsStand, Tabled}
+use Rattle.dictionary_layout_rules.proofs.TabledLaws.{field-rest, group-inner, group-rest, stands-length}
 use Rattle.dictionary_tables_rules.specs.Table.{heads_for}
 use Rattle.dictionary_tables_rules.specs.Laid.{own_count, part_size, inner_size, table_size, level_words}
-use Rattle.dictionary_tables_rules.specs.Tabled.{level_length}
+use Rattle.dictionary_tables_rules.proofs.Tabled.{level_length}
 use Rattle.dictionary_pressing.specs.Linking.{items_start, linked}
 use Rattle.dictionary_pressing.specs.Pressing.{put_item, pressed, press_items, Pressing, Pressed, Forward}
 use Rattle.dictionary_pressing.specs.PressingLaws.{press_linked}

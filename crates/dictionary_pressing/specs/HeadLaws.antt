@@ -3,7 +3,7 @@ use Rattle.std.specs.Prelude.{◌≡◌, refl, List, [], ◌∷◌, ◌++◌, �
 use Rattle.std.proofs.Common.{sym, ap, ◌∙◌, append_assoc, arith, mod-lt, length-append, eq-eqb, ne_eqb}
 use Rattle.std.proofs.lemmas.List.{set_at, set-append_left}
 use Rattle.dictionary_tables_rules.specs.Table.{heads_for}
-use Rattle.dictionary_tables_rules.specs.TableLaws.{heads_bounds}
+use Rattle.dictionary_tables_rules.proofs.TableLaws.{heads_bounds}
 use Rattle.dictionary_tables_rules.specs.Laid.{Own, first_under, head_words}
 use Rattle.dictionary_pressing.specs.Linking.{heads_since}
 

@@ -4,12 +4,12 @@ use Rattle.std.specs.Prelude.{◌≡◌, refl, Bool, List, [], ◌∷◌, ◌++�
 use Rattle.std.proofs.Common.{sym, ap, ◌∙◌, append_assoc, length-append, length-drop, take-append-drop, length-take-le, get_or-append-add, take_at, drop_at, take-take, drop-drop}
 use native.Mathlib.Omega.{arith}
 use Rattle.std.proofs.lemmas.List.{take-append-le}
-use Rattle.dictionary_layout_rules.specs.Tabled.{mark-read}
+use Rattle.dictionary_layout_rules.proofs.TabledLaws.{mark-read}
 use Rattle.dictionary_layout_rules.specs.Layout.{Layout, end, field, group}
 use Rattle.dictionary_layout_rules.specs.Table.{mark}
 use Rattle.dictionary_tables_rules.specs.Table.{tag_at}
 use Rattle.dictionary_tables_rules.specs.Laid.{Own, own_count, part_size, inner_size, table_size, own_items, part_words, inner_words, level_words}
-use Rattle.dictionary_tables_rules.specs.Tabled.{own_items-length, level_length}
+use Rattle.dictionary_tables_rules.proofs.Tabled.{own_items-length, level_length}
 use Rattle.dictionary_pressing.specs.Linking.{own_at, owns_from, items_start, linked}
 use Rattle.dictionary_pressing.specs.HeadLaws.{set_in}
 use Rattle.dictionary_pressing.specs.Pressing.{put_item, pressed, press_items, raw_item, raw_items}

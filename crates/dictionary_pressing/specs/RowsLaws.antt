@@ -3,8 +3,9 @@ use Rattle.std.specs.Prelude.{◌≡◌, refl, Bool, true, false, List, ◌++◌
 use Rattle.std.proofs.Common.{ap, ◌∙◌, arith}
 use Rattle.dictionary_layout_rules.specs.Layout.{Layout, end, field, group, items}
 use Rattle.dictionary_layout_rules.specs.Table.{rows_from, next_sibling, siblings_from}
-use Rattle.dictionary_layout_rules.specs.TableLaws.{walk-on, walk_end}
-use Rattle.dictionary_layout_rules.specs.Tabled.{RowSays, row_says, RowsStand, own_rows, Tabled, own_rows_lem}
+use Rattle.dictionary_layout_rules.proofs.TableLaws.{walk-on, walk_end}
+use Rattle.dictionary_layout_rules.specs.Tabled.{RowSays, RowsStand, own_rows, Tabled}
+use Rattle.dictionary_layout_rules.proofs.TabledLaws.{row_says, own_rows_lem}
 use Rattle.dictionary_tables_rules.specs.Laid.{own_count}
 
 -- what the row of an item says

@@ -10,9 +10,10 @@ use Rattle.field_rules.specs.Choice.{pick}
 use Rattle.dictionary_layout_rules.specs.Layout.{Layout, end, field, group, items}
 use Rattle.dictionary_layout_rules.specs.Measures.{NoEmptyGroup, none-at_end, none-after-field, none_in_group}
 use Rattle.dictionary_layout_rules.specs.Table.{group_at, link_at, next_sibling, row_at, Row, siblings_within, siblings_from}
-use Rattle.dictionary_layout_rules.specs.Tabled.{RowsStand, Tabled, field-rest, group-inner, group-rest}
+use Rattle.dictionary_layout_rules.specs.Tabled.{RowsStand, Tabled}
+use Rattle.dictionary_layout_rules.proofs.TabledLaws.{field-rest, group-inner, group-rest}
 use Rattle.dictionary_tables_rules.specs.Table.{heads_for}
-use Rattle.dictionary_tables_rules.specs.TableLaws.{heads-few, heads-many, heads_bounds}
+use Rattle.dictionary_tables_rules.proofs.TableLaws.{heads-few, heads-many, heads_bounds}
 use Rattle.dictionary_tables_rules.specs.Laid.{own_count, part_size, inner_size, table_size, table_of}
 use Rattle.dictionary_pressing.specs.Pressing.{pressed, Pressing, Pressable}
 use Rattle.dictionary_pressing.specs.RowsLaws.{rows_counted, field_says, group_says}

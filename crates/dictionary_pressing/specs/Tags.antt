@@ -6,7 +6,7 @@ use Rattle.std.proofs.Math.Numerals.{add-one}
 use Rattle.dictionary_tables_rules.specs.Table.{heads_for}
 use Rattle.dictionary_tables_rules.specs.Laid.{part_size, table_size, table_of}
 use Rattle.dictionary_tables_rules.specs.Tags.{fields_of}
-use Rattle.dictionary_tables_rules.specs.TagsLaws.{fields-count, fields-part}
+use Rattle.dictionary_tables_rules.proofs.TagsLaws.{fields-count, fields-part}
 use Rattle.dictionary_pressing.specs.Linking.{items_start, linked}
 use Rattle.dictionary_pressing.specs.Pressing.{put_item, pressed, press_items}
 use Rattle.dictionary_pressing.specs.PressingLaws.{press_linked}

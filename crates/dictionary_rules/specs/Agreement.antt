@@ -9,8 +9,8 @@ use Rattle.std.proofs.Math.Dec.{eqb}
 use borrow.Author.Tests.{eqb-true, eqb-false}
 use Rattle.field_rules.specs.Choice.{pick}
 use Rattle.dictionary_chains.specs.Chain.{head_words, index_words, key_of, entry_at, way_of, found, entered, number_at}
-use Rattle.dictionary_chains.specs.ChainLaws.{entered_again, enter_length, enter_bounded, enter_known, enter_found, enter_elsewhere, clear_bounded, clear_found}
-use Rattle.dictionary_chains.specs.TreeLaws.{Bounded}
+use Rattle.dictionary_chains.proofs.ChainLaws.{entered_again, enter_length, enter_bounded, enter_known, enter_found, enter_elsewhere, clear_bounded, clear_found}
+use Rattle.dictionary_chains.proofs.TreeLaws.{Bounded}
 use Rattle.dictionary_chains.specs.declared.Table.{Table}
 use Rattle.dictionary_chains.specs.declared.Table.TheVariants.{Tags, Components, MsgTypes}
 use Rattle.dictionary_chains.specs.declared.Entry.{Entry}

@@ -11,6 +11,3 @@ pub mod StepLaws
 pub mod Check
 pub mod CheckLaws
 pub mod Passing
-pub mod Prepared
-pub mod Stands
-pub mod Examples

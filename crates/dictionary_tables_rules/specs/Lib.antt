@@ -1,9 +1,3 @@
 pub mod Table
-pub mod TableLaws
-pub mod MarkLaws
 pub mod Laid
-pub mod PartLaws
-pub mod Tabled
 pub mod Tags
-pub mod TagsLaws
-pub mod Examples

@@ -4,12 +4,12 @@ use Rattle.std.specs.Prelude.{◌≡◌, refl, true, false, List, [], ◌∷◌,
 use Rattle.std.proofs.Common.{ap, ◌∙◌, append_assoc, arith, length-append, le-leb}
 use Rattle.std.proofs.Math.Seq.{drop-append_seam}
 use Rattle.build_records.specs.Records.{value_at}
-use Rattle.field_rules.specs.SpelledLaws.{text_value, text-fields}
+use Rattle.field_rules.proofs.SpelledLaws.{text_value, text-fields}
 use Rattle.field_rules.specs.declared.Mode.{Mode}
 use Rattle.field_rules.specs.Decimal.{decimal}
-use Rattle.field_rules.specs.DecimalLaws.{decimal_digits, decimal-reads}
+use Rattle.field_rules.proofs.DecimalLaws.{decimal_digits, decimal-reads}
 use Rattle.field_rules.specs.Field.{start_at, field_bytes, value_of}
-use Rattle.field_rules.specs.FieldTextLaws.{spelt}
+use Rattle.field_rules.proofs.FieldTextLaws.{spelt}
 use Rattle.field_rules.specs.Fields.{Fields, field, fields_from}
 use Rattle.field_rules.specs.declared.Field.{Field}
 use Rattle.build_records.specs.declared.Record.{Record}

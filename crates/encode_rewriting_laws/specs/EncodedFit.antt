@@ -7,7 +7,7 @@ use Rattle.std.proofs.Math.ListN.{length-append}
 use Rattle.build_records.specs.declared.Record.{Record}
 use Rattle.message_maps.specs.Map.{Map, holds}
 use Rattle.message_lent_rules.specs.Meaning.{Message, words_of, value_bytes_of}
-use Rattle.message_lent_rules.specs.FormedLaws.{layout_lends}
+use Rattle.message_lent_rules.proofs.FormedLaws.{layout_lends}
 use Rattle.message_rules.specs.Changes.{field_total}
 use Rattle.build_nesting_laws.specs.Formed.{Own}
 use Rattle.build_nesting_laws.specs.Entries.{All}

@@ -6,7 +6,7 @@ use Rattle.std.proofs.lemmas.Bool.{eqb-false}
 use Rattle.field_rules.specs.Choice.{pick}
 use Rattle.field_rules.specs.Number.{all_digits, worth, number_in, non_zero, tag_of}
 use Rattle.field_rules.specs.Decimal.{decimal}
-use Rattle.field_rules.specs.DecimalLaws.{all_digits-first, decimal_small, decimal_unique}
+use Rattle.field_rules.proofs.DecimalLaws.{all_digits-first, decimal_small, decimal_unique}
 use Rattle.field_rules.specs.declared.Number.{Number}
 use Rattle.field_rules.specs.declared.Number.TheVariants.{Worth, NoNumber}
 use Rattle.encode_rewriting_laws.specs.Plain.{is_plain}

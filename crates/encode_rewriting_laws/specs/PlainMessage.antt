@@ -21,7 +21,7 @@ use Rattle.encode_rewriting_laws.specs.PlainRewritten.{clean_rewritten}
 use Rattle.encode_rewriting_laws.specs.ReadMessage.{Followed}
 use Rattle.encode_rewriting_laws.specs.ReadPlaces.{follows_cursor, stop-verified}
 use Rattle.field_rules.specs.Fields.{start_of}
-use Rattle.field_rules.specs.PlaceLaws.{fields-start}
+use Rattle.field_rules.proofs.PlaceLaws.{fields-start}
 use Rattle.encode_rewriting_laws.specs.ReadWritten.{follows_written}
 use Rattle.encode_rewriting_laws.specs.Written.{written, rewritten}
 

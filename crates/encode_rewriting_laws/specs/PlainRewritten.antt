@@ -10,7 +10,7 @@ use Rattle.field_rules.specs.declared.Cursor.{Cursor}
 use Rattle.field_rules.specs.declared.Field.{Field}
 use Rattle.field_rules.specs.declared.FieldRead.TheVariants.{Read}
 use Rattle.build_integrity_rules.specs.Integrity.{integrity_of}
-use Rattle.build_integrity_rules.specs.VerifiedLaws.{verified-read}
+use Rattle.build_integrity_rules.proofs.VerifiedLaws.{verified-read}
 use Rattle.build_integrity_rules.specs.declared.Integrity.TheVariants.{Sound}
 use Rattle.build_integrity_rules.specs.declared.Verified.{Verified}
 use Rattle.encode_rules.specs.Encoding.{summed, sum_digits}
@@ -18,7 +18,7 @@ use Rattle.build_order_laws.specs.VerifiedTags.{verified-checked}
 use Rattle.encode_rewriting_laws.specs.Plain.{plain_length, three_digits}
 use Rattle.encode_rewriting_laws.specs.PlainSound.{right_length, plain_second, plain_value}
 use Rattle.encode_rewriting_laws.specs.PlainSum.{last_seven}
-use Rattle.field_rules.specs.SpelledLaws.{value_ends}
+use Rattle.field_rules.proofs.SpelledLaws.{value_ends}
 use Rattle.encode_rewriting_laws.specs.ReadSound.{tagged, placed, placed-read, placed-next}
 
 -- the last seven bytes are those of the sum: so all is the text that is summed

@@ -5,7 +5,7 @@ use Rattle.field_rules.specs.declared.Mode.{Mode}
 use Rattle.field_rules.specs.Number.{number_in}
 use Rattle.field_rules.specs.Decimal.{decimal}
 use Rattle.field_rules.specs.Field.{start_at, field_at, value_of}
-use Rattle.field_rules.specs.FieldsLaws.{fields-field}
+use Rattle.field_rules.proofs.FieldsLaws.{fields-field}
 use Rattle.field_rules.specs.Fields.{fields_from}
 use Rattle.field_rules.specs.declared.Cursor.{Cursor}
 use Rattle.field_rules.specs.declared.Field.{Field}
@@ -13,12 +13,12 @@ use Rattle.field_rules.specs.declared.FieldRead.TheVariants.{Read}
 use Rattle.field_rules.specs.declared.Number.{Number}
 use Rattle.field_rules.specs.declared.Number.TheVariants.{Worth, NoNumber}
 use Rattle.build_integrity_rules.specs.Integrity.{integrity_of, length_is, length_agrees}
-use Rattle.build_integrity_rules.specs.VerifiedLaws.{verified-read}
+use Rattle.build_integrity_rules.proofs.VerifiedLaws.{verified-read}
 use Rattle.build_integrity_rules.specs.declared.Integrity.TheVariants.{Sound}
 use Rattle.build_integrity_rules.specs.declared.Verified.{Verified}
 use Rattle.encode_rewriting_laws.specs.Plain.{is_plain, plain_length}
 use Rattle.encode_rewriting_laws.specs.PlainLaws.{number_digits, plain_digits, plain_leads}
-use Rattle.field_rules.specs.SpelledLaws.{value_stands, value_size}
+use Rattle.field_rules.proofs.SpelledLaws.{value_stands, value_size}
 
 -- a BodyLength that is right
 pub record RightLength (message : List ℕ) (f : Field) : Type 0 where

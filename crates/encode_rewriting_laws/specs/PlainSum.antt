@@ -9,20 +9,20 @@ use Rattle.field_rules.specs.declared.Mode.{Mode}
 use Rattle.field_rules.specs.Choice.{pick}
 use Rattle.field_rules.specs.CheckSum.{sum_of, checksum_of, checksum_digits}
 use Rattle.field_rules.specs.Number.{is_digit, all_digits, worth}
-use Rattle.field_rules.specs.NumberLaws.{number_good, checksum_three}
-use Rattle.field_rules.specs.DecimalLaws.{all_digits-first}
+use Rattle.field_rules.proofs.NumberLaws.{number_good, checksum_three}
+use Rattle.field_rules.proofs.DecimalLaws.{all_digits-first}
 use Rattle.field_rules.specs.Field.{start_at, field_at, field_bytes, value_of}
-use Rattle.field_rules.specs.FieldTextLaws.{bytes-size}
-use Rattle.field_rules.specs.FieldsLaws.{step-lies}
+use Rattle.field_rules.proofs.FieldTextLaws.{bytes-size}
+use Rattle.field_rules.proofs.FieldsLaws.{step-lies}
 use Rattle.field_rules.specs.declared.Field.{Field}
 use Rattle.field_rules.specs.declared.FieldRead.TheVariants.{Read}
 use Rattle.field_rules.specs.declared.Number.TheVariants.{Worth}
 use Rattle.build_integrity_rules.specs.Integrity.{sum_agrees}
-use Rattle.build_integrity_rules.specs.IntegrityLaws.{sum_is_lem}
+use Rattle.build_integrity_rules.proofs.IntegrityLaws.{sum_is_lem}
 use Rattle.encode_rules.specs.Encoding.{sum_digits}
 use Rattle.encode_rewriting_laws.specs.Plain.{three_digits}
 use Rattle.encode_rewriting_laws.specs.PlainLaws.{Digits, tag-text}
-use Rattle.field_rules.specs.SpelledLaws.{spells, value_is, value_stands, value_size}
+use Rattle.field_rules.proofs.SpelledLaws.{spells, value_is, value_stands, value_size}
 
 -- three digits are those of the number that they are worth
 record Three (s : List ℕ) (n : ℕ) : Type 0 where

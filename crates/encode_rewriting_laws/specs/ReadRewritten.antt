@@ -9,7 +9,7 @@ use Rattle.field_rules.specs.Choice.{pick}
 use Rattle.field_rules.specs.CheckSum.{sum_of, checksum_of, checksum_digits}
 use Rattle.field_rules.specs.Number.{is_digit, all_digits, number_in}
 use Rattle.field_rules.specs.Decimal.{decimal, decimal_within}
-use Rattle.field_rules.specs.DecimalLaws.{digit_byte, last_digit, decimal_digits, number-reads, checksum_reads}
+use Rattle.field_rules.proofs.DecimalLaws.{digit_byte, last_digit, decimal_digits, number-reads, checksum_reads}
 use Rattle.field_rules.specs.Field.{start_at, value_of}
 use Rattle.field_rules.specs.Fields.{Fields, field, fields_from}
 use Rattle.field_rules.specs.declared.Field.{Field}
@@ -22,7 +22,7 @@ use Rattle.build_nesting_laws.specs.Entries.{All}
 use Rattle.encode_rules.specs.Encoding.{summed, sum_digits}
 use Rattle.field_rules.specs.Separator.{is_refused_separator}
 use Rattle.encode_rewriting_laws.specs.Copied.{onto, Copied, CopiedAt, copied_read}
-use Rattle.field_rules.specs.SpelledLaws.{digits_absent}
+use Rattle.field_rules.proofs.SpelledLaws.{digits_absent}
 use Rattle.encode_rewriting_laws.specs.ReadSound.{tagged, placed, framed, framed_fields, Unseparated, framed_sound, framed-start, framed-end}
 use Rattle.encode_rewriting_laws.specs.ReadSound.{framed-begin, framed-type, framed-size, placed-tag, placed_first}
 use Rattle.encode_rewriting_laws.specs.ReadWritten.{Writable}

@@ -12,20 +12,20 @@ use Rattle.field_rules.specs.declared.Mode.{Mode}
 use Rattle.field_rules.specs.CheckSum.{sum_of, checksum_of}
 use Rattle.field_rules.specs.Number.{number_in}
 use Rattle.field_rules.specs.Decimal.{decimal, decimal_within}
-use Rattle.field_rules.specs.DecimalLaws.{decimal_digits, decimal-reads}
-use Rattle.field_rules.specs.FindLaws.{Absent}
+use Rattle.field_rules.proofs.DecimalLaws.{decimal_digits, decimal-reads}
+use Rattle.field_rules.proofs.FindLaws.{Absent}
 use Rattle.field_rules.specs.Field.{start_at, field_at, field_bytes, value_of}
-use Rattle.field_rules.specs.FieldTextLaws.{spelt, bytes-size}
+use Rattle.field_rules.proofs.FieldTextLaws.{spelt, bytes-size}
 use Rattle.field_rules.specs.Fields.{Fields, field, fields_from}
 use Rattle.field_rules.specs.declared.Cursor.{Cursor}
 use Rattle.field_rules.specs.declared.Field.{Field}
 use Rattle.field_rules.specs.declared.FieldRead.TheVariants.{Read}
 use Rattle.field_rules.specs.declared.Number.TheVariants.{Worth}
 use Rattle.build_integrity_rules.specs.Integrity.{integrity_of, length_agrees, sum_agrees}
-use Rattle.build_integrity_rules.specs.IntegrityLaws.{begun-on, counted-on, summed-on, typed-on, length_is_lem, sum_is_lem}
+use Rattle.build_integrity_rules.proofs.IntegrityLaws.{begun-on, counted-on, summed-on, typed-on, length_is_lem, sum_is_lem}
 use Rattle.build_integrity_rules.specs.declared.Integrity.TheVariants.{Sound}
 use Rattle.build_integrity_rules.specs.declared.Verified.{Verified}
-use Rattle.field_rules.specs.SpelledLaws.{text-read, text_value, text-fields}
+use Rattle.field_rules.proofs.SpelledLaws.{text-read, text_value, text-fields}
 
 -- a field as bytes under its tag's own digits, kept shut so that no proof computes the digits
 unfoldable pub tagged : ℕ → ℕ → List ℕ → List ℕ

@@ -11,10 +11,10 @@ use Rattle.build_records.specs.Records.{value_at}
 use Rattle.field_rules.specs.declared.Mode.{Mode}
 use Rattle.field_rules.specs.Choice.{pick}
 use Rattle.field_rules.specs.Decimal.{decimal}
-use Rattle.field_rules.specs.FindLaws.{Absent}
+use Rattle.field_rules.proofs.FindLaws.{Absent}
 use Rattle.field_rules.specs.Field.{field_at, field_bytes, value_of}
 use Rattle.field_rules.specs.Fields.{Fields, field, fields_from}
-use Rattle.field_rules.specs.FieldsLaws.{step-lies, step_falls}
+use Rattle.field_rules.proofs.FieldsLaws.{step-lies, step_falls}
 use Rattle.field_rules.specs.declared.Cursor.{Cursor}
 use Rattle.field_rules.specs.declared.Field.{Field}
 use Rattle.field_rules.specs.declared.FieldRead.TheVariants.{Read}
@@ -25,8 +25,8 @@ use Rattle.build_order_laws.specs.Follows.{Follows, no_field, one_field}
 use Rattle.encode_rewriting_laws.specs.Plain.{is_plain, plain_tags}
 use Rattle.encode_rewriting_laws.specs.PlainLaws.{tag-text, plain_leads, plain_digits}
 use Rattle.encode_rewriting_laws.specs.ReadPlaces.{follows_cursor}
-use Rattle.field_rules.specs.PlaceLaws.{first_read, one_place}
-use Rattle.field_rules.specs.SpelledLaws.{spells, value_is, value_ends, behind-text}
+use Rattle.field_rules.proofs.PlaceLaws.{first_read, one_place}
+use Rattle.field_rules.proofs.SpelledLaws.{spells, value_is, value_ends, behind-text}
 use Rattle.encode_rewriting_laws.specs.Written.{written}
 
 -- a record whose text reads as it was written

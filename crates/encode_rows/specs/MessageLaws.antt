@@ -10,7 +10,7 @@ use Rattle.std.proofs.Math.ListN.{drop}
 use Rattle.std.proofs.Math.Seq.{drop_at}
 use Rattle.field_rules.specs.Choice.{pick, pick_same}
 use Rattle.field_rules.specs.Decimal.{decimal, written_at}
-use Rattle.field_rules.specs.DecimalLaws.{written_fits}
+use Rattle.field_rules.proofs.DecimalLaws.{written_fits}
 use Rattle.field_rules.specs.CheckSum.{checksum_digits}
 use Rattle.field_rules.specs.Field.{field_bytes}
 use Rattle.message_maps.specs.Map.{Map, end, field, entry, values_in}

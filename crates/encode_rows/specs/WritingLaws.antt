@@ -7,7 +7,7 @@ use borrow.Author.Tests.{eq-eqb, ne_eqb}
 use Rattle.field_rules.specs.Choice.{pick, pick_same}
 use Rattle.field_rules.specs.Decimal.{decimal, written_at, answer_at}
 use Rattle.field_rules.specs.declared.Written.TheVariants.{Next, NoRoom}
-use Rattle.field_rules.specs.DecimalLaws.{written_fits, written-length, written_copied, answer_fits}
+use Rattle.field_rules.proofs.DecimalLaws.{written_fits, written-length, written_copied, answer_fits}
 use Rattle.field_rules.specs.Field.{field_bytes}
 use Rattle.message_maps.specs.Map.{Map, end, field, entry, values_in}
 use Rattle.message_maps.specs.Rows.{Row, row, laid, row_at, rows_from, rows_before, size_of, sizes, level_of}

@@ -6,7 +6,7 @@ use Rattle.field_rules.specs.Separator.{is_refused_separator}
 use Rattle.message_lent_rules.specs.Lent.{is_message}
 use Rattle.message_lent_rules.specs.Meaning.{Message, words_of, value_bytes_of, message_in}
 use Rattle.message_lent_rules.specs.Formed.{Formed, Within}
-use Rattle.message_lent_rules.specs.FormedLaws.{lent_formed, Lends, IsLayout, is_layout_lends}
+use Rattle.message_lent_rules.proofs.FormedLaws.{lent_formed, Lends, IsLayout, is_layout_lends}
 use Rattle.message_lent_rules.specs.StoredLaws.{formed_stored, formed_without}
 use Rattle.message_rules.specs.Changes.{field_total, value_total}
 use Rattle.encode_rules.specs.Encoding.{dropped, body_length, measured, encoding, encoded_message}

@@ -10,15 +10,15 @@ use native.Mathlib.Omega.{arith}
 use Rattle.std.proofs.Math.ListN.{length, take, length-append}
 use Rattle.std.proofs.Math.Seq.{take_at}
 use Rattle.field_rules.specs.Decimal.{decimal, written_at}
-use Rattle.field_rules.specs.DecimalLaws.{written_fits}
+use Rattle.field_rules.proofs.DecimalLaws.{written_fits}
 use Rattle.message_maps.specs.Map.{stored, without_field}
 use Rattle.message_lent_rules.specs.Meaning.{Message, words_of, value_bytes_of, message_in}
-use Rattle.message_lent_rules.specs.FormedLaws.{Lends}
+use Rattle.message_lent_rules.proofs.FormedLaws.{Lends}
 use Rattle.message_rules.specs.Changes.{after, part_of, with_part, field_total, value_total, judged, storing, removing}
 use Rattle.message_rules.specs.RowChanges.{Blank}
 use Rattle.message_rules.specs.BlankLaws.{left-blank}
 use Rattle.message_rules.specs.ChangeLaws.{store-on}
-use Rattle.message_rules.specs.FormedLaws.{store_lends, remove_lends, remove-made}
+use Rattle.message_rules.proofs.FormedLaws.{store_lends, remove_lends, remove-made}
 use Rattle.message_rules.specs.declared.Part.{Part}
 use Rattle.message_rules.specs.declared.Part.TheVariants.{Header, Trailer}
 use Rattle.message_rules.specs.declared.Change.{Change}

@@ -13,7 +13,7 @@ use Rattle.field_rules.specs.Separator.{is_refused_separator}
 use Rattle.message_maps.specs.Rows.{rows_from}
 use Rattle.message_lent_rules.specs.Lent.{rows_of, is_message}
 use Rattle.message_lent_rules.specs.Meaning.{message_in}
-use Rattle.message_lent_rules.specs.FormedLaws.{lent_formed}
+use Rattle.message_lent_rules.proofs.FormedLaws.{lent_formed}
 use Rattle.message_rules.specs.Changes.{part_of, field_total}
 use Rattle.message_rules.specs.RowChanges.{span_of}
 use Rattle.message_rules.specs.StoreLaws.{lent_in, heads-of, count_is, fields_now}

@@ -3,7 +3,7 @@
 use Rattle.std.proofs.Common.{◌≡◌, ℕ, suc, ◌+◌, ◌-◌, ◌*◌, ◌/◌, ◌%◌, ◌^◌, ◌<◌, ◌≤◌, length, ap, ◌∙◌, mul-le-mul_right, mod-lt, mul_assoc, add-mul, lt_of_mul-lt-mul_right, pow-suc, div-add-mod', mul_right_comm, arith}
 use native.Mathlib.Nat.{one-le-pow, pow-le-pow_right}
 use Rattle.field_rules.specs.Decimal.{decimal}
-use Rattle.field_rules.specs.DecimalLaws.{decimal-length}
+use Rattle.field_rules.proofs.DecimalLaws.{decimal-length}
 use Rattle.field_numbers.specs.Fraction.{Ahead, one}
 use Rattle.field_numbers.proofs.Powers.{digits_below}
 

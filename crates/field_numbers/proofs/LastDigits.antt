@@ -2,7 +2,7 @@
 -- of a smaller number: so its digits can be written one after the other from the highest down.
 use Rattle.std.proofs.Common.{◌≡◌, ℕ, zero, suc, ◌+◌, ◌*◌, ◌/◌, ◌%◌, ◌^◌, ◌<◌, List, [], ◌∷◌, ◌++◌, length, sym, refl, mul_assoc, pow-suc, add-one, arith, length-append}
 use Rattle.field_rules.specs.Decimal.{decimal}
-use Rattle.field_rules.specs.DecimalLaws.{by_tenths, decimal_small, decimal_step, decimal-length-step}
+use Rattle.field_rules.proofs.DecimalLaws.{by_tenths, decimal_small, decimal_step, decimal-length-step}
 
 -- the last digits of a number, as many as are asked for: zeros lead where it has fewer
 unfoldable pub last_digits : ℕ → ℕ → List ℕ

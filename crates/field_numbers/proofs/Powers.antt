@@ -5,7 +5,7 @@ use native.Mathlib.Nat.{one-le-pow}
 use borrow.Author.Tests.{lt-leb}
 use Rattle.field_rules.specs.Choice.{pick}
 use Rattle.field_rules.specs.Decimal.{decimal}
-use Rattle.field_rules.specs.DecimalLaws.{one_digit_or_more, by_tenths, digits_within, decimal_small, decimal-some, decimal-length-step}
+use Rattle.field_rules.proofs.DecimalLaws.{one_digit_or_more, by_tenths, digits_within, decimal_small, decimal-some, decimal-length-step}
 
 -- how many of the bounds a number reaches, each bound ten times the one before
 unfoldable pub reached : ℕ → ℕ → ℕ → ℕ

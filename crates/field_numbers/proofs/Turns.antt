@@ -2,7 +2,7 @@
 -- At the first turn these are all digits of the number, behind the last one there are none.
 use Rattle.std.proofs.Common.{◌≡◌, ℕ, zero, suc, ◌+◌, ◌-◌, ◌*◌, ◌/◌, ◌%◌, ◌<◌, ◌≤◌, List, [], ◌∷◌, length, set, sym, ap, ◌∙◌, append_assoc, add-one, arith, length-set, take-append-drop, take-suc-set, drop-set-lt}
 use Rattle.field_rules.specs.Decimal.{decimal, written_at}
-use Rattle.field_rules.specs.DecimalLaws.{decimal-some, written_fits, written-length}
+use Rattle.field_rules.proofs.DecimalLaws.{decimal-some, written_fits, written-length}
 use Rattle.field_numbers.specs.Fraction.{Ahead, one}
 use Rattle.field_numbers.proofs.LastDigits.{last_digits, last-length, last-all, last-first}
 use Rattle.field_numbers.proofs.Fraction.{ahead-taken}

@@ -8,10 +8,10 @@ use Rattle.std.proofs.Math.Seq.{take-nil}
 use Rattle.std.proofs.lemmas.Bool.{eqb-false, lt-leb}
 use Rattle.field_rules.specs.Choice.{pick, pick_same}
 use Rattle.field_rules.specs.Find.{find_in}
-use Rattle.field_rules.specs.FindLaws.{find_miss, find_behind}
+use Rattle.field_rules.proofs.FindLaws.{find_miss, find_behind}
 use Rattle.field_rules.specs.Number.{is_digit, all_digits, worth, number_in, non_zero, tag_of}
-use Rattle.field_rules.specs.NumberLaws.{worth-least, number-empty, number-bad, number_large, number_good, tag-none, tag_zero, tag_good}
-use Rattle.field_rules.specs.DecimalLaws.{all_digits-append, all_digits_cons, worth-append}
+use Rattle.field_rules.proofs.NumberLaws.{worth-least, number-empty, number-bad, number_large, number_good, tag-none, tag_zero, tag_good}
+use Rattle.field_rules.proofs.DecimalLaws.{all_digits-append, all_digits_cons, worth-append}
 use Rattle.field_rules.specs.declared.Found.{Found}
 use Rattle.field_rules.specs.declared.Found.TheVariants.{At, Nothing}
 use Rattle.field_rules.specs.declared.Number.{Number}

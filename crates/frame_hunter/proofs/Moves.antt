@@ -1,9 +1,9 @@
 -- Moving bytes to the front of the store, and the hunt from a place, as the loops of `keep` and `hunt` meet them.
 use Rattle.std.proofs.Common.{◌≡◌, ℕ, suc, ◌+◌, ◌-◌, ◌<◌, ◌≤◌, Bool, List, [], ◌∷◌, ◌++◌, length, get_or, take, drop, set, sym, refl, ap, ◌∙◌, append-nil, add-one, arith, length-append, length-drop, take-append-drop, drop_of_length-le, length-take-le, get_or-drop, drop-cons, take-suc, drop-drop, get_or-append-add}
 use lib.Seq.{set_at, append_snoc, take-length}
-use Rattle.field_rules.specs.FindLaws.{rest_part}
+use Rattle.field_rules.proofs.FindLaws.{rest_part}
 use Rattle.frame_hunter_rules.specs.Hunt.{act_on, hunt_from}
-use Rattle.frame_hunter_rules.specs.TakeLaws.{first-none, first_hand, first_pass, first-stop}
+use Rattle.frame_hunter_rules.proofs.TakeLaws.{first-none, first_hand, first_pass, first-stop}
 use Rattle.frame_verdict_rules.specs.declared.Verdict.{Verdict}
 use Rattle.frame_hunter_rules.specs.declared.Act.TheVariants.{Hand, Pass, Stop}
 use Rattle.frame_hunter_rules.specs.declared.Hunted.{Hunted}

@@ -1,13 +1,3 @@
 pub mod Hunt
-pub mod TakeLaws
-pub mod RunLaws
-pub mod Recovery
 pub mod Bytes
-pub mod BytesLaws
 pub mod Calls
-pub mod InVainLaws
-pub mod CallsLaws
-pub mod Demand3
-pub mod Examples
-pub mod TakePlaces
-pub mod CallsExist

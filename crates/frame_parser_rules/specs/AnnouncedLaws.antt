@@ -8,10 +8,10 @@ use Rattle.std.proofs.lemmas.List.{drop-append-le, take-append-le}
 use Rattle.std.proofs.lemmas.Bool.{lt-leb}
 use Rattle.field_rules.specs.Choice.{pick}
 use Rattle.field_rules.specs.Find.{find_in}
-use Rattle.field_rules.specs.FindLaws.{Absent, Splits, find_splits, find_joins}
+use Rattle.field_rules.proofs.FindLaws.{Absent, Splits, find_splits, find_joins}
 use Rattle.field_rules.specs.Number.{worth, all_digits}
-use Rattle.field_rules.specs.NumberLaws.{worth-least}
-use Rattle.field_rules.specs.DecimalLaws.{all_digits-first}
+use Rattle.field_rules.proofs.NumberLaws.{worth-least}
+use Rattle.field_rules.proofs.DecimalLaws.{all_digits-first}
 use Rattle.field_rules.specs.declared.Found.{Found}
 use Rattle.field_rules.specs.declared.Found.TheVariants.{At, Nothing}
 use Rattle.frame_parser_rules.specs.Announced.{digit_of, nominal, find_from, with_separator, with_equals, value_from, message_end, limited, with_second, with_first, announced_in}

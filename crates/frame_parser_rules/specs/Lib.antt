@@ -1,10 +1,5 @@
 pub mod Announced
 pub mod AnnouncedLaws
 pub mod Framer
-pub mod FramerLaws
-pub mod MessageLaws
 pub mod Stream
-pub mod FramingLaws
-pub mod Framing
 pub mod Examples
-pub mod Sample

@@ -9,7 +9,7 @@ use lib.Seq.{length-take-le}
 use Rattle.frame_verdict_rules.specs.Frame.{separator, type_tag, sum_tag}
 use Rattle.frame_verdict_rules.specs.Readers.{Out, short, Reader, ◌>>=◌, literal, any}
 use Rattle.frame_verdict_rules.specs.Verdict.{checksum_for, body_reader, stage_of, as_verdict}
-use Rattle.frame_verdict_rules.specs.FrameExact.{body_of}
+use Rattle.frame_verdict_rules.proofs.FrameExact.{body_of}
 use Rattle.frame_verdict_rules.specs.declared.Stage.{Stage}
 use Rattle.frame_verdict_rules.specs.declared.Stage.TheVariants.{On, Bad, Short}
 use Rattle.frame_verdict_rules.specs.declared.Verdict.TheVariants.{Wait}

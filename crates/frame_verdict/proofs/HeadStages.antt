@@ -11,7 +11,7 @@ use Rattle.frame_verdict_rules.specs.Readers.{Out, bad, short, Reader, ◌>>=◌
 use Rattle.frame_verdict_rules.specs.Verdict.{framing, body_reader, frame_reader, stage_of, length_of, as_verdict, verdict_of}
 use Rattle.frame_verdict_rules.specs.Texts.{Ended, begin_exact, begin-short}
 use Rattle.frame_verdict_rules.specs.Lengths.{Fitting, length_exact}
-use Rattle.frame_verdict_rules.specs.FrameExact.{can_fit}
+use Rattle.frame_verdict_rules.proofs.FrameExact.{can_fit}
 use Rattle.frame_verdict_rules.specs.declared.Stage.{Stage}
 use Rattle.frame_verdict_rules.specs.declared.Stage.TheVariants.{On, Bad, Short}
 use Rattle.frame_verdict_rules.specs.declared.Length.TheVariants.{Announced, BadLength, ShortLength}

@@ -4,7 +4,7 @@ use Rattle.std.proofs.Common.{sym, arith, ltb-true, ltb-false, leb-true, leb-fal
 use Rattle.std.proofs.lemmas.Bool.{eqb-false}
 use Rattle.field_rules.specs.Choice.{pick}
 use Rattle.field_rules.specs.Number.{is_digit, all_digits, worth}
-use Rattle.field_rules.specs.NumberLaws.{worth-least}
+use Rattle.field_rules.proofs.NumberLaws.{worth-least}
 use Rattle.frame_verdict_rules.specs.Frame.{separator, All, all_none, all_more, Byte}
 use Rattle.frame_verdict_rules.specs.Readers.{ends, goes, wrong, may_become, digit_kind, body_length}
 use Rattle.frame_verdict_rules.specs.Exact.{Exact, exact_same}

@@ -5,6 +5,4 @@ pub mod Exact
 pub mod Literals
 pub mod Texts
 pub mod Lengths
-pub mod FrameExact
-pub mod VerdictLaws
 pub mod Examples

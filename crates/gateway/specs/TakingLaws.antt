@@ -7,7 +7,7 @@ use Rattle.message_maps.specs.Rows.{message_words}
 use Rattle.field_rules.specs.Choice.{pick, pick_same}
 use Rattle.build_records.specs.declared.Record.{Record}
 use Rattle.build_records.specs.Records.{laid, records_of, leftover, on_records, replaced, between, record_words, stride}
-use Rattle.build_records.specs.WordLaws.{words-whole, records_laid, records_on, records_length, laid-append, laid-length}
+use Rattle.build_records.proofs.WordLaws.{words-whole, records_laid, records_on, records_length, laid-append, laid-length}
 use Rattle.message_take_over.specs.declared.Taken.TheVariants.{NoMessage}
 use Rattle.message_take_over.specs.Taking.{AfterTaking, after, taking_over}
 use Rattle.face_messages.specs.declared.FieldRecord.{FieldRecord}

@@ -17,7 +17,7 @@ use Rattle.message_maps.specs.Rows.{Row, row, flat, part, padded, spliced, level
 use Rattle.message_maps.specs.RowsLaws.{part_length}
 use Rattle.message_lent_rules.specs.Lent.{row_count, rows_of}
 use Rattle.message_lent_rules.specs.LentLaws.{both}
-use Rattle.message_lent_rules.specs.MeaningLaws.{flat-length, rows_flat}
+use Rattle.message_lent_rules.proofs.MeaningLaws.{flat-length, rows_flat}
 use Rattle.message_rules.specs.Changes.{After, after}
 use Rattle.message_rules.specs.RowChanges.{Cuttable, cut_rows, cut_size, cut_words, cut_values, changed_at}
 use Rattle.message_rules.specs.declared.Cut.{Cut}

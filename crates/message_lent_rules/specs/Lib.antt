@@ -1,17 +1,12 @@
 pub mod Lent
 pub mod LentLaws
 pub mod Meaning
-pub mod MeaningLaws
-pub mod MeantLaws
 pub mod Formed
 pub mod StandLaws
 pub mod AllowedLaws
 pub mod LaidLaws
-pub mod FormedLaws
-pub mod Exact
 pub mod KeptLaws
 pub mod StoredLaws
 pub mod HungLaws
 pub mod Examples
 pub mod Standing
-pub mod StandingLaws

@@ -10,7 +10,7 @@ use Rattle.message_rules.specs.RowChanges.{place_of, span_of}
 use Rattle.message_rules.specs.declared.Part.{Part}
 use Rattle.message_rules.specs.declared.Part.TheVariants.{Header, Body, Trailer}
 use Rattle.message_rules.specs.LookUps.{rows_in, standing, map_at, value_in, entry_in, part_row, value_of_map, entry_of, part_found, field_found, entry_found}
-use Rattle.message_rules.specs.LookUpLimits.{rows_in_lem}
+use Rattle.message_rules.proofs.LookUpLimits.{rows_in_lem}
 use Rattle.message_look_ups.specs.Opening.{rows_below, opened_at, value_from, entry_from}
 use Rattle.message_look_ups.specs.RowLaws.{value_laid, entry-laid}
 use Rattle.message_look_ups.specs.OpeningLaws.{Inside, Opens, shut, opened, opens, opened_no}

@@ -11,7 +11,7 @@ use Rattle.message_maps.specs.Rows.{Row, row, laid, level_of, size_of, sizes}
 use Rattle.message_rules.specs.LayoutLaws.{sizes-append, sizes-laid}
 use Rattle.message_lent_rules.specs.LaidLaws.{shallow}
 use Rattle.message_rules.specs.LookUps.{rows_in, Standing, standing, map_at}
-use Rattle.message_rules.specs.LookUpLimits.{rows_in_lem}
+use Rattle.message_rules.proofs.LookUpLimits.{rows_in_lem}
 use Rattle.message_look_ups.specs.Opening.{is_head}
 use Rattle.message_look_ups.specs.RowLaws.{head_in, head_past, MapSplit, MapNamed, there, nowhere}
 

@@ -14,7 +14,7 @@ use Rattle.message_maps.specs.RowsLaws.{rows_step, rows_none}
 use Rattle.message_lent_rules.specs.Lent.{row_count, rows_of, is_message}
 use Rattle.message_lent_rules.specs.LentLaws.{message-held}
 use Rattle.message_lent_rules.specs.Meaning.{Message, parts, message_in}
-use Rattle.message_lent_rules.specs.MeaningLaws.{means}
+use Rattle.message_lent_rules.proofs.MeaningLaws.{means}
 use Rattle.message_rules.specs.RowChanges.{place_of}
 use Rattle.message_rules.specs.LayoutLaws.{sizes-append, end_below}
 use Rattle.message_lent_rules.specs.LaidLaws.{shallow}

@@ -6,7 +6,7 @@ use Rattle.std.proofs.lemmas.List.{length-replicate, get_or-replicate, set_at}
 use Rattle.std.proofs.Math.ListN.{get_or-append}
 use Rattle.std.proofs.Math.Seq.{paste, paste-zero, paste-suc, take-length, drop-length, length_paste_head}
 use Rattle.field_rules.specs.Decimal.{written_at}
-use Rattle.field_rules.specs.DecimalLaws.{written_fits}
+use Rattle.field_rules.proofs.DecimalLaws.{written_fits}
 use Rattle.message_maps.specs.Rows.{part}
 use Rattle.message_maps.specs.RowsLaws.{part_length}
 

@@ -10,7 +10,7 @@ use Rattle.std.proofs.Math.Nat.{sub-zero}
 use borrow.Author.Tests.{le-leb, lt-leb}
 use Rattle.field_rules.specs.Choice.{pick}
 use Rattle.field_rules.specs.Decimal.{written_at}
-use Rattle.field_rules.specs.DecimalLaws.{written_fits, written_copied}
+use Rattle.field_rules.proofs.DecimalLaws.{written_fits, written_copied}
 use Rattle.message_maps.specs.Rows.{Row, row, row_at, rows_from, rows_before, level_of, size_of, matches, find_from, end_from, in_run, run_end_from, sizes, padded, part, spliced, message_rows, message_words}
 
 pub rows_step : (words : List ℕ) (i to : ℕ) → i < to → rows_from (to - i) i words ≡ row_at words i ∷ rows_from (to - (i + 1)) (i + 1) words

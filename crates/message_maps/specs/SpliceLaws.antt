@@ -11,7 +11,7 @@ use Rattle.std.proofs.Math.ListN.{length, take, drop, replicate, length-append, 
 use Rattle.std.proofs.Math.Seq.{take_at, length-take-le}
 use Rattle.std.proofs.lemmas.List.{take-append-le}
 use Rattle.field_rules.specs.Decimal.{written_at}
-use Rattle.field_rules.specs.DecimalLaws.{written_fits, written-length}
+use Rattle.field_rules.proofs.DecimalLaws.{written_fits, written-length}
 use Rattle.message_maps.specs.Rows.{padded, part, spliced}
 use Rattle.message_maps.specs.RowsLaws.{part_length, part-all, drop-zeros}
 

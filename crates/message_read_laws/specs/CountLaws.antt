@@ -2,11 +2,11 @@
 use Rattle.std.specs.Prelude.{◌≡◌, refl, Bool, true, false, List, [], ◌∷◌, ◌++◌, ℕ, zero, suc, ◌+◌, ◌-◌, ◌≤◌, take, drop, eqb}
 use Rattle.std.proofs.Common.{sym, ap, ◌∙◌, arith, length-append, take-append-drop}
 use Rattle.std.proofs.Math.ListN.{length}
-use Rattle.field_rules.specs.SpelledLaws.{step-tag}
+use Rattle.field_rules.proofs.SpelledLaws.{step-tag}
 use Rattle.field_rules.specs.declared.Mode.{Mode}
 use Rattle.field_rules.specs.Choice.{pick}
 use Rattle.field_rules.specs.Field.{field_at}
-use Rattle.field_rules.specs.FieldsLaws.{step-lies, by_fields, step-inside, each_read}
+use Rattle.field_rules.proofs.FieldsLaws.{step-lies, by_fields, step-inside, each_read}
 use Rattle.field_rules.specs.Fields.{Fields, field, fields_from, Each, each_field}
 use Rattle.field_rules.specs.declared.Cursor.{Cursor}
 use Rattle.field_rules.specs.declared.Field.{Field}

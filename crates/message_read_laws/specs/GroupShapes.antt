@@ -13,7 +13,7 @@ use Rattle.build_records.specs.Records.{stored, value_at}
 use Rattle.build_records.specs.declared.Record.{Record}
 use Rattle.message_maps.specs.Map.{Map, end, field, entry, joined}
 use Rattle.message_lent_rules.specs.Formed.{stands, is_formed, is_run}
-use Rattle.message_lent_rules.specs.MeantLaws.{joined_end}
+use Rattle.message_lent_rules.proofs.MeantLaws.{joined_end}
 use Rattle.message_rules.specs.LayoutLaws.{joined_assoc}
 use Rattle.build_group_rules.specs.Groups.{Rules, is_delimiter, opens}
 use Rattle.build_nesting_laws.specs.Formed.{Part, entries_of, fields_of, Own, Formed, no_entry, next-entry, starts, rises, hangs, user}

@@ -8,7 +8,7 @@ use Rattle.std.proofs.Math.ListN.{length, length-append, length-take}
 use Rattle.field_rules.specs.declared.Mode.{Mode}
 use Rattle.field_rules.specs.Field.{start_at}
 use Rattle.field_rules.specs.Fields.{Fields, field, fields_from}
-use Rattle.field_rules.specs.FieldsLaws.{step-lies}
+use Rattle.field_rules.proofs.FieldsLaws.{step-lies}
 use Rattle.field_rules.specs.declared.Field.{Field}
 use Rattle.build_integrity_rules.specs.declared.Verified.{Verified}
 use Rattle.dictionary_layout_rules.specs.declared.Position.TheVariants.{At}
@@ -35,7 +35,7 @@ use Rattle.message_read_laws.specs.Counting.{total, budget, Fine, Counts}
 use Rattle.message_read_laws.specs.CountLaws.{total-append, grows_stored, read_fine, all_fine, all-budget}
 use Rattle.message_read_laws.specs.PartReading.{Reads, of_field, own-field, header-reads, Ended, trailer-reads}
 use Rattle.message_read_laws.specs.BodyReading.{body_reads}
-use Rattle.build_integrity_rules.specs.VerifiedLaws.{VerifiedRead}
+use Rattle.build_integrity_rules.proofs.VerifiedLaws.{VerifiedRead}
 
 -- records of a build that take-over accepts: they stand for a message within the limits
 pub record Takes (message : List ℕ) (rs : List Record) : Type 0 where

@@ -8,7 +8,7 @@ use Rattle.message_lent_rules.specs.Lent.{row_count, rows_of, is_message}
 use Rattle.message_lent_rules.specs.LaidLaws.{sizes-laid}
 use Rattle.message_lent_rules.specs.LentLaws.{message-held}
 use Rattle.message_lent_rules.specs.Meaning.{Message, parts, words_of, value_bytes_of, message_in}
-use Rattle.message_lent_rules.specs.MeaningLaws.{means, flat-length}
+use Rattle.message_lent_rules.proofs.MeaningLaws.{means, flat-length}
 use Rattle.message_rules.specs.RowChanges.{place_of, span_of, BlankFrom, Blank}
 use Rattle.message_rules.specs.PlaceLaws.{PartsAt, parts_at}
 use Rattle.message_rules.specs.declared.Part.{Part}

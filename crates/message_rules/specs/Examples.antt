@@ -7,7 +7,7 @@ use Rattle.field_rules.specs.Text.{bytes}
 use Rattle.message_maps.specs.Map.{Map, end, field, entry, joined, holds, holds_any, replaced, without_field, leading, past_leading, run_on, without_run, stored, field_count, values_in}
 use Rattle.message_lent_rules.specs.Meaning.{Message, parts, words_of, value_bytes_of}
 use Rattle.message_lent_rules.specs.Formed.{stands, goes_on, is_formed, Within}
-use Rattle.message_lent_rules.specs.FormedLaws.{Lends, layout_lends}
+use Rattle.message_lent_rules.proofs.FormedLaws.{Lends, layout_lends}
 use Rattle.message_rules.specs.Changes.{After, after, number_of_change, part_of, with_part, field_total, value_total, judged, of_message, of_store, no_fields, emptying, new_message, storing, removing}
 use Rattle.message_rules.specs.declared.Part.{Part}
 use Rattle.message_rules.specs.declared.Part.TheVariants.{Header, Body, Trailer}

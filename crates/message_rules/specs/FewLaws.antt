@@ -11,7 +11,7 @@ use Rattle.message_maps.specs.Map.{stored}
 use Rattle.message_lent_rules.specs.Lent.{fields_in}
 use Rattle.message_lent_rules.specs.LentLaws.{fields-few}
 use Rattle.message_lent_rules.specs.Meaning.{Message}
-use Rattle.message_lent_rules.specs.MeaningLaws.{rows_length}
+use Rattle.message_lent_rules.proofs.MeaningLaws.{rows_length}
 use Rattle.message_rules.specs.Changes.{After, part_of, with_part, field_total, judged}
 use Rattle.message_rules.specs.RowChanges.{Cuttable, changed_at, field_place, span_of, put_at, Ready, counted_fields}
 use Rattle.message_rules.specs.StoreLaws.{In, fields_now, put_ready, put-judged}

@@ -10,7 +10,7 @@ use Rattle.std.proofs.lemmas.Bool.{lt-leb}
 use Rattle.field_rules.specs.Choice.{pick_same}
 use Rattle.message_maps.specs.Map.{Map, end, field, entry, joined, field_count, values_in}
 use Rattle.message_maps.specs.Rows.{Row, row, laid, level_of, matches, find_from, end_from, in_run, run_end_from}
-pub use Rattle.message_lent_rules.specs.MeantLaws.{joined_end}
+pub use Rattle.message_lent_rules.proofs.MeantLaws.{joined_end}
 pub use Rattle.message_lent_rules.specs.LaidLaws.{sizes-append, sizes-laid}
 
 pub joined_assoc : (a b c : Map) → joined (joined a b) c ≡ joined a (joined b c)

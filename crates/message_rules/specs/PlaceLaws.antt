@@ -12,8 +12,8 @@ use Rattle.message_maps.specs.Rows.{Row, row, laid, flat, part, padded, row_at, 
 use Rattle.message_lent_rules.specs.Lent.{row_count, rows_of, is_message}
 use Rattle.message_lent_rules.specs.LentLaws.{Laid, Held, message-held}
 use Rattle.message_lent_rules.specs.Meaning.{Message, parts, words_of, value_bytes_of, message_in}
-use Rattle.message_lent_rules.specs.MeaningLaws.{Means, means, flat-length, flat_append, rows_flat}
-pub use Rattle.message_lent_rules.specs.MeaningLaws.{rows_length}
+use Rattle.message_lent_rules.proofs.MeaningLaws.{Means, means, flat-length, flat_append, rows_flat}
+pub use Rattle.message_lent_rules.proofs.MeaningLaws.{rows_length}
 use Rattle.message_rules.specs.Changes.{After, after}
 use Rattle.message_rules.specs.RowChanges.{place_of, Cuttable, cut_rows, cut_size, cut_words, cut_values, changed_at, located_in, span_of}
 use Rattle.message_rules.specs.LayoutLaws.{sizes-append, sizes-laid, end_below}

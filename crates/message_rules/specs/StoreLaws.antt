@@ -12,7 +12,7 @@ use Rattle.message_lent_rules.specs.Lent.{row_count, rows_of, is_message, fields
 use Rattle.message_lent_rules.specs.LaidLaws.{rows_parts}
 use Rattle.message_lent_rules.specs.LentLaws.{message-held}
 use Rattle.message_lent_rules.specs.Meaning.{Message, parts, words_of, value_bytes_of, message_in}
-use Rattle.message_lent_rules.specs.MeaningLaws.{means}
+use Rattle.message_lent_rules.proofs.MeaningLaws.{means}
 use Rattle.message_rules.specs.Changes.{after, part_of, with_part, field_total, value_total, map_words, map_values, judged_map, judged}
 use Rattle.message_rules.specs.RowChanges.{Cuttable, changed_at, body_head, trailer_head, span_of, held_rows, put_at, Ready}
 use Rattle.message_rules.specs.LayoutLaws.{values-joined, count-joined}

@@ -11,7 +11,7 @@ use Rattle.message_maps.specs.Rows.{Row, row, laid, flat, part, padded, spliced,
 use Rattle.message_lent_rules.specs.Lent.{row_count, rows_of, fields_in, is_laid}
 use Rattle.message_lent_rules.specs.LentLaws.{both, Laid, laid_out}
 use Rattle.message_lent_rules.specs.Meaning.{open_in, outermost}
-use Rattle.message_lent_rules.specs.MeaningLaws.{laid_means}
+use Rattle.message_lent_rules.proofs.MeaningLaws.{laid_means}
 use Rattle.message_rules.specs.Changes.{After, after, of_store, map_words, map_values, judged_map}
 use Rattle.message_rules.specs.RowChanges.{Cuttable, changed_at, put_at, Ready}
 use Rattle.message_rules.specs.LayoutLaws.{laid-joined, values-joined, count-joined, sizes-append, sizes-laid}
@@ -21,7 +21,7 @@ use Rattle.message_rules.specs.FrameLaws.{Frame}
 use Rattle.message_rules.specs.declared.Span.{Span}
 use Rattle.message_rules.specs.declared.Change.TheVariants.{Made, NoMessage, NotStorable, NoRun}
 use Rattle.message_rules.specs.Runs.{is_draft, run_in, of_draft, judged_run, starting, entering, is_empty, in_last, storing_last}
-use Rattle.message_rules.specs.Drafts.{lent-run, few_rows}
+use Rattle.message_rules.proofs.Drafts.{lent-run, few_rows}
 use Rattle.message_runs.specs.RunLaws.{only_entries, entries_only, LastSplit, Last, none_last, one_last, last_of}
 
 -- what is known of a draft

@@ -17,7 +17,7 @@ use Rattle.message_rules.specs.PlaceLaws.{rows_length}
 use Rattle.message_rules.specs.CutLaws.{Cutting, cut_judged, cut_able}
 use Rattle.message_rules.specs.declared.Cut.{Cut}
 use Rattle.message_rules.specs.Runs.{judged_run}
-use Rattle.message_rules.specs.Drafts.{fields-run, few_rows}
+use Rattle.message_rules.proofs.Drafts.{fields-run, few_rows}
 use Rattle.message_runs.specs.DraftLaws.{Draft}
 
 module _ (words values : List ℕ) (run : Map) (d : Draft words values run) where

@@ -22,7 +22,7 @@ use Rattle.message_hung_rows.specs.RowLaws.{hang-none, hang-some}
 use Rattle.message_hung_rows.specs.RaiseLaws.{raised-length}
 use Rattle.message_rules.specs.Runs.{is_empty, is_whole, hung_run}
 use Rattle.message_runs.specs.RunLaws.{only_entries, raised-laid, within-laid, all_laid}
-use Rattle.message_rules.specs.Drafts.{fields-run}
+use Rattle.message_rules.proofs.Drafts.{fields-run}
 use Rattle.message_runs.specs.DraftLaws.{Draft}
 use Rattle.message_runs.specs.EnterLaws.{count_rows}
 use Rattle.message_runs.specs.HungLaws.{HungAt, hung_at, hung-leaves, hung-replaced, hung-count}

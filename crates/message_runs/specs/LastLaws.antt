@@ -21,7 +21,7 @@ use Rattle.message_rules.specs.FrameLaws as frame
 use Rattle.message_rules.specs.declared.Change.TheVariants.{NotStorable, NoRun}
 use Rattle.message_rules.specs.Runs.{is_draft, run_in, judged_run, is_empty, in_last, last_from, storing_last}
 use Rattle.message_runs.specs.RunLaws.{LastSplit, Last, none_last, one_last, last_of}
-use Rattle.message_rules.specs.Drafts.{fields-run}
+use Rattle.message_rules.proofs.Drafts.{fields-run}
 use Rattle.message_runs.specs.DraftLaws.{Draft, draft_of, draft_yes, last_frame}
 
 -- a map in which a field was stored has one

@@ -7,11 +7,11 @@ use mathlib.Core.List.{List, [], ◌∷◌, ◌++◌, append_assoc}
 use Rattle.std.proofs.Math.ListN.{length, set, length-append}
 use Rattle.field_rules.specs.Choice.{pick}
 use Rattle.build_records.specs.Records.{record_at, between}
-use Rattle.build_records.specs.RecordLaws.{between-on, between-end}
+use Rattle.build_records.proofs.RecordLaws.{between-on, between-end}
 use Rattle.build_records.specs.declared.Record.{Record}
 use Rattle.message_maps.specs.Rows.{Row, row, flat, padded, message_words, message_rows}
 use Rattle.message_maps.specs.RowsLaws.{padded-length}
-use Rattle.message_lent_rules.specs.MeaningLaws.{flat-length}
+use Rattle.message_lent_rules.proofs.MeaningLaws.{flat-length}
 use Rattle.message_take_over.specs.declared.Laying.{Laying}
 use Rattle.message_take_over.specs.declared.Step.TheVariants.{On, Refused}
 use Rattle.message_take_over.specs.Taking.{records_before, joins_of, is_next, are_next, part_heads, record_rows, rows_behind, rows_of}

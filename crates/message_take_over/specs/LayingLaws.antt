@@ -2,11 +2,11 @@
 use Rattle.std.specs.Prelude.{◌≡◌, refl, List, [], ◌∷◌, ◌++◌, ℕ, zero, suc, ◌+◌, ◌-◌, ◌*◌, ◌≤◌, ◌<◌, length}
 use Rattle.std.proofs.Common.{sym, ap, ◌∙◌, append_assoc, append-nil, arith, length-append}
 use Rattle.field_rules.specs.Decimal.{written_at}
-use Rattle.field_rules.specs.DecimalLaws.{written-length}
+use Rattle.field_rules.proofs.DecimalLaws.{written-length}
 use Rattle.message_maps.specs.Rows.{Row, row, flat, padded, message_words, message_rows}
 use Rattle.message_maps.specs.Rows.{part as part_of}
 use Rattle.message_maps.specs.RowsLaws.{written_next, part-all}
-use Rattle.message_lent_rules.specs.MeaningLaws.{flat-length, flat_append}
+use Rattle.message_lent_rules.proofs.MeaningLaws.{flat-length, flat_append}
 use Rattle.message_take_over.specs.Taking.{part_heads}
 use Rattle.message_take_over.specs.Laying.{rowed, Adds}
 

@@ -5,9 +5,9 @@ use Rattle.std.proofs.Common.{sym, ◌∙◌, append_assoc, append-nil, length-a
 use Rattle.std.proofs.Math.Path.{ap}
 use native.Mathlib.Omega.{arith}
 use Rattle.field_rules.specs.Decimal.{written_at}
-use Rattle.field_rules.specs.DecimalLaws.{written-length}
+use Rattle.field_rules.proofs.DecimalLaws.{written-length}
 use Rattle.build_records.specs.Records.{record_at, between, value_at}
-use Rattle.build_records.specs.RecordLaws.{between-on, between-end}
+use Rattle.build_records.proofs.RecordLaws.{between-on, between-end}
 use Rattle.build_records.specs.declared.Record.{Record}
 use Rattle.message_maps.specs.Rows.{padded, part}
 use Rattle.message_lent_rules.specs.LentLaws.{both}

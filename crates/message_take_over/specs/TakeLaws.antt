@@ -6,7 +6,7 @@ use mathlib.Core.List.{List, []}
 use borrow.Author.Tests.{le-leb, lt-leb, eq-eqb, ne_eqb}
 use Rattle.field_rules.specs.Choice.{pick, pick_same}
 use Rattle.build_records.specs.Records.{records_of, between, stride}
-use Rattle.build_records.specs.WordLaws.{records_length}
+use Rattle.build_records.proofs.WordLaws.{records_length}
 use Rattle.build_records.specs.declared.Record.{Record}
 use Rattle.message_maps.specs.Rows.{padded, message_words}
 use Rattle.message_maps.specs.RowsLaws.{padded-length}

@@ -9,7 +9,7 @@ use Rattle.message_maps.specs.Map.{Map, field, entry, values_in}
 use Rattle.message_maps.specs.Rows.{Row, row, laid, message_words}
 use Rattle.message_lent_rules.specs.Meaning.{Message, parts, words_of, value_bytes_of}
 use Rattle.message_lent_rules.specs.Formed.{Formed, Within}
-use Rattle.message_lent_rules.specs.FormedLaws.{layout_lends}
+use Rattle.message_lent_rules.proofs.FormedLaws.{layout_lends}
 use Rattle.message_take_over.specs.declared.Taken.TheVariants.{Made}
 use Rattle.message_take_over.specs.Taking.{is_next, are_next, part_heads, record_rows, rows_behind, rows_of, values_at, laid_out, layout_from, after, judged, taking_over}
 use Rattle.message_take_over.specs.TakeLaws.{take-judged}

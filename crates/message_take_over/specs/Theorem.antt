@@ -18,10 +18,10 @@ use Rattle.message_lent_rules.specs.Lent.{rows_of as rows_in}
 use Rattle.message_lent_rules.specs.LentLaws.{both, message-held}
 use Rattle.message_lent_rules.specs.LaidLaws.{sizes-append}
 use Rattle.message_lent_rules.specs.Meaning.{message_in}
-use Rattle.message_lent_rules.specs.MeaningLaws.{means}
-use Rattle.message_lent_rules.specs.MeantLaws.{rows_back}
+use Rattle.message_lent_rules.proofs.MeaningLaws.{means}
+use Rattle.message_lent_rules.proofs.MeantLaws.{rows_back}
 use Rattle.message_lent_rules.specs.Formed.{Within}
-use Rattle.message_lent_rules.specs.FormedLaws.{lent_formed}
+use Rattle.message_lent_rules.proofs.FormedLaws.{lent_formed}
 use Rattle.message_take_over.specs.declared.Joins.{Joins}
 use Rattle.message_take_over.specs.declared.Joins.TheVariants.{Open, Entry, Nowhere}
 use Rattle.message_take_over.specs.declared.Taken.TheVariants.{Made, NoMessage}

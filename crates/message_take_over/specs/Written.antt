@@ -8,10 +8,10 @@ use Rattle.std.proofs.Math.ListN.{length, take}
 use Rattle.std.proofs.lemmas.List.{length-replicate}
 use Rattle.std.proofs.Math.Seq.{length-take-le}
 use Rattle.field_rules.specs.Decimal.{written_at}
-use Rattle.field_rules.specs.DecimalLaws.{written_fits, written-length}
+use Rattle.field_rules.proofs.DecimalLaws.{written_fits, written-length}
 use Rattle.message_maps.specs.Rows.{Row, flat, padded, part, message_words, message_rows}
 use Rattle.message_maps.specs.RowsLaws.{padded-length}
-use Rattle.message_lent_rules.specs.MeaningLaws.{flat-length}
+use Rattle.message_lent_rules.proofs.MeaningLaws.{flat-length}
 
 -- what was written behind the used ones, with them
 pub written_behind : (used behind : ℕ) (new old written : List ℕ) → behind ≡ used + length new → behind ≤ length old → written ≡ written_at used new old → take behind written ≡ take used old ++ new

@@ -5,12 +5,12 @@ use Rattle.field_rules.specs.Choice.{pick}
 use Rattle.frame_verdict_rules.specs.Frame.{frame_most, IsFrame}
 use Rattle.frame_verdict_rules.specs.Verdict.{verdict_of}
 use Rattle.frame_hunter_rules.specs.Hunt.{Framer, store_size, count_wrap, Took, take_one, accepted, refused, give_end, Each, joined}
-use Rattle.frame_hunter_rules.specs.Recovery.{Whole, Handed}
-use Rattle.frame_hunter_rules.specs.Demand3.{NoneStraddles, demand_3}
+use Rattle.frame_hunter_rules.proofs.Recovery.{Whole, Handed}
+use Rattle.frame_hunter_rules.proofs.Demand3.{NoneStraddles, demand_3}
 use Rattle.frame_hunter_rules.specs.Bytes.{number_of_hunter, framer_of, unfit, left_by, finished, refused_take_lem, unmoved, moved_by, took_from}
-use Rattle.frame_hunter_rules.specs.InVainLaws.{refused-leaves}
-use Rattle.frame_hunter_rules.specs.CallsLaws.{never_full, never_full_elsewhere, nothing_again, bytes_conserved, stream_alone}
-use Rattle.frame_hunter_rules.specs.CallsExist.{can_begin, can_go_on, can_end}
+use Rattle.frame_hunter_rules.proofs.InVainLaws.{refused-leaves}
+use Rattle.frame_hunter_rules.proofs.CallsLaws.{never_full, never_full_elsewhere, nothing_again, bytes_conserved, stream_alone}
+use Rattle.frame_hunter_rules.proofs.CallsExist.{can_begin, can_go_on, can_end}
 use Rattle.frame_hunter_rules.specs.declared.State.{State}
 use Rattle.frame_hunter_rules.specs.declared.Answer.{Answer}
 use Rattle.frame_hunter_rules.specs.declared.Answer.TheVariants.{Fine, OutputShort, StoreFull, AfterEnd, BadStore}

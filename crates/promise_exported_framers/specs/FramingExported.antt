@@ -3,7 +3,7 @@ use Rattle.std.specs.Prelude.{◌≡◌, refl, Bool, true, false, List, ◌∷�
 use Rattle.std.proofs.Common.{sym, ap, ◌∙◌, subst, arith}
 use Rattle.frame_parser_rules.specs.Framer.{number_of_parser, length_returned, held, push_answer, pushed, with_end, take_answer, taken}
 use Rattle.frame_parser_rules.specs.Stream.{Each, joined, Fits}
-use Rattle.frame_parser_rules.specs.Framing.{framing, framing-whole, framing-goes_on}
+use Rattle.frame_parser_rules.proofs.Framing.{framing, framing-whole, framing-goes_on}
 use Rattle.frame_parser_rules.specs.declared.State.{State}
 use Rattle.frame_parser_rules.specs.declared.Answer.TheVariants.{Accepted, Message}
 use Rattle.face_framers.specs.States.{ported_in}

@@ -3,7 +3,7 @@
 use Rattle.std.specs.Prelude.{◌≡◌, refl, Bool, List, [], ◌∷◌, ℕ, ◌<◌, take}
 use Rattle.std.proofs.Common.{sym, ap, ◌∙◌, subst, arith}
 use Rattle.frame_hunter_rules.specs.Bytes.{fresh_state, pushed, finished, took_from, Pushes, Finishes, Takes}
-use Rattle.frame_hunter_rules.specs.BytesLaws.{take_small}
+use Rattle.frame_hunter_rules.proofs.BytesLaws.{take_small}
 use Rattle.frame_hunter_rules.specs.Calls.{InVain, Refused, TakenAll, Calls}
 use Rattle.frame_hunter_rules.specs.Calls as core
 use Rattle.frame_hunter_rules.specs.declared.State.{State}

@@ -7,7 +7,7 @@ use Rattle.frame_parser_rules.specs.Announced.{announced_in}
 use Rattle.frame_parser_rules.specs.AnnouncedLaws.{announced_limit}
 use Rattle.frame_parser_rules.specs.Framer.{number_of_parser, length_returned, where_accepted, held, unusable, push_answer, pushed, pushed_store, end_answer}
 use Rattle.frame_parser_rules.specs.Framer.{finished, ready_of, ready_answer, take_answer, take_state, taken, moved_to_front, taken_store, taken_output}
-use Rattle.frame_parser_rules.specs.FramerLaws.{usable_is, ready_in}
+use Rattle.frame_parser_rules.proofs.FramerLaws.{usable_is, ready_in}
 use Rattle.frame_parser_rules.specs.declared.State.{State}
 use Rattle.frame_parser_rules.specs.declared.Answer.{Answer}
 use Rattle.frame_parser_rules.specs.declared.Answer.TheVariants.{Accepted, Message, OverLong, ShortOutput, StoreFull, AfterEnd, BadStore}
@@ -15,7 +15,7 @@ use Rattle.frame_parser_rules.specs.declared.Ready.{Ready}
 use Rattle.frame_parser_rules.specs.declared.Ready.TheVariants.{Length}
 use Rattle.frame_parser_rules.specs.declared.Ready.TheVariants as ready
 use Rattle.frame_hunter_rules.specs.Calls.{InVain, output_short, after_the_end, bad-store}
-use Rattle.frame_hunter_rules.specs.InVainLaws.{not_done}
+use Rattle.frame_hunter_rules.proofs.InVainLaws.{not_done}
 
 -- ---- answered 0
 

@@ -3,8 +3,8 @@
 use Rattle.std.specs.Prelude.{◌≡◌, refl, Bool, true, false, List, [], ◌++◌, ℕ, suc, ◌-◌, ◌≤◌, ◌<◌, length, take}
 use Rattle.std.proofs.Common.{sym, ap, ◌∙◌, subst, arith}
 use Rattle.frame_parser_rules.specs.Framer.{number_of_parser, length_returned, where_accepted, answers_with, fresh, held, pushed, with_end, finished, ready_answer, take_answer, taken}
-use Rattle.frame_parser_rules.specs.FramerLaws.{take_judges, end-changes_no_take}
-use Rattle.frame_parser_rules.specs.FramingLaws.{Running, running_usable, nothing_ready}
+use Rattle.frame_parser_rules.proofs.FramerLaws.{take_judges, end-changes_no_take}
+use Rattle.frame_parser_rules.proofs.FramingLaws.{Running, running_usable, nothing_ready}
 use Rattle.frame_parser_rules.specs.Stream.{Pushes, Takes, Drained, dry, more, Run}
 use Rattle.frame_parser_rules.specs.Stream as core
 use Rattle.frame_parser_rules.specs.declared.State.{State}

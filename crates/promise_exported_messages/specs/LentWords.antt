@@ -14,7 +14,7 @@ use Rattle.build_config.specs.Settings.{config_of}
 use Rattle.dictionary_rules.specs.Check.{check_of}
 use Rattle.build_records.specs.declared.Record.{Record}
 use Rattle.build_records.specs.Records.{laid, records_of, record_at, between, record_words}
-use Rattle.build_records.specs.WordLaws.{records_laid}
+use Rattle.build_records.proofs.WordLaws.{records_laid}
 use Rattle.build_answers.specs.declared.Answer.{Answer}
 use Rattle.build_answers.specs.declared.Answer.TheVariants.{InvalidSeparator, TooFewRecords, TooLong as MessageTooLong}
 use Rattle.build_rules.specs.Message.{Outcome}

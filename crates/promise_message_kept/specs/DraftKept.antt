@@ -5,9 +5,9 @@ use Rattle.std.proofs.Common.{sym, ◌∙◌, subst, ⊎_elim}
 use Rattle.message_maps.specs.Map.{Map}
 use Rattle.message_lent_rules.specs.StandLaws.{never}
 use Rattle.message_rules.specs.Runs.{is_draft, run_in}
-use Rattle.message_rules.specs.Drafts.{IsRunLayout, run_layout_lends, run_layout}
+use Rattle.message_rules.proofs.Drafts.{IsRunLayout, run_layout_lends, run_layout}
 use Rattle.message_rules.specs.Answered.{NotLent}
-use Rattle.message_rules.specs.DraftLaws.{start-answered, enter_answered, store-last-answered, hang-last-answered}
+use Rattle.message_rules.proofs.DraftLaws.{start-answered, enter_answered, store-last-answered, hang-last-answered}
 use Rattle.promise_message_kept.specs.Calls.{Outcome, DraftCall, start, add-entry, store-last, hang-last, called_draft, FitDraft, called_all_draft}
 use Rattle.promise_message_kept.specs.Keeping.{Keeps, change_keeps}
 

@@ -9,7 +9,7 @@ use Rattle.message_maps.specs.Rows.{message_words}
 use Rattle.message_lent_rules.specs.Meaning.{LaysOut}
 use Rattle.message_rules.specs.Changes.{after, of_store, judged_map, map_words, map_values}
 use Rattle.message_rules.specs.Runs.{is_draft, run_in, judged_run, of_draft, starting, entering, is_empty, in_last, storing_last, has_untagged, is_whole, hung_run, hanging_last, hanging}
-use Rattle.message_rules.specs.Drafts.{RunWithin, lent-run, lays_draft, run-meant}
+use Rattle.message_rules.proofs.Drafts.{RunWithin, lent-run, lays_draft, run-meant}
 use Rattle.message_rules.specs.declared.Part.{Part}
 use Rattle.message_rules.specs.declared.Change.TheVariants.{NoRun}
 use Rattle.promise_message_kept.specs.Calls.{DraftCall, start, add-entry, store-last, hang-last, called_draft}

@@ -4,7 +4,7 @@ use Rattle.std.proofs.Common.{◌∙◌, arith}
 use Rattle.std.proofs.Math.ListN.{drop}
 use Rattle.message_lent_rules.specs.Lent.{is_message}
 use Rattle.message_lent_rules.specs.Meaning.{Message, words_of, value_bytes_of, message_in}
-use Rattle.message_lent_rules.specs.FormedLaws.{IsLayout, is_layout_lends}
+use Rattle.message_lent_rules.proofs.FormedLaws.{IsLayout, is_layout_lends}
 use Rattle.encode_rules.specs.Encoding.{encoding, encoded_message}
 use Rattle.encode_rules.specs.Encode.{encode_verdict, left, encoded, encoding_of, number_of_encoding}
 use Rattle.encode_rules.specs.declared.Encoding.{Encoding}

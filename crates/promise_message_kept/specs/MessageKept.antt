@@ -6,10 +6,10 @@ use Rattle.message_lent_rules.specs.Lent.{is_message}
 use Rattle.message_lent_rules.specs.LentLaws.{message-held}
 use Rattle.message_lent_rules.specs.StandLaws.{never}
 use Rattle.message_lent_rules.specs.Meaning.{Message, message_in}
-use Rattle.message_lent_rules.specs.FormedLaws.{IsLayout, is_layout_lends}
+use Rattle.message_lent_rules.proofs.FormedLaws.{IsLayout, is_layout_lends}
 use Rattle.message_rules.specs.Answered.{NotLent}
-use Rattle.message_rules.specs.FormedLaws.{empty-answered, new-answered, store-answered, remove-answered}
-use Rattle.message_rules.specs.DraftLaws.{hang-answered}
+use Rattle.message_rules.proofs.FormedLaws.{empty-answered, new-answered, store-answered, remove-answered}
+use Rattle.message_rules.proofs.DraftLaws.{hang-answered}
 use Rattle.message_rules.specs.Runs.{is_draft}
 use Rattle.message_rules.specs.declared.Part.{Part}
 use Rattle.promise_message_kept.specs.Calls.{Outcome, Call, empty, new, take-over, store, remove, hang, encode, find_part, find_field, find_entry, called, changes, Fit, called_all}

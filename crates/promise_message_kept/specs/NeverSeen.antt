@@ -12,9 +12,9 @@ use Rattle.message_maps.specs.Rows.{message_words}
 use Rattle.message_lent_rules.specs.Lent.{is_message}
 use Rattle.message_lent_rules.specs.StandLaws.{never}
 use Rattle.message_lent_rules.specs.Meaning.{Message, parts, LaysOut, words_of, value_bytes_of, message_in}
-use Rattle.message_lent_rules.specs.MeantLaws.{message-meant}
+use Rattle.message_lent_rules.proofs.MeantLaws.{message-meant}
 use Rattle.message_lent_rules.specs.Formed.{Within}
-use Rattle.message_lent_rules.specs.FormedLaws.{lent_formed, lays_message}
+use Rattle.message_lent_rules.proofs.FormedLaws.{lent_formed, lays_message}
 use Rattle.message_take_over.specs.Taking.{Layout, laid_out, no_records, layout_from, AfterTaking, judged as judged_taking, taking_over, number_of_taken}
 use Rattle.message_take_over.specs.Taking as taking
 use Rattle.message_take_over.specs.declared.Taken.TheVariants as was-taken

@@ -13,7 +13,7 @@ use Rattle.build_integrity_rules.specs.Integrity.{integrity_of}
 use Rattle.build_integrity_rules.specs.declared.Integrity.{Integrity}
 use Rattle.build_integrity_rules.specs.declared.Integrity.TheVariants.{Sound, Garbled}
 use Rattle.build_integrity_rules.specs.declared.Verified.{Verified}
-use Rattle.build_integrity_rules.specs.VerifiedLaws.{VerifiedRead, verified-read}
+use Rattle.build_integrity_rules.proofs.VerifiedLaws.{VerifiedRead, verified-read}
 use Rattle.dictionary_layout_rules.specs.Tree.{Dictionary, knows, header_tags_lem, trailer_tags_lem, Choice, no_message, laid_out, layout_of}
 use Rattle.build_records.specs.declared.Record.{Record}
 use Rattle.build_group_rules.specs.Reading.{accepted, layout_rules}

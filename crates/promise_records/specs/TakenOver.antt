@@ -22,10 +22,10 @@ use Rattle.dictionary_rules.specs.Check.{check_of, number_of_check}
 use Rattle.dictionary_meaning_rules.specs.Meaning.{dictionary_of}
 use Rattle.dictionary_layout_rules.specs.Tree.{Dictionary, knows, header_tags_lem, trailer_tags_lem, Choice, no_message, laid_out, layout_of}
 use Rattle.build_records.specs.Records.{laid, records_of, between, record_words, stride, value_at}
-use Rattle.build_records.specs.WordLaws.{records_laid, laid-length}
+use Rattle.build_records.proofs.WordLaws.{records_laid, laid-length}
 use Rattle.build_records.specs.declared.Record.{Record}
 use Rattle.message_lent_rules.specs.Meaning.{words_of, value_bytes_of}
-use Rattle.message_lent_rules.specs.FormedLaws.{Lends, layout_lends}
+use Rattle.message_lent_rules.proofs.FormedLaws.{Lends, layout_lends}
 use Rattle.build_group_rules.specs.Reading.{accepted, layout_rules}
 use Rattle.build_required_rules.specs.Checking.{layout_demands}
 use Rattle.build_nesting_laws.specs.Entries.{layout_first}
@@ -42,7 +42,7 @@ use Rattle.message_take_over.specs.declared.Taken.TheVariants.{Made}
 use Rattle.message_take_over.specs.Derived.{derived, given}
 use Rattle.message_take_over.specs.TakenLaws.{given-derived, stand_taken}
 use Rattle.message_read_laws.specs.PartReading.{Ended, at_checksum, at_end}
-use Rattle.build_integrity_rules.specs.VerifiedLaws.{verified-read}
+use Rattle.build_integrity_rules.proofs.VerifiedLaws.{verified-read}
 use Rattle.message_read_laws.specs.Parted.{Takes, parts-take}
 use Rattle.message_read_laws.specs.Refusals.{header_never, body_never}
 

@@ -17,7 +17,7 @@ use Rattle.dictionary_rules.specs.declared.Checked.{Checked}
 use Rattle.dictionary_meaning_rules.specs.Meaning.{dictionary_of}
 use Rattle.build_records.specs.declared.Record.{Record}
 use Rattle.build_records.specs.Records.{blank, laid, records_of, record_at, record_words}
-use Rattle.build_records.specs.WordLaws.{records_laid}
+use Rattle.build_records.proofs.WordLaws.{records_laid}
 use Rattle.build_nesting_laws.specs.Entries.{All, all_none, all_more}
 use Rattle.build_answers.specs.declared.Answer.TheVariants.{InvalidSeparator, TooFewRecords, TooLong as MessageTooLong, BadDictionary}
 use Rattle.build_rules.specs.Message.{Outcome, refusal, message_read}

@@ -7,8 +7,8 @@ use Rattle.build_records.specs.Records.{value_at}
 use Rattle.build_config.specs.declared.Config.{Config}
 use Rattle.field_rules.specs.Field.{start_at}
 use Rattle.field_rules.specs.Fields.{Fields, field, fields_from}
-use Rattle.field_rules.specs.FieldsLaws.{fields-field}
-use Rattle.build_integrity_rules.specs.VerifiedLaws.{verified-read}
+use Rattle.field_rules.proofs.FieldsLaws.{fields-field}
+use Rattle.build_integrity_rules.proofs.VerifiedLaws.{verified-read}
 use Rattle.build_integrity_rules.specs.declared.Verified.{Verified}
 use Rattle.dictionary_layout_rules.specs.Tree.{Dictionary, knows, header_tags_lem, trailer_tags_lem, laid_out, layout_of}
 use Rattle.build_records.specs.declared.Record.{Record}

@@ -4,10 +4,10 @@ use Rattle.std.specs.Prelude.{◌≡◌, refl, Bool, List, [], ◌∷◌, ◌++�
 use Rattle.std.proofs.Common.{sym, ap, ◌∙◌, subst}
 use Rattle.field_rules.specs.Field.{start_at}
 use Rattle.field_rules.specs.Fields.{field}
-use Rattle.field_rules.specs.FieldsLaws.{fields-field}
+use Rattle.field_rules.proofs.FieldsLaws.{fields-field}
 use Rattle.standard_rules.specs.Standard as standard
 use Rattle.standard_rules.specs.Standard.{Tables}
-use Rattle.build_integrity_rules.specs.VerifiedLaws.{verified-read}
+use Rattle.build_integrity_rules.proofs.VerifiedLaws.{verified-read}
 use Rattle.build_config.specs.declared.Config.{Config}
 use Rattle.dictionary_layout_rules.specs.Tree.{Dictionary}
 use Rattle.dictionary_meaning_rules.specs.Meaning.{dictionary_of}
@@ -26,7 +26,7 @@ use Rattle.message_take_over.specs.Taking.{after}
 use Rattle.message_take_over.specs.declared.Taken.TheVariants.{Made}
 use Rattle.message_maps.specs.Rows.{message_words}
 use Rattle.message_lent_rules.specs.Meaning.{Message, words_of, value_bytes_of}
-use Rattle.message_lent_rules.specs.MeantLaws.{layout_meant}
+use Rattle.message_lent_rules.proofs.MeantLaws.{layout_meant}
 use Rattle.build_order_laws.specs.Follows.{no_field, one_field}
 use Rattle.build_order_laws.specs.InOrder.{InOrder}
 use Rattle.encode_rewriting_laws.specs.EncodedBuilt.{encoding-rewritten}

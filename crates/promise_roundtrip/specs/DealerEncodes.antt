@@ -25,7 +25,7 @@ use Rattle.build_rules.specs.Beginning.{header_of, verified_records}
 use Rattle.build_rules.specs.Message.{Outcome, message_read}
 use Rattle.build_rules.specs.declared.Stop.{Stop}
 use Rattle.message_lent_rules.specs.Meaning.{Message, words_of, value_bytes_of}
-use Rattle.message_lent_rules.specs.FormedLaws.{layout_lends}
+use Rattle.message_lent_rules.proofs.FormedLaws.{layout_lends}
 use Rattle.message_rules.specs.Changes.{field_total}
 use Rattle.message_read_laws.specs.Parted.{Takes}
 use Rattle.message_read_laws.specs.PartReading.{of_field, own-field}

@@ -9,7 +9,7 @@ use Rattle.field_rules.specs.Decimal.{decimal, decimal_within}
 use Rattle.standard_rules.specs.Standard as standard
 use Rattle.standard_rules.specs.Standard.{Tables, Message, Told, told, Int, TagNum, SOH, total}
 use Rattle.standard_rules.specs.Reading.{others}
-use Rattle.standard_rules.specs.FieldReads.{digits_all, worth-same}
+use Rattle.standard_rules.proofs.FieldReads.{digits_all, worth-same}
 use Rattle.frame_verdict_rules.specs.Frame.{IsFrame, IsBeginString, NoSeparator, separator, begin_tag, length_tag, type_tag, sum_tag, lead}
 use Rattle.frame_verdict_rules.specs.Frame as frame
 use Rattle.promise_standard.specs.Texts.{sum_same, tag-text, digits_int, digits_plain}

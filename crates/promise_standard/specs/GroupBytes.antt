@@ -5,7 +5,7 @@ use Rattle.std.proofs.Common.{ap, ◌∙◌}
 use Rattle.promise_standard.specs.Reading.{standard_mode}
 use Rattle.field_rules.specs.Field.{start_at, field_at}
 use Rattle.field_rules.specs.Fields.{Fields, field, fields_from}
-use Rattle.field_rules.specs.FieldsLaws.{fields-field}
+use Rattle.field_rules.proofs.FieldsLaws.{fields-field}
 use Rattle.standard_rules.specs.Standard as standard
 use Rattle.standard_rules.specs.Standard.{Tables, Told, entries, Stands}
 use Rattle.field_rules.specs.declared.Cursor.{Cursor}
@@ -13,11 +13,11 @@ use Rattle.field_rules.specs.declared.Field.{Field}
 use Rattle.field_rules.specs.declared.FieldRead.TheVariants.{Read}
 use Rattle.build_config.specs.declared.Config.{Config}
 use Rattle.dictionary_layout_rules.specs.Layout.{Layout}
-use Rattle.dictionary_tables_rules.specs.Tabled.{Tabled}
+use Rattle.dictionary_tables_rules.proofs.Tabled.{Tabled}
 use Rattle.build_records.specs.declared.Record.{Record}
 use Rattle.build_group_rules.specs.Groups.{run, outermost, ended, walk}
-use Rattle.build_group_rules.specs.Alike.{on_level, OutcomeAlike}
-use Rattle.build_group_rules.specs.Meaning.{Holds, Lays, run_means}
+use Rattle.build_group_rules.proofs.Alike.{on_level, OutcomeAlike}
+use Rattle.build_group_rules.proofs.Meaning.{Holds, Lays, run_means}
 use Rattle.build_group_rules.specs.Reading.{accepted, layout_rules, list_store, memory, open_group, run_of}
 use Rattle.build_group_rules.specs.declared.Group.{Group}
 use Rattle.build_group_rules.specs.declared.Progress.{Progress}

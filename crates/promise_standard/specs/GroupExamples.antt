@@ -10,7 +10,7 @@ use Rattle.field_rules.specs.Number.{worth}
 use Rattle.field_rules.specs.Field.{start_at}
 use Rattle.field_rules.specs.Fields.{fields_from}
 use Rattle.standard_rules.specs.Standard.{Body, Told, told, entries, Stands}
-use Rattle.standard_rules.specs.Samples.{Sample, no_count, in_body_lem, once, of-group, int}
+use Rattle.standard_rules.proofs.Samples.{Sample, no_count, in_body_lem, once, of-group, int}
 use Rattle.dictionary_layout_rules.specs.Layout.{Layout, end, field, group, first_of, position_from, position_in, group_since, group_of, delimiter_of_lem}
 use Rattle.build_records.specs.Records.{stored}
 use Rattle.build_records.specs.declared.Record.{Record}

@@ -14,7 +14,7 @@ use Rattle.dictionary_layout_rules.specs.Layout.{Layout}
 use Rattle.build_group_rules.specs.Groups.{none, opened, Rules, opens, plain, count, ends, entry_kind, OpenGroup, Frame, run, outermost, entry, entry_record, ended, walk, taking}
 use Rattle.build_group_rules.specs.Reading.{list_store, layout_rules}
 use Rattle.promise_standard.specs.Reading.{ReadsAs, no_field, one_field}
-use Rattle.standard_rules.specs.StandardLaws.{distinct_behind}
+use Rattle.standard_rules.proofs.StandardLaws.{distinct_behind}
 use Rattle.promise_standard.specs.Groups.{numbered, records_as, tag_behind, Part, entries_of, members_of, Leaves, Rises, Joins, Fits}
 use Rattle.promise_standard.specs.GroupOwn.{Fresh, fresh-entry, fresh-field, fresh-nested, fresh-joined}
 use Rattle.promise_standard.specs.GroupSteps.{kind_delimiter, kind_leaves, kind_joins, entry-joined, kind_plain, kind_count, walk-next, none-takes, run-opens, run_passes, entry-takes, entry-counts, entry_passes, reads_split, numbered_each, records_behind}

@@ -4,16 +4,16 @@ use Rattle.std.specs.Prelude.{◌≡◌, refl, Bool, true, false, List, [], ◌�
 use Rattle.std.proofs.Common.{sym, ap, ◌∙◌, append_assoc, append-nil, arith, length-append, take_at, eq-eqb}
 use Rattle.promise_standard.specs.Reading.{standard_mode}
 use Rattle.field_rules.specs.Number.{number_in}
-use Rattle.field_rules.specs.NumberLaws.{checksum_three}
+use Rattle.field_rules.proofs.NumberLaws.{checksum_three}
 use Rattle.field_rules.specs.CheckSum.{sum_of, checksum_of}
 use Rattle.field_rules.specs.Field.{start_at, field_at, value_of}
-use Rattle.field_rules.specs.FieldLaws.{past_end}
+use Rattle.field_rules.proofs.FieldLaws.{past_end}
 use Rattle.field_rules.specs.Fields.{unreadable, fields_from}
-use Rattle.field_rules.specs.FieldsLaws.{fields-end, step-lies}
+use Rattle.field_rules.proofs.FieldsLaws.{fields-end, step-lies}
 use Rattle.standard_rules.specs.Standard as standard
 use Rattle.standard_rules.specs.Standard.{Tables, told, Message}
 use Rattle.standard_rules.specs.Reading.{others}
-use Rattle.standard_rules.specs.FieldReads.{int_read}
+use Rattle.standard_rules.proofs.FieldReads.{int_read}
 use Rattle.field_rules.specs.declared.Cursor.{Cursor}
 use Rattle.field_rules.specs.declared.Field.{Field}
 use Rattle.field_rules.specs.declared.FieldRead.TheVariants.{Read}
@@ -22,7 +22,7 @@ use Rattle.field_rules.specs.declared.Cause.TheVariants.{NoEquals}
 use Rattle.build_integrity_rules.specs.Integrity.{integrity_of, begun, counted, summed, typed, length_is, length_agrees, sum_is, sum_agrees}
 use Rattle.build_integrity_rules.specs.declared.Integrity.TheVariants.{Sound}
 use Rattle.build_integrity_rules.specs.declared.Verified.{Verified}
-use Rattle.frame_parser_rules.specs.MessageLaws.{seven_bytes}
+use Rattle.frame_parser_rules.proofs.MessageLaws.{seven_bytes}
 use Rattle.promise_standard.specs.Texts.{sum_same}
 use Rattle.promise_standard.specs.Reading.{ReadsAs, no_field, Readable, reads-one, reads_then, reads-append, fields_read, first_read}
 

@@ -4,10 +4,10 @@ use Rattle.std.proofs.Common.{sym, ap, ◌∙◌, arith}
 use Rattle.field_rules.specs.Number.{all_digits, worth}
 use Rattle.field_rules.specs.CheckSum.{sum_of}
 use Rattle.field_rules.specs.Decimal.{decimal}
-use Rattle.field_rules.specs.DecimalLaws.{decimal_unique, all_digits-first}
+use Rattle.field_rules.proofs.DecimalLaws.{decimal_unique, all_digits-first}
 use Rattle.standard_rules.specs.Standard as standard
 use Rattle.standard_rules.specs.Standard.{All, Digit, NotDelimiter, TagNum, Int, Value, total}
-use Rattle.standard_rules.specs.FieldReads.{digits_all, worth-same}
+use Rattle.standard_rules.proofs.FieldReads.{digits_all, worth-same}
 
 pub sum_same : (s : List ℕ) → sum_of s ≡ total s
 unfolding sum_of

@@ -23,8 +23,8 @@ use Rattle.build_required_rules.specs.declared.Lack.{Lack}
 use Rattle.build_required_rules.specs.declared.Lack.TheVariants.{Missing, Complete}
 use Rattle.build_parts.specs.Parts.{ended, part_record}
 use Rattle.build_body_rules.specs.Body.{Body, Kind, plain, counts, other, behind_run, stored_run, and_then, next_from, with_run, body_from}
-use Rattle.build_body_rules.specs.BodyLaws.{body-plain, body_run, body-ends, body_invalid}
-use Rattle.build_body_rules.specs.BodyReading.{run_falls}
+use Rattle.build_body_rules.proofs.BodyLaws.{body-plain, body_run, body-ends, body_invalid}
+use Rattle.build_body_rules.proofs.BodyReading.{run_falls}
 use Rattle.build_body_rules.specs.Kinds.{body_kind, checked, ran_as, run_from, body_of}
 use Rattle.build_order_laws.specs.BodyStores.{walk_stores, behind_fewer, body_stores}
 use Rattle.build_order_laws.specs.Follows.{Stores}

@@ -23,8 +23,8 @@ use Rattle.build_required_rules.specs.Checking.{layout_demands}
 use Rattle.build_required_rules.specs.declared.Lack.TheVariants.{Complete}
 use Rattle.build_parts.specs.Parts.{Reading, ended, part_record}
 use Rattle.build_body_rules.specs.Body.{Body, plain, counts, other, behind_run, stored_run, and_then, next_from, with_run, body_from}
-use Rattle.build_body_rules.specs.BodyLaws.{body-plain, body_run, body-ends}
-use Rattle.build_body_rules.specs.BodyReading.{run_falls}
+use Rattle.build_body_rules.proofs.BodyLaws.{body-plain, body_run, body-ends}
+use Rattle.build_body_rules.proofs.BodyReading.{run_falls}
 use Rattle.build_body_rules.specs.Kinds.{body_kind, checked, ran_as, run_from, body_of}
 use Rattle.promise_standard.specs.Reading.{ReadsAs, no_field, one_field}
 use Rattle.promise_standard.specs.Groups.{numbered, records_as, tag_behind, entries_of, Leaves, Fits}

@@ -7,7 +7,7 @@ use Rattle.std.proofs.lemmas.List.{map-append}
 use Prim.Native.String.{String}
 use Rattle.field_rules.specs.Text.{bytes}
 use Rattle.standard_rules.specs.Standard.{Body, All, Told, told, Fields, members, entries, Stands, Message}
-use Rattle.standard_rules.specs.Samples.{Sample, value, no_data, no_count, in_body_lem, once, of-group, int, written, a-field, a_data, tag_test, value_test, length_of, delimiter_of, outside as may-stand}
+use Rattle.standard_rules.proofs.Samples.{Sample, value, no_data, no_count, in_body_lem, once, of-group, int, written, a-field, a_data, tag_test, value_test, length_of, delimiter_of, outside as may-stand}
 use Rattle.standard_rules.specs.Reading.{others, nothing}
 use Rattle.build_config.specs.declared.Config.{Config}
 use Rattle.build_config.specs.Settings.{validating}

@@ -2,7 +2,7 @@
 -- and the body fits the layout of that MsgType, field by field and group by group. The standard's own structure is what is looked at.
 use Rattle.std.specs.Prelude.{◌≡◌, Bool, true, false, List, [], ◌∷◌, ◌++◌, ℕ, suc}
 use Rattle.standard_rules.specs.Standard.{Tables, NoCount, All, Told, told, Int, Stretch, members, entries, Stands, Message}
-use Rattle.standard_rules.specs.StandardLaws.{tags}
+use Rattle.standard_rules.proofs.StandardLaws.{tags}
 use Rattle.standard_rules.specs.Reading.{others}
 use Rattle.build_config.specs.declared.Config.{Config}
 use Rattle.dictionary_layout_rules.specs.Layout.{Layout, group_of, required_tags}

@@ -6,7 +6,7 @@ use Rattle.std.proofs.Common.{◌∙◌, arith, length-append}
 use mathlib.Core.List.{List, [], ◌∷◌, ◌++◌}
 use Rattle.field_rules.specs.Field.{start_at, value_of}
 use Rattle.field_rules.specs.Fields.{Fields, unreadable, field, fields_from}
-use Rattle.field_rules.specs.FieldsLaws.{fields-field}
+use Rattle.field_rules.proofs.FieldsLaws.{fields-field}
 use Rattle.field_rules.specs.declared.Cause.TheVariants.{NoEquals}
 use Rattle.field_rules.specs.declared.Field.{Field}
 use Rattle.standard_rules.specs.Standard.{Tables, Told, told, Message}
@@ -15,7 +15,7 @@ use Rattle.build_config.specs.declared.Config.{Config}
 use Rattle.build_integrity_rules.specs.Integrity.{integrity_of}
 use Rattle.build_integrity_rules.specs.declared.Integrity.TheVariants.{Sound}
 use Rattle.build_integrity_rules.specs.declared.Verified.{Verified}
-use Rattle.build_integrity_rules.specs.VerifiedLaws.{verified-read}
+use Rattle.build_integrity_rules.proofs.VerifiedLaws.{verified-read}
 use Rattle.build_order_laws.specs.VerifiedTags.{VerifiedTags, verified-tags}
 use Rattle.dictionary_layout_rules.specs.Layout.{Layout}
 use Rattle.dictionary_layout_rules.specs.Tree.{Dictionary, knows, header_tags_lem, trailer_tags_lem, laid_out, layout_of}

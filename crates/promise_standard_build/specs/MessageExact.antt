@@ -15,7 +15,7 @@ use Rattle.field_rules.specs.declared.Cause.{Cause}
 use Rattle.field_rules.specs.declared.Cause.TheVariants.{NoEquals}
 use Rattle.field_rules.specs.declared.Field.{Field}
 use Rattle.standard_rules.specs.Standard.{Tables, NoCount, Body, All, Told, told, members, Stands, Message}
-use Rattle.standard_rules.specs.StandardLaws.{tags}
+use Rattle.standard_rules.proofs.StandardLaws.{tags}
 use Rattle.standard_rules.specs.Reading.{others}
 use Rattle.build_config.specs.declared.Config.{Config}
 use Rattle.dictionary_layout_rules.specs.Tree.{Dictionary, holds_tag, knows, header_tags_lem, trailer_tags_lem, laid_out, layout_of}

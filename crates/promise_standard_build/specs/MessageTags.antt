@@ -1,7 +1,7 @@
 -- No tag of a message of the standard stands twice outside groups: so in each part alone, with the fields that have places of their own.
 use Rattle.std.specs.Prelude.{◌≡◌, refl, List, [], ◌∷◌, ◌++◌, ◌≢◌, ℕ}
 use Rattle.standard_rules.specs.Standard.{Tables, NoCount, All, Told, Distinct, placed, Message}
-use Rattle.standard_rules.specs.StandardLaws.{tags, all_right, all_map, OpensNone, flat, distinct_behind, placed-nowhere}
+use Rattle.standard_rules.proofs.StandardLaws.{tags, all_right, all_map, OpensNone, flat, distinct_behind, placed-nowhere}
 use Rattle.promise_standard.specs.Groups.{tag_behind}
 use Rattle.promise_standard.specs.GroupOwn.{Fresh, fresh-entry}
 

@@ -8,7 +8,7 @@ use native.Mathlib.Omega.{arith}
 use Rattle.field_rules.specs.Field.{value_of}
 use Rattle.field_rules.specs.Fields.{Fields, field}
 use Rattle.standard_rules.specs.Standard.{Tables, NoCount, All, Told, told, members, Stands}
-use Rattle.standard_rules.specs.StandardLaws.{tags}
+use Rattle.standard_rules.proofs.StandardLaws.{tags}
 use Rattle.field_rules.specs.declared.Field.{Field}
 use Rattle.dictionary_layout_rules.specs.Tree.{holds_tag}
 use Rattle.build_records.specs.Records.{stored}

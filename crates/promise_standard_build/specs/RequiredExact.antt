@@ -9,7 +9,7 @@ use borrow.Author.Tests.{eq-eqb, ne_eqb}
 use Rattle.field_rules.specs.Choice.{pick}
 use Rattle.field_rules.specs.Fields.{Fields, unreadable, field}
 use Rattle.standard_rules.specs.Standard.{Tables, NoCount, All, Told, told, Int, Once, Stretch, members, entries, Stands}
-use Rattle.standard_rules.specs.StandardLaws.{all_map as all-numbers}
+use Rattle.standard_rules.proofs.StandardLaws.{all_map as all-numbers}
 use Rattle.field_rules.specs.declared.Field.{Field}
 use Rattle.dictionary_layout_rules.specs.Layout.{Layout, group_of, required_tags}
 use Rattle.dictionary_layout_rules.specs.Layout.{Group, none as no_group, entries as entries_laid_out}

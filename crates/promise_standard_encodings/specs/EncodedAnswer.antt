@@ -10,7 +10,7 @@ use Rattle.standard_rules.specs.Standard as standard
 use Rattle.standard_rules.specs.Standard.{Tables, Value}
 use Rattle.message_maps.specs.Map.{holds}
 use Rattle.message_lent_rules.specs.Meaning.{Message, message_in}
-use Rattle.message_lent_rules.specs.FormedLaws.{lent_formed}
+use Rattle.message_lent_rules.proofs.FormedLaws.{lent_formed}
 use Rattle.message_lent_rules.specs.StandLaws.{never, not_so}
 use Rattle.encode_rules.specs.Encoding.{dropped, encoding}
 use Rattle.field_rules.specs.Separator.{is_refused_separator}

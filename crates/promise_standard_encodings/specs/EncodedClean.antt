@@ -5,8 +5,8 @@ use Rattle.std.specs.Prelude.{refl, Bool, List, [], ◌∷◌, ◌++◌, ℕ, �
 use Rattle.std.proofs.Common.{sym, ◌∙◌, arith}
 use Rattle.std.proofs.Math.Bool.{true, false}
 use Rattle.field_rules.specs.Choice.{pick}
-use Rattle.field_rules.specs.FindLaws.{Absent}
-use Rattle.field_rules.specs.FindLaws as find
+use Rattle.field_rules.proofs.FindLaws.{Absent}
+use Rattle.field_rules.proofs.FindLaws as find
 use Rattle.standard_rules.specs.Standard as standard
 use Rattle.standard_rules.specs.Standard.{Tables, NotDelimiter, Value}
 use Rattle.build_records.specs.Records.{value_at}

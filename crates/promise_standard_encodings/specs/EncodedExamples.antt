@@ -8,8 +8,8 @@ use Rattle.field_rules.specs.CheckSum.{sum_of, checksum_digits}
 use Rattle.field_rules.specs.Decimal.{decimal, decimal_within}
 use Rattle.standard_rules.specs.Standard as standard
 use Rattle.standard_rules.specs.Standard.{Body, All, placed, Value}
-use Rattle.standard_rules.specs.StandardLaws.{one_of}
-use Rattle.standard_rules.specs.Samples.{Sample, no_data, no_count, in_body_lem, of-group, int, value, outside}
+use Rattle.standard_rules.proofs.StandardLaws.{one_of}
+use Rattle.standard_rules.proofs.Samples.{Sample, no_data, no_count, in_body_lem, of-group, int, value, outside}
 use Rattle.message_maps.specs.Map.{Map, end, field, entry, joined, holds, replaced, without_field, past_leading, run_on, without_run, stored, some, value_under}
 use Rattle.message_lent_rules.specs.Meaning.{Message}
 use Rattle.message_lent_rules.specs.Formed.{stands, goes_on, is_formed}

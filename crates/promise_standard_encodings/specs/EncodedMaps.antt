@@ -6,12 +6,12 @@ use Rattle.std.proofs.Common.{ap, ◌∙◌, arith, eq-eqb}
 use mathlib.Core.List.{List, [], ◌∷◌, ◌++◌, append_assoc}
 use Rattle.std.proofs.lemmas.Bool.{eqb-false}
 use Rattle.field_rules.specs.Decimal.{decimal}
-use Rattle.field_rules.specs.DecimalLaws.{decimal-some, decimal_digits, decimal-worth, decimal_no_zero}
+use Rattle.field_rules.proofs.DecimalLaws.{decimal-some, decimal_digits, decimal-worth, decimal_no_zero}
 use Rattle.field_rules.specs.Field.{field_bytes}
 use Rattle.standard_rules.specs.Standard as standard
 use Rattle.standard_rules.specs.Standard.{Tables, NoData, NoCount, All, NotDelimiter, Int, TagNum, Value, Told, told, Distinct, placed, members, Fields, Stands}
 use Rattle.standard_rules.specs.Reading.{fields-append}
-use Rattle.standard_rules.specs.StandardLaws.{one_of, once_of}
+use Rattle.standard_rules.proofs.StandardLaws.{one_of, once_of}
 use Rattle.message_maps.specs.Map.{Map, end, field, entry, holds, without_field}
 use Rattle.message_lent_rules.specs.Formed.{is_formed}
 use Rattle.message_lent_rules.specs.StandLaws.{nor, field_formed, entry_formed}

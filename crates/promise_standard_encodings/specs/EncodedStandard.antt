@@ -9,13 +9,13 @@ use Rattle.field_rules.specs.Choice.{pick, pick_same}
 use Rattle.field_rules.specs.Number.{worth}
 use Rattle.field_rules.specs.CheckSum.{sum_of, checksum_digits}
 use Rattle.field_rules.specs.Decimal.{decimal, decimal_within}
-use Rattle.field_rules.specs.DecimalLaws.{digit_byte, last_digit}
+use Rattle.field_rules.proofs.DecimalLaws.{digit_byte, last_digit}
 use Rattle.field_rules.specs.Field.{field_bytes}
-use Rattle.field_rules.specs.FieldTextLaws.{bytes-size}
+use Rattle.field_rules.proofs.FieldTextLaws.{bytes-size}
 use Rattle.standard_rules.specs.Standard as standard
 use Rattle.standard_rules.specs.Standard.{Tables, Body, NoData, All, Int, Value, Distinct, placed, Once, total}
 use Rattle.standard_rules.specs.Reading.{fields-append}
-use Rattle.standard_rules.specs.StandardLaws.{all_map, numbers_append, one_of, distinct_append, once_of}
+use Rattle.standard_rules.proofs.StandardLaws.{all_map, numbers_append, one_of, distinct_append, once_of}
 use Rattle.message_maps.specs.Map.{Map, end, field, entry, holds, without_field, some, value_under}
 use Rattle.message_lent_rules.specs.Meaning.{Message}
 use Rattle.message_lent_rules.specs.Formed.{Formed}

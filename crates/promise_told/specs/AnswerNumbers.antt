@@ -16,14 +16,14 @@ use Rattle.build_config.specs.declared.Config.{Config}
 use Rattle.build_integrity_rules.specs.Integrity.{integrity_of}
 use Rattle.build_integrity_rules.specs.declared.Integrity.{Integrity}
 use Rattle.build_integrity_rules.specs.declared.Integrity.TheVariants.{Sound, Garbled}
-use Rattle.build_integrity_rules.specs.VerifiedLaws.{verified-read}
+use Rattle.build_integrity_rules.proofs.VerifiedLaws.{verified-read}
 use Rattle.dictionary_rules.specs.Check.{check_of, number_of_check}
 use Rattle.dictionary_layout_rules.specs.Layout.{Layout, group_of, position_in}
 use Rattle.dictionary_layout_rules.specs.declared.Position.{Position}
 use Rattle.dictionary_layout_rules.specs.declared.Position.TheVariants.{At, Nowhere}
 use Rattle.dictionary_layout_rules.specs.Tree.{Dictionary, holds_tag, knows, header_tags_lem, trailer_tags_lem, Choice, no_message, laid_out, layout_of}
 use Rattle.dictionary_meaning_rules.specs.Meaning.{dictionary_of}
-use Rattle.dictionary_meaning_rules.specs.MsgTypeText.{Bytes}
+use Rattle.dictionary_meaning_rules.proofs.MsgTypeText.{Bytes}
 use Rattle.build_records.specs.Records.{stored, value_at}
 use Rattle.build_records.specs.declared.Record.{Record}
 use Rattle.build_group_rules.specs.Groups.{Rules, Opened, none, opened, run, outermost, RunOutcome, walk}

@@ -37,7 +37,7 @@ use Rattle.dictionary_rules.specs.declared.State.TheVariants.{TopLevel, Inside}
 use Rattle.dictionary_rules.specs.declared.Note.{Note}
 use Rattle.dictionary_rules.specs.declared.Step.{Step}
 use Rattle.dictionary_rules.specs.declared.Step.TheVariants.{Refuses, Goes}
-use Rattle.dictionary_meaning_rules.specs.MsgTypeText.{Bytes, no_bytes, a_byte, take-bytes, drop-bytes}
+use Rattle.dictionary_meaning_rules.proofs.MsgTypeText.{Bytes, no_bytes, a_byte, take-bytes, drop-bytes}
 
 -- ===== the records =====
 

@@ -7,7 +7,7 @@ use Rattle.dictionary_rules.specs.declared.Record.TheVariants.{KnownTag, OpensCo
 use Rattle.dictionary_layout_rules.specs.Layout.{Layout, end, field, group, followed_by, Group, none, entries, group_since, group_of, required_tags}
 use Rattle.dictionary_layout_rules.specs.Tree.{Nodes, nothing, field_item_lem, component_item_lem, group_item_lem, Message, flattened, same_bytes, Choice, no_message, laid_out, message_of, layout_of}
 use Rattle.dictionary_meaning_rules.specs.Meaning.{Items, closed, field_then_lem, component_then_lem, group_then_lem, Body, item_before, no_items, body_of, Declaration, known_tag, component, message, declarations_in, size_of, declarations_of, Defined, nodes_of, expanded, defined_by, message_in, messages_from, meaning_of, dictionary_of}
-use Rattle.dictionary_meaning_rules.specs.MsgTypeText.{Bytes}
+use Rattle.dictionary_meaning_rules.proofs.MsgTypeText.{Bytes}
 use Rattle.promise_told.specs.DictionaryNumbers.{RecordsSmall, whole_small, records_small}
 
 -- each of a list has a property

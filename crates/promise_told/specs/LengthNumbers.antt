@@ -16,7 +16,7 @@ use Rattle.frame_verdict_rules.specs.Frame.{frame_most}
 use Rattle.frame_parser_rules.specs.Announced.{announced_in}
 use Rattle.frame_parser_rules.specs.AnnouncedLaws.{announced_limit}
 use Rattle.frame_parser_rules.specs.Framer.{length_returned, held, unusable, ready_of, ready_answer, take_answer, taken}
-use Rattle.frame_parser_rules.specs.FramerLaws.{ready_in}
+use Rattle.frame_parser_rules.proofs.FramerLaws.{ready_in}
 use Rattle.frame_parser_rules.specs.declared.State.{State}
 use Rattle.frame_parser_rules.specs.declared.Ready.{Ready}
 use Rattle.frame_parser_rules.specs.declared.Ready.TheVariants as ready
@@ -24,7 +24,7 @@ use Rattle.frame_parser_rules.specs.declared.Answer.TheVariants as answers
 use Rattle.frame_verdict_rules.specs.Verdict.{verdict_of}
 use Rattle.frame_hunter_rules.specs.Hunt.{hunt_from}
 use Rattle.frame_hunter_rules.specs.Bytes.{unfit, refused_take_lem, unmoved, took_from}
-use Rattle.frame_hunter_rules.specs.BytesLaws.{fits, hunt_small, take_fine, take-unfit, take_short}
+use Rattle.frame_hunter_rules.proofs.BytesLaws.{fits, hunt_small, take_fine, take-unfit, take_short}
 use Rattle.frame_hunter_rules.specs.declared.State.{State as HunterState}
 use Rattle.frame_hunter_rules.specs.declared.Taken.{Taken}
 use Rattle.face_told.specs.Told.{encoding_length}

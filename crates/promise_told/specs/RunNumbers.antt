@@ -4,8 +4,8 @@ use Rattle.std.specs.Prelude.{ℕ, zero, suc, ◌+◌, ◌<◌, ◌^◌, ◌≡�
 use Rattle.std.proofs.Common.{sym, arith, take-append-drop}
 use Rattle.field_rules.specs.Choice.{pick}
 use Rattle.field_rules.specs.Fields.{Fields, unreadable, field, fields_from, Each, each_field}
-use Rattle.field_rules.specs.FieldsLaws.{each_read}
-use Rattle.field_rules.specs.SpelledLaws.{spells}
+use Rattle.field_rules.proofs.FieldsLaws.{each_read}
+use Rattle.field_rules.proofs.SpelledLaws.{spells}
 use Rattle.field_rules.specs.declared.Mode.{Mode}
 use Rattle.field_rules.specs.declared.Cursor.{Cursor}
 use Rattle.field_rules.specs.declared.Field.{Field}

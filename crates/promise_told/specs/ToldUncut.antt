@@ -2,12 +2,12 @@
 use Rattle.std.specs.Prelude.{ℕ, ◌≡◌, List, get_or, replicate}
 use Rattle.std.proofs.Common.{arith}
 use Rattle.dictionary_rules.specs.Check.{check_of, values_of_check}
-use Rattle.dictionary_meaning_rules.specs.MsgTypeText.{Bytes}
+use Rattle.dictionary_meaning_rules.proofs.MsgTypeText.{Bytes}
 use Rattle.build_config.specs.Settings.{config_of}
 use Rattle.build_records.specs.Records.{record_words}
 use Rattle.build_answers.specs.Answer.{values_of}
 use Rattle.message_rules.specs.LookUps.{part_found, field_found, entry_found}
-use Rattle.message_rules.specs.LookUpLimits.{part-few, entry-few, value_within}
+use Rattle.message_rules.proofs.LookUpLimits.{part-few, entry-few, value_within}
 use Rattle.message_rules.specs.declared.Part.{Part}
 use Rattle.encode_rules.specs.Encode.{encoding_of}
 use Rattle.frame_parser_rules.specs.Framer.{length_returned, taken}

@@ -1,9 +1,2 @@
 pub mod Standard
 pub mod Reading
-pub mod StandardLaws
-pub mod FieldReads
-pub mod WritingLaws
-pub mod Samples
-pub mod Conforming
-pub mod RefutedTags
-pub mod RefutedWriting

@@ -3,7 +3,7 @@ use mathlib.Core.Path.{◌≡◌, refl, sym, ap, ◌∙◌}
 use Prim.Native.Nat.{ℕ, ◌+◌, ◌-◌, ◌/◌, ◌≤◌, ◌<◌}
 use native.Mathlib.Omega.{arith}
 use borrow.Author.Rules.{rules}
-use Rattle.build_body_rules.specs.RunLaws.{dropped}
+use Rattle.build_body_rules.proofs.RunLaws.{dropped}
 use Rattle.build_body.proofs.drop_run.Statement.{statement}
 use Rattle.build_body.proofs.drop_run.Tie as tie
 

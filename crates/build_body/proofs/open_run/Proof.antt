@@ -6,7 +6,7 @@ use native.Mathlib.Omega.{arith}
 use borrow.Author.Rules.{rules}
 use mathlib.Core.List.{[]}
 use Rattle.build_parts.specs.Parts.{part_of}
-use Rattle.build_body_rules.specs.RunLaws.{open_held, open_new, held-within}
+use Rattle.build_body_rules.proofs.RunLaws.{open_held, open_new, held-within}
 use Rattle.build_body.proofs.open_run.Statement.{statement}
 use Rattle.build_body.proofs.open_run.Tie as tie
 

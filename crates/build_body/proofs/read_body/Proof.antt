@@ -1,6 +1,6 @@
 -- `read_body` meets its contract: it is read on from its first field, with cells that cover whatever the body holds already.
 use borrow.Author.Rules.{rules}
-use Rattle.build_body_rules.specs.SeenLaws.{covers_first}
+use Rattle.build_body_rules.proofs.SeenLaws.{covers_first}
 use Rattle.build_body.proofs.read_body.Statement.{statement}
 use Rattle.build_body.proofs.read_body.Tie as tie
 

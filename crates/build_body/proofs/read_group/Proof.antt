@@ -9,7 +9,7 @@ use Rattle.build_records.specs.declared.Record.{Record}
 use Rattle.build_group_rules.specs.Reading.{Fits}
 use Rattle.build_parts.specs.Parts.{part_record}
 use Rattle.build_body_rules.specs.Seen.{noted}
-use Rattle.build_body_rules.specs.GroupReading.{run_fits, answers-stopped, answers_lack, answers-complete}
+use Rattle.build_body_rules.proofs.GroupReading.{run_fits, answers-stopped, answers_lack, answers-complete}
 use borrow.Author.Rules.{rules}
 use Rattle.build_body.proofs.read_group.Statement.{statement}
 use Rattle.build_body.proofs.read_group.Tie as tie

@@ -14,9 +14,9 @@ use Rattle.build_parts.specs.Parts.{part_record, part_of, part_told, Ends, Stays
 use Rattle.build_parts.specs.PartLaws.{stays_at}
 use Rattle.build_body_rules.specs.Body.{and_then}
 use Rattle.build_body_rules.specs.Kinds.{meant_by}
-use Rattle.build_body_rules.specs.BodyReading.{part_room, left, left-refused, left-plain, left-run, left_other, stays_on, room_falls}
+use Rattle.build_body_rules.proofs.BodyReading.{part_room, left, left-refused, left-plain, left-run, left_other, stays_on, room_falls}
 use Rattle.build_body_rules.specs.Seen.{Covers, Follows}
-use Rattle.build_body_rules.specs.SeenLaws.{follows_at, follows_plain, follows_run}
+use Rattle.build_body_rules.proofs.SeenLaws.{follows_at, follows_plain, follows_run}
 use Rattle.build_body.proofs.read_on.Statement.{statement}
 use Rattle.build_body.proofs.read_on.Tie as tie
 

@@ -5,7 +5,7 @@ use native.Mathlib.Omega.{arith}
 use Rattle.build_records.specs.declared.Record.{Record}
 use Rattle.build_parts.specs.Parts.{part_record, part_told}
 use Rattle.build_parts.specs.PartLaws.{Taken, taken, stays-refused, stays_at}
-use Rattle.build_body_rules.specs.BodyLaws.{next_missing, next-found}
+use Rattle.build_body_rules.proofs.BodyLaws.{next_missing, next-found}
 use Rattle.build_body_rules.specs.Seen.{noted}
 use borrow.Author.Rules.{rules}
 use Rattle.build_body.proofs.read_plain.Statement.{statement}

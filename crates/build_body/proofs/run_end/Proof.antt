@@ -5,11 +5,11 @@ use Prim.Native.Nat.{ℕ, ◌+◌, ◌-◌, ◌/◌, ◌≤◌, ◌<◌}
 use native.Mathlib.Omega.{arith}
 use lib.ListN.{length}
 use borrow.Author.Rules.{rules}
-use Rattle.build_records.specs.WordLaws.{records_length}
+use Rattle.build_records.proofs.WordLaws.{records_length}
 use Rattle.build_records.specs.declared.Record.{Record}
 use Rattle.build_parts.specs.Parts.{part_of}
 use Rattle.build_body_rules.specs.Body.{behind_run}
-use Rattle.build_body_rules.specs.RunLaws.{behind-on, behind-here, behind-end}
+use Rattle.build_body_rules.proofs.RunLaws.{behind-on, behind-here, behind-end}
 use Rattle.build_body.proofs.run_end.Statement.{statement}
 use Rattle.build_body.proofs.run_end.Tie as tie
 

@@ -6,7 +6,7 @@ use native.Mathlib.Omega.{arith}
 use borrow.Author.Rules.{rules}
 use Rattle.build_parts.specs.Parts.{part_of}
 use Rattle.build_body_rules.specs.Seen.{is_seen, noted}
-use Rattle.build_body_rules.specs.SeenLaws.{noted_again, new-held, new-words}
+use Rattle.build_body_rules.proofs.SeenLaws.{noted_again, new-held, new-words}
 use Rattle.build_body.proofs.store.Statement.{statement}
 use Rattle.build_body.proofs.store.Tie as tie
 

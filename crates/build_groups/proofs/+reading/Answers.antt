@@ -1,6 +1,6 @@
 -- The run reader and the entry reader meet their contracts.
 use Rattle.std.proofs.Common.{◌≡◌, suc, refl, sym, ap, ◌∙◌, arith}
-use Rattle.build_group_rules.specs.ReadingLaws.{room_of, makes_one, next_follows}
+use Rattle.build_group_rules.proofs.ReadingLaws.{room_of, makes_one, next_follows}
 use Rattle.build_groups.proofs.Turns.{run-starts, entry-starts, left-refused, left-ends, left-wrong, turn_joins, turn_plain, turn_count, turn_entry, left-first, left_over, count-below, entry_follows, room_falls, stored_fits, stored_follows, count_follows}
 use Rattle.build_groups.proofs.+reading.Goals as goal
 

@@ -4,7 +4,7 @@ use Rattle.std.proofs.Common.{◌≡◌, ◌+◌, ◌-◌, ◌*◌, ◌≤◌}
 use Rattle.field_rules.specs.declared.Field.{Field}
 use Rattle.dictionary_rules.specs.Index.{tag_at}
 use Rattle.build_group_rules.specs.Reading.{FitsAt}
-use Rattle.build_group_rules.specs.ReadingLaws.{room_of}
+use Rattle.build_group_rules.proofs.ReadingLaws.{room_of}
 use Rattle.build_group_rules.specs.declared.Progress.{Progress}
 use Rattle.build_group_rules.specs.declared.Reading.TheVariants.{At}
 use Rattle.build_groups.proofs.Turns.{entry_left, run_left}

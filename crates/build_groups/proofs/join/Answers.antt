@@ -1,7 +1,7 @@
 -- `join` meets its contract: a tag that was held makes no record, any other makes one.
 use mathlib.Core.Path.{sym, ◌∙◌}
 use Rattle.build_group_rules.specs.Reading.{further, standing_in}
-use Rattle.build_group_rules.specs.ReadingLaws.{further-held, further-new}
+use Rattle.build_group_rules.proofs.ReadingLaws.{further-held, further-new}
 use Rattle.build_groups.proofs.join.Goals as goal
 
 pub returns-in-At : goal.returns-in-At

@@ -1,6 +1,6 @@
 -- `next_field` meets its contract: a field that can't be read is refused first, then one for which there is no room.
 use mathlib.Core.Path.{sym, ◌∙◌}
-use Rattle.build_group_rules.specs.ReadingLaws.{next-unreadable, next_full, next_field as next-field-law}
+use Rattle.build_group_rules.proofs.ReadingLaws.{next-unreadable, next_full, next_field as next-field-law}
 use Rattle.build_groups.proofs.next_field.Goals as goal
 
 pub returns-then-progress-eq0 : goal.returns-then-progress-eq0

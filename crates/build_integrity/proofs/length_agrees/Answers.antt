@@ -7,7 +7,7 @@ use lib.ListN.{length}
 use Rattle.field_rules.specs.Number.{number_in}
 use Rattle.field_rules.specs.Field.{value_of}
 use Rattle.field_rules.specs.declared.Number.TheVariants.{Worth}
-use Rattle.build_integrity_rules.specs.IntegrityLaws.{length_none, length-other, length_is_lem}
+use Rattle.build_integrity_rules.proofs.IntegrityLaws.{length_none, length-other, length_is_lem}
 use Rattle.build_integrity.proofs.Tests.{eqb_same}
 use Rattle.build_integrity.proofs.length_agrees.Goals as goal
 use Rattle.build_integrity.proofs.length_agrees.Goals.{In-Worth}

@@ -9,7 +9,7 @@ use lib.Dec.{eqb}
 use Rattle.field_rules.specs.CheckSum.{sum_of, checksum_of}
 use Rattle.field_rules.specs.Field.{value_of}
 use Rattle.field_rules.specs.declared.Number.TheVariants.{Worth}
-use Rattle.build_integrity_rules.specs.IntegrityLaws.{sum-other, sum_is_lem}
+use Rattle.build_integrity_rules.proofs.IntegrityLaws.{sum-other, sum_is_lem}
 use Rattle.build_integrity.proofs.sum_agrees.Goals as goal
 use Rattle.build_integrity.proofs.sum_agrees.Goals.{In-Worth}
 

@@ -7,7 +7,7 @@ use lib.ListN.{length}
 use Rattle.field_rules.specs.Field.{start_at, field_at}
 use Rattle.field_rules.specs.declared.FieldRead.TheVariants.{Read}
 use Rattle.build_integrity_rules.specs.Integrity.{integrity_of, counted, summed, typed}
-use Rattle.build_integrity_rules.specs.IntegrityLaws.{begun-none, begun-tag, begun-on, counted_none, counted-tag, counted-wrong, counted-on, summed-none, summed-tag, summed-wrong, summed-on, typed-none, typed-tag, typed-on, length-room}
+use Rattle.build_integrity_rules.proofs.IntegrityLaws.{begun-none, begun-tag, begun-on, counted_none, counted-tag, counted-wrong, counted-on, summed-none, summed-tag, summed-wrong, summed-on, typed-none, typed-tag, typed-on, length-room}
 use Rattle.build_integrity.proofs.verify.Goals as goal
 use Rattle.build_integrity.proofs.verify.Goals.{In-Read, In-Read-next_field}
 

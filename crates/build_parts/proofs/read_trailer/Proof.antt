@@ -8,7 +8,7 @@ use lib.ListN.{length}
 use borrow.Author.Rules.{rules}
 use Rattle.field_rules.specs.Fields.{fields_from, field as then, Inside}
 use Rattle.build_parts.specs.Parts.{part_of}
-use Rattle.field_rules.specs.FieldsLaws.{step-inside}
+use Rattle.field_rules.proofs.FieldsLaws.{step-inside}
 use Rattle.build_parts.specs.Trailer.{trailer_from, trailer_told, trailer_counts}
 use Rattle.build_parts.specs.TrailerLaws.{trailer-stops, trailer-crowded, trailer-ends, trailer-on}
 use Rattle.build_parts.proofs.read_trailer.Statement.{statement}

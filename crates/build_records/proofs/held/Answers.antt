@@ -1,8 +1,8 @@
 use mathlib.Core.Path.{refl, sym, ap, ◌∙◌}
 use native.Mathlib.Omega.{arith}
-use Rattle.build_records.specs.WordLaws.{records_length}
+use Rattle.build_records.proofs.WordLaws.{records_length}
 use Rattle.build_records.specs.declared.Record.{Record}
-use Rattle.build_records.specs.RecordLaws.{held-here, held-shallow, held-other, held_past, held-end}
+use Rattle.build_records.proofs.RecordLaws.{held-here, held-shallow, held-other, held_past, held-end}
 use Rattle.build_records.proofs.held.Goals as goal
 use Rattle.build_records.proofs.held.Goals.{then-found-depth+else-found-tag, else-found-depth}
 

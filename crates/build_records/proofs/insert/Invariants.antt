@@ -4,7 +4,7 @@ use mathlib.Core.Path.{◌≡◌}
 use Prim.Native.Nat.{◌-◌, ◌/◌, ◌≤◌, ◌<◌}
 use lib.ListN.{length}
 use Rattle.build_records.specs.Records.{on_records, inserted, stride}
-use Rattle.build_records.specs.RecordLaws.{pushing}
+use Rattle.build_records.proofs.RecordLaws.{pushing}
 use Rattle.build_records.proofs.insert.Given as goal
 
 abbrev pub invariant-loop-at : goal.invariant-loop-at

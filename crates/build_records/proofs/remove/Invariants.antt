@@ -4,7 +4,7 @@ use mathlib.Core.Path.{◌≡◌}
 use Prim.Native.Nat.{◌-◌, ◌/◌, ◌≤◌}
 use lib.ListN.{length}
 use Rattle.build_records.specs.Records.{on_records, removed, stride}
-use Rattle.build_records.specs.RecordLaws.{pulling}
+use Rattle.build_records.proofs.RecordLaws.{pulling}
 use Rattle.build_records.proofs.remove.Given as goal
 
 abbrev pub invariant-loop-at : goal.invariant-loop-at

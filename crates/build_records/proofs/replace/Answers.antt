@@ -3,7 +3,7 @@
 use mathlib.Core.Path.{sym}
 use native.Mathlib.Omega.{arith}
 use lib.ListN.{length-set}
-use Rattle.build_records.specs.WordLaws.{replaced-words, replaced_past}
+use Rattle.build_records.proofs.WordLaws.{replaced-words, replaced_past}
 use Rattle.build_records.proofs.replace.Goals as goal
 
 pub returns-then-words-i : goal.returns-then-words-i

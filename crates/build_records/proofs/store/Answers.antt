@@ -1,8 +1,8 @@
 -- `store` meets its contract: where the tag was held the record is replaced, else it is put in.
 -- Each way cites the law of storing.
 use mathlib.Core.Path.{sym, ◌∙◌}
-use Rattle.build_records.specs.WordLaws.{on_same}
-use Rattle.build_records.specs.RecordLaws.{between-held, between-new}
+use Rattle.build_records.proofs.WordLaws.{on_same}
+use Rattle.build_records.proofs.RecordLaws.{between-held, between-new}
 use Rattle.build_records.proofs.store.Goals as goal
 
 pub returns-in-At : goal.returns-in-At

@@ -1,7 +1,7 @@
 -- The run check and the entry check meet their contracts.
 use Rattle.std.proofs.Common.{◌≤◌, length, sym, ◌∙◌, arith}
 use Rattle.build_records.specs.Records.{records_of}
-use Rattle.build_records.specs.WordLaws.{records_length}
+use Rattle.build_records.proofs.WordLaws.{records_length}
 use Rattle.build_required_rules.specs.RequiredLaws.{else_missing, else_complete}
 use Rattle.build_required.proofs.Turns.{run-deep, run-entries, entry_missing, entry-nested, nested-over-all, entries-over-all, entries_from, turn_empty, turn_plain, turn_run, turn_entry, end_fits}
 use Rattle.build_required.proofs.+checking.Goals as goal

@@ -3,7 +3,7 @@ use mathlib.Core.List.{◌∷◌}
 use native.Mathlib.Omega.{arith}
 use lib.ListN.{length}
 use Rattle.dictionary_tables_rules.specs.Table.{required_from, required_of}
-use Rattle.dictionary_tables_rules.specs.MarkLaws.{required_none, required_first}
+use Rattle.dictionary_tables_rules.proofs.MarkLaws.{required_none, required_first}
 use Rattle.build_required_rules.specs.Checking.{table_demands, lack_of_fields}
 use Rattle.build_required_rules.specs.RequiredLaws.{has-held, has_not, fields-over, fields_missing, fields-next}
 use Rattle.build_required.proofs.check_fields.Goals as goal

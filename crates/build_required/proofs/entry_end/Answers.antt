@@ -1,6 +1,6 @@
 use mathlib.Core.Path.{refl, sym, ap, ◌∙◌}
 use native.Mathlib.Omega.{arith}
-use Rattle.build_records.specs.WordLaws.{records_length}
+use Rattle.build_records.proofs.WordLaws.{records_length}
 use Rattle.build_required_rules.specs.Checking.{starts_at}
 use Rattle.build_required_rules.specs.RequiredLaws.{end-here, end_later, end-over}
 use Rattle.build_required.proofs.entry_end.Goals as goal

@@ -1,6 +1,6 @@
 use mathlib.Core.Path.{refl, sym, ap, ◌∙◌}
 use native.Mathlib.Omega.{arith}
-use Rattle.build_records.specs.WordLaws.{records_length}
+use Rattle.build_records.proofs.WordLaws.{records_length}
 use Rattle.build_required_rules.specs.Required.{shallow}
 use Rattle.build_required_rules.specs.RequiredLaws.{end-here, end_later, end-over, shallow-here, shallow_not}
 use Rattle.build_required.proofs.run_end.Goals as goal

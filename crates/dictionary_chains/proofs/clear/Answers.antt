@@ -2,7 +2,7 @@ use mathlib.Core.Path.{◌≡◌, refl}
 use native.Mathlib.Omega.{arith}
 use lib.ListN.{length-set}
 use Rattle.dictionary_chains.specs.Chain.{head_words}
-use Rattle.dictionary_chains.specs.ChainLaws.{clear_step}
+use Rattle.dictionary_chains.proofs.ChainLaws.{clear_step}
 use Rattle.dictionary_chains.proofs.clear.Goals as goal
 
 pub loop-i-init : goal.loop-i-init

@@ -4,8 +4,8 @@ use Prim.Native.Nat.{◌<◌}
 use native.Mathlib.Omega.{arith}
 use lib.ListN.{length-set}
 use Rattle.dictionary_chains.specs.Chain.{index_words, key_of, way_of, branched, number_at}
-use Rattle.dictionary_chains.specs.WordLaws.{key_small}
-use Rattle.dictionary_chains.specs.ChainLaws.{way_small, entered-late, entered-new, entered_again}
+use Rattle.dictionary_chains.proofs.WordLaws.{key_small}
+use Rattle.dictionary_chains.proofs.ChainLaws.{way_small, entered-late, entered-new, entered_again}
 use Rattle.dictionary_chains.proofs.enter.Goals as goal
 
 pub returns-then-place-ge60000 : goal.returns-then-place-ge60000

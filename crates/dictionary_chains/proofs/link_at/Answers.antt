@@ -1,7 +1,7 @@
 -- `link_at` meets its contract: a link that doesn't rise leads to no entry.
 use mathlib.Core.Path.{sym, ◌∙◌}
 use native.Mathlib.Omega.{arith}
-use Rattle.dictionary_chains.specs.WayLaws.{link-none, link-some}
+use Rattle.dictionary_chains.proofs.WayLaws.{link-none, link-some}
 use Rattle.dictionary_chains.proofs.link_at.Goals as goal
 
 pub returns-then-link-low : goal.returns-then-link-low

@@ -3,8 +3,8 @@ use Prim.Native.Nat.{◌<◌}
 use native.Mathlib.Numerals.{add-one}
 use native.Mathlib.Omega.{arith}
 use Rattle.dictionary_chains.specs.Chain.{key_room, key_of, entry_at, branch_of, way_of}
-use Rattle.dictionary_chains.specs.WordLaws.{head_small, key_small}
-use Rattle.dictionary_chains.specs.WayLaws.{strayed-late, strayed-early, follow_none, follow_hit, follow_stray, follow_on}
+use Rattle.dictionary_chains.proofs.WordLaws.{head_small, key_small}
+use Rattle.dictionary_chains.proofs.WayLaws.{strayed-late, strayed-early, follow_none, follow_hit, follow_stray, follow_on}
 use Rattle.dictionary_chains.proofs.way_of.Goals as goal
 
 pub link_at-link-requires : goal.link_at-link-requires

@@ -3,7 +3,7 @@ use mathlib.Core.Path.{◌≡◌, sym, ap, ◌∙◌}
 use native.Mathlib.Omega.{arith}
 use Rattle.dictionary_rules.specs.Check.{outcome, answer_of}
 use Rattle.dictionary_rules.specs.Check.{prepared_of}
-use Rattle.dictionary_rules.specs.Prepared.{prepared_long, prepared-short, prepared-answer, check_long}
+use Rattle.dictionary_rules.proofs.Prepared.{prepared_long, prepared-short, prepared-answer, check_long}
 use Rattle.dictionary_check.proofs.prepare.Goals as goal
 use Rattle.dictionary_check.proofs.prepare.Goals.{After-walk}
 

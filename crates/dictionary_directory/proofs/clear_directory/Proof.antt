@@ -5,7 +5,7 @@ use Prim.Native.Nat.{◌+◌, ◌≤◌, ◌-◌}
 use native.Mathlib.Omega.{arith}
 use borrow.Author.Rules.{rules}
 use lib.ListN.{length, length-set, drop, replicate}
-use Rattle.dictionary_chains.specs.ChainLaws.{clear_step}
+use Rattle.dictionary_chains.proofs.ChainLaws.{clear_step}
 use Rattle.dictionary_directory.specs.Directory.{directory_words, clear_directory}
 use Rattle.dictionary_directory.proofs.clear_directory.Statement.{statement}
 use Rattle.dictionary_directory.proofs.clear_directory.Tie as tie

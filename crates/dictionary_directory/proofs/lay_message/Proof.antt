@@ -6,7 +6,7 @@ use borrow.Author.Rules.{rules}
 use lib.ListN.{replicate, length-replicate}
 use Rattle.dictionary_rules.specs.declared.Placed.TheVariants.{At}
 use Rattle.dictionary_meaning_rules.specs.MessageTable.{tabling, placed_table}
-use Rattle.dictionary_meaning_rules.specs.LaidLayout.{placed_layout}
+use Rattle.dictionary_meaning_rules.proofs.LaidLayoutLaws.{placed_layout}
 use Rattle.dictionary_meaning_rules.specs.declared.MessageTable.TheVariants.{Rows}
 use Rattle.dictionary_directory.specs.LayingLaws.{message-beyond, message_rows}
 use Rattle.dictionary_directory.proofs.Arms.{made_as, unlaid}

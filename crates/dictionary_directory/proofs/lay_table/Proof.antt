@@ -7,8 +7,9 @@ use borrow.Author.Rules.{rules}
 use lib.ListN.{length, take, drop, replicate, length-append, length-drop, length-replicate}
 use lib.Seq.{length-take-le}
 use Rattle.dictionary_rules.specs.declared.Placed.TheVariants.{At}
-use Rattle.dictionary_meaning_rules.specs.Kept.{table_kept}
-use Rattle.dictionary_meaning_rules.specs.LaidLayout.{LaidAs, placed_layout}
+use Rattle.dictionary_meaning_rules.proofs.Kept.{table_kept}
+use Rattle.dictionary_meaning_rules.specs.LaidLayout.{LaidAs}
+use Rattle.dictionary_meaning_rules.proofs.LaidLayoutLaws.{placed_layout}
 use Rattle.dictionary_meaning_rules.specs.MessageTable.{tabling, placed_table}
 use Rattle.dictionary_meaning_rules.specs.declared.MessageTable.TheVariants.{Rows}
 use Rattle.dictionary_directory.specs.Directory.{table_words}

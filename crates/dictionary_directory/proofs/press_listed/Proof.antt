@@ -7,7 +7,7 @@ use lib.ListN.{length, take}
 use lib.Seq.{length-take-le}
 use Rattle.dictionary_tables_rules.specs.Laid.{table_size}
 use Rattle.dictionary_tables_rules.specs.Tags.{fields_of}
-use Rattle.dictionary_tables_rules.specs.TagsLaws.{fields-few}
+use Rattle.dictionary_tables_rules.proofs.TagsLaws.{fields-few}
 use Rattle.dictionary_directory.specs.Directory.{tag_words}
 use Rattle.dictionary_directory.proofs.press_listed.Statement.{statement}
 use Rattle.dictionary_directory.proofs.press_listed.Tie as tie

@@ -10,7 +10,7 @@ use lib.ListN.{length, take, drop, length-take, length-drop}
 use lib.Seq.{length-take-le}
 use Rattle.dictionary_tables_rules.specs.Laid.{part_size, table_size, table_of}
 use Rattle.dictionary_tables_rules.specs.Tags.{fields_of}
-use Rattle.dictionary_tables_rules.specs.TagsLaws.{fields-part, fields-few}
+use Rattle.dictionary_tables_rules.proofs.TagsLaws.{fields-part, fields-few}
 use Rattle.dictionary_directory.specs.Directory.{block_stride, room_for}
 use Rattle.dictionary_directory.specs.LayingLaws.{room-here, put-none, put-words}
 use Rattle.dictionary_directory.proofs.put_tags.Statement.{statement}

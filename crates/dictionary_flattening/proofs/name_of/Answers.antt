@@ -1,7 +1,7 @@
 use mathlib.Core.Path.{sym}
 use Prim.Native.Nat.{◌-◌}
 use native.Mathlib.Omega.{arith}
-use Rattle.dictionary_meaning_rules.specs.MsgTypeLaws.{back_start, number_fits, back_on, name_empty, name_long, name_zero, name_good}
+use Rattle.dictionary_meaning_rules.proofs.MsgTypeLaws.{back_start, number_fits, back_on, name_empty, name_long, name_zero, name_good}
 use Rattle.dictionary_flattening.proofs.name_of.Goals as goal
 
 pub returns-then-msgtype-eq0 : goal.returns-then-msgtype-eq0

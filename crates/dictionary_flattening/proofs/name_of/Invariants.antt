@@ -1,7 +1,7 @@
 -- `name_of` meets its contract: it reads backwards, and what was read so far is the number of the bytes from there on.
 use mathlib.Core.Path.{◌≡◌}
 use lib.ListN.{length}
-use Rattle.dictionary_meaning_rules.specs.MsgTypeLaws.{ReadBack}
+use Rattle.dictionary_meaning_rules.proofs.MsgTypeLaws.{ReadBack}
 use Rattle.dictionary_flattening.proofs.name_of.Given as goal
 
 abbrev pub invariant-loop-i : goal.invariant-loop-i

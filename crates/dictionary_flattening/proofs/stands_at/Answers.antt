@@ -3,7 +3,7 @@ use mathlib.Core.Path.{◌≡◌, sym, ap, ◌∙◌}
 use Prim.Native.Nat.{ℕ, ◌+◌}
 use Rattle.dictionary_rules.specs.Index.{component_at}
 use Rattle.dictionary_rules.specs.declared.Looked.TheVariants.{Closed}
-use Rattle.dictionary_meaning_rules.specs.LayingLaws.{stands_missing, stands-empty, stands_lost, stands_somewhere}
+use Rattle.dictionary_meaning_rules.proofs.LayingLaws.{stands_missing, stands-empty, stands_lost, stands_somewhere}
 use Rattle.dictionary_meaning_rules.specs.declared.Expansion.TheVariants.{ItemsAt}
 use Rattle.dictionary_flattening.proofs.stands_at.Goals as goal
 use Rattle.dictionary_flattening.proofs.stands_at.Goals.{In-Closed}

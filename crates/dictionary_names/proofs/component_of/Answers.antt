@@ -3,7 +3,7 @@ use mathlib.Core.Path.{◌≡◌, sym, ap, ◌∙◌}
 use Prim.Native.Nat.{ℕ}
 use borrow.Author.Rules.{rules}
 use Rattle.dictionary_chains.specs.Chain.{key_room, found}
-use Rattle.dictionary_chains.specs.ChainLaws.{found_small}
+use Rattle.dictionary_chains.proofs.ChainLaws.{found_small}
 use Rattle.dictionary_chains.specs.declared.Table.TheVariants.{Components}
 use Rattle.dictionary_rules.specs.Index.{component_of}
 use Rattle.dictionary_rules.specs.IndexLaws.{component_missing, component-closed}

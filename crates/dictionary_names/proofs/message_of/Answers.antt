@@ -2,7 +2,7 @@
 use mathlib.Core.Path.{sym, ◌∙◌}
 use borrow.Author.Rules.{rules}
 use Rattle.dictionary_chains.specs.Chain.{key_room}
-use Rattle.dictionary_chains.specs.ChainLaws.{found_small}
+use Rattle.dictionary_chains.proofs.ChainLaws.{found_small}
 use Rattle.dictionary_chains.specs.declared.Table.TheVariants.{MsgTypes}
 use Rattle.dictionary_rules.specs.IndexLaws.{message-nowhere, message-placed}
 use Rattle.dictionary_names.proofs.message_of.Goals as goal

@@ -1,5 +1,5 @@
 use Rattle.std.proofs.Common.{◌≡◌, refl, ap, ◌∙◌, ℕ, length, arith}
-use Rattle.dictionary_tables_rules.specs.TableLaws.{heads_bounds}
+use Rattle.dictionary_tables_rules.proofs.TableLaws.{heads_bounds}
 use Rattle.dictionary_pressing.specs.Linking.{linked}
 use Rattle.dictionary_pressing.specs.ForwardLaws.{pressing_within, pressing_count, pressing_few, forward_begin, forward_end, forward_field, forward_room, forward_link, forward_inside, forward_group}
 use Rattle.dictionary_pressing.proofs.+press_level.Goals as goal

@@ -1,6 +1,6 @@
 -- `heads_for` meets its contract: by the two ways that the definition goes.
 use mathlib.Core.Path.{sym}
-use Rattle.dictionary_tables_rules.specs.TableLaws.{heads-few, heads-many}
+use Rattle.dictionary_tables_rules.proofs.TableLaws.{heads-few, heads-many}
 use Rattle.dictionary_pressing.proofs.heads_for.Goals as goal
 
 pub returns-then-count-gt16 : goal.returns-then-count-gt16

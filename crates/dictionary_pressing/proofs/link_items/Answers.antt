@@ -6,7 +6,7 @@ use mir.Val.{bool_byte}
 use mathlib.Core.List.{List}
 use lib.ListN.{length, get_or}
 use lib.Dec.{eqb}
-use Rattle.dictionary_tables_rules.specs.TableLaws.{heads_bounds}
+use Rattle.dictionary_tables_rules.proofs.TableLaws.{heads_bounds}
 use Rattle.dictionary_tables_rules.specs.Laid.{part_size}
 use Rattle.dictionary_pressing.specs.Linking.{items_start, cleared, linked}
 use Rattle.dictionary_pressing.specs.HeadLaws.{heads-mod}

@@ -1,7 +1,7 @@
 -- `next_sibling` meets its contract: the link that was read rises, or the level stops.
 use mathlib.Core.Path.{sym, ◌∙◌}
 use native.Mathlib.Omega.{arith}
-use Rattle.dictionary_layout_rules.specs.TableLaws.{sibling_link, sibling_stop}
+use Rattle.dictionary_layout_rules.proofs.TableLaws.{sibling_link, sibling_stop}
 use Rattle.dictionary_pressing.proofs.next_sibling.Goals as goal
 
 pub returns-then-at-link : goal.returns-then-at-link

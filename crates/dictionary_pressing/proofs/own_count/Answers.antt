@@ -1,6 +1,6 @@
 use Prim.Native.Nat.{◌<◌}
 use native.Mathlib.Omega.{arith}
-use Rattle.dictionary_layout_rules.specs.TableLaws.{sibling_rises}
+use Rattle.dictionary_layout_rules.proofs.TableLaws.{sibling_rises}
 use Rattle.dictionary_pressing.specs.RowsLaws.{counted-on, counted-end}
 use Rattle.dictionary_pressing.proofs.own_count.Goals as goal
 use Rattle.dictionary_pressing.proofs.own_count.Goals.{After-next_sibling-at}

@@ -1,7 +1,7 @@
 -- `part_size` meets its contract: there are no more than 128 heads.
 use native.Mathlib.Omega.{arith}
 use Rattle.dictionary_tables_rules.specs.Laid.{part_size}
-use Rattle.dictionary_tables_rules.specs.TableLaws.{heads_bounds}
+use Rattle.dictionary_tables_rules.proofs.TableLaws.{heads_bounds}
 use Rattle.dictionary_pressing.proofs.part_size.Goals as goal
 
 pub overflow_add-result : goal.overflow_add-result

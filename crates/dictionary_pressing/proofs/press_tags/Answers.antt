@@ -4,9 +4,9 @@ use Prim.Native.Nat.{ℕ, ◌+◌, ◌*◌, ◌/◌, ◌%◌, ◌≤◌}
 use native.Mathlib.Omega.{arith}
 use lib.ListN.{length, get_or}
 use Rattle.dictionary_tables_rules.specs.Laid.{part_size, table_size}
-use Rattle.dictionary_tables_rules.specs.TableLaws.{heads_bounds}
+use Rattle.dictionary_tables_rules.proofs.TableLaws.{heads_bounds}
 use Rattle.dictionary_tables_rules.specs.Tags.{fields_of}
-use Rattle.dictionary_tables_rules.specs.TagsLaws.{fields-part, fields-few}
+use Rattle.dictionary_tables_rules.proofs.TagsLaws.{fields-part, fields-few}
 use Rattle.dictionary_pressing.specs.Pressing.{put_item}
 use Rattle.dictionary_pressing.specs.Tags.{putting_start, putting_room, putting_on, putting_end}
 use Rattle.dictionary_pressing.proofs.press_tags.Goals as goal

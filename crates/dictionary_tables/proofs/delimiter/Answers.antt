@@ -5,7 +5,7 @@ use native.Mathlib.Omega.{arith}
 use lib.ListN.{get_or-eq_default}
 use Rattle.dictionary_layout_rules.specs.declared.FirstTag.TheVariants.{First}
 use Rattle.dictionary_tables_rules.specs.Table.{items_at, tag_at}
-use Rattle.dictionary_tables_rules.specs.TableLaws.{heads_at_bounds, items_from, delimiter_empty, delimiter_none, delimiter_some}
+use Rattle.dictionary_tables_rules.proofs.TableLaws.{heads_at_bounds, items_from, delimiter_empty, delimiter_none, delimiter_some}
 use Rattle.dictionary_tables.proofs.delimiter.Goals as goal
 use Rattle.dictionary_tables.proofs.delimiter.Goals.{After-heads_at}
 

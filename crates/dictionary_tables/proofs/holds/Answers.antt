@@ -1,7 +1,7 @@
 -- `holds` meets its contract: a table holds just what a look-up finds in it.
 use mathlib.Core.Path.{sym, ap, ◌∙◌}
 use Rattle.dictionary_tables_rules.specs.Tags.{is_item}
-use Rattle.dictionary_tables_rules.specs.TagsLaws.{found-holds}
+use Rattle.dictionary_tables_rules.proofs.TagsLaws.{found-holds}
 use Rattle.dictionary_tables.proofs.holds.Goals as goal
 
 pub returns-in-At : goal.returns-in-At

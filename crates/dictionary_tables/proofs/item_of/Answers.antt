@@ -4,7 +4,7 @@ use native.Mathlib.Omega.{arith}
 use native.Mathlib.Nat.{mod-lt}
 use lib.ListN.{length}
 use Rattle.dictionary_tables_rules.specs.Table.{items_at, item_at, tag_at, group_at, later_at, item_of}
-use Rattle.dictionary_tables_rules.specs.TableLaws.{heads_at_bounds, item_no_head, follow_none, follow_past, follow_hit, follow_stop, follow_on}
+use Rattle.dictionary_tables_rules.proofs.TableLaws.{heads_at_bounds, item_no_head, follow_none, follow_past, follow_hit, follow_stop, follow_on}
 use Rattle.dictionary_tables.proofs.item_of.Goals as goal
 use Rattle.dictionary_tables.proofs.item_of.Goals.{After-heads_at-heads}
 

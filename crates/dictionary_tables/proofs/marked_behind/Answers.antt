@@ -1,7 +1,7 @@
 -- `marked_behind` meets its contract: the law of each way.
 use mathlib.Core.Path.{sym}
 use native.Mathlib.Omega.{arith}
-use Rattle.dictionary_tables_rules.specs.MarkLaws.{behind_rises, behind-ends}
+use Rattle.dictionary_tables_rules.proofs.MarkLaws.{behind_rises, behind-ends}
 use Rattle.dictionary_tables.proofs.marked_behind.Goals as goal
 
 pub returns-then-behind-link : goal.returns-then-behind-link

@@ -3,8 +3,8 @@ use Prim.Native.Nat.{◌≤◌, ◌-◌, ◌*◌, ℕ, ◌+◌, ◌%◌}
 use native.Mathlib.Omega.{arith}
 use lib.ListN.{length, get_or, get_or-eq_default}
 use Rattle.dictionary_tables_rules.specs.Table.{items_at, item_at, mark_at}
-use Rattle.dictionary_tables_rules.specs.TableLaws.{heads_at_bounds, items_from}
-use Rattle.dictionary_tables_rules.specs.MarkLaws.{links_fall, mark-empty, mark-none, mark_past, mark_hit, mark_on}
+use Rattle.dictionary_tables_rules.proofs.TableLaws.{heads_at_bounds, items_from}
+use Rattle.dictionary_tables_rules.proofs.MarkLaws.{links_fall, mark-empty, mark-none, mark_past, mark_hit, mark_on}
 use Rattle.dictionary_tables.proofs.next_required.Goals as goal
 use Rattle.dictionary_tables.proofs.next_required.Goals.{After-heads_at, After-wide-word}
 

@@ -2,7 +2,7 @@
 -- An item lies in the table if there is room for it, and the link behind it rises or is 0.
 use mathlib.Core.Path.{◌≡◌}
 use Rattle.dictionary_tables_rules.specs.Table.{mark_from}
-use Rattle.dictionary_tables_rules.specs.MarkLaws.{links_left}
+use Rattle.dictionary_tables_rules.proofs.MarkLaws.{links_left}
 use Rattle.dictionary_tables.proofs.next_required.Given as goal
 
 abbrev pub invariant-loop-link : goal.invariant-loop-link

@@ -9,7 +9,7 @@ use borrow.Author.Rules.{rules}
 use lib.ListN.{length, get_or, take, drop, set, length-set}
 use borrow.Author.Tests.{eq-eqb, ne_eqb}
 use Rattle.message_maps.specs.Rows.{row_at}
-use Rattle.field_rules.specs.DecimalLaws.{decimal-length}
+use Rattle.field_rules.proofs.DecimalLaws.{decimal-length}
 use Rattle.field_rules.specs.Decimal.{decimal}
 use Rattle.encode_rows.specs.Writing.{row_bytes}
 use Rattle.encode_rows.proofs.row_bytes.Statement.{statement}

@@ -8,7 +8,7 @@ use native.Mathlib.Omega.{arith}
 use borrow.Author.Rules.{rules}
 use lib.ListN.{length, get_or, take, drop, set, length-set}
 use Rattle.field_rules.specs.Decimal.{decimal, written_at, answer_at}
-use Rattle.field_rules.specs.DecimalLaws.{written-length}
+use Rattle.field_rules.proofs.DecimalLaws.{written-length}
 use Rattle.field_rules.specs.Field.{field_bytes}
 use Rattle.encode_rows.specs.WritingLaws.{next_is, never_full, field-written}
 use Rattle.encode_rows.proofs.write_field.Statement.{statement}

@@ -6,7 +6,7 @@ use native.Mathlib.Omega.{arith}
 use borrow.Author.Rules.{rules}
 use lib.ListN.{length}
 use Rattle.field_rules.specs.Decimal.{written_at}
-use Rattle.field_rules.specs.DecimalLaws.{written-length}
+use Rattle.field_rules.proofs.DecimalLaws.{written-length}
 use Rattle.message_lent_rules.specs.Meaning.{message_in}
 use Rattle.encode_rules.specs.Encoding.{message_text}
 use Rattle.encode_rows.specs.Writing.{text_at}

@@ -1,7 +1,7 @@
 -- `judge` meets its contract: what the rows' standing tells is what the message is judged by.
 use mathlib.Core.Path.{◌≡◌, sym, ◌∙◌}
 use borrow.Author.Rules.{rules}
-use Rattle.message_lent_rules.specs.StandingLaws.{refused_none, uncounted-held, counted-held}
+use Rattle.message_lent_rules.proofs.StandingLaws.{refused_none, uncounted-held, counted-held}
 use Rattle.encoder.specs.VerdictLaws.{refused-message}
 use Rattle.encoder.proofs.judge.Statement.{statement}
 use Rattle.encoder.proofs.judge.Tie as tie

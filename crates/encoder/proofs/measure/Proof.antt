@@ -7,7 +7,7 @@ use borrow.Author.Rules.{rules}
 use borrow.Author.Tests.{ltb-true, ltb-false}
 use lib.Dec.{ltb}
 use lib.ListN.{length}
-use Rattle.field_rules.specs.DecimalLaws.{decimal-length}
+use Rattle.field_rules.proofs.DecimalLaws.{decimal-length}
 use Rattle.field_rules.specs.Separator.{is_refused_separator}
 use Rattle.message_lent_rules.specs.Meaning.{message_in}
 use Rattle.message_rules.specs.Changes.{field_total}

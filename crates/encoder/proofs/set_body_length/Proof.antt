@@ -7,7 +7,7 @@ use borrow.Author.Rules.{rules}
 use lib.ListN.{length}
 use lib.Seq.{length-take-le}
 use Rattle.field_rules.specs.Decimal.{decimal}
-use Rattle.field_rules.specs.DecimalLaws.{decimal-length, written-length}
+use Rattle.field_rules.proofs.DecimalLaws.{decimal-length, written-length}
 use Rattle.message_rules.specs.Changes.{storing}
 use Rattle.message_rules.specs.declared.Part.TheVariants.{Header}
 use Rattle.encode_rows.specs.WritingLaws.{next_is, never_full}

@@ -6,7 +6,7 @@ use native.Mathlib.Omega.{arith}
 use borrow.Author.Rules.{rules}
 use lib.ListN.{length, take, drop}
 use Rattle.message_lent_rules.specs.Meaning.{message_in}
-use Rattle.message_lent_rules.specs.FormedLaws.{Lends}
+use Rattle.message_lent_rules.proofs.FormedLaws.{Lends}
 use Rattle.encode_rules.specs.Encoding.{dropped, measured, encoding}
 use Rattle.encoder.specs.SizeLaws.{encoding_length}
 use Rattle.encoder.specs.LeavingLaws.{after-drop, blank-drop, after-length, blank-length, has_room, writes, sum-read, after-sum, all_left}

@@ -1,6 +1,6 @@
 -- `checksum_of` meets its contract, by its two cases.
 use Rattle.std.proofs.Common.{sym, ◌∙◌}
-use Rattle.field_rules.specs.NumberLaws.{checksum_other, checksum_three}
+use Rattle.field_rules.proofs.NumberLaws.{checksum_other, checksum_three}
 use Rattle.field_numbers.proofs.checksum_of.Goals as goal
 
 pub returns-then-value-ne3 : goal.returns-then-value-ne3

@@ -1,7 +1,7 @@
 -- `digits_of` meets its contract: between two powers of ten a number has as many digits as the higher one has zeros.
 -- Each range is such a pair but for the first, which begins at 0.
 use Rattle.std.proofs.Common.{length, sym, refl, ap, arith}
-use Rattle.field_rules.specs.DecimalLaws.{decimal_small}
+use Rattle.field_rules.proofs.DecimalLaws.{decimal_small}
 use Rattle.field_numbers.proofs.Powers.{digits_between}
 use Rattle.field_numbers.proofs.digits_of.Goals as goal
 

@@ -1,5 +1,5 @@
 use Rattle.std.proofs.Common.{◌+◌, ◌-◌, ◌*◌, get_or, drop, sym, refl, ◌∙◌, arith}
-use Rattle.field_rules.specs.NumberLaws.{digit_step, digit_low, digit_high, digit_end, worth-step, worth-end, worth-least, number-empty, number-bad, number_large, number_good}
+use Rattle.field_rules.proofs.NumberLaws.{digit_step, digit_low, digit_high, digit_end, worth-step, worth-end, worth-least, number-empty, number-bad, number_large, number_good}
 use Rattle.field_numbers.proofs.number_of.Goals as goal
 
 pub returns-then-text-eq0 : goal.returns-then-text-eq0

@@ -1,5 +1,5 @@
 use Rattle.std.proofs.Common.{zero-add, arith}
-use Rattle.field_rules.specs.NumberLaws.{sum_step, sum-end}
+use Rattle.field_rules.proofs.NumberLaws.{sum_step, sum-end}
 use Rattle.field_numbers.proofs.sum_of.Goals as goal
 
 pub loop-i-init : goal.loop-i-init

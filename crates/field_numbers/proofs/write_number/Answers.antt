@@ -1,7 +1,7 @@
 use Rattle.std.proofs.Common.{◌≡◌, ℕ, ◌+◌, ◌<◌, List, length, sym, ◌∙◌, arith}
 use Rattle.field_rules.specs.Decimal.{written_at, answer_at}
 use Rattle.field_rules.specs.declared.Written.TheVariants.{NoRoom}
-use Rattle.field_rules.specs.DecimalLaws.{decimal-some, answer_fits, answer-none, written_none, written-length}
+use Rattle.field_rules.proofs.DecimalLaws.{decimal-some, answer_fits, answer-none, written_none, written-length}
 use Rattle.field_numbers.proofs.Turns.{turn_start, turn_length, turn_digit, turn_again, turn_end}
 use Rattle.field_numbers.proofs.write_number.Goals as goal
 

@@ -5,10 +5,10 @@ use native.Mathlib.Omega.{arith}
 use borrow.Author.Rules.{rules}
 use lib.ListN.{length, drop, take, length-drop}
 use Rattle.field_rules.specs.Find.{find_in}
-use Rattle.field_rules.specs.FindLaws.{find_in_lem, find_behind, find_moved, find_moved-none}
+use Rattle.field_rules.proofs.FindLaws.{find_in_lem, find_behind, find_moved, find_moved-none}
 use Rattle.field_rules.specs.Field.{start_at}
 use Rattle.field_rules.specs.Number.{tag_of}
-use Rattle.field_rules.specs.FieldLaws.{no_equals, no_separator, bad-tag, one_field}
+use Rattle.field_rules.proofs.FieldLaws.{no_equals, no_separator, bad-tag, one_field}
 use Rattle.field_rules.specs.declared.Found.TheVariants.{At}
 use Rattle.field_rules.specs.declared.FieldRead.TheVariants.{Read}
 use Rattle.field_tagvalue.specs.Tagged.{or_zero}

@@ -1,5 +1,5 @@
 use mathlib.Core.Path.{refl, sym, ◌∙◌}
-use Rattle.field_rules.specs.FindLaws.{find_hit, find_miss, find_end}
+use Rattle.field_rules.proofs.FindLaws.{find_hit, find_miss, find_end}
 use Rattle.field_tagvalue.proofs.find_from.Goals as goal
 
 pub loop-i-init : goal.loop-i-init

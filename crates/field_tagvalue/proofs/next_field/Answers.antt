@@ -2,9 +2,9 @@
 use mathlib.Core.Path.{sym}
 use native.Mathlib.Omega.{arith}
 use lib.ListN.{length-drop}
-use Rattle.field_rules.specs.FindLaws.{rest_part}
+use Rattle.field_rules.proofs.FindLaws.{rest_part}
 use Rattle.field_rules.specs.Field.{field_at}
-use Rattle.field_rules.specs.FieldLaws.{past_end}
+use Rattle.field_rules.proofs.FieldLaws.{past_end}
 use Rattle.field_tagvalue.proofs.next_field.Goals as goal
 
 pub returns-then-message-at : goal.returns-then-message-at

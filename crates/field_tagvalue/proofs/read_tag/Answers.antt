@@ -4,7 +4,7 @@ use mathlib.Core.Logic.{inl, inr}
 use Prim.Native.Nat.{◌+◌, ◌*◌}
 use native.Mathlib.Omega.{arith}
 use lib.ListN.{take}
-use Rattle.field_rules.specs.FindLaws.{find_hit, find_miss, find_end}
+use Rattle.field_rules.proofs.FindLaws.{find_hit, find_miss, find_end}
 use Rattle.field_rules.specs.Number.{all_digits, worth}
 use Rattle.field_tagvalue.specs.Tagged.{tagged_at}
 use Rattle.field_tagvalue.specs.TaggedLaws.{NoDigit, digits_tell, stray_spoils, large_spoils, digit_worth, digit_more, equals-behind}

@@ -1,6 +1,6 @@
 -- `tag_of` meets its contract: what `number_of` answers, zero apart.
 use mathlib.Core.Path.{sym, ◌∙◌}
-use Rattle.field_rules.specs.NumberLaws.{tag-none, tag_zero, tag_good}
+use Rattle.field_rules.proofs.NumberLaws.{tag-none, tag_zero, tag_good}
 use Rattle.field_tagvalue.proofs.tag_of.Goals as goal
 
 pub returns-in_default : goal.returns-in_default

@@ -1,6 +1,6 @@
 -- `end` meets its contract: each return cites the law of `BytesLaws` for its way.
 use Rattle.std.proofs.Common.{sym, ◌∙◌}
-use Rattle.frame_hunter_rules.specs.BytesLaws.{end-unfit, end-ended, end_fine}
+use Rattle.frame_hunter_rules.proofs.BytesLaws.{end-unfit, end-ended, end_fine}
 use Rattle.frame_hunter.proofs.end.Goals as goal
 
 pub returns-then-unfit_store : goal.returns-then-unfit_store

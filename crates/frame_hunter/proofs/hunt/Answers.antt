@@ -1,5 +1,5 @@
 use Rattle.std.proofs.Common.{◌≡◌, drop, sym, ap, ◌∙◌, arith, rules}
-use Rattle.field_rules.specs.FindLaws.{rest_part}
+use Rattle.field_rules.proofs.FindLaws.{rest_part}
 use Rattle.frame_verdict_rules.specs.Verdict.{verdict_of}
 use Rattle.frame_hunter_rules.specs.Hunt.{act_on}
 use Rattle.frame_hunter.proofs.Moves.{hunt_start, hunt_hand, hunt_stop, hunt_pass, hunt_end}

@@ -1,11 +1,11 @@
 -- `push` meets its contract: each return cites the law of `BytesLaws` for its way.
 use Rattle.std.proofs.Common.{◌≡◌, ℕ, ◌+◌, false, length, sym, ap, ◌∙◌, arith, length-drop}
 use Rattle.frame_hunter_rules.specs.Bytes.{unfit}
-use Rattle.frame_hunter_rules.specs.BytesLaws.{Fit, fits, push_unfit, push_ended, push_full, push_fine}
+use Rattle.frame_hunter_rules.proofs.BytesLaws.{Fit, fits, push_unfit, push_ended, push_full, push_fine}
 use Rattle.frame_hunter_rules.specs.declared.State.{State}
 use Rattle.frame_hunter_rules.specs.declared.Reply.{Reply}
 use Rattle.frame_hunter_rules.specs.declared.Answer.TheVariants.{Fine}
-use Rattle.field_rules.specs.FindLaws.{rest_part}
+use Rattle.field_rules.proofs.FindLaws.{rest_part}
 use Rattle.frame_hunter.proofs.Moves.{put-behind}
 use Rattle.frame_hunter.proofs.push.Goals as goal
 

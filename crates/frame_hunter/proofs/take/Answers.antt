@@ -4,7 +4,7 @@ use Rattle.std.proofs.Common.{◌≡◌, ℕ, ◌+◌, ◌-◌, ◌%◌, ◌≤�
 use Rattle.frame_verdict_rules.specs.Frame.{frame_most}
 use Rattle.frame_hunter_rules.specs.Hunt.{count_wrap}
 use Rattle.frame_hunter_rules.specs.Bytes.{unfit, refused_take_lem, Handout, unmoved, took_from, Takes}
-use Rattle.frame_hunter_rules.specs.BytesLaws.{Fit, fits, held-length, take-unfit, take_short, hunt_inside, hunt_small, Moved, take_fine}
+use Rattle.frame_hunter_rules.proofs.BytesLaws.{Fit, fits, held-length, take-unfit, take_short, hunt_inside, hunt_small, Moved, take_fine}
 use Rattle.frame_hunter_rules.specs.declared.State.{State}
 use Rattle.frame_hunter_rules.specs.declared.Taken.{Taken}
 use Rattle.frame_hunter_rules.specs.declared.Hunted.{Hunted}

@@ -2,7 +2,7 @@
 -- Each return cites the law of its way.
 use Rattle.std.proofs.Common.{◌≡◌, false, sym, ◌∙◌}
 use Rattle.frame_parser_rules.specs.Framer.{unusable, with_end}
-use Rattle.frame_parser_rules.specs.FramerLaws.{end-bad, end-ended, end-over, end-accepted}
+use Rattle.frame_parser_rules.proofs.FramerLaws.{end-bad, end-ended, end-over, end-accepted}
 use Rattle.frame_parser.proofs.end.Goals as goal
 
 pub returns-then-is_unusable : goal.returns-then-is_unusable

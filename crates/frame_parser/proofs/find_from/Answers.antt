@@ -1,7 +1,7 @@
 -- `find_from` meets its contract: finding in the part from the place on, and counting from the start again.
 -- Past the end there is nothing to find.
 use Rattle.std.proofs.Common.{◌≡◌, ◌+◌, sym, ◌∙◌, arith}
-use Rattle.field_rules.specs.FindLaws.{rest_part}
+use Rattle.field_rules.proofs.FindLaws.{rest_part}
 use Rattle.field_rules.specs.declared.Found.TheVariants.{At}
 use Rattle.frame_parser_rules.specs.Announced.{find_from}
 use Rattle.frame_parser_rules.specs.AnnouncedLaws.{from_past, from-none, from_offset, from_in}

@@ -1,9 +1,9 @@
 -- `push` meets its contract: the tests stand in the order of the definition.
 -- Each return cites the law of its way, and what the kit's `copy` leaves is the chunk written at the used length.
 use Rattle.std.proofs.Common.{◌≡◌, ◌+◌, ◌<◌, ◌≤◌, false, length, sym, ◌∙◌, arith}
-use Rattle.field_rules.specs.DecimalLaws.{written_copied}
+use Rattle.field_rules.proofs.DecimalLaws.{written_copied}
 use Rattle.frame_parser_rules.specs.Framer.{unusable, with_chunk}
-use Rattle.frame_parser_rules.specs.FramerLaws.{usable_is, push_bad, push_ended, push_over, push_full, push_accepted}
+use Rattle.frame_parser_rules.proofs.FramerLaws.{usable_is, push_bad, push_ended, push_over, push_full, push_accepted}
 use Rattle.frame_parser.proofs.push.Goals as goal
 
 pub returns-then-is_unusable : goal.returns-then-is_unusable

@@ -2,7 +2,7 @@
 -- Where it is an end, the test says whether its bytes are there.
 use Rattle.std.proofs.Common.{sym, ap, ◌∙◌}
 use Rattle.frame_parser_rules.specs.Framer.{ready_of}
-use Rattle.frame_parser_rules.specs.FramerLaws.{ready_whole, ready_short}
+use Rattle.frame_parser_rules.proofs.FramerLaws.{ready_whole, ready_short}
 use Rattle.frame_parser.proofs.ready_of.Goals as goal
 
 pub returns-then-end-used : goal.returns-then-end-used

@@ -4,7 +4,7 @@ use Rattle.std.proofs.Common.{◌≡◌, ◌≤◌, false, sym, ap, ◌∙◌, a
 use Rattle.frame_parser_rules.specs.Announced.{announced_in}
 use Rattle.frame_parser_rules.specs.AnnouncedLaws.{announced_limit}
 use Rattle.frame_parser_rules.specs.Framer.{unusable, held, ready_of, take_state}
-use Rattle.frame_parser_rules.specs.FramerLaws.{usable_is, ready_in, take-bad, take_short, take-marked, take-over, take-message, take_none}
+use Rattle.frame_parser_rules.proofs.FramerLaws.{usable_is, ready_in, take-bad, take_short, take-marked, take-over, take-message, take_none}
 use Rattle.frame_parser_rules.specs.declared.Ready.TheVariants.{Length}
 use Rattle.frame_parser.proofs.Front.{copied_front}
 use Rattle.frame_parser.proofs.take.Goals as goal

@@ -2,7 +2,7 @@
 use mathlib.Core.Path.{sym, ◌∙◌}
 use mathlib.Core.Bool.{true, false}
 use borrow.Author.Tests.{leb-true}
-use Rattle.message_rules.specs.NewLaws.{new-short, new-store, new_large, new-done}
+use Rattle.message_rules.proofs.NewLaws.{new-short, new-store, new_large, new-done}
 use Rattle.message.proofs.new.Goals as goal
 
 pub returns-then-words-ne-WORDS : goal.returns-then-words-ne-WORDS

@@ -10,7 +10,7 @@ use lib.ListN.{length, get_or, take, drop, set, length-set}
 use lib.Seq.{length-take-le}
 use Rattle.message_maps.specs.Rows.{flat, rows_from, sizes, message_rows}
 use Rattle.message_lent_rules.specs.Lent.{row_count, rows_of}
-use Rattle.message_lent_rules.specs.MeaningLaws.{flat-length}
+use Rattle.message_lent_rules.proofs.MeaningLaws.{flat-length}
 use Rattle.message_rules.specs.Changes.{after}
 use Rattle.message_rules.specs.RowChanges.{Cuttable, cut_words, cut_values, changed_at}
 use Rattle.message_rules.specs.PlaceLaws.{rows_length}

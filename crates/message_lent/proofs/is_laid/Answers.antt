@@ -1,7 +1,7 @@
 -- `is_laid` meets its contract: what stands is laid out.
 use mathlib.Core.Path.{ap, ◌∙◌}
 use Rattle.message_lent_rules.specs.Standing.{is_standing}
-use Rattle.message_lent_rules.specs.StandingLaws.{laid-stands}
+use Rattle.message_lent_rules.proofs.StandingLaws.{laid-stands}
 use Rattle.message_lent.proofs.is_laid.Goals as goal
 
 pub returns : goal.returns

@@ -3,7 +3,7 @@ use mathlib.Core.Path.{◌∙◌}
 use borrow.Author.Tests.{eq-eqb, ne_eqb, le-leb, lt-leb}
 use Rattle.message_lent_rules.specs.Lent.{rows_of, is_laid}
 use Rattle.message_lent_rules.specs.Standing.{laid_standing}
-use Rattle.message_lent_rules.specs.StandingLaws.{too_large, stands-laid}
+use Rattle.message_lent_rules.proofs.StandingLaws.{too_large, stands-laid}
 use Rattle.message_lent.proofs.laid_standing.Goals as goal
 
 pub returns-then-words-ne-WORDS : goal.returns-then-words-ne-WORDS

@@ -8,7 +8,7 @@ use borrow.Author.Tests.{le-leb, lt-leb, ltb-true, ltb-false}
 use Rattle.message_lent_rules.specs.Lent.{rows_of, is_laid, fields_in}
 use Rattle.message_lent_rules.specs.LentLaws.{laid_out}
 use Rattle.message_lent_rules.specs.Standing.{is_standing}
-use Rattle.message_lent_rules.specs.StandingLaws.{laid-stands, not_laid, no_parts, too_many, stands-message}
+use Rattle.message_lent_rules.proofs.StandingLaws.{laid-stands, not_laid, no_parts, too_many, stands-message}
 use Rattle.message_lent.proofs.message_standing.Goals as goal
 
 pub returns-then-not-is_standing : goal.returns-then-not-is_standing

@@ -6,7 +6,7 @@ use borrow.Author.Tests.{le-ltb}
 use Rattle.message_maps.specs.Rows.{rows_from}
 use Rattle.message_lent_rules.specs.Lent.{fields_in}
 use Rattle.message_lent_rules.specs.LentLaws.{fields-few}
-use Rattle.message_lent_rules.specs.MeaningLaws.{rows_length}
+use Rattle.message_lent_rules.proofs.MeaningLaws.{rows_length}
 use Rattle.message_lent.proofs.passes_limit.Goals as goal
 
 pub returns-then-count-more-le1024 : goal.returns-then-count-more-le1024

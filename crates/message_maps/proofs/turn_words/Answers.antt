@@ -5,7 +5,7 @@ use native.Mathlib.Omega.{arith}
 use lib.ListN.{length}
 use lib.ListN.{length-replicate}
 use Rattle.message_maps.specs.Rows.{message_words}
-use Rattle.field_rules.specs.DecimalLaws.{written-length}
+use Rattle.field_rules.proofs.DecimalLaws.{written-length}
 use Rattle.message_maps.specs.RowsLaws.{splice_done}
 use Rattle.message_maps.proofs.turn_words.Goals as goal
 

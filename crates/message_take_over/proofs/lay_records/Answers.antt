@@ -3,7 +3,7 @@ use Prim.Native.Nat.{ℕ}
 use native.Mathlib.Omega.{arith}
 use lib.ListN.{length, length-set, length-replicate}
 use Rattle.message_maps.specs.Rows.{message_words}
-use Rattle.build_records.specs.WordLaws.{records_length}
+use Rattle.build_records.proofs.WordLaws.{records_length}
 use Rattle.message_take_over.specs.Newest.{newest_start}
 use Rattle.message_take_over.specs.GoingLaws.{going_start, going-whole, going_ready, going-refused, going_on, going-deep, going_newest}
 use Rattle.message_take_over.specs.GoingLaws.{going_done}

@@ -1,6 +1,6 @@
 use mathlib.Core.Path.{sym, ap, ◌∙◌}
 use native.Mathlib.Omega.{arith}
-use Rattle.build_records.specs.WordLaws.{records_length}
+use Rattle.build_records.proofs.WordLaws.{records_length}
 use Rattle.build_records.specs.declared.Record.{Record}
 use Rattle.message_take_over.specs.Storing.{storing-start, storing_fits, storing-on, storing-done}
 use Rattle.message_take_over.proofs.put_values.Goals as goal

@@ -4,9 +4,9 @@ use mathlib.Core.Path.{◌≡◌, sym, ◌∙◌}
 use native.Mathlib.Omega.{arith}
 use Rattle.build_integrity_rules.specs.Integrity.{integrity_of}
 use Rattle.build_integrity_rules.specs.declared.Integrity.TheVariants.{Sound}
-use Rattle.field_rules.specs.FieldsLaws.{step-inside}
+use Rattle.field_rules.proofs.FieldsLaws.{step-inside}
 use Rattle.builder.specs.MsgTypeLaws.{msg_type-inside}
-use Rattle.build_integrity_rules.specs.VerifiedLaws.{verified-read}
+use Rattle.build_integrity_rules.proofs.VerifiedLaws.{verified-read}
 use Rattle.builder.specs.BeginningLaws.{verified-inside, start_garbled, start-refused, start-headed, header-ended, begins-refused, begins-headed}
 use borrow.Author.Rules.{rules}
 use Rattle.builder.proofs.beginning.begin.Statement.{statement}

@@ -5,7 +5,7 @@ use Prim.Native.Nat.{◌-◌}
 use native.Mathlib.Omega.{arith}
 use borrow.Author.Rules.{rules}
 use Rattle.build_records.specs.Records.{records_of, between}
-use Rattle.build_records.specs.WordLaws.{records_length}
+use Rattle.build_records.proofs.WordLaws.{records_length}
 use Rattle.build_records.specs.declared.Record.{Record}
 use Rattle.build_parts.specs.Parts.{part_of}
 use Rattle.build_rules.specs.Beginning.{msg_type_record}

@@ -6,7 +6,7 @@ use Rattle.dictionary_rules.specs.Record.{record_at}
 use Rattle.dictionary_rules.specs.RecordsLaws.{record_falls}
 use Rattle.dictionary_rules.specs.declared.Record.TheVariants.{FieldItem}
 use Rattle.dictionary_rules.specs.declared.RecordRead.TheVariants.{Whole}
-use Rattle.dictionary_meaning_rules.specs.PlainTagsLaws.{tags-field, tags_full, tags_within_lem, tags-component, tags-group, tags-closed, tags-closes}
+use Rattle.dictionary_meaning_rules.proofs.PlainTagsLaws.{tags-field, tags_full, tags_within_lem, tags-component, tags-group, tags-closed, tags-closes}
 use Rattle.dictionary_flattening.proofs.Arms.{read_as}
 use Rattle.dictionary_flattening.proofs.TagArms.{unread_tags, top_level_tags}
 use Rattle.dictionary_flattening.proofs.tags.list_tags.Goals as goal

@@ -1,7 +1,7 @@
 -- `plain_tags` meets its contract: it lists from behind the record that opens the component.
 use mathlib.Core.Path.{sym, ◌∙◌}
 use borrow.Author.Rules.{rules}
-use Rattle.dictionary_meaning_rules.specs.PlainTagsLaws.{plain_missing, plain_closed}
+use Rattle.dictionary_meaning_rules.proofs.PlainTagsLaws.{plain_missing, plain_closed}
 use Rattle.dictionary_flattening.proofs.tags.plain_tags.Goals as goal
 
 -- src/tags.rt:62:37

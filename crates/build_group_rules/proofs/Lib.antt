@@ -1,0 +1,5 @@
+pub mod GroupLaws
+pub mod ReadingLaws
+pub mod Alike
+pub mod Meaning
+pub mod FourLevels

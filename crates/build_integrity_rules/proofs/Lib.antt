@@ -1,0 +1,2 @@
+pub mod IntegrityLaws
+pub mod VerifiedLaws

@@ -1,0 +1,4 @@
+pub mod PassingLaws
+pub mod Prepared
+pub mod Stands
+pub mod Examples

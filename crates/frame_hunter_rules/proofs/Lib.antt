@@ -1,0 +1,10 @@
+pub mod TakeLaws
+pub mod RunLaws
+pub mod Recovery
+pub mod BytesLaws
+pub mod InVainLaws
+pub mod CallsLaws
+pub mod Demand3
+pub mod Examples
+pub mod TakePlaces
+pub mod CallsExist

@@ -1,0 +1,5 @@
+pub mod FramerLaws
+pub mod MessageLaws
+pub mod FramingLaws
+pub mod Framing
+pub mod Sample

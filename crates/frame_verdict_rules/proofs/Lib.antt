@@ -1,0 +1,2 @@
+pub mod FrameExact
+pub mod VerdictLaws

@@ -1,0 +1,5 @@
+pub mod MeaningLaws
+pub mod MeantLaws
+pub mod FormedLaws
+pub mod Exact
+pub mod StandingLaws
