@@ -7,7 +7,7 @@ use Rattle.build_records.specs.Records.{record_words}
 use Rattle.face_messages.specs.contracts.blank_words as blank
 use Rattle.gateway.proofs.Walk.{refl, ℕ, List, [], ◌∷◌, Ura, full_share, named, w32, Val, vptr, SProp, ent, id⊢, GName, fex, fsep, froom, flft, flent}
 use Rattle.gateway.proofs.Walk.{fres}
-use Rattle.gateway.proofs.Walk.{Memory, Routine, Fun, sem, Goal, Soaks, Seq, Step, step, Item, ‵, ◌⊛◌, ⋆, some, later, ◌$◌, ◌∵◌, ! }
+use Rattle.gateway.proofs.Walk.{Memory, Routine, Fun, sem, Goal, Soaks, Seq, Step, step, Item, ‵, ◌⊛◌, ⋆, some, later, ◌$◌, ◌∵◌, !}
 use Rattle.gateway.proofs.Walk.{qed, move, drop, use1, use2, use3, split, pick, await, rewrite, fsplit, fjoin, fpick, fpack, done, forget, lft_new}
 use Rattle.gateway.proofs.Walk.{lft_end, lent_back, Body}
 use Rattle.gateway.proofs.Walk.{Contract, triple_of, RefT, MutRef, ShrRef, lends_ref, ref_back, lends_shr, RattleType, Is, shows, mem, cell_at, part_at}
