@@ -10,8 +10,6 @@ pub mod InOrder
 pub mod VerifiedTags
 pub mod Twice
 pub mod TwiceLaws
-pub mod TwiceInParts
-pub mod TwiceMessage
 pub mod Agree
 pub mod SimilarLaws
 pub mod AgreeLaws

@@ -3,10 +3,5 @@ pub mod Through
 pub mod Reading
 pub mod BuildLaws
 pub mod Finishing
-pub mod TagLaws
-pub mod ReadingLaws
 pub mod BeginningLaws
 pub mod MsgTypeLaws
-pub mod HeadedLaws
-pub mod ThroughLaws
-pub mod Examples

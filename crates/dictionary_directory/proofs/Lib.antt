@@ -1,1 +1,8 @@
+pub mod KeptLaws
+pub mod BlockLaws
+pub mod FillingLaws
+pub mod AloneLaws
+pub mod DirectoryLaws
+pub mod Examples
+pub mod LayingFacts
 pub mod Arms

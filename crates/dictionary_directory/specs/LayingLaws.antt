@@ -1,80 +1,28 @@
 -- The laws of laying tables: one for each way that it goes at a block, at a list of tags, at a message and at a record.
-use Rattle.std.specs.Prelude.{◌≡◌, refl, Bool, true, false, List, [], ◌∷◌, ◌++◌, ℕ, suc, ◌+◌, ◌-◌, ◌/◌, ◌≤◌, ◌<◌, length, get_or, take, drop, set, replicate, leb, ltb}
-use Rattle.std.proofs.Common.{sym, ◌∙◌, subst, append_assoc, arith, length-append, length-take-le, take-suc, leb-true, ltb-true, ltb-false, le-leb, lt-ltb, le-ltb}
+use Rattle.std.specs.Prelude.{◌≡◌, true, false, List, [], ◌∷◌, ◌++◌, ℕ, suc, ◌+◌, ◌-◌, ◌/◌, ◌≤◌, ◌<◌, length, get_or, take, drop, set, replicate}
+use Rattle.std.proofs.Common.{sym, ◌∙◌, arith, length-take-le, take-suc, le-leb, lt-ltb, le-ltb}
 use Rattle.std.proofs.Math.Path.{ap}
 use Rattle.std.proofs.Math.ListN.{length-replicate}
 use Rattle.std.proofs.Math.Seq.{take-length}
-use Rattle.std.proofs.lemmas.List.{set_at}
 use Rattle.std.proofs.lemmas.Bool.{lt-leb}
 use Rattle.field_rules.proofs.DecimalLaws.{written_fits, written_copied}
-use Rattle.dictionary_layout_rules.specs.Layout.{Layout, items}
-use Rattle.dictionary_layout_rules.specs.Tabled.{Tabled}
+use Rattle.dictionary_layout_rules.specs.Layout.{Layout}
 use Rattle.dictionary_layout_rules.specs.RowsLayout.{layout_in}
-use Rattle.dictionary_layout_rules.proofs.RowsLayoutLaws.{layout_held}
 use Rattle.dictionary_tables_rules.specs.Laid.{table_size, table_of}
 use Rattle.dictionary_tables_rules.proofs.Tabled.{table-length}
-use Rattle.dictionary_tables_rules.specs.Tags.{fields_of}
-use Rattle.dictionary_pressing.specs.Pressing.{Pressable}
-use Rattle.dictionary_pressing.specs.Sizing.{size_bound}
 use Rattle.dictionary_rules.specs.Record.{record_at}
 use Rattle.dictionary_rules.specs.RecordsLaws.{records_end, records_bad, records_whole}
 use Rattle.dictionary_rules.specs.declared.Record.{Record}
 use Rattle.dictionary_rules.specs.declared.RecordRead.TheVariants.{Whole, Bad, End}
 use Rattle.dictionary_rules.specs.declared.Placed.TheVariants.{At}
 use Rattle.dictionary_meaning_rules.specs.MessageTable.{Tabling, tabling, placed_table}
-use Rattle.dictionary_meaning_rules.specs.LaidLayout.{LaidAs}
 use Rattle.dictionary_meaning_rules.specs.PlainTags.{listing, plain_tags}
 use Rattle.dictionary_meaning_rules.proofs.Kept.{tags_kept}
 use Rattle.dictionary_meaning_rules.specs.declared.MessageTable.TheVariants.{Rows, NoMessage, Unprepared}
 use Rattle.dictionary_meaning_rules.specs.declared.TagList.{TagList}
 use Rattle.dictionary_meaning_rules.specs.declared.TagList.TheVariants.{Listed, Unlisted}
 use Rattle.dictionary_directory.specs.declared.Kept.TheVariants.{Table}
-use Rattle.dictionary_directory.specs.Directory.{longest, directory_words, block_stride, tags_slot, tags_place, block_of, Filling, filling, words_of, next_block, with_block, room_for, put_block, listed_tags, tags_listed, lay_listed, put_rows, lay_message, is_message, messages_among, messages_from, lay_messages, clear_directory, lay_tables, table_words, laid_alone, laid_over}
-
--- the layout that rows hold is the one that is read back from them
-module _ (rows : List ℕ) (count : ℕ) (l : LaidAs rows count) where
-  held : layout_in rows count ≡ l.layout
-  held = layout_held rows count l.layout l.tabled
-
-  pub held_tabled : Tabled rows (record { first = 0; end = count }) (layout_in rows count)
-  held_tabled = subst (λ (x : Layout). Tabled rows (record { first = 0; end = count }) x) (sym held) l.tabled
-
-  pub held-few : items (layout_in rows count) ≤ 1024
-  held-few = subst (λ (x : Layout). items x ≤ 1024) (sym held) l.limit
-
-  pub held_fits : table_size (layout_in rows count) ≤ table_words
-  held_fits = rw held (omega (arith, size_bound l.filled, l.limit))
-
-  pub held_small : table_size (layout_in rows count) < 65536
-  held_small = omega (arith, held_fits)
-
-  pub held_pressable : (words : ℕ) → table_size (layout_in rows count) ≤ words → Pressable rows count words
-  held_pressable words room = record { layout = layout_in rows count; tabled = held_tabled; room = room; small = held_small }
-
--- two words stored behind others
-set_pair : (p : List ℕ) (x y : ℕ) (rest : List ℕ) (a b n : ℕ) → length p ≡ n →
-    set (set (((p ++ (x ∷ [])) ++ (y ∷ [])) ++ rest) n a) (n + 1) b ≡ p ++ (a ∷ b ∷ rest)
-set_pair p x y rest a b n e =
-    ap (λ (l : List ℕ). set (set l n a) (n + 1) b) (append_assoc (p ++ (x ∷ [])) (y ∷ []) rest ∙ append_assoc p (x ∷ []) (y ∷ rest))
-    ∙ ap (λ (l : List ℕ). set l (n + 1) b) (set_at p x (y ∷ rest) a n e ∙ sym (append_assoc p (a ∷ []) (y ∷ rest)))
-    ∙ set_at (p ++ (a ∷ [])) y rest b (n + 1) (length-append p (a ∷ []) ∙ omega arith)
-    ∙ append_assoc p (a ∷ []) (b ∷ rest)
-
-module _ (words free size : ℕ) where
-  pub room_far : 65536 ≤ free / block_stride → room_for words free size ≡ false
-  unfolding room_for
-  room_far h = rw (le-ltb _ _ h)
-
-  pub room_near : free / block_stride < 65536 → room_for words free size ≡ leb (free + 2 + size) words
-  unfolding room_for
-  room_near h = rw (lt-ltb _ _ h)
-
-  pub room-here : room_for words free size ≡ true → (free / block_stride < 65536) × (free + 2 + size ≤ words)
-  room-here e = go (ltb (free / block_stride) 65536) refl
-    where
-      go : (b : Bool) → ltb (free / block_stride) 65536 ≡ b → (free / block_stride < 65536) × (free + 2 + size ≤ words)
-      go true q = let near = ltb-true _ _ q in (near, leb-true _ _ (sym (room_near near) ∙ e))
-      go false q = let none = room_far (ltb-false _ _ q) in let z : ◌≡◌ {A = ℕ} 0 1 = cc in absurd (omega arith)
+use Rattle.dictionary_directory.specs.Directory.{longest, directory_words, block_stride, block_of, Filling, filling, words_of, next_block, with_block, room_for, put_block, listed_tags, tags_listed, lay_listed, put_rows, lay_message, is_message, messages_among, messages_from, lay_messages, clear_directory, lay_tables, laid_alone, laid_over}
 
 -- the two words of a block in front of its table are stored, and the one of the directory that leads to it
 unfoldable pub headed : List ℕ → ℕ → ℕ → ℕ → ℕ → List ℕ
@@ -135,12 +83,6 @@ module _ (d index : List ℕ) (number : ℕ) (exit : List ℕ) where
   pub tags-none : (r : TagList) → listing r exit ≡ plain_tags d index number (replicate 1024 0) → r ≡ Unlisted → take 0 exit ≡ tags_listed d index number
   unfolding tags_listed listed_tags
   tags-none r e is = ap listed_tags (ap (λ (t : TagList). listing t exit) (sym is) ∙ e)
-
-pub listed-put : (d index : List ℕ) (number : ℕ) (tables : List ℕ) (free : ℕ) (tags : List ℕ) → tags ≡ tags_listed d index number → {after : Filling} →
-    after ≡ put_block (tags_slot number) (tags_place number) (fields_of tags) tables free → after ≡ lay_listed d index number (filling tables free)
-unfolding lay_listed
-listed-put d index number tables free tags e put =
-    put ∙ ap (λ (l : List ℕ). put_block (tags_slot number) (tags_place number) (fields_of l) tables free) e
 
 module _ (d index : List ℕ) (place : ℕ) (tables : List ℕ) (free : ℕ) where
   pub message-beyond : longest ≤ place → lay_message d index place (filling tables free) ≡ filling tables free

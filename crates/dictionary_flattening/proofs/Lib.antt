@@ -1,2 +1,3 @@
+pub mod LeapsLaws
 pub mod Arms
 pub mod TagArms

@@ -1,3 +1,1 @@
 pub mod Memory
-pub mod MemoryLaws
-pub mod Examples

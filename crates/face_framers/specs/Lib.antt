@@ -1,4 +1,1 @@
 pub mod States
-pub mod StateLaws
-pub mod CallLaws
-pub mod Exports

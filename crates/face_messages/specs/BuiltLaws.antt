@@ -5,7 +5,7 @@ use Rattle.build_answers.specs.Answer.{number_of, values_of}
 use Rattle.build_records.specs.Records.{record_words, record_room, stride}
 use Rattle.builder.specs.declared.Built.{Built}
 use Rattle.builder.specs.Build.{BuildOutcome, built_told, shown_words}
-use Rattle.builder.specs.ReadingLaws.{shown-front}
+use Rattle.builder.proofs.ReadingLaws.{shown-front}
 use Rattle.face_told.specs.Told.{told}
 use Rattle.face_messages.specs.declared.Shown.{Shown}
 use Rattle.face_messages.specs.Lent.{shown_of, told_of}

@@ -1,5 +1,1 @@
 pub mod Told
-pub mod ToldLaws
-pub mod PartLaws
-pub mod FoundLaws
-pub mod UncutLaws

@@ -2,7 +2,7 @@
 -- and that fact is the record of the export, no less and no more.
 use Rattle.std.proofs.Common.{refl}
 use Rattle.gateway.proofs.Ensured.{Ensures}
-use Rattle.face_framers.specs.Exports.{PortedPush, PortedEnd, PortedTake, PortedReset, HunterPush, HunterEnd, HunterTake, HunterReset}
+use Rattle.face_framers.proofs.Exports.{PortedPush, PortedEnd, PortedTake, PortedReset, HunterPush, HunterEnd, HunterTake, HunterReset}
 use Rattle.gateway.specs.contracts.framers.gateway_ported_push as of-ported-push
 use Rattle.gateway.specs.contracts.framers.gateway_ported_end as of-ported-end
 use Rattle.gateway.specs.contracts.framers.gateway_ported_take as of-ported-take

@@ -4,5 +4,3 @@ pub mod LooseLaws
 pub mod RowLaws
 pub mod Branch
 pub mod BranchLaws
-pub mod KnownLaws
-pub mod TurnLaws

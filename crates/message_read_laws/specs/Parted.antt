@@ -27,7 +27,7 @@ use Rattle.build_body_rules.specs.Body.{body_from}
 use Rattle.build_body_rules.specs.Kinds.{body_of}
 use Rattle.message_take_over.specs.Taking.{values_at}
 use Rattle.message_take_over.specs.Derived.{StandFor}
-use Rattle.message_take_over.specs.TakenLaws.{stand_values}
+use Rattle.message_take_over.proofs.TakenLaws.{stand_values}
 use Rattle.message_read_laws.specs.Shapes.{Shapes, no_more, one-own, one_entry, Placed, Tagged}
 use Rattle.message_read_laws.specs.ShapeLaws.{shapes_stand}
 use Rattle.message_read_laws.specs.GroupShapes.{EntryBuilt, build_start, build_user}

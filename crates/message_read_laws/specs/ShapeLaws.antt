@@ -75,10 +75,14 @@ module _ (bytes : List ℕ) where
   unfolding stored
   stored-behind x r rs h = rw (ne_eqb x.depth r.depth (λ e. omega arith))
 
+  stored_none : (r : Record) → stored r [] ≡ r ∷ []
+  unfolding stored
+  stored_none r = refl
+
   pub shapes_put : {depth number start entries : ℕ} {m : Map} {rs : List Record} → Shapes bytes depth number start entries m rs → (r : Record)
       → Own depth number r → Shapes bytes depth number start entries (put r.tag (value_at bytes r) m) (stored r rs)
   unfolding put
-  shapes_put no_more r o = unfold stored in one-own r o no_more
+  shapes_put no_more r o = rw (stored_none r) (one-own r o no_more)
   shapes_put {depth} {number} {start} {entries} (one-own {rest = rest} {rs = rs} q p more) r o = here (eqb q.tag r.tag) refl (shapes_put more r o)
     where
       same-depth : (b : Bool) → eqb q.tag r.tag ≡ b → stored r (q ∷ rs) ≡ pick b (r ∷ rs) (q ∷ stored r rs)
@@ -135,11 +139,15 @@ module _ (bytes : List ℕ) where
   run-deeper r run (x ∷ rs) ss a =
       rw (ne_eqb x.depth r.depth (λ e. omega (arith, (all_first a).deep))) (ap (λ (l : List Record). x ∷ l) (run-deeper r run rs ss (all_rest a)))
 
+  run_none : (r : Record) (run : List Record) → stored_run r run [] ≡ r ∷ run
+  unfolding stored_run
+  run_none r run = refl
+
   pub shapes_put_run : {number start entries : ℕ} {m hung-map : Map} {rs run : List Record} → Shapes bytes 0 number start entries m rs → (r : Record)
       → Own 0 number r → Shapes bytes 0 number r.tag 0 hung-map run
       → Shapes bytes 0 number start entries (put_run r.tag (value_at bytes r) hung-map m) (stored_run r run rs)
   unfolding put_run
-  shapes_put_run no_more r o h = unfold stored_run in one-own r o h
+  shapes_put_run no_more r o h = rw (run_none r _) (one-own r o h)
   shapes_put_run {number} {start} {entries} {hung-map = hung-map} {run = run} (one-own {rest = rest} {rs = rs} q p more) r o h =
       here (eqb q.tag r.tag) refl (shapes_put_run more r o h)
     where

@@ -11,9 +11,4 @@ pub mod TakeLaws
 pub mod Derived
 pub mod StandLaws
 pub mod GoesLaws
-pub mod TakenLaws
-pub mod BackLaws
-pub mod MapBackLaws
-pub mod KeepLaws
-pub mod Theorem
 pub mod Examples

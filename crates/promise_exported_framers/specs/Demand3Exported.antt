@@ -15,9 +15,9 @@ use Rattle.frame_hunter_rules.specs.declared.State.{State}
 use Rattle.frame_hunter_rules.specs.declared.Answer.{Answer}
 use Rattle.frame_hunter_rules.specs.declared.Answer.TheVariants.{Fine, OutputShort, StoreFull, AfterEnd, BadStore}
 use Rattle.face_framers.specs.States.{hunter_in, hunter_out, hunter_fresh}
-use Rattle.face_framers.specs.StateLaws.{hunter_as_it_was, hunter-zeros}
+use Rattle.face_framers.proofs.StateLaws.{hunter_as_it_was, hunter-zeros}
 use Rattle.face_framers.specs.declared.HunterState.{HunterState}
-use Rattle.face_framers.specs.Exports.{HunterPush, HunterEnd, HunterTake}
+use Rattle.face_framers.proofs.Exports.{HunterPush, HunterEnd, HunterTake}
 use Rattle.promise_exported_framers.specs.ToldLength.{length_told}
 use Rattle.promise_exported_framers.specs.HunterRule.{HunterRefused, refused_push, refused_take, refused_end, HunterCalls}
 use Rattle.promise_exported_framers.specs.HunterLaws.{reads, push_is, take_is, length-uncut, refused_is, calls_are}

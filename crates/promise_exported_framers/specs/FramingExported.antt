@@ -9,7 +9,7 @@ use Rattle.frame_parser_rules.specs.declared.Answer.TheVariants.{Accepted, Messa
 use Rattle.face_framers.specs.States.{ported_in}
 use Rattle.face_framers.specs.declared.PortedState.{PortedState}
 use Rattle.standard_rules.specs.Standard.{Tables}
-use Rattle.face_framers.specs.Exports.{PortedPush, PortedTake}
+use Rattle.face_framers.proofs.Exports.{PortedPush, PortedTake}
 use Rattle.promise_exported_framers.specs.ToldLength.{length_told}
 use Rattle.promise_exported_framers.specs.PortedRule.{PortedCalls}
 use Rattle.promise_exported_framers.specs.PortedLaws.{length-uncut, at_end, is_run_lem, is_quiet}

@@ -9,9 +9,9 @@ use Rattle.frame_hunter_rules.specs.declared.Reply.{Reply}
 use Rattle.frame_hunter_rules.specs.declared.Taken.{Taken}
 use Rattle.face_told.specs.Told.{told}
 use Rattle.face_framers.specs.States.{hunter_out, hunter_fresh}
-use Rattle.face_framers.specs.StateLaws.{hunter-kept, hunter_plain_lem, hunter-zeros}
+use Rattle.face_framers.proofs.StateLaws.{hunter-kept, hunter_plain_lem, hunter-zeros}
 use Rattle.face_framers.specs.declared.HunterState.{HunterState}
-use Rattle.face_framers.specs.Exports.{HunterPush, HunterEnd, HunterTake}
+use Rattle.face_framers.proofs.Exports.{HunterPush, HunterEnd, HunterTake}
 use Rattle.promise_exported_framers.specs.ToldLength.{length_told}
 use Rattle.promise_exported_framers.specs.HunterRule.{HunterRefused, refused_push, refused_take, refused_end, HunterTakenAll, last-take, next-take, after-refusal, HunterCalls, after_reset, after-chunk, after-end, take_again, call_in_vain}
 use Rattle.promise_exported_framers.specs.HunterLaws.{length-uncut}

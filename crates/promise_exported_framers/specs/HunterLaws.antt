@@ -9,9 +9,9 @@ use Rattle.frame_hunter_rules.specs.Calls as core
 use Rattle.frame_hunter_rules.specs.declared.State.{State}
 use Rattle.face_told.specs.Told.{told}
 use Rattle.face_framers.specs.States.{hunter_in, hunter_out}
-use Rattle.face_framers.specs.StateLaws.{hunter-kept, hunter_fresh_lem}
+use Rattle.face_framers.proofs.StateLaws.{hunter-kept, hunter_fresh_lem}
 use Rattle.face_framers.specs.declared.HunterState.{HunterState}
-use Rattle.face_framers.specs.Exports.{HunterPush, HunterTake}
+use Rattle.face_framers.proofs.Exports.{HunterPush, HunterTake}
 use Rattle.promise_exported_framers.specs.ToldLength.{length_told}
 use Rattle.promise_exported_framers.specs.HunterRule.{HunterRefused, refused_push, refused_take, refused_end, HunterTakenAll, last-take, next-take, after-refusal, HunterCalls, after_reset, after-chunk, after-end, take_again, call_in_vain}
 

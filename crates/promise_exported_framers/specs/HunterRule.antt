@@ -5,7 +5,7 @@ use Rattle.frame_verdict_rules.specs.Frame.{frame_most}
 use Rattle.frame_hunter_rules.specs.Hunt.{store_size}
 use Rattle.frame_hunter_rules.specs.Calls.{InVain}
 use Rattle.face_framers.specs.declared.HunterState.{HunterState}
-use Rattle.face_framers.specs.Exports.{HunterPush, HunterEnd, HunterTake, HunterReset}
+use Rattle.face_framers.proofs.Exports.{HunterPush, HunterEnd, HunterTake, HunterReset}
 use Rattle.promise_exported_framers.specs.ToldLength.{length_told}
 
 -- a call that answers 23, 26 or 27. What was lent as the store may be the store itself, a part of it or bytes elsewhere: `around` puts it

@@ -9,9 +9,9 @@ use Rattle.frame_parser_rules.specs.declared.State.{State}
 use Rattle.frame_parser_rules.specs.declared.Outcome.{Outcome}
 use Rattle.face_told.specs.Told.{told}
 use Rattle.face_framers.specs.States.{ported_out, ported_fresh}
-use Rattle.face_framers.specs.StateLaws.{ported-kept, ported_plain_lem, ported-zeros}
+use Rattle.face_framers.proofs.StateLaws.{ported-kept, ported_plain_lem, ported-zeros}
 use Rattle.face_framers.specs.declared.PortedState.{PortedState}
-use Rattle.face_framers.specs.Exports.{PortedPush, PortedTake}
+use Rattle.face_framers.proofs.Exports.{PortedPush, PortedTake}
 use Rattle.promise_exported_framers.specs.ToldLength.{length_told}
 use Rattle.promise_exported_framers.specs.PortedRule.{PortedTakenAll, last-take, next-take, PortedCalls, after_reset, after-chunk}
 use Rattle.promise_exported_framers.specs.PortedAnswers.{length_small}

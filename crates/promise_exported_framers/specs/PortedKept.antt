@@ -3,9 +3,9 @@ use Rattle.std.specs.Prelude.{◌≡◌, Bool, List, ℕ, ◌≤◌, length}
 use Rattle.std.proofs.Common.{sym, ap, ◌∙◌}
 use Rattle.frame_parser_rules.specs.declared.State.{State}
 use Rattle.face_framers.specs.States.{ported_in, ported_out}
-use Rattle.face_framers.specs.StateLaws.{ported_as_it_was}
+use Rattle.face_framers.proofs.StateLaws.{ported_as_it_was}
 use Rattle.face_framers.specs.declared.PortedState.{PortedState}
-use Rattle.face_framers.specs.Exports.{PortedTake}
+use Rattle.face_framers.proofs.Exports.{PortedTake}
 use Rattle.promise_exported_framers.specs.PortedRule.{PortedRefused, refused_push, refused_take, refused_end, PortedCalls}
 use Rattle.promise_exported_framers.specs.PortedAnswers.{take-nothing}
 use Rattle.promise_exported_framers.specs.PortedLaws.{reads, refused-leaves, is_run_lem, is_quiet}

@@ -14,9 +14,9 @@ use Rattle.frame_parser_rules.specs.declared.Outcome.{Outcome}
 use Rattle.frame_hunter_rules.specs.Calls.{InVain}
 use Rattle.face_told.specs.Told.{told}
 use Rattle.face_framers.specs.States.{ported_in, ported_out}
-use Rattle.face_framers.specs.StateLaws.{ported-kept, ported_fresh_lem}
+use Rattle.face_framers.proofs.StateLaws.{ported-kept, ported_fresh_lem}
 use Rattle.face_framers.specs.declared.PortedState.{PortedState}
-use Rattle.face_framers.specs.Exports.{PortedPush, PortedTake}
+use Rattle.face_framers.proofs.Exports.{PortedPush, PortedTake}
 use Rattle.promise_exported_framers.specs.ToldLength.{length_told}
 use Rattle.promise_exported_framers.specs.PortedRule.{PortedRefused, refused_push, refused_take, refused_end, PortedTakenAll, last-take, next-take, after-refusal, PortedCalls, after_reset, after-chunk, after-end, take_again, call_in_vain}
 use Rattle.promise_exported_framers.specs.PortedAnswers.{push_done, end-done, take_done, length_small, push_in_vain, end_in_vain, take_in_vain, take-nothing, take_alike}

@@ -4,7 +4,7 @@
 use Rattle.std.specs.Prelude.{◌≡◌, Bool, true, false, List, [], ◌∷◌, ◌++◌, ℕ, ◌≤◌, ◌<◌, length, take}
 use Rattle.frame_hunter_rules.specs.Calls.{InVain}
 use Rattle.face_framers.specs.declared.PortedState.{PortedState}
-use Rattle.face_framers.specs.Exports.{PortedPush, PortedEnd, PortedTake, PortedReset}
+use Rattle.face_framers.proofs.Exports.{PortedPush, PortedEnd, PortedTake, PortedReset}
 use Rattle.promise_exported_framers.specs.ToldLength.{length_told}
 
 -- a call that answers 23, 26 or 27. What was lent as the store may be the store itself, a part of it or bytes elsewhere: `around` puts it

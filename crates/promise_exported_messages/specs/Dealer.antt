@@ -15,7 +15,7 @@ use Rattle.encode_rules.specs.Encoding.{encoding}
 use Rattle.encode_rules.specs.declared.Encoding.TheVariants.{Written, TooLong, NoRoom}
 use Rattle.build_order_laws.specs.Counted.{fields_counted}
 use Rattle.build_order_laws.specs.Twice.{stored_twice}
-use Rattle.build_order_laws.specs.TwiceMessage.{twice_fewer}
+use Rattle.build_order_laws.proofs.TwiceMessage.{twice_fewer}
 use Rattle.build_order_laws.specs.InParts.{InParts, in_parts}
 use Rattle.face_messages.specs.declared.FieldRecord.{FieldRecord}
 use Rattle.face_messages.specs.Lent.{records_from}

@@ -6,10 +6,10 @@ use Rattle.build_config.specs.Settings.{config_of}
 use Rattle.build_records.specs.Records.{record_words}
 use Rattle.build_answers.specs.Answer.{number_of, values_of}
 use Rattle.builder.specs.Build.{BuildOutcome}
-use Rattle.builder.specs.ThroughLaws.{over_means}
+use Rattle.builder.proofs.ThroughLaws.{over_means}
 use Rattle.dictionary_meaning_rules.proofs.MsgTypeText.{Bytes}
 use Rattle.dictionary_prepared.specs.Memory.{preparation, prepared, preparing_of, copy_of, memory_of}
-use Rattle.dictionary_prepared.specs.MemoryLaws.{zero_ready}
+use Rattle.dictionary_prepared.proofs.MemoryLaws.{zero_ready}
 use Rattle.dictionary_prepared.specs.declared.Preparing.TheVariants.{Ready}
 use Rattle.face_told.specs.Told.{told}
 use Rattle.face_messages.specs.declared.FieldRecord.{FieldRecord}

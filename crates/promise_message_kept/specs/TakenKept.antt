@@ -10,8 +10,8 @@ use Rattle.message_lent_rules.specs.LentLaws.{message-held}
 use Rattle.message_lent_rules.specs.Meaning.{words_of, value_bytes_of, message_in}
 use Rattle.message_lent_rules.proofs.FormedLaws.{IsLayout, layout_lends}
 use Rattle.message_take_over.specs.Taking.{Layout, laid_out, no_records, layout_from, AfterTaking, after, judged, taking_over, number_of_taken}
-use Rattle.message_take_over.specs.TakenLaws.{stand_layout, stand_taken}
-use Rattle.message_take_over.specs.Theorem.{taken_keeps}
+use Rattle.message_take_over.proofs.TakenLaws.{stand_layout, stand_taken}
+use Rattle.message_take_over.proofs.Theorem.{taken_keeps}
 use Rattle.message_take_over.specs.declared.Taken.TheVariants.{Made, NoMessage}
 use Rattle.promise_message_kept.specs.Calls.{taken, Takeable}
 use Rattle.promise_message_kept.specs.Keeping.{Keeps, refused_keeps, made_keeps}

@@ -40,7 +40,7 @@ use Rattle.builder.specs.Build.{BuildOutcome, words_with, untouched, shown, chec
 use Rattle.message_take_over.specs.Taking.{after, taking_over}
 use Rattle.message_take_over.specs.declared.Taken.TheVariants.{Made}
 use Rattle.message_take_over.specs.Derived.{derived, given}
-use Rattle.message_take_over.specs.TakenLaws.{given-derived, stand_taken}
+use Rattle.message_take_over.proofs.TakenLaws.{given-derived, stand_taken}
 use Rattle.message_read_laws.specs.PartReading.{Ended, at_checksum, at_end}
 use Rattle.build_integrity_rules.proofs.VerifiedLaws.{verified-read}
 use Rattle.message_read_laws.specs.Parted.{Takes, parts-take}

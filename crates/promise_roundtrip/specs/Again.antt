@@ -21,10 +21,10 @@ use Rattle.build_order_laws.specs.InParts.{InParts}
 use Rattle.build_order_laws.specs.InOrder.{InOrder, Sizes, sizes}
 use Rattle.build_order_laws.specs.Agree.{Similar, more}
 use Rattle.build_order_laws.specs.SimilarLaws.{similar_length, similar_append}
-use Rattle.encode_rewriting_laws.specs.EncodedParts.{follows_in}
-use Rattle.encode_rewriting_laws.specs.ReadMessage.{Followed}
-use Rattle.encode_rewriting_laws.specs.ReadRewritten.{ReadsLike}
-use Rattle.encode_rewriting_laws.specs.ReadCopied.{carried_more, CarriedAll, read_again}
+use Rattle.encode_rewriting_laws.proofs.EncodedParts.{follows_in}
+use Rattle.encode_rewriting_laws.proofs.ReadMessage.{Followed}
+use Rattle.encode_rewriting_laws.proofs.ReadRewritten.{ReadsLike}
+use Rattle.encode_rewriting_laws.proofs.ReadCopied.{carried_more, CarriedAll, read_again}
 use Rattle.promise_roundtrip.specs.AgainRead.{ReadAlong, read_along}
 use Rattle.promise_roundtrip.specs.AgainValues.{similar_first, similar_rest, carried_append, given-same, Split, kept_of}
 

@@ -13,7 +13,7 @@ use Rattle.build_order_laws.specs.Follows.{Follows, no_field, one_field, Reaches
 use Rattle.build_order_laws.specs.TrailerStores.{Last, at-stop, at_end}
 use Rattle.build_order_laws.specs.Agree.{Agree, enough, same}
 use Rattle.build_order_laws.specs.AgreeLaws.{agree_less}
-use Rattle.encode_rewriting_laws.specs.Copied.{onto, Copied, copied_none, copied_more}
+use Rattle.encode_rewriting_laws.proofs.Copied.{onto, Copied, copied_none, copied_more}
 
 -- fields that were read, and those of a copy of their records and of others; how it goes on behind them is a parameter
 pub copied_agree : {part m : ℕ} {bytes copy : List ℕ} {fields last : Fields} (end : Fields) {rs : List Record} (ss : List Record) {fs : List Field} → Follows part fields rs last → Copied bytes copy (rs ++ ss) fs

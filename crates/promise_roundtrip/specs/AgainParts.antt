@@ -25,7 +25,7 @@ use Rattle.build_rules.specs.Beginning.{header_of, verified_records, with_checks
 use Rattle.build_rules.specs.Message.{after_trailer, after_body, after_type, after_header, message_read}
 use Rattle.build_order_laws.specs.VerifiedTags.{VerifiedTags}
 use Rattle.build_order_laws.specs.InOrder.{verified_three}
-use Rattle.build_order_laws.specs.TwiceMessage.{three_verified}
+use Rattle.build_order_laws.proofs.TwiceMessage.{three_verified}
 use Rattle.build_order_laws.specs.Agree.{Similar, none}
 use Rattle.build_order_laws.specs.SimilarLaws.{similar_stored, alike_field}
 

@@ -33,16 +33,16 @@ use Rattle.build_order_laws.specs.TrailerStores.{trailer_at}
 use Rattle.build_order_laws.specs.VerifiedTags.{VerifiedTags, verified-tags}
 use Rattle.build_order_laws.specs.InParts.{InParts}
 use Rattle.build_order_laws.specs.InOrder.{InOrder}
-use Rattle.build_order_laws.specs.TwiceMessage.{three_verified}
+use Rattle.build_order_laws.proofs.TwiceMessage.{three_verified}
 use Rattle.build_order_laws.specs.Agree.{Agree, same, Similar, none, more}
 use Rattle.build_order_laws.specs.AgreeLaws.{agree_less}
 use Rattle.build_order_laws.specs.SimilarLaws.{similar_length, alike_field}
 use Rattle.build_order_laws.specs.Alongside.{Alongside}
 use Rattle.build_order_laws.specs.PartReading.{header-same, Stops, trailer-same, trailer-stopped}
 use Rattle.build_order_laws.specs.BodyReading.{body_same}
-use Rattle.encode_rewriting_laws.specs.Copied.{onto, copied_length}
-use Rattle.encode_rewriting_laws.specs.ReadRewritten.{ReadsLike}
-use Rattle.encode_rewriting_laws.specs.ReadWritten.{of_value}
+use Rattle.encode_rewriting_laws.proofs.Copied.{onto, copied_length}
+use Rattle.encode_rewriting_laws.proofs.ReadRewritten.{ReadsLike}
+use Rattle.encode_rewriting_laws.proofs.ReadWritten.{of_value}
 use Rattle.message_read_laws.specs.PartReading.{of_field}
 use Rattle.promise_roundtrip.specs.AgainFields.{copied_agree, copied_none_agree, stop_fields, end_agree, trailer-some, reaches-onto, reaches-rest}
 use Rattle.promise_roundtrip.specs.AgainFields.{ten_ends}

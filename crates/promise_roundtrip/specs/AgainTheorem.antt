@@ -17,11 +17,11 @@ use Rattle.field_rules.specs.Separator.{is_refused_separator}
 use Rattle.encode_rules.specs.Encode.{left, encoding_of}
 use Rattle.encode_rules.specs.declared.Encoding.TheVariants.{Written, TooLong}
 use Rattle.encode_rewriting_laws.specs.Written.{rewritten}
-use Rattle.encode_rewriting_laws.specs.EncodedBuilt.{Built, encoding-rewritten}
-use Rattle.encode_rewriting_laws.specs.EncodedFit.{encoding-written, encoding_too_long}
-use Rattle.encode_rewriting_laws.specs.EncodedParts.{read-built}
-use Rattle.encode_rewriting_laws.specs.ReadMessage.{Followed, followed_sound}
-use Rattle.encode_rewriting_laws.specs.ReadRewritten.{ReadsLike, no_digit}
+use Rattle.encode_rewriting_laws.proofs.EncodedBuilt.{Built, encoding-rewritten}
+use Rattle.encode_rewriting_laws.proofs.EncodedFit.{encoding-written, encoding_too_long}
+use Rattle.encode_rewriting_laws.proofs.EncodedParts.{read-built}
+use Rattle.encode_rewriting_laws.proofs.ReadMessage.{Followed, followed_sound}
+use Rattle.encode_rewriting_laws.proofs.ReadRewritten.{ReadsLike, no_digit}
 use Rattle.promise_roundtrip.specs.ComesBack.{repeat-free-order}
 use Rattle.promise_roundtrip.specs.Clean.{RepeatFree}
 use Rattle.promise_roundtrip.specs.AgainValues.{Split}

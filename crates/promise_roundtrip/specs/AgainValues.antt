@@ -6,8 +6,8 @@ use Rattle.build_records.specs.declared.Record.{Record}
 use Rattle.build_nesting_laws.specs.Entries.{All}
 use Rattle.message_take_over.specs.Derived.{valued, given}
 use Rattle.build_order_laws.specs.Agree.{Alike, Similar, none, more}
-use Rattle.encode_rewriting_laws.specs.EncodedParts.{InPart}
-use Rattle.encode_rewriting_laws.specs.ReadCopied.{Carried, carried_none, carried_more}
+use Rattle.encode_rewriting_laws.proofs.EncodedParts.{InPart}
+use Rattle.encode_rewriting_laws.proofs.ReadCopied.{Carried, carried_none, carried_more}
 
 pub similar_first : {r q : Record} {rs qs : List Record} → Similar (r ∷ rs) (q ∷ qs) → Alike r q
 similar_first (more a s) = a

@@ -11,7 +11,7 @@ use Rattle.build_rules.specs.Message.{message_read}
 use Rattle.build_rules.specs.declared.Stop.TheVariants.{At}
 use Rattle.build_order_laws.specs.Counted.{fields_counted}
 use Rattle.build_order_laws.specs.Twice.{stored_twice}
-use Rattle.build_order_laws.specs.TwiceMessage.{once_all, twice_fewer}
+use Rattle.build_order_laws.proofs.TwiceMessage.{once_all, twice_fewer}
 use Rattle.encode_rewriting_laws.specs.Plain.{plain_tags, plain_length, three_digits}
 
 module _ (dictionary : Dictionary) (config : Config) (message : List ℕ) where

@@ -29,9 +29,9 @@ use Rattle.message_lent_rules.specs.Meaning.{Message, words_of, value_bytes_of}
 use Rattle.message_lent_rules.proofs.MeantLaws.{layout_meant}
 use Rattle.build_order_laws.specs.Follows.{no_field, one_field}
 use Rattle.build_order_laws.specs.InOrder.{InOrder}
-use Rattle.encode_rewriting_laws.specs.EncodedBuilt.{encoding-rewritten}
-use Rattle.encode_rewriting_laws.specs.ReadWritten.{Writable, follows_writable}
-use Rattle.encode_rewriting_laws.specs.ReadMessage.{Followed, followed_writable}
+use Rattle.encode_rewriting_laws.proofs.EncodedBuilt.{encoding-rewritten}
+use Rattle.encode_rewriting_laws.proofs.ReadWritten.{Writable, follows_writable}
+use Rattle.encode_rewriting_laws.proofs.ReadMessage.{Followed, followed_writable}
 use Rattle.promise_standard_encodings.specs.EncodedMaps.{Some}
 use Rattle.promise_standard_encodings.specs.EncodedStandard.{Conformant}
 use Rattle.promise_standard_encodings.specs.EncodedClean.{built_standard}

@@ -32,10 +32,10 @@ use Rattle.build_order_laws.specs.TrailerStores.{Last, at-stop, at_end}
 use Rattle.build_order_laws.specs.InOrder.{InOrder, in_order}
 use Rattle.build_order_laws.specs.VerifiedTags.{verified-tags}
 use Rattle.encode_rewriting_laws.specs.Written.{rewritten}
-use Rattle.encode_rewriting_laws.specs.EncodedBuilt.{Built}
-use Rattle.encode_rewriting_laws.specs.EncodedFit.{encoding-written}
-use Rattle.encode_rewriting_laws.specs.EncodedParts.{read-built}
-use Rattle.encode_rewriting_laws.specs.PlainMessage.{clean_message}
+use Rattle.encode_rewriting_laws.proofs.EncodedBuilt.{Built}
+use Rattle.encode_rewriting_laws.proofs.EncodedFit.{encoding-written}
+use Rattle.encode_rewriting_laws.proofs.EncodedParts.{read-built}
+use Rattle.encode_rewriting_laws.proofs.PlainMessage.{clean_message}
 use Rattle.promise_roundtrip.specs.Clean.{RepeatFree, Clean}
 
 module _ (dictionary : Dictionary) (config : Config) (message : List ℕ) where

@@ -20,7 +20,7 @@ use Rattle.promise_records.specs.TakenOver.{TakenOver, build_taken, build_shown}
 use Rattle.build_order_laws.specs.Counted.{fields_counted}
 use Rattle.build_order_laws.specs.InParts.{in_parts}
 use Rattle.build_order_laws.specs.Twice.{stored_twice}
-use Rattle.build_order_laws.specs.TwiceMessage.{twice_fewer}
+use Rattle.build_order_laws.proofs.TwiceMessage.{twice_fewer}
 use Rattle.promise_roundtrip.specs.BuiltTaken.{BuiltTaken}
 use Rattle.promise_roundtrip.specs.Clean.{Clean, none-twice_iff}
 use Rattle.promise_roundtrip.specs.DealerHolds.{length-held, checksum_held, encoded_records}

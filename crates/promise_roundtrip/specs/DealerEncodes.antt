@@ -37,9 +37,9 @@ use Rattle.encoder.specs.CountLaws.{dropped-uncounted}
 use Rattle.encoder.specs.VerdictLaws.{refused_long, refused-room, found_fit, encodes, refuses}
 use Rattle.build_order_laws.specs.InParts.{InParts, in_parts}
 use Rattle.build_order_laws.specs.TrailerStores.{trailer_at, not_crowded, stopped-with, unstopped-with, trailer-own}
-use Rattle.encode_rewriting_laws.specs.EncodedText.{stands-counted}
-use Rattle.encode_rewriting_laws.specs.EncodedParts.{InPart, Parted, stands_parted}
-use Rattle.encode_rewriting_laws.specs.EncodedFit.{no_run}
+use Rattle.encode_rewriting_laws.proofs.EncodedText.{stands-counted}
+use Rattle.encode_rewriting_laws.proofs.EncodedParts.{InPart, Parted, stands_parted}
+use Rattle.encode_rewriting_laws.proofs.EncodedFit.{no_run}
 use Rattle.promise_roundtrip.specs.BodyTurns.{body-ends}
 use Rattle.promise_roundtrip.specs.RunSteps.{run_ends}
 use Rattle.promise_roundtrip.specs.StoredOver.{all-joined}

@@ -33,7 +33,7 @@ use Rattle.encoder.specs.CountLaws.{gone_once}
 use Rattle.build_order_laws.specs.InParts.{InParts}
 use Rattle.build_order_laws.specs.TrailerStores.{trailer_at, not_crowded, stopped-with, unstopped-with}
 use Rattle.build_order_laws.specs.VerifiedTags.{VerifiedTags, verified-tags}
-use Rattle.encode_rewriting_laws.specs.EncodedText.{stands-count}
+use Rattle.encode_rewriting_laws.proofs.EncodedText.{stands-count}
 
 -- a record that stands outside groups in a part, under a tag
 pub record Under (part tag : ℕ) (r : Record) : Type 0 where

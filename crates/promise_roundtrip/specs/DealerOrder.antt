@@ -44,9 +44,9 @@ use Rattle.build_order_laws.specs.Twice.{twice_in_header, twice_in_trailer, twic
 use Rattle.build_order_laws.specs.Twice.{stored_twice}
 use Rattle.message_rules.specs.Changes.{field_total}
 use Rattle.encode_rewriting_laws.specs.Written.{written, rewritten}
-use Rattle.encode_rewriting_laws.specs.EncodedBuilt.{Built, encoding-rewritten}
-use Rattle.encode_rewriting_laws.specs.EncodedFit.{encoding-written}
-use Rattle.encode_rewriting_laws.specs.EncodedParts.{stands_parted}
+use Rattle.encode_rewriting_laws.proofs.EncodedBuilt.{Built, encoding-rewritten}
+use Rattle.encode_rewriting_laws.proofs.EncodedFit.{encoding-written}
+use Rattle.encode_rewriting_laws.proofs.EncodedParts.{stands_parted}
 use Rattle.promise_roundtrip.specs.Dealer.{Lost, a-field_each, stored_twice_lost}
 
 -- P5 as the dealer's customer sent it, and as it is encoded

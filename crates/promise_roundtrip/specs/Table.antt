@@ -5,7 +5,7 @@ use Rattle.build_config.specs.Settings.{validating}
 use Rattle.dictionary_rules.proofs.Examples.{examples}
 use Rattle.builder.specs.Build.{build_of}
 use Rattle.build_rules.specs.Examples.{Row, table}
-use Rattle.builder.specs.Examples.{answers, expected, all_hold}
+use Rattle.builder.proofs.Examples.{answers, expected, all_hold}
 use Rattle.frame_verdict_rules.specs.Examples.{p1, p2}
 use Rattle.frame_verdict_rules.specs.Verdict.{verdict_of}
 use Rattle.frame_hunter_rules.proofs.Examples.{examples as hunted}

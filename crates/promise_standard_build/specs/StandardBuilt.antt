@@ -17,7 +17,7 @@ use Rattle.build_answers.specs.declared.Answer.TheVariants.{Valid}
 use Rattle.build_rules.specs.Message.{Outcome, message_read}
 use Rattle.builder.specs.Build.{BuildOutcome, words_with, shown, build_of}
 use Rattle.builder.specs.BuildLaws.{check-reads}
-use Rattle.builder.specs.ReadingLaws.{build_reads}
+use Rattle.builder.proofs.ReadingLaws.{build_reads}
 use Rattle.promise_standard.specs.Reading.{standard_mode, Readable}
 use Rattle.promise_standard_build.specs.Fitting.{fields_of, FitsDictionary, TellMessage}
 use Rattle.promise_standard_build.specs.MessageBuilt.{ReadAs, fitting_read}

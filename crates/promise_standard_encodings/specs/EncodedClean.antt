@@ -17,8 +17,8 @@ use Rattle.build_nesting_laws.specs.Entries.{All}
 use Rattle.message_read_laws.specs.ShapeLaws.{all_first, all_rest, all_left, all_right}
 use Rattle.message_take_over.specs.Derived.{Stands, no_more as stands-none, own as stands-own, in_entry as stands-entry}
 use Rattle.encode_rules.specs.Encoding.{encoding}
-use Rattle.encode_rewriting_laws.specs.EncodedBuilt.{Built, built_maps}
-use Rattle.encode_rewriting_laws.specs.ReadWritten.{Writable}
+use Rattle.encode_rewriting_laws.proofs.EncodedBuilt.{Built, built_maps}
+use Rattle.encode_rewriting_laws.proofs.ReadWritten.{Writable}
 use Rattle.promise_standard_encodings.specs.EncodedMaps.{Values, none, one, within, of_field, of_entry, Some, plain_conforms}
 use Rattle.promise_standard_encodings.specs.EncodedHeader.{others_of}
 use Rattle.promise_standard_encodings.specs.EncodedStandard.{Conformant, encoding_standard}

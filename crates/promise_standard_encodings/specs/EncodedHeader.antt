@@ -18,7 +18,7 @@ use Rattle.encode_rules.specs.Encoding.{text, text_under, is_first, is_rest, hea
 use Rattle.encoder.specs.CountLaws.{gone_once}
 use Rattle.encoder.specs.FoundLaws.{hangs}
 use Rattle.encoder.specs.SizeLaws.{size_under}
-use Rattle.encode_rewriting_laws.specs.EncodedBuilt.{under_absent, under_rest}
+use Rattle.encode_rewriting_laws.proofs.EncodedBuilt.{under_absent, under_rest}
 
 -- ===== leaving out =====
 

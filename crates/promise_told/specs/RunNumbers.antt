@@ -22,7 +22,7 @@ use Rattle.build_required_rules.specs.declared.Lack.{Lack}
 use Rattle.build_required_rules.specs.declared.Lack.TheVariants.{Missing, Complete}
 use Rattle.build_nesting_laws.specs.Entries.{All, all_none, all_more, all_append, all-stored}
 use Rattle.message_read_laws.specs.ShapeLaws.{all_left, all_right}
-use Rattle.encode_rewriting_laws.specs.PlainLaws.{tag-text}
+use Rattle.encode_rewriting_laws.proofs.PlainLaws.{tag-text}
 use Rattle.promise_told.specs.LayoutNumbers.{Every, every_none, every_more, LayoutSmall, TagSmall, required_small, GroupSmall, group_of_small}
 
 -- ===== the fields that are read =====

@@ -14,6 +14,7 @@ mod telling;
 
 use sample_kit::{dictionaries, saying, scripts};
 use sample_texts::messages;
+use std::io;
 
 // The size of the dictionary, and what a case sets.
 #[derive(Clone, Copy)]
@@ -45,22 +46,23 @@ fn message(out: &mut [u8], separator: u8, piece: &[u8]) -> usize {
     messages::frame(out, sample_texts::first(&fields, size), separator)
 }
 
-fn build(case: Case, dictionary: &[u8], piece: &[u8]) {
+fn build(rt: &impl Print, case: Case, dictionary: &[u8], piece: &[u8]) -> io::Result<()> {
     let mut space = [0u8; 8300];
     let separator = case.separator;
     let config = build_config::config_of(case.settings, separator);
     let size = message(&mut space, separator, piece);
     telling::told(
+        rt,
         sample_texts::first(&space, size),
         config,
         dictionary,
         case.lent,
         case.shown,
-    );
+    )
 }
 
 // A word that sets something.
-fn set(case: Case, piece: &[u8]) -> Case {
+fn set(rt: &impl Print, case: Case, piece: &[u8]) -> io::Result<Case> {
     let n = sample_texts::number(sample_texts::from(piece, 1));
     let mut changed = case;
     match sample_texts::first_byte(piece) {
@@ -68,46 +70,47 @@ fn set(case: Case, piece: &[u8]) -> Case {
         b'v' => changed.settings = 0,
         b'r' => changed.lent = n as usize,
         b'q' => changed.shown = false,
-        _ => saying::piece(piece, b":"),
+        _ => saying::piece(rt, piece, b":")?,
     }
-    changed
+    Ok(changed)
 }
 
-fn step(case: Case, dictionary: &mut [u8], piece: &[u8]) -> Case {
+fn step(rt: &impl Print, case: Case, dictionary: &mut [u8], piece: &[u8]) -> io::Result<Case> {
     let size = case.dictionary;
     match sample_texts::first_byte(piece) {
-        b'*' => usual(dictionaries::spell(dictionary, size, piece)),
+        b'*' => Ok(usual(dictionaries::spell(dictionary, size, piece))),
         b'.' => {
-            saying::piece(piece, b":");
-            usual(size)
+            saying::piece(rt, piece, b":")?;
+            Ok(usual(size))
         }
         b'p' => {
             let config = build_config::config_of(case.settings, case.separator);
             let lent = sample_texts::first(dictionary, size);
-            telling::prepared(config, lent, case.lent, sample_texts::byte_at(piece, 1));
-            case
+            telling::prepared(rt, config, lent, case.lent, sample_texts::byte_at(piece, 1))?;
+            Ok(case)
         }
         b'm' | b'f' => {
-            build(case, sample_texts::first(dictionary, size), piece);
-            case
+            build(rt, case, sample_texts::first(dictionary, size), piece)?;
+            Ok(case)
         }
-        _ => set(case, piece),
+        _ => set(rt, case, piece),
     }
 }
 
-fn play(script: &[u8], dictionary: &mut [u8]) {
+fn play(rt: &impl Print, script: &[u8], dictionary: &mut [u8]) -> io::Result<()> {
     let mut case = usual(0);
     let mut from: usize = 0;
     while from < script.len() {
         let end = sample_texts::end_of(script, from, b'\n');
-        case = step(case, dictionary, &script[from..end]);
+        case = step(rt, case, dictionary, &script[from..end])?;
         from = end + 1;
     }
+    Ok(())
 }
 
-fn main() {
+fn main(rt: HostRuntime) -> io::Result<()> {
     let mut script = scripts::room();
     let mut dictionary = dictionaries::room();
-    let size = scripts::read(&mut script);
-    play(sample_texts::first(&script, size), &mut dictionary);
+    let size = scripts::read(&mut rt.stdin(), &mut script)?;
+    play(&rt, sample_texts::first(&script, size), &mut dictionary)
 }

@@ -3,22 +3,32 @@ use build_config::Config;
 use build_records::Record;
 use builder::Built;
 use sample_kit::saying;
+use std::io;
 
-fn show_record(message: &[u8], record: Record) {
-    saying::marked(b" ", record.part as u64);
-    saying::marked(b"/", record.depth as u64);
-    saying::marked(b"/", record.number as u64);
-    saying::marked(b"/", record.tag as u64);
-    saying::say(b"/");
-    saying::bytes(sample_texts::part(message, record.place as usize, record.length as usize));
+fn show_record(rt: &impl Print, message: &[u8], record: Record) -> io::Result<()> {
+    saying::marked(rt, b" ", record.part as u64)?;
+    saying::marked(rt, b"/", record.depth as u64)?;
+    saying::marked(rt, b"/", record.number as u64)?;
+    saying::marked(rt, b"/", record.tag as u64)?;
+    saying::say(rt, b"/")?;
+    saying::bytes(
+        rt,
+        sample_texts::part(message, record.place as usize, record.length as usize),
+    )
 }
 
-fn show_records(message: &[u8], words: &[u32; build_records::WORDS], count: usize) {
+fn show_records(
+    rt: &impl Print,
+    message: &[u8],
+    words: &[u32; build_records::WORDS],
+    count: usize,
+) -> io::Result<()> {
     let mut i: usize = 0;
     while i < count {
-        show_record(message, build_records::record_at(&words[..], i));
+        show_record(rt, message, build_records::record_at(&words[..], i))?;
         i += 1;
     }
+    Ok(())
 }
 
 // Whether all words from a record on hold one number.
@@ -36,20 +46,26 @@ fn all_hold(words: &[u32; build_records::WORDS], record: usize, n: u32) -> bool 
 }
 
 // What the words hold behind the shown records, where all held 7 before the build.
-fn show_rest(words: &[u32; build_records::WORDS], count: usize, written: usize, lent: usize) {
+fn show_rest(
+    rt: &impl Print,
+    words: &[u32; build_records::WORDS],
+    count: usize,
+    written: usize,
+    lent: usize,
+) -> io::Result<()> {
     if written == 0 {
         if all_hold(words, 0, 7) {
-            saying::say(b" as they were");
-            return;
+            saying::say(rt, b" as they were")?;
+            return Ok(());
         }
     }
     if written == lent {
         if all_hold(words, count, 0) {
-            saying::say(b" blank");
-            return;
+            saying::say(rt, b" blank")?;
+            return Ok(());
         }
     }
-    saying::say(b" otherwise");
+    saying::say(rt, b" otherwise")
 }
 
 // Whether two builds left the same words.
@@ -87,6 +103,7 @@ fn same(built: Built, again: Built) -> bool {
 
 // Builds again over memory that the dictionary was prepared in, if it can be; only where that is answered otherwise, it is said.
 fn compare_over(
+    rt: &impl Print,
     message: &[u8],
     config: Config,
     dictionary: &[u8],
@@ -94,35 +111,38 @@ fn compare_over(
     built: Built,
     words: &[u32; build_records::WORDS],
     memory: &mut [u16],
-) {
+) -> io::Result<()> {
     let mut copy = [7u8; 60000];
     let mut again = [7u32; build_records::WORDS];
     let prepared = dictionary_prepared::prepare(dictionary, &mut copy[..], memory);
     if dictionary_prepared::number_of(prepared) != 0 {
-        return;
+        return Ok(());
     }
     let over = builder::build_prepared(message, config, &copy[..], memory, lent, &mut again);
     if !same(built, over) {
-        saying::say(b" otherwise over prepared memory");
-        return;
+        saying::say(rt, b" otherwise over prepared memory")?;
+        return Ok(());
     }
     if !same_words(words, &again) {
-        saying::say(b" other records over prepared memory");
+        saying::say(rt, b" other records over prepared memory")?;
     }
+    Ok(())
 }
 
 // Once in the least memory, where each build lays its message's table, and once in memory with room for tables.
 fn compare_prepared(
+    rt: &impl Print,
     message: &[u8],
     config: Config,
     dictionary: &[u8],
     lent: usize,
     built: Built,
     words: &[u32; build_records::WORDS],
-) {
+) -> io::Result<()> {
     let mut least = [7u16; dictionary_prepared::HEAD];
     let mut roomy = [7u16; 160000];
     compare_over(
+        rt,
         message,
         config,
         dictionary,
@@ -130,8 +150,9 @@ fn compare_prepared(
         built,
         words,
         &mut least[..],
-    );
+    )?;
     compare_over(
+        rt,
         message,
         config,
         dictionary,
@@ -139,69 +160,71 @@ fn compare_prepared(
         built,
         words,
         &mut roomy[..],
-    );
+    )
 }
 
 // Builds and tells, with the records where they are asked for.
-pub fn told(message: &[u8], config: Config, dictionary: &[u8], lent: usize, shown: bool) {
+pub fn told(
+    rt: &impl Print,
+    message: &[u8],
+    config: Config,
+    dictionary: &[u8],
+    lent: usize,
+    shown: bool,
+) -> io::Result<()> {
     let mut words = [7u32; build_records::WORDS];
     let built = builder::build(message, config, dictionary, lent, &mut words);
     let answer = built.answer;
     let count = built.records;
     let values = build_answers::values_of(answer);
-    saying::marked(b" ", build_answers::number_of(answer) as u64);
-    saying::marked(b" ", count as u64);
-    saying::marked(b" ", values.first as u64);
-    saying::marked(b" ", values.second as u64);
-    show_rest(&words, count, built.written, lent);
+    saying::marked(rt, b" ", build_answers::number_of(answer) as u64)?;
+    saying::marked(rt, b" ", count as u64)?;
+    saying::marked(rt, b" ", values.first as u64)?;
+    saying::marked(rt, b" ", values.second as u64)?;
+    show_rest(rt, &words, count, built.written, lent)?;
     if shown {
-        show_records(message, &words, count);
+        show_records(rt, message, &words, count)?;
     }
-    compare_prepared(message, config, dictionary, lent, built, &words);
+    compare_prepared(rt, message, config, dictionary, lent, built, &words)
 }
 
 // Prepares a dictionary in a copy and a memory, and tells the number and value of that, and the number of a build of no byte over them.
-fn over(config: Config, dictionary: &[u8], lent: usize, copy: &mut [u8], memory: &mut [u16]) {
+fn over(
+    rt: &impl Print,
+    config: Config,
+    dictionary: &[u8],
+    lent: usize,
+    copy: &mut [u8],
+    memory: &mut [u16],
+) -> io::Result<()> {
     let mut words = [7u32; build_records::WORDS];
     let empty = [0u8; 0];
     let preparing = dictionary_prepared::prepare(dictionary, copy, memory);
     let built = builder::build_prepared(&empty[..], config, copy, memory, lent, &mut words);
     let answer = built.answer;
-    saying::marked(b" ", dictionary_prepared::number_of(preparing) as u64);
-    saying::marked(b" ", dictionary_prepared::value_of(preparing) as u64);
-    saying::marked(b" then ", build_answers::number_of(answer) as u64);
-    show_rest(&words, built.records, built.written, lent);
+    saying::marked(rt, b" ", dictionary_prepared::number_of(preparing) as u64)?;
+    saying::marked(rt, b" ", dictionary_prepared::value_of(preparing) as u64)?;
+    saying::marked(rt, b" then ", build_answers::number_of(answer) as u64)?;
+    show_rest(rt, &words, built.records, built.written, lent)
 }
 
 // The copy has 62 bytes, 61 or as many as a dictionary may have and one more; the memory has its words, or one less.
-pub fn prepared(config: Config, dictionary: &[u8], lent: usize, kind: u8) {
+pub fn prepared(
+    rt: &impl Print,
+    config: Config,
+    dictionary: &[u8],
+    lent: usize,
+    kind: u8,
+) -> io::Result<()> {
     let mut copy = [7u8; 62];
     let mut short_copy = [7u8; 61];
     let mut long_copy = [7u8; 60001];
     let mut memory = [7u16; dictionary_prepared::HEAD];
     let mut short_memory = [7u16; 96156];
     match kind {
-        b'c' => over(
-            config,
-            dictionary,
-            lent,
-            &mut short_copy[..],
-            &mut memory[..],
-        ),
-        b'w' => over(
-            config,
-            dictionary,
-            lent,
-            &mut copy[..],
-            &mut short_memory[..],
-        ),
-        b'l' => over(
-            config,
-            dictionary,
-            lent,
-            &mut long_copy[..],
-            &mut memory[..],
-        ),
-        _ => over(config, dictionary, lent, &mut copy[..], &mut memory[..]),
+        b'c' => over(rt, config, dictionary, lent, &mut short_copy, &mut memory),
+        b'w' => over(rt, config, dictionary, lent, &mut copy, &mut short_memory),
+        b'l' => over(rt, config, dictionary, lent, &mut long_copy, &mut memory),
+        _ => over(rt, config, dictionary, lent, &mut copy, &mut memory),
     }
 }

@@ -3,31 +3,33 @@
 #![tactic(auto)]
 
 use sample_kit::{dictionaries, saying, scripts};
+use std::io;
 
-fn show(dictionary: &[u8]) {
+fn show(rt: &impl Print, dictionary: &[u8]) -> io::Result<()> {
     let checked = dictionary_check::check(dictionary);
-    saying::marked(b"", dictionary_check::number_of(checked) as u64);
-    saying::marked(b" ", dictionary_check::value_of(checked) as u64);
-    saying::say(b"\n");
+    saying::marked(rt, b"", dictionary_check::number_of(checked) as u64)?;
+    saying::marked(rt, b" ", dictionary_check::value_of(checked) as u64)?;
+    saying::say(rt, b"\n")
 }
 
-fn check(dictionary: &mut [u8], piece: &[u8]) {
+fn check(rt: &impl Print, dictionary: &mut [u8], piece: &[u8]) -> io::Result<()> {
     let size = dictionaries::spell(dictionary, 0, piece);
-    show(sample_texts::first(dictionary, size));
+    show(rt, sample_texts::first(dictionary, size))
 }
 
-fn play(script: &[u8], dictionary: &mut [u8]) {
+fn play(rt: &impl Print, script: &[u8], dictionary: &mut [u8]) -> io::Result<()> {
     let mut from: usize = 0;
     while from < script.len() {
         let end = sample_texts::end_of(script, from, b'\n');
-        check(dictionary, &script[from..end]);
+        check(rt, dictionary, &script[from..end])?;
         from = end + 1;
     }
+    Ok(())
 }
 
-fn main() {
+fn main(rt: HostRuntime) -> io::Result<()> {
     let mut script = scripts::room();
     let mut dictionary = dictionaries::room();
-    let size = scripts::read(&mut script);
-    play(sample_texts::first(&script, size), &mut dictionary);
+    let size = scripts::read(&mut rt.stdin(), &mut script)?;
+    play(&rt, sample_texts::first(&script, size), &mut dictionary)
 }

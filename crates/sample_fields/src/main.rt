@@ -10,6 +10,7 @@
 use field_rules::{Cause, FieldRead, Number, Written};
 use sample_kit::{saying, scripts};
 use sample_texts::messages;
+use std::io;
 
 fn read(text: &[u8]) -> FieldRead {
     let mut message = [0u8; 100];
@@ -22,87 +23,93 @@ fn read(text: &[u8]) -> FieldRead {
     field_tagvalue::next_field(cursor, sample_texts::first(&message, size), mode)
 }
 
-fn field(read: FieldRead) {
+fn field(rt: &impl Print, read: FieldRead) -> io::Result<()> {
     match read {
         FieldRead::Read(field) => {
-            saying::marked(b"  tag ", field.tag as u64);
-            saying::marked(b", from ", field.first as u64);
-            saying::marked(b", value at ", field.place as u64);
-            saying::marked(b" of length ", field.length as u64);
+            saying::marked(rt, b"  tag ", field.tag as u64)?;
+            saying::marked(rt, b", from ", field.first as u64)?;
+            saying::marked(rt, b", value at ", field.place as u64)?;
+            saying::marked(rt, b" of length ", field.length as u64)?;
             let next = field.next;
-            saying::marked(b", next at ", next.at as u64);
+            saying::marked(rt, b", next at ", next.at as u64)?;
         }
         FieldRead::Unreadable(cause, place) => {
             match cause {
-                Cause::NoEquals => saying::say(b"  no equals"),
-                Cause::NoSeparator => saying::say(b"  no separator"),
-                Cause::BadTag => saying::say(b"  bad tag"),
+                Cause::NoEquals => saying::say(rt, b"  no equals")?,
+                Cause::NoSeparator => saying::say(rt, b"  no separator")?,
+                Cause::BadTag => saying::say(rt, b"  bad tag")?,
             }
-            saying::marked(b" at ", place as u64);
+            saying::marked(rt, b" at ", place as u64)?;
         }
     }
+    Ok(())
 }
 
-fn worth(number: Number) {
+fn worth(rt: &impl Print, number: Number) -> io::Result<()> {
     match number {
-        Number::Worth(n) => saying::marked(b"  ", n as u64),
-        Number::NoNumber => saying::say(b"  no number"),
+        Number::Worth(n) => saying::marked(rt, b"  ", n as u64)?,
+        Number::NoNumber => saying::say(rt, b"  no number")?,
     }
+    Ok(())
 }
 
-fn sum(text: &[u8]) {
+fn sum(rt: &impl Print, text: &[u8]) -> io::Result<()> {
     let mut bytes = [0u8; 100];
     let size = messages::spell(&mut bytes, 0, text, 1);
     saying::marked(
+        rt,
         b"  ",
         field_numbers::sum_of(sample_texts::first(&bytes, size)) as u64,
-    );
+    )
 }
 
-fn digits(n: u32) {
+fn digits(rt: &impl Print, n: u32) -> io::Result<()> {
     let digits = field_numbers::checksum_digits((n % 256) as u8);
-    saying::say(b"  ");
-    saying::say(&digits);
+    saying::say(rt, b"  ")?;
+    saying::say(rt, &digits)
 }
 
-fn written(n: u32, place: usize) {
+fn written(rt: &impl Print, n: u32, place: usize) -> io::Result<()> {
     let mut output = [b'.'; 12];
     match field_numbers::write_number(&mut output, place, n) {
-        Written::Next(next) => saying::marked(b"  next at ", next as u64),
-        Written::NoRoom => saying::say(b"  no room"),
+        Written::Next(next) => saying::marked(rt, b"  next at ", next as u64)?,
+        Written::NoRoom => saying::say(rt, b"  no room")?,
     }
-    saying::marked(b", digits ", field_numbers::digit_count(n) as u64);
-    saying::say(b"  ");
-    saying::say(&output);
+    saying::marked(rt, b", digits ", field_numbers::digit_count(n) as u64)?;
+    saying::say(rt, b"  ")?;
+    saying::say(rt, &output)
 }
 
-fn step(piece: &[u8]) {
+fn step(rt: &impl Print, piece: &[u8]) -> io::Result<()> {
     let text = sample_texts::from(piece, 1);
     match sample_texts::first_byte(piece) {
-        b'f' => field(read(text)),
-        b'n' => worth(field_numbers::number_of(text)),
-        b's' => worth(field_numbers::checksum_of(text)),
-        b'+' => sum(text),
-        b'd' => digits(sample_texts::number(text)),
+        b'f' => field(rt, read(text))?,
+        b'n' => worth(rt, field_numbers::number_of(text))?,
+        b's' => worth(rt, field_numbers::checksum_of(text))?,
+        b'+' => sum(rt, text)?,
+        b'd' => digits(rt, sample_texts::number(text))?,
         b'w' => written(
+            rt,
             sample_texts::number_at(text, b',', 0),
             sample_texts::number_at(text, b',', 1) as usize,
-        ),
-        _ => saying::piece(piece, b""),
+        )?,
+        _ => saying::piece(rt, piece, b"")?,
     }
+    Ok(())
 }
 
-fn play(script: &[u8]) {
+fn play(rt: &impl Print, script: &[u8]) -> io::Result<()> {
     let mut from: usize = 0;
     while from < script.len() {
         let end = sample_texts::end_of(script, from, b'\n');
-        step(&script[from..end]);
+        step(rt, &script[from..end])?;
         from = end + 1;
     }
+    Ok(())
 }
 
-fn main() {
+fn main(rt: HostRuntime) -> io::Result<()> {
     let mut script = scripts::room();
-    let size = scripts::read(&mut script);
-    play(sample_texts::first(&script, size));
+    let size = scripts::read(&mut rt.stdin(), &mut script)?;
+    play(&rt, sample_texts::first(&script, size))
 }

@@ -13,6 +13,7 @@
 use frame_hunter_rules::{Answer, Reply, State, Taken};
 use sample_kit::{saying, scripts};
 use sample_texts::messages;
+use std::io;
 
 const STORE: usize = 16384;
 
@@ -23,7 +24,7 @@ struct Held {
     lent: usize,
 }
 
-fn answered(name: &[u8], piece: &[u8], answer: Answer) {
+fn answered(rt: &impl Print, name: &[u8], piece: &[u8], answer: Answer) -> io::Result<()> {
     let mut space = [0u8; 100];
     let size = messages::spell(
         &mut space,
@@ -31,54 +32,57 @@ fn answered(name: &[u8], piece: &[u8], answer: Answer) {
         sample_texts::before(sample_texts::from(piece, 1), b':'),
         b' ',
     );
-    saying::say(b"\n");
-    saying::say(name);
-    saying::say(sample_texts::first(&space, size));
-    saying::marked(b" ", frame_answers::hunter_number(answer) as u64);
+    saying::say(rt, b"\n")?;
+    saying::say(rt, name)?;
+    saying::say(rt, sample_texts::first(&space, size))?;
+    saying::marked(rt, b" ", frame_answers::hunter_number(answer) as u64)
 }
 
-fn told(name: &[u8], piece: &[u8], reply: Reply) -> State {
+fn told(rt: &impl Print, name: &[u8], piece: &[u8], reply: Reply) -> io::Result<State> {
     let answer = reply.answer;
     let state = reply.state;
-    answered(name, piece, answer);
-    saying::marked(b" used ", state.used as u64);
-    state
+    answered(rt, name, piece, answer)?;
+    saying::marked(rt, b" used ", state.used as u64)?;
+    Ok(state)
 }
 
-fn push(state: State, store: &mut [u8], piece: &[u8]) -> State {
+fn push(rt: &impl Print, state: State, store: &mut [u8], piece: &[u8]) -> io::Result<State> {
     let mut chunk = [0u8; 16385];
     let size = messages::spell(&mut chunk, 0, sample_texts::behind(piece, b':'), 1);
     let reply = frame_hunter::push(state, store, sample_texts::first(&chunk, size));
-    told(b"push", piece, reply)
+    told(rt, b"push", piece, reply)
 }
 
-fn taken(piece: &[u8], taken: Taken, output: &[u8]) -> State {
+fn taken(rt: &impl Print, piece: &[u8], taken: Taken, output: &[u8]) -> io::Result<State> {
     let answer = taken.answer;
     let state = taken.state;
-    answered(b"take", piece, answer);
-    saying::marked(b" length ", taken.length as u64);
-    saying::marked(b" used ", state.used as u64);
-    saying::marked(b" dropped ", state.dropped);
+    answered(rt, b"take", piece, answer)?;
+    saying::marked(rt, b" length ", taken.length as u64)?;
+    saying::marked(rt, b" used ", state.used as u64)?;
+    saying::marked(rt, b" dropped ", state.dropped)?;
     if sample_texts::first_byte(piece) == b'm' {
-        saying::say(b"\n");
-        saying::bytes(sample_texts::first(
-            output,
-            sample_texts::number(sample_texts::behind(piece, b':')) as usize,
-        ));
+        saying::say(rt, b"\n")?;
+        saying::bytes(
+            rt,
+            sample_texts::first(
+                output,
+                sample_texts::number(sample_texts::behind(piece, b':')) as usize,
+            ),
+        )?;
     }
-    state
+    Ok(state)
 }
 
-fn take(state: State, store: &mut [u8], piece: &[u8]) -> State {
+fn take(rt: &impl Print, state: State, store: &mut [u8], piece: &[u8]) -> io::Result<State> {
     let mut output = [0u8; 8192];
     let answered = frame_hunter::take(state, store, &mut output);
-    taken(piece, answered, &output)
+    taken(rt, piece, answered, &output)
 }
 
-fn take_short(state: State, store: &mut [u8], piece: &[u8]) -> State {
+fn take_short(rt: &impl Print, state: State, store: &mut [u8], piece: &[u8]) -> io::Result<State> {
     let mut output = [0u8; 8191];
     let answered = frame_hunter::take(state, store, &mut output);
-    taken(piece, answered, &output)
+    taken(rt, piece, answered, &output)
 }
 
 // Of P2 and then P1, however cut, P1 is handed out once and 26 places are dropped.
@@ -105,7 +109,7 @@ fn right(state: State, first: usize, second: usize, third: usize, last: usize) -
 }
 
 // A stream in two chunks, all that is ready being taken after each and after the end.
-fn cut(one: &[u8], two: &[u8]) {
+fn cut(rt: &impl Print, one: &[u8], two: &[u8]) -> io::Result<()> {
     let mut store = [0u8; STORE];
     let mut output = [0u8; 8192];
     let given = frame_hunter::push(frame_hunter::reset(), &mut store, one);
@@ -123,33 +127,35 @@ fn cut(one: &[u8], two: &[u8]) {
         third.length,
         last.length,
     ) {
-        saying::say(b".");
+        saying::say(rt, b".")?;
     } else {
-        saying::say(b"x");
+        saying::say(rt, b"x")?;
     }
+    Ok(())
 }
 
-fn cut_at(text: &[u8]) {
+fn cut_at(rt: &impl Print, text: &[u8]) -> io::Result<()> {
     let mut space = [0u8; 100];
     let at = sample_texts::number(sample_texts::before(text, b':')) as usize;
     let size = messages::spell(&mut space, 0, sample_texts::behind(text, b':'), 1);
     let stream = sample_texts::first(&space, size);
     cut(
+        rt,
         sample_texts::first(stream, at),
         sample_texts::from(stream, at),
-    );
+    )
 }
 
-fn call(state: State, store: &mut [u8], piece: &[u8]) -> State {
+fn call(rt: &impl Print, state: State, store: &mut [u8], piece: &[u8]) -> io::Result<State> {
     match sample_texts::first_byte(piece) {
-        b'p' => return push(state, store, piece),
-        b'e' => return told(b"end", piece, frame_hunter::end(state, store)),
-        b't' | b'm' => return take(state, store, piece),
-        b'T' => return take_short(state, store, piece),
-        b'c' => cut_at(sample_texts::from(piece, 1)),
-        _ => saying::piece(piece, b""),
+        b'p' => return push(rt, state, store, piece),
+        b'e' => return told(rt, b"end", piece, frame_hunter::end(state, store)),
+        b't' | b'm' => return take(rt, state, store, piece),
+        b'T' => return take_short(rt, state, store, piece),
+        b'c' => cut_at(rt, sample_texts::from(piece, 1))?,
+        _ => saying::piece(rt, piece, b"")?,
     }
-    state
+    Ok(state)
 }
 
 fn fresh() -> Held {
@@ -180,31 +186,32 @@ fn set(held: Held, piece: &[u8]) -> Held {
     }
 }
 
-fn step(before: Held, store: &mut [u8], piece: &[u8]) -> Held {
+fn step(rt: &impl Print, before: Held, store: &mut [u8], piece: &[u8]) -> io::Result<Held> {
     let held = set(before, piece);
     let lent = held.lent;
     if lent <= store.len() {
-        return Held {
-            state: call(held.state, &mut store[..lent], piece),
+        return Ok(Held {
+            state: call(rt, held.state, &mut store[..lent], piece)?,
             lent,
-        };
+        });
     }
-    held
+    Ok(held)
 }
 
-fn play(script: &[u8], store: &mut [u8]) {
+fn play(rt: &impl Print, script: &[u8], store: &mut [u8]) -> io::Result<()> {
     let mut held = fresh();
     let mut from: usize = 0;
     while from < script.len() {
         let end = sample_texts::end_of(script, from, b'\n');
-        held = step(held, store, &script[from..end]);
+        held = step(rt, held, store, &script[from..end])?;
         from = end + 1;
     }
+    Ok(())
 }
 
-fn main() {
+fn main(rt: HostRuntime) -> io::Result<()> {
     let mut script = scripts::room();
     let mut store = [0u8; STORE];
-    let size = scripts::read(&mut script);
-    play(sample_texts::first(&script, size), &mut store);
+    let size = scripts::read(&mut rt.stdin(), &mut script)?;
+    play(&rt, sample_texts::first(&script, size), &mut store)
 }

@@ -1,6 +1,6 @@
-// sample_kit: what the sample programs share. It reads a program's script from standard input, spells flat dictionaries, and writes what a
-// program says. It is for programs alone: no library of the gateway may stand on it. Its functions have no contract: each is proved to be safe
-// and to end, and what a program writes is held to its file `stdout`.
+// sample_kit: what the programs share. It reads a program's script from standard input, spells flat dictionaries, and writes what a program
+// says. It is for programs alone: no library of the gateway may stand on it. But for how many bytes were read its functions have no contract:
+// each is proved to be safe and to end, and what a program writes is held to its file `stdout`. A read or write that fails ends the program.
 //
 // A script has a line for each case.
 //   # TEXT         a remark
@@ -18,5 +18,6 @@
 #![tactic(auto)]
 
 pub mod dictionaries;
+pub mod reading;
 pub mod saying;
 pub mod scripts;

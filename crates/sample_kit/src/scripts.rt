@@ -1,4 +1,7 @@
 // Reads a script and lays it out in pieces.
+use crate::reading;
+use std::io;
+use std::io::Read;
 
 fn number_before(n: u32) -> u32 {
     if n == 0 {
@@ -125,9 +128,9 @@ pub fn room() -> [u8; 600000] {
     [0u8; 600000]
 }
 
-// Reads the script on standard input, of up to 40,000 bytes, and lays it out; the size of its pieces.
-pub fn read(out: &mut [u8]) -> usize {
-    let mut input = [0u8; 40000];
-    let size = io::read_full(0, &mut input);
-    pieces(out, sample_texts::first(&input, size))
+// Reads the script on an input, of up to 40,000 bytes, and lays it out; the size of its pieces.
+pub fn read(input: &mut impl Read, out: &mut [u8]) -> io::Result<usize> {
+    let mut script = [0u8; 40000];
+    let size = reading::full(input, &mut script)?;
+    Ok(pieces(out, sample_texts::first(&script, size)))
 }

@@ -2,6 +2,7 @@
 ghost use Rattle.std.specs.Prelude.{◌<◌};
 
 use sample_kit::saying;
+use std::io;
 
 pub fn copy(target: &mut [u32], source: &[u32]) {
     let mut i: usize = 0;
@@ -95,7 +96,7 @@ fn at(text: &[u8], place: usize) -> u32 {
     sample_texts::number_at(text, b',', place)
 }
 
-pub fn lay(words: &mut [u32], values: &mut [u8], piece: &[u8]) {
+pub fn lay(rt: &impl Print, words: &mut [u32], values: &mut [u8], piece: &[u8]) -> io::Result<()> {
     let text = sample_texts::from(piece, 1);
     match sample_texts::first_byte(piece) {
         b'~' => put(words, 0, 0),
@@ -104,6 +105,7 @@ pub fn lay(words: &mut [u32], values: &mut [u8], piece: &[u8]) {
         b'e' => row(words, 2, at(text, 0), at(text, 1), at(text, 2)),
         b'#' => row(words, at(text, 0), at(text, 1), at(text, 2), at(text, 3)),
         b'w' => put(words, 0, sample_texts::number(text)),
-        _ => saying::piece(piece, b":"),
+        _ => saying::piece(rt, piece, b":")?,
     }
+    Ok(())
 }

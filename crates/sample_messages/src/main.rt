@@ -20,6 +20,7 @@ mod looking;
 mod showing;
 
 use sample_kit::scripts;
+use std::io;
 
 // How many words and value bytes are lent.
 #[derive(Clone, Copy)]
@@ -53,6 +54,7 @@ fn lay_aside(aside: &mut [u32], bytes: &mut [u8], words: &[u32], values: &[u8], 
 
 // A call on as much of the words and value bytes in hand as is lent.
 fn in_hand(
+    rt: &impl Print,
     lent: Lent,
     words: &mut [u32],
     values: &mut [u8],
@@ -60,24 +62,27 @@ fn in_hand(
     bytes: &[u8],
     script: &[u8],
     piece: &[u8],
-) {
+) -> io::Result<()> {
     let word_count = lent.words;
     let byte_count = lent.bytes;
     if word_count <= words.len() {
         if byte_count <= values.len() {
             calls::call(
+                rt,
                 &mut words[..word_count],
                 &mut values[..byte_count],
                 aside,
                 bytes,
                 script,
                 piece,
-            );
+            )?;
         }
     }
+    Ok(())
 }
 
 fn step(
+    rt: &impl Print,
     before: Lent,
     words: &mut [u32],
     values: &mut [u8],
@@ -85,19 +90,27 @@ fn step(
     bytes: &mut [u8],
     script: &[u8],
     piece: &[u8],
-) -> Lent {
+) -> io::Result<Lent> {
     let lent = lent_after(before, piece);
     lay_aside(aside, bytes, words, values, piece);
-    in_hand(lent, words, values, aside, bytes, script, piece);
-    lent
+    in_hand(rt, lent, words, values, aside, bytes, script, piece)?;
+    Ok(lent)
 }
 
-fn play(words: &mut [u32], values: &mut [u8], aside: &mut [u32], bytes: &mut [u8], script: &[u8]) {
+fn play(
+    rt: &impl Print,
+    words: &mut [u32],
+    values: &mut [u8],
+    aside: &mut [u32],
+    bytes: &mut [u8],
+    script: &[u8],
+) -> io::Result<()> {
     let mut lent = Lent { words: 0, bytes: 0 };
     let mut from: usize = 0;
     while from < script.len() {
         let end = sample_texts::end_of(script, from, b'\n');
         lent = step(
+            rt,
             lent,
             words,
             values,
@@ -105,23 +118,25 @@ fn play(words: &mut [u32], values: &mut [u8], aside: &mut [u32], bytes: &mut [u8
             bytes,
             script,
             &script[from..end],
-        );
+        )?;
         from = end + 1;
     }
+    Ok(())
 }
 
-fn main() {
+fn main(rt: HostRuntime) -> io::Result<()> {
     let mut script = scripts::room();
     let mut words = [0u32; 8206];
     let mut values = [0u8; 8193];
     let mut aside = [0u32; message_maps::WORDS];
     let mut bytes = [0u8; 8192];
-    let size = scripts::read(&mut script);
+    let size = scripts::read(&mut rt.stdin(), &mut script)?;
     play(
+        &rt,
         &mut words,
         &mut values,
         &mut aside,
         &mut bytes,
         sample_texts::first(&script, size),
-    );
+    )
 }

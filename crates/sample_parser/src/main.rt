@@ -12,6 +12,7 @@
 use frame_parser_rules::{Answer, Outcome, State};
 use sample_kit::{saying, scripts};
 use sample_texts::messages;
+use std::io;
 
 const STORE: usize = 16384;
 
@@ -22,56 +23,61 @@ struct Held {
     lent: usize,
 }
 
-fn shown(state: State) -> State {
-    saying::marked(b" used ", state.used as u64);
+fn shown(rt: &impl Print, state: State) -> io::Result<State> {
+    saying::marked(rt, b" used ", state.used as u64)?;
     if state.ended {
-        saying::say(b" ended");
+        saying::say(rt, b" ended")?;
     }
     if state.over {
-        saying::say(b" over");
+        saying::say(rt, b" over")?;
     }
-    saying::say(b"\n");
-    state
+    saying::say(rt, b"\n")?;
+    Ok(state)
 }
 
-fn told(name: &[u8], outcome: Outcome) -> State {
+fn told(rt: &impl Print, name: &[u8], outcome: Outcome) -> io::Result<State> {
     let answer = outcome.answer;
     let state = outcome.state;
-    saying::say(name);
-    saying::marked(b" ", frame_answers::parser_number(answer) as u64);
+    saying::say(rt, name)?;
+    saying::marked(rt, b" ", frame_answers::parser_number(answer) as u64)?;
     if let Answer::Message(length) = answer {
-        saying::marked(b" length ", length as u64);
+        saying::marked(rt, b" length ", length as u64)?;
     }
-    shown(state)
+    shown(rt, state)
 }
 
-fn push(state: State, store: &mut [u8], text: &[u8]) -> State {
+fn push(rt: &impl Print, state: State, store: &mut [u8], text: &[u8]) -> io::Result<State> {
     let mut chunk = [0u8; 16385];
     let size = messages::spell(&mut chunk, 0, text, 1);
     told(
+        rt,
         b"push",
         frame_parser::push(state, store, sample_texts::first(&chunk, size)),
     )
 }
 
-fn take(state: State, store: &mut [u8], shown: &[u8]) -> State {
+fn take(rt: &impl Print, state: State, store: &mut [u8], shown: &[u8]) -> io::Result<State> {
     let mut output = [0u8; 8192];
-    let left = told(b"take", frame_parser::take(state, store, &mut output));
+    let left = told(rt, b"take", frame_parser::take(state, store, &mut output))?;
     if 0 < shown.len() {
-        saying::bytes(sample_texts::first(
-            &output,
-            sample_texts::number_at(shown, b',', 0) as usize,
-        ));
-        saying::say(b"\n");
-        saying::bytes(sample_texts::first(store, sample_texts::number_at(shown, b',', 1) as usize));
-        saying::say(b"\n");
+        saying::bytes(
+            rt,
+            sample_texts::first(&output, sample_texts::number_at(shown, b',', 0) as usize),
+        )?;
+        saying::say(rt, b"\n")?;
+        saying::bytes(
+            rt,
+            sample_texts::first(store, sample_texts::number_at(shown, b',', 1) as usize),
+        )?;
+        saying::say(rt, b"\n")?;
     }
-    left
+    Ok(left)
 }
 
-fn take_short(state: State, store: &mut [u8]) -> State {
+fn take_short(rt: &impl Print, state: State, store: &mut [u8]) -> io::Result<State> {
     let mut output = [0u8; 8191];
     told(
+        rt,
         b"take into 8191",
         frame_parser::take(state, store, &mut output),
     )
@@ -92,10 +98,7 @@ fn take_next(came: Came, store: &mut [u8], stream: &[u8]) -> Came {
     let state = outcome.state;
     let length = frame_answers::parser_length(answer);
     let mut bytes = came.bytes;
-    if check::same(
-        sample_texts::part(stream, bytes, length),
-        sample_texts::first(&output, length),
-    ) {
+    if sample_texts::part(stream, bytes, length) == sample_texts::first(&output, length) {
         bytes = bytes % 8192 + length % 8193;
     }
     Came { state, bytes }
@@ -110,7 +113,7 @@ fn chunk(came: Came, store: &mut [u8], chunk: &[u8], stream: &[u8]) -> Came {
     take_next(second, store, stream)
 }
 
-fn cut(text: &[u8]) {
+fn cut(rt: &impl Print, text: &[u8]) -> io::Result<()> {
     let mut store = [0u8; STORE];
     let mut space = [0u8; 100];
     let at = sample_texts::number(sample_texts::before(text, b':')) as usize;
@@ -124,27 +127,27 @@ fn cut(text: &[u8]) {
         stream,
     );
     let all = chunk(some, &mut store, sample_texts::from(stream, at), stream);
-    saying::marked(b"", some.bytes as u64);
-    saying::marked(b" ", all.bytes as u64);
-    saying::say(b"\n");
+    saying::marked(rt, b"", some.bytes as u64)?;
+    saying::marked(rt, b" ", all.bytes as u64)?;
+    saying::say(rt, b"\n")
 }
 
-fn call(state: State, store: &mut [u8], piece: &[u8]) -> State {
+fn call(rt: &impl Print, state: State, store: &mut [u8], piece: &[u8]) -> io::Result<State> {
     let text = sample_texts::from(piece, 1);
     match sample_texts::first_byte(piece) {
-        b'p' => return push(state, store, text),
-        b'e' => return told(b"end", frame_parser::end(state, store)),
-        b't' | b'm' => return take(state, store, text),
-        b'T' => return take_short(state, store),
-        b'c' => cut(text),
-        b'-' => saying::piece(piece, b""),
+        b'p' => return push(rt, state, store, text),
+        b'e' => return told(rt, b"end", frame_parser::end(state, store)),
+        b't' | b'm' => return take(rt, state, store, text),
+        b'T' => return take_short(rt, state, store),
+        b'c' => cut(rt, text)?,
+        b'-' => saying::piece(rt, piece, b"")?,
         _ => {}
     }
-    state
+    Ok(state)
 }
 
 // What a word does to what is in hand, before its call.
-fn set(held: Held, piece: &[u8]) -> Held {
+fn set(rt: &impl Print, held: Held, piece: &[u8]) -> io::Result<Held> {
     let state = held.state;
     let fresh = Held {
         state: frame_parser::reset(),
@@ -152,40 +155,40 @@ fn set(held: Held, piece: &[u8]) -> Held {
     };
     match sample_texts::first_byte(piece) {
         b'r' => {
-            saying::say(b"reset");
-            shown(frame_parser::reset());
-            fresh
+            saying::say(rt, b"reset")?;
+            shown(rt, frame_parser::reset())?;
+            Ok(fresh)
         }
-        b'R' => fresh,
-        b'l' => Held {
+        b'R' => Ok(fresh),
+        b'l' => Ok(Held {
             state,
             lent: sample_texts::number(sample_texts::from(piece, 1)) as usize,
-        },
-        b'x' => Held {
+        }),
+        b'x' => Ok(Held {
             state: State {
                 used: 16385,
                 ended: true,
                 over: true,
             },
             lent: STORE,
-        },
-        _ => held,
+        }),
+        _ => Ok(held),
     }
 }
 
-fn step(before: Held, store: &mut [u8], piece: &[u8]) -> Held {
-    let held = set(before, piece);
+fn step(rt: &impl Print, before: Held, store: &mut [u8], piece: &[u8]) -> io::Result<Held> {
+    let held = set(rt, before, piece)?;
     let lent = held.lent;
     if lent <= store.len() {
-        return Held {
-            state: call(held.state, &mut store[..lent], piece),
+        return Ok(Held {
+            state: call(rt, held.state, &mut store[..lent], piece)?,
             lent,
-        };
+        });
     }
-    held
+    Ok(held)
 }
 
-fn play(script: &[u8], store: &mut [u8]) {
+fn play(rt: &impl Print, script: &[u8], store: &mut [u8]) -> io::Result<()> {
     let mut held = Held {
         state: frame_parser::reset(),
         lent: STORE,
@@ -193,14 +196,15 @@ fn play(script: &[u8], store: &mut [u8]) {
     let mut from: usize = 0;
     while from < script.len() {
         let end = sample_texts::end_of(script, from, b'\n');
-        held = step(held, store, &script[from..end]);
+        held = step(rt, held, store, &script[from..end])?;
         from = end + 1;
     }
+    Ok(())
 }
 
-fn main() {
+fn main(rt: HostRuntime) -> io::Result<()> {
     let mut script = scripts::room();
     let mut store = [0u8; STORE];
-    let size = scripts::read(&mut script);
-    play(sample_texts::first(&script, size), &mut store);
+    let size = scripts::read(&mut rt.stdin(), &mut script)?;
+    play(&rt, sample_texts::first(&script, size), &mut store)
 }

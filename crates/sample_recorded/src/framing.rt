@@ -2,25 +2,28 @@
 use crate::hexadecimal;
 use frame_parser_rules::State;
 use sample_kit::saying;
+use std::io;
 
-fn comma(frames: usize) {
+fn comma(rt: &impl Print, frames: usize) -> io::Result<()> {
     if 0 < frames {
-        saying::say(b",");
+        saying::say(rt, b",")?;
     }
+    Ok(())
 }
 
 // Behind the frames that were taken: a refusal, or `-` where there was no frame.
-fn last_word(frames: usize, number: u32) {
+fn last_word(rt: &impl Print, frames: usize, number: u32) -> io::Result<()> {
     if 0 < number {
-        comma(frames);
-        saying::marked(b"!", number as u64);
+        comma(rt, frames)?;
+        saying::marked(rt, b"!", number as u64)?;
     } else if frames == 0 {
-        saying::say(b"-");
+        saying::say(rt, b"-")?;
     }
+    Ok(())
 }
 
 // A frame has a byte at least, and the store 16,384 at the most.
-fn take_all(fresh: State, store: &mut [u8]) -> State {
+fn take_all(rt: &impl Print, fresh: State, store: &mut [u8]) -> io::Result<State> {
     let mut output = [0u8; 8192];
     let mut state = fresh;
     let mut frames: usize = 0;
@@ -30,17 +33,17 @@ fn take_all(fresh: State, store: &mut [u8]) -> State {
         let length = frame_answers::parser_length(answer);
         state = outcome.state;
         if length == 0 {
-            last_word(frames, frame_answers::parser_number(answer));
+            last_word(rt, frames, frame_answers::parser_number(answer))?;
             break;
         }
-        comma(frames);
-        hexadecimal::say(sample_texts::first(&output, length));
+        comma(rt, frames)?;
+        hexadecimal::say(rt, sample_texts::first(&output, length))?;
         frames += 1;
     }
-    state
+    Ok(state)
 }
 
-fn chunk(state: State, store: &mut [u8], text: &[u8]) -> State {
+fn chunk(rt: &impl Print, state: State, store: &mut [u8], text: &[u8]) -> io::Result<State> {
     let mut space = [0u8; 2000];
     let size = hexadecimal::read(&mut space, text);
     let outcome = frame_parser::push(state, store, sample_texts::first(&space, size));
@@ -48,26 +51,27 @@ fn chunk(state: State, store: &mut [u8], text: &[u8]) -> State {
     let pushed = outcome.state;
     let number = frame_answers::parser_number(answer);
     if 0 < number {
-        saying::marked(b"!", number as u64);
-        return pushed;
+        saying::marked(rt, b"!", number as u64)?;
+        return Ok(pushed);
     }
-    take_all(pushed, store)
+    take_all(rt, pushed, store)
 }
 
-fn chunks(store: &mut [u8], text: &[u8]) {
+fn chunks(rt: &impl Print, store: &mut [u8], text: &[u8]) -> io::Result<()> {
     let mut state = frame_parser::reset();
     let mut from: usize = 0;
     while from < text.len() {
         let end = sample_texts::end_of(text, from, b' ');
         if 0 < from {
-            saying::say(b" ");
+            saying::say(rt, b" ")?;
         }
-        state = chunk(state, store, &text[from..end]);
+        state = chunk(rt, state, store, &text[from..end])?;
         from = end + 1;
     }
+    Ok(())
 }
 
-pub fn frames(text: &[u8]) {
+pub fn frames(rt: &impl Print, text: &[u8]) -> io::Result<()> {
     let mut store = [0u8; 16384];
-    chunks(&mut store, text);
+    chunks(rt, &mut store, text)
 }

@@ -1,5 +1,6 @@
 // Reads and writes bytes in hexadecimal.
 use sample_kit::saying;
+use std::io;
 
 // Writes the bytes of a text of hexadecimal digits, none for `-`; how many they are.
 pub fn read(out: &mut [u8], text: &[u8]) -> usize {
@@ -27,20 +28,21 @@ fn character(digit: u8) -> u8 {
     87 + digit % 16
 }
 
-fn each(bytes: &[u8]) {
+fn each(rt: &impl Print, bytes: &[u8]) -> io::Result<()> {
     let mut i: usize = 0;
     while i < bytes.len() {
         let byte = bytes[i];
         let digits = [character(byte / 16), character(byte % 16)];
-        saying::say(&digits);
+        saying::say(rt, &digits)?;
         i += 1;
     }
+    Ok(())
 }
 
 // Bytes in hexadecimal, `-` for none.
-pub fn say(bytes: &[u8]) {
+pub fn say(rt: &impl Print, bytes: &[u8]) -> io::Result<()> {
     if bytes.len() == 0 {
-        saying::say(b"-");
+        saying::say(rt, b"-")?;
     }
-    each(bytes);
+    each(rt, bytes)
 }

@@ -10,36 +10,38 @@ mod encoded;
 mod framing;
 mod hexadecimal;
 
-use sample_kit::saying;
+use sample_kit::{reading, saying, scripts};
+use std::io;
 
 // Answers a request; the size of the dictionary that is kept from then on. One is kept at a time: all have the number 0.
-fn answer(text: &[u8], dictionary: &mut [u8], used: usize) -> usize {
+fn answer(rt: &impl Print, text: &[u8], dictionary: &mut [u8], used: usize) -> io::Result<usize> {
     let rest = sample_texts::behind(text, b' ');
     match sample_texts::first_byte(text) {
-        b'd' => return building::keep(dictionary, sample_texts::behind(rest, b' ')),
-        b'b' => building::build(rest, sample_texts::first(dictionary, used), false),
-        b'a' => building::build(rest, sample_texts::first(dictionary, used), true),
-        b'c' => calling::calls(rest),
-        b'f' => framing::frames(rest),
-        _ => saying::say(b"unreadable"),
+        b'd' => return building::keep(rt, dictionary, sample_texts::behind(rest, b' ')),
+        b'b' => building::build(rt, rest, sample_texts::first(dictionary, used), false)?,
+        b'a' => building::build(rt, rest, sample_texts::first(dictionary, used), true)?,
+        b'c' => calling::calls(rt, rest)?,
+        b'f' => framing::frames(rt, rest)?,
+        _ => saying::say(rt, b"unreadable")?,
     }
-    used
+    Ok(used)
 }
 
-fn answer_all(requests: &[u8], dictionary: &mut [u8]) {
+fn answer_all(rt: &impl Print, requests: &[u8], dictionary: &mut [u8]) -> io::Result<()> {
     let mut used: usize = 0;
     let mut from: usize = 0;
     while from < requests.len() {
         let end = sample_texts::end_of(requests, from, b'\n');
-        used = answer(&requests[from..end], dictionary, used);
-        saying::say(b"\n");
+        used = answer(rt, &requests[from..end], dictionary, used)?;
+        saying::say(rt, b"\n")?;
         from = end + 1;
     }
+    Ok(())
 }
 
-fn main() {
-    let mut requests = sample_kit::scripts::room();
+fn main(rt: HostRuntime) -> io::Result<()> {
+    let mut requests = scripts::room();
     let mut dictionary = [0u8; 2000];
-    let size = io::read_full(0, &mut requests);
-    answer_all(sample_texts::first(&requests, size), &mut dictionary);
+    let size = reading::full(&mut rt.stdin(), &mut requests)?;
+    answer_all(&rt, sample_texts::first(&requests, size), &mut dictionary)
 }

@@ -9,6 +9,7 @@ use encode_rules::Encoding;
 use field_rules::FieldRead;
 use message_rules::Part;
 use sample_kit::saying;
+use std::io;
 
 const SEPARATOR: u8 = 1;
 
@@ -28,19 +29,22 @@ fn count_fields(message: &[u8]) -> usize {
 }
 
 // The first frame of the stream, at the start of the output; answers its length.
-fn hunt(output: &mut [u8]) -> usize {
+fn hunt(rt: &impl Print, output: &mut [u8]) -> io::Result<usize> {
     let mut store = [0u8; 16384];
-    showing::step(b"1. The stream:", sample::STREAM.len());
-    saying::say(b" bytes, two copies of one order. A byte of the first was damaged on the way:\n");
-    showing::line(&sample::STREAM);
+    showing::step(rt, b"1. The stream:", sample::STREAM.len())?;
+    saying::say(
+        rt,
+        b" bytes, two copies of one order. A byte of the first was damaged on the way:\n",
+    )?;
+    showing::line(rt, &sample::STREAM)?;
     let given = frame_hunter::push(frame_hunter::reset(), &mut store, &sample::STREAM);
     let taken = frame_hunter::take(given.state, &mut store, output);
     let state = taken.state;
-    showing::step(b"2. The hunting framer drops", state.dropped as usize);
-    showing::step(b" places and hands out", taken.length);
-    saying::say(b" bytes:\n");
-    showing::line(sample_texts::first(output, taken.length));
-    taken.length
+    showing::step(rt, b"2. The hunting framer drops", state.dropped as usize)?;
+    showing::step(rt, b" places and hands out", taken.length)?;
+    saying::say(rt, b" bytes:\n")?;
+    showing::line(rt, sample_texts::first(output, taken.length))?;
+    Ok(taken.length)
 }
 
 fn take_over(
@@ -54,7 +58,7 @@ fn take_over(
 }
 
 // Builds the frame, shows what is held, and takes it over into a lent message.
-fn build(frame: &[u8], words: &mut [u32], values: &mut [u8]) {
+fn build(rt: &impl Print, frame: &[u8], words: &mut [u32], values: &mut [u8]) -> io::Result<()> {
     let config = build_config::config_of(1, SEPARATOR);
     let mut records = [0u32; build_records::WORDS];
     let mut copy = [0u8; 60000];
@@ -69,52 +73,75 @@ fn build(frame: &[u8], words: &mut [u32], values: &mut [u8]) {
     let answer = built.answer;
     let count = built.records;
     showing::step(
+        rt,
         b"3. The dictionary is prepared once, which answers",
         dictionary_prepared::number_of(preparing) as usize,
-    );
+    )?;
     showing::step(
+        rt,
         b". A build over it answers",
         build_answers::number_of(answer) as usize,
-    );
-    showing::step(b". Fields read:", count_fields(frame));
-    showing::step(b", fields held:", count);
-    saying::say(b"\n");
-    showing::records(frame, &records, count);
-    saying::say(b"   38 came as 600 and again as 800. 800 took its place, as in the Rust.\n");
+    )?;
+    showing::step(rt, b". Fields read:", count_fields(frame))?;
+    showing::step(rt, b", fields held:", count)?;
+    saying::say(rt, b"\n")?;
+    showing::records(rt, frame, &records, count)?;
+    saying::say(
+        rt,
+        b"   38 came as 600 and again as 800. 800 took its place, as in the Rust.\n",
+    )?;
     take_over(&records, count, frame, words, values);
+    Ok(())
 }
 
-fn encode(words: &mut [u32], values: &mut [u8], output: &mut [u8]) {
+fn encode(
+    rt: &impl Print,
+    words: &mut [u32],
+    values: &mut [u8],
+    output: &mut [u8],
+) -> io::Result<()> {
     match encoder::encode(words, values, output, SEPARATOR) {
         Encoding::Written(length) => {
             let written = sample_texts::first(output, length);
-            showing::line(written);
-            showing::step(b"   Fields written:", count_fields(written));
+            showing::line(rt, written)?;
+            showing::step(rt, b"   Fields written:", count_fields(written))?;
         }
-        _ => saying::say(b"   refused"),
+        _ => saying::say(rt, b"   refused")?,
     }
+    Ok(())
 }
 
-fn main() {
+fn main(rt: HostRuntime) -> io::Result<()> {
     let mut output = [0u8; 8192];
     let mut words = [0u32; message_maps::WORDS];
     let mut values = [0u8; 8192];
     let mut encoded = [0u8; 8192];
-    let length = hunt(&mut output);
+    let length = hunt(&rt, &mut output)?;
     build(
+        &rt,
         sample_texts::first(&output, length),
         &mut words,
         &mut values,
-    );
-    saying::say(b"4. Encoded as it is held, with its own BodyLength and CheckSum:\n");
-    encode(&mut words, &mut values, &mut encoded);
-    saying::say(b". Every check downstream passes, and nothing shows that it once said 600.\n");
+    )?;
     saying::say(
+        &rt,
+        b"4. Encoded as it is held, with its own BodyLength and CheckSum:\n",
+    )?;
+    encode(&rt, &mut words, &mut values, &mut encoded)?;
+    saying::say(
+        &rt,
+        b". Every check downstream passes, and nothing shows that it once said 600.\n",
+    )?;
+    saying::say(
+        &rt,
         b"   The count of fields read against fields held does: here the gateway stops it.\n",
-    );
+    )?;
     message::store(&mut words, &mut values, Part::Body, 38, b"600");
     message::store(&mut words, &mut values, Part::Body, 58, b"38 came twice");
-    saying::say(b"5. Changed, 38 stored as 600 and 58 as a remark, and encoded again:\n");
-    encode(&mut words, &mut values, &mut encoded);
-    saying::say(b".\n");
+    saying::say(
+        &rt,
+        b"5. Changed, 38 stored as 600 and 58 as a remark, and encoded again:\n",
+    )?;
+    encode(&rt, &mut words, &mut values, &mut encoded)?;
+    saying::say(&rt, b".\n")
 }

@@ -2,6 +2,10 @@
 // It is what the framer's speed is measured with; it keeps no frame.
 #![tactic(auto)]
 
+use sample_kit::reading;
+use std::io;
+use std::io::Read;
+
 // Chunks of 8,192 bytes that are read at the most: the program ends on every input.
 const CHUNKS: u64 = 0x1_0000_0000;
 
@@ -11,16 +15,16 @@ struct Counts {
     bytes: u64,
 }
 
-fn line(label: &[u8], n: u64) {
-    io::write_all(1, label);
-    io::print_decimal(1, n);
-    io::write_all(1, b"\n");
+fn line(rt: &impl Print, label: &[u8], n: u64) -> io::Result<()> {
+    rt.write_all(label)?;
+    rt.print(n)?;
+    rt.write_all(b"\n")
 }
 
 fn with_frame(counts: Counts, length: usize) -> Counts {
     Counts {
-        frames: std::num::wrapping_add_u64(counts.frames, 1),
-        bytes: std::num::wrapping_add_u64(counts.bytes, length as u64),
+        frames: counts.frames.wrapping_add(1),
+        bytes: counts.bytes.wrapping_add(length as u64),
     }
 }
 
@@ -62,17 +66,22 @@ fn finished(hunting: Hunting, store: &mut [u8], output: &mut [u8]) -> Hunting {
     hunted(Hunting { state, counts }, store, output)
 }
 
-fn report(hunting: Hunting) {
+fn report(rt: &impl Print, hunting: Hunting) -> io::Result<()> {
     let state = hunting.state;
     let counts = hunting.counts;
-    line(b"frames ", counts.frames);
-    line(b"bytes in frames ", counts.bytes);
-    line(b"places dropped ", state.dropped);
-    line(b"bytes held ", state.used as u64);
+    line(rt, b"frames ", counts.frames)?;
+    line(rt, b"bytes in frames ", counts.bytes)?;
+    line(rt, b"places dropped ", state.dropped)?;
+    line(rt, b"bytes held ", state.used as u64)
 }
 
 // The stream, chunk by chunk, to its end.
-fn hunt(chunk: &mut [u8], store: &mut [u8], output: &mut [u8]) -> Hunting {
+fn hunt(
+    input: &mut impl Read,
+    chunk: &mut [u8],
+    store: &mut [u8],
+    output: &mut [u8],
+) -> io::Result<Hunting> {
     let fresh = frame_hunter::reset();
     let none = Counts {
         frames: 0,
@@ -84,19 +93,22 @@ fn hunt(chunk: &mut [u8], store: &mut [u8], output: &mut [u8]) -> Hunting {
     };
     let mut chunks: u64 = 0;
     while chunks < CHUNKS {
-        let n = io::read_full(0, chunk);
+        let n = reading::full(input, chunk)?;
         if n == 0 {
-            return finished(hunting, store, output);
+            return Ok(finished(hunting, store, output));
         }
         hunting = given(hunting, &chunk[..n], store, output);
         chunks += 1;
     }
-    finished(hunting, store, output)
+    Ok(finished(hunting, store, output))
 }
 
-fn main() {
+fn main(rt: HostRuntime) -> io::Result<()> {
     let mut store = [0u8; 16384];
     let mut output = [0u8; 8192];
     let mut chunk = [0u8; 8192];
-    report(hunt(&mut chunk, &mut store, &mut output));
+    report(
+        &rt,
+        hunt(&mut rt.stdin(), &mut chunk, &mut store, &mut output)?,
+    )
 }

@@ -2,6 +2,9 @@
 // word of its command line, which is what the check is timed with.
 #![tactic(auto)]
 
+use sample_kit::reading;
+use std::{env, io};
+
 fn answered(dictionary: &[u8], n: usize) -> dictionary_rules::Checked {
     if dictionary.len() < n {
         return dictionary_check::check(dictionary);
@@ -15,22 +18,23 @@ fn again(dictionary: &mut [u8; 60001], n: usize, times: usize) -> u32 {
     let mut sum: u32 = 0;
     while i < times {
         dictionary[60000] = (i % 256) as u8;
-        sum = std::num::wrapping_add_u32(sum, dictionary_check::number_of(answered(dictionary, n)));
+        sum = sum.wrapping_add(dictionary_check::number_of(answered(dictionary, n)));
         i += 1;
     }
     sum
 }
 
-fn main() {
+fn main(rt: HostRuntime) -> io::Result<()> {
     let mut dictionary = [0u8; 60001];
-    let n = io::read_full(0, &mut dictionary);
+    let n = reading::full(&mut rt.stdin(), &mut dictionary)?;
     let checked = answered(&dictionary, n);
-    io::print_decimal(1, dictionary_check::number_of(checked) as u64);
-    io::write_all(1, b" ");
-    io::print_decimal(1, dictionary_check::value_of(checked) as u64);
-    io::write_all(1, b"\n");
-    let times = os::arg_count();
+    rt.print(dictionary_check::number_of(checked) as u64)?;
+    rt.write_all(b" ")?;
+    rt.print(dictionary_check::value_of(checked) as u64)?;
+    rt.write_all(b"\n")?;
+    let times = env::args(&rt)?.count();
     if 0 < again(&mut dictionary, n, times) {
-        io::write_all(1, b"refused each time\n");
+        rt.write_all(b"refused each time\n")?;
     }
+    Ok(())
 }

@@ -1,6 +1,7 @@
 // What was counted on the way, and the line that says it.
 use crate::dropped::Run;
 use crate::saying;
+use std::io;
 
 #[derive(Clone, Copy)]
 pub struct Counts {
@@ -23,7 +24,7 @@ pub fn nothing() -> Counts {
 
 // No input is so long that it wraps.
 pub fn sum(a: u64, b: u64) -> u64 {
-    std::num::wrapping_add_u64(a, b)
+    a.wrapping_add(b)
 }
 
 fn one_if(holds: bool) -> u64 {
@@ -50,22 +51,22 @@ pub fn with_message(counts: Counts, repeats: bool) -> Counts {
     }
 }
 
-pub fn summary(counts: Counts) {
-    saying::counted(counts.messages, b" message", b" messages");
+pub fn summary(rt: &impl Print, counts: Counts) -> io::Result<()> {
+    saying::counted(rt, counts.messages, b" message", b" messages")?;
     if 0 < counts.repeating {
-        saying::number(b", ", counts.repeating);
-        saying::say(b" with a tag that stands more than once");
+        saying::number(rt, b", ", counts.repeating)?;
+        saying::say(rt, b" with a tag that stands more than once")?;
     }
-    saying::say(b"; ");
-    saying::counted(counts.dropped, b" byte dropped", b" bytes dropped");
+    saying::say(rt, b"; ")?;
+    saying::counted(rt, counts.dropped, b" byte dropped", b" bytes dropped")?;
     if 0 < counts.runs {
-        saying::say(b" in ");
-        saying::counted(counts.runs, b" run", b" runs");
+        saying::say(rt, b" in ")?;
+        saying::counted(rt, counts.runs, b" run", b" runs")?;
     }
     if 0 < counts.line_breaks {
-        saying::say(b"; ");
-        saying::counted(counts.line_breaks, b" byte", b" bytes");
-        saying::say(b" of line breaks outside messages");
+        saying::say(rt, b"; ")?;
+        saying::counted(rt, counts.line_breaks, b" byte", b" bytes")?;
+        saying::say(rt, b" of line breaks outside messages")?;
     }
-    saying::say(b"\n");
+    saying::say(rt, b"\n")
 }

@@ -1,6 +1,7 @@
 // What the framer dropped: runs of bytes between messages, shown as far as they can be read.
 use crate::counting::sum;
 use crate::{fields, integrity, saying};
+use std::io;
 
 // A run goes from its first byte that is no line break to its last one. `leading` line breaks stand before it and `trailing` behind it so far.
 // Of its bytes, and those behind it, the first `kept` are in the lent memory.
@@ -147,72 +148,74 @@ fn extent_of(bytes: &[u8]) -> Extent {
     fields_extent(sample_texts::first(bytes, next_start(bytes, true)))
 }
 
-fn heading(place: u64, size: usize) {
-    saying::number(b"  at ", place);
-    saying::say(b", ");
-    saying::counted(size as u64, b" byte", b" bytes");
+fn heading(rt: &impl Print, place: u64, size: usize) -> io::Result<()> {
+    saying::number(rt, b"  at ", place)?;
+    saying::say(rt, b", ")?;
+    saying::counted(rt, size as u64, b" byte", b" bytes")
 }
 
 // Shows a text that starts with `8=`, and answers where it ends. `whole`: it was kept to its end.
-fn damaged(bytes: &[u8], place: u64, whole: bool) -> usize {
+fn damaged(rt: &impl Print, bytes: &[u8], place: u64, whole: bool) -> io::Result<usize> {
     let extent = extent_of(bytes);
     let message = sample_texts::first(bytes, extent.end);
-    heading(place, message.len());
-    saying::say(b", read as a message:\n");
+    heading(rt, place, message.len())?;
+    saying::say(rt, b", read as a message:\n")?;
     let ends = whole || extent.last < bytes.len();
-    let repeated = fields::listed(message, place, ends);
-    integrity::judged(message, extent.last, ends);
-    fields::repeats(repeated);
-    extent.end
+    let repeated = fields::listed(rt, message, place, ends)?;
+    integrity::judged(rt, message, extent.last, ends)?;
+    fields::repeats(rt, repeated)?;
+    Ok(extent.end)
 }
 
 // Shows the piece at the start of the bytes, and answers where it ends.
-fn piece(bytes: &[u8], place: u64, whole: bool) -> usize {
+fn piece(rt: &impl Print, bytes: &[u8], place: u64, whole: bool) -> io::Result<usize> {
     if is_line_break(sample_texts::byte_at(bytes, 0)) {
-        return 1;
+        return Ok(1);
     }
     if may_start(bytes, 0, false) {
-        return damaged(bytes, place, whole);
+        return damaged(rt, bytes, place, whole);
     }
     let end = next_start(bytes, false);
-    heading(place, end);
-    saying::say(b", where no message starts: ");
-    saying::excerpt(sample_texts::first(bytes, end));
-    saying::say(b"\n");
-    end
+    heading(rt, place, end)?;
+    saying::say(rt, b", where no message starts: ")?;
+    saying::excerpt(rt, sample_texts::first(bytes, end))?;
+    saying::say(rt, b"\n")?;
+    Ok(end)
 }
 
-fn pieces(bytes: &[u8], first: u64, whole: bool) {
+fn pieces(rt: &impl Print, bytes: &[u8], first: u64, whole: bool) -> io::Result<()> {
     let mut at: usize = 0;
     let mut turns: usize = 0;
     while turns < 8192 {
         if bytes.len() <= at {
-            return;
+            return Ok(());
         }
         let place = sum(first, at as u64);
-        at = std::num::wrapping_add_usize(at, piece(sample_texts::from(bytes, at), place, whole));
+        at = at.wrapping_add(piece(rt, sample_texts::from(bytes, at), place, whole)?);
         turns += 1;
     }
+    Ok(())
 }
 
 // Shows a run that has ended.
-pub fn show(run: Run, memory: &[u8]) {
+pub fn show(rt: &impl Print, run: Run, memory: &[u8]) -> io::Result<()> {
     if run.length == 0 {
-        return;
+        return Ok(());
     }
-    saying::number(b"dropped at ", run.first);
-    saying::say(b", ");
-    saying::counted(run.length, b" byte\n", b" bytes\n");
+    saying::number(rt, b"dropped at ", run.first)?;
+    saying::say(rt, b", ")?;
+    saying::counted(rt, run.length, b" byte\n", b" bytes\n")?;
     if run.length <= run.kept as u64 {
         pieces(
+            rt,
             sample_texts::first(memory, run.length as usize),
             run.first,
             true,
-        );
-        return;
+        )?;
+        return Ok(());
     }
-    pieces(sample_texts::first(memory, run.kept), run.first, false);
-    saying::say(b"  and ");
-    saying::counted(run.length - run.kept as u64, b" byte", b" bytes");
-    saying::say(b" more, which were not kept\n");
+    pieces(rt, sample_texts::first(memory, run.kept), run.first, false)?;
+    saying::say(rt, b"  and ")?;
+    saying::counted(rt, run.length - run.kept as u64, b" byte", b" bytes")?;
+    saying::say(rt, b" more, which were not kept\n")
 }

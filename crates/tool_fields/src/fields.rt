@@ -4,6 +4,7 @@ ghost use Rattle.std.specs.Prelude.{◌≤◌, length};
 use crate::counting::sum;
 use crate::saying;
 use field_rules::{Field, FieldRead, Found};
+use std::io;
 
 const SEPARATOR: u8 = 1;
 
@@ -75,7 +76,7 @@ fn met(before: Standing, place: usize) -> Standing {
         };
     }
     Standing {
-        times: std::num::wrapping_add_usize(before.times, 1),
+        times: before.times.wrapping_add(1),
         first: before.first,
     }
 }
@@ -108,46 +109,55 @@ fn stands_in_no_group(tag: u32) -> bool {
 }
 
 // What can be known of a tag that was read before.
-fn again(tag: u32, place: u64) {
-    saying::number(b"   <- ", field_numbers::wide(tag) as u64);
-    saying::number(b" again, first at ", place);
+fn again(rt: &impl Print, tag: u32, place: u64) -> io::Result<()> {
+    saying::number(rt, b"   <- ", field_numbers::wide(tag) as u64)?;
+    saying::number(rt, b" again, first at ", place)?;
     if stands_in_no_group(tag) {
-        saying::say(b": a repeat, for FIX has it in no group");
+        saying::say(rt, b": a repeat, for FIX has it in no group")?;
     }
+    Ok(())
 }
 
 // Why a text is no field. Where the message was not kept to its end, a text that reaches there may go on.
-fn unreadable(message: &[u8], field: Field, whole: bool) {
+fn unreadable(rt: &impl Print, message: &[u8], field: Field, whole: bool) -> io::Result<()> {
     let text = text_of(message, field);
-    saying::excerpt(text);
+    saying::excerpt(rt, text)?;
     let rest = sample_texts::from(message, field.first);
     if text.len() < rest.len() {
         if let Found::Nothing = field_tagvalue::find(text, b'=') {
-            saying::say(b"   <- no field: no `=`");
-            return;
+            saying::say(rt, b"   <- no field: no `=`")?;
+            return Ok(());
         }
-        saying::say(b"   <- no field: what stands before `=` is no tag");
-        return;
+        saying::say(rt, b"   <- no field: what stands before `=` is no tag")?;
+        return Ok(());
     }
     if whole {
-        saying::say(b"   <- no field: no separator behind it");
+        saying::say(rt, b"   <- no field: no separator behind it")?;
     } else {
-        saying::say(b"   <- not kept to its end");
+        saying::say(rt, b"   <- not kept to its end")?;
     }
+    Ok(())
 }
 
-fn line(message: &[u8], field: Field, place: u64, before: Standing, whole: bool) {
-    saying::column(sum(place, field.first as u64));
+fn line(
+    rt: &impl Print,
+    message: &[u8],
+    field: Field,
+    place: u64,
+    before: Standing,
+    whole: bool,
+) -> io::Result<()> {
+    saying::column(rt, sum(place, field.first as u64))?;
     if field.tag == 0 {
-        unreadable(message, field, whole);
-        saying::say(b"\n");
-        return;
+        unreadable(rt, message, field, whole)?;
+        saying::say(rt, b"\n")?;
+        return Ok(());
     }
-    saying::escaped(text_of(message, field));
+    saying::escaped(rt, text_of(message, field))?;
     if 0 < before.times {
-        again(field.tag, sum(place, before.first as u64));
+        again(rt, field.tag, sum(place, before.first as u64))?;
     }
-    saying::say(b"\n");
+    saying::say(rt, b"\n")
 }
 
 // A tag is counted when it is read for the second time.
@@ -167,13 +177,16 @@ fn with_line(repeated: Repeated, tag: u32, before: Standing) -> Repeated {
     }
 }
 
-fn more_follows() {
-    saying::say(b"  more follows: the first 1,024 fields are listed, and tags that stand again");
-    saying::say(b" are marked among them\n");
+fn more_follows(rt: &impl Print) -> io::Result<()> {
+    saying::say(
+        rt,
+        b"  more follows: the first 1,024 fields are listed, and tags that stand again",
+    )?;
+    saying::say(rt, b" are marked among them\n")
 }
 
 // Lists the fields of the message at a place of the input, and answers which tags stand there more than once.
-pub fn listed(message: &[u8], place: u64, whole: bool) -> Repeated {
+pub fn listed(rt: &impl Print, message: &[u8], place: u64, whole: bool) -> io::Result<Repeated> {
     let mut tags = [0u32; 1024];
     let mut places = [0usize; 1024];
     let mut repeated = Repeated {
@@ -184,11 +197,11 @@ pub fn listed(message: &[u8], place: u64, whole: bool) -> Repeated {
     let mut i: usize = 0;
     while i < 1024 {
         if message.len() <= at {
-            return repeated;
+            return Ok(repeated);
         }
         let field = field_at(message, at);
         let before = stood_before(&tags, &places, i, field.tag);
-        line(message, field, place, before, whole);
+        line(rt, message, field, place, before, whole)?;
         tags[i] = field.tag;
         places[i] = at;
         repeated = with_line(repeated, field.tag, before);
@@ -196,9 +209,9 @@ pub fn listed(message: &[u8], place: u64, whole: bool) -> Repeated {
         i += 1;
     }
     if at < message.len() {
-        more_follows();
+        more_follows(rt)?;
     }
-    repeated
+    Ok(repeated)
 }
 
 pub fn is_repeating(repeated: Repeated) -> bool {
@@ -209,12 +222,18 @@ pub fn is_repeating(repeated: Repeated) -> bool {
 }
 
 // What can be known of tags that may stand in a group.
-pub fn repeats(repeated: Repeated) {
+pub fn repeats(rt: &impl Print, repeated: Repeated) -> io::Result<()> {
     if repeated.grouped == 0 {
-        return;
+        return Ok(());
     }
-    saying::say(b"  ");
-    saying::counted(repeated.grouped, b" tag stands", b" tags stand");
-    saying::say(b" more than once: each entry of a repeating group may have its own, elsewhere");
-    saying::say(b" the later value takes the place of the earlier. A dictionary tells which\n");
+    saying::say(rt, b"  ")?;
+    saying::counted(rt, repeated.grouped, b" tag stands", b" tags stand")?;
+    saying::say(
+        rt,
+        b" more than once: each entry of a repeating group may have its own, elsewhere",
+    )?;
+    saying::say(
+        rt,
+        b" the later value takes the place of the earlier. A dictionary tells which\n",
+    )
 }

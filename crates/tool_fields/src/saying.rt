@@ -1,44 +1,48 @@
 // Writes to standard output.
 ghost use Rattle.std.specs.Prelude.{◌≤◌, length};
 
+use std::io;
+
 // How many bytes are shown of a text that is no field.
 const EXCERPT: usize = 64;
 
-pub fn say(text: &[u8]) {
-    io::write_all(1, text);
+pub fn say(rt: &impl Print, text: &[u8]) -> io::Result<()> {
+    rt.write_all(text)
 }
 
 // A text, and the number that it goes on with.
-pub fn number(text: &[u8], n: u64) {
-    io::write_all(1, text);
-    io::print_decimal(1, n);
+pub fn number(rt: &impl Print, text: &[u8], n: u64) -> io::Result<()> {
+    rt.write_all(text)?;
+    rt.print(n)
 }
 
 // So many of a thing.
-pub fn counted(n: u64, one: &[u8], many: &[u8]) {
-    io::print_decimal(1, n);
+pub fn counted(rt: &impl Print, n: u64, one: &[u8], many: &[u8]) -> io::Result<()> {
+    rt.print(n)?;
     if n == 1 {
-        say(one);
+        say(rt, one)?;
     } else {
-        say(many);
+        say(rt, many)?;
     }
+    Ok(())
 }
 
-fn space_below(place: u64, bound: u64) {
+fn space_below(rt: &impl Print, place: u64, bound: u64) -> io::Result<()> {
     if place < bound {
-        say(b" ");
+        say(rt, b" ")?;
     }
+    Ok(())
 }
 
 // A place, so that places up to 999,999 stand in a column.
-pub fn column(place: u64) {
-    space_below(place, 10);
-    space_below(place, 100);
-    space_below(place, 1000);
-    space_below(place, 10000);
-    space_below(place, 100000);
-    number(b"  ", place);
-    say(b"  ");
+pub fn column(rt: &impl Print, place: u64) -> io::Result<()> {
+    space_below(rt, place, 10)?;
+    space_below(rt, place, 100)?;
+    space_below(rt, place, 1000)?;
+    space_below(rt, place, 10000)?;
+    space_below(rt, place, 100000)?;
+    number(rt, b"  ", place)?;
+    say(rt, b"  ")
 }
 
 fn is_plain(byte: u8) -> bool {
@@ -67,35 +71,36 @@ fn plain_end(bytes: &[u8], from: usize) -> usize
 }
 
 // A byte that does not stand for itself: a backslash twice, any other as `\xNN`.
-fn escape(byte: u8) {
+fn escape(rt: &impl Print, byte: u8) -> io::Result<()> {
     if byte == b'\\' {
-        say(b"\\\\");
-        return;
+        say(rt, b"\\\\")?;
+        return Ok(());
     }
-    say(b"\\x");
-    io::print_hex(1, byte as u64, 2);
+    say(rt, b"\\x")?;
+    print!(rt; "{byte:02x}")
 }
 
-pub fn escaped(bytes: &[u8]) {
+pub fn escaped(rt: &impl Print, bytes: &[u8]) -> io::Result<()> {
     let mut at: usize = 0;
     while at < bytes.len() {
         let end = plain_end(bytes, at);
-        say(&bytes[at..end]);
+        say(rt, &bytes[at..end])?;
         if end == bytes.len() {
-            return;
+            return Ok(());
         }
-        escape(bytes[end]);
+        escape(rt, bytes[end])?;
         at = end + 1;
     }
+    Ok(())
 }
 
 // The first bytes of a text, and how many more there are.
-pub fn excerpt(bytes: &[u8]) {
+pub fn excerpt(rt: &impl Print, bytes: &[u8]) -> io::Result<()> {
     if bytes.len() <= EXCERPT {
-        escaped(bytes);
-        return;
+        escaped(rt, bytes)?;
+        return Ok(());
     }
-    escaped(sample_texts::first(bytes, EXCERPT));
-    number(b" .. and ", (bytes.len() - EXCERPT) as u64);
-    say(b" bytes more");
+    escaped(rt, sample_texts::first(bytes, EXCERPT))?;
+    number(rt, b" .. and ", (bytes.len() - EXCERPT) as u64)?;
+    say(rt, b" bytes more")
 }

@@ -3,7 +3,7 @@ use mathlib.Core.Path.{◌≡◌, sym, ap, ◌∙◌}
 use native.Mathlib.Omega.{arith}
 use borrow.Author.Rules.{rules}
 use Rattle.builder.specs.Build.{built_told, untouched, shown, build_of}
-use Rattle.builder.specs.ReadingLaws.{judged-refuses, judged-reads, reads_short}
+use Rattle.builder.proofs.ReadingLaws.{judged-refuses, judged-reads, reads_short}
 use Rattle.builder.proofs.build.Statement.{statement}
 use Rattle.builder.proofs.build.Tie as tie
 

@@ -2,7 +2,7 @@
 use mathlib.Core.Path.{sym, ap, ◌∙◌}
 use borrow.Author.Rules.{rules}
 use Rattle.builder.specs.Build.{built_told}
-use Rattle.builder.specs.ReadingLaws.{stays-shown, blanks-shown}
+use Rattle.builder.proofs.ReadingLaws.{stays-shown, blanks-shown}
 use Rattle.builder.proofs.build_prepared.Statement.{statement}
 use Rattle.builder.proofs.build_prepared.Tie as tie
 

@@ -11,11 +11,11 @@ use borrow.Author.Tests.{not-true, not-false}
 use borrow.Author.Rules.{rules}
 use Rattle.builder.specs.Build.{shown}
 use Rattle.builder.specs.Through.{message_through}
-use Rattle.builder.specs.ReadingLaws.{judged-refuses, judged-reads, reads_short, reads-lent, told-untouched, told-read}
-use Rattle.builder.specs.ThroughLaws.{over_none, over-some}
+use Rattle.builder.proofs.ReadingLaws.{judged-refuses, judged-reads, reads_short, reads-lent, told-untouched, told-read}
+use Rattle.builder.proofs.ThroughLaws.{over_none, over-some}
 use Rattle.dictionary_chains.specs.Chain.{index_words}
 use Rattle.dictionary_prepared.specs.Memory.{front, head_words, is_prepared, records_in, index_in, tables_in}
-use Rattle.dictionary_prepared.specs.MemoryLaws.{index-size, prepared-room, prepared_copy}
+use Rattle.dictionary_prepared.proofs.MemoryLaws.{index-size, prepared-room, prepared_copy}
 use Rattle.builder.proofs.build_unblanked.Statement.{statement}
 use Rattle.builder.proofs.build_unblanked.Tie as tie
 

@@ -6,10 +6,10 @@ use native.Mathlib.Omega.{arith}
 use lib.ListN.{length, length-replicate}
 use borrow.Author.Rules.{rules}
 use Rattle.dictionary_chains.specs.Chain.{index_words}
-use Rattle.dictionary_prepared.specs.MemoryLaws.{index-length, index-left, zero_passes}
-use Rattle.builder.specs.HeadedLaws.{bytes_of}
-use Rattle.builder.specs.ReadingLaws.{refused-dictionary, passing_dictionary, prepared_by}
-use Rattle.builder.specs.ThroughLaws.{through_means, sound_none}
+use Rattle.dictionary_prepared.proofs.MemoryLaws.{index-length, index-left, zero_passes}
+use Rattle.builder.proofs.HeadedLaws.{bytes_of}
+use Rattle.builder.proofs.ReadingLaws.{refused-dictionary, passing_dictionary, prepared_by}
+use Rattle.builder.proofs.ThroughLaws.{through_means, sound_none}
 use Rattle.builder.proofs.read_checked.Statement.{statement}
 use Rattle.builder.proofs.read_checked.Tie as tie
 

@@ -3,7 +3,7 @@ use mathlib.Core.Path.{sym, ◌∙◌}
 use native.Mathlib.Omega.{arith}
 use borrow.Author.Rules.{rules}
 use Rattle.builder.specs.Reading.{HeaderEnds}
-use Rattle.builder.specs.ReadingLaws.{begun-refused, body_refused, body_unfollowed, body-followed}
+use Rattle.builder.proofs.ReadingLaws.{begun-refused, body_refused, body_unfollowed, body-followed}
 use Rattle.builder.proofs.read_message.Statement.{statement}
 use Rattle.builder.proofs.read_message.Tie as tie
 

@@ -1,7 +1,7 @@
 -- `refused_first` meets its contract: each return cites the law of its way.
 use mathlib.Core.Path.{◌≡◌, sym, ◌∙◌}
 use borrow.Author.Rules.{rules}
-use Rattle.builder.specs.ReadingLaws.{first-separator, first-few, first_long, first-none}
+use Rattle.builder.proofs.ReadingLaws.{first-separator, first-few, first_long, first-none}
 use Rattle.builder.proofs.refused_first.Statement.{statement}
 use Rattle.builder.proofs.refused_first.Tie as tie
 

@@ -1,7 +1,7 @@
 -- `show` meets its contract: what was read is shown, with blank records behind it.
 use mathlib.Core.Path.{refl}
 use borrow.Author.Rules.{rules}
-use Rattle.builder.specs.ReadingLaws.{shows-read}
+use Rattle.builder.proofs.ReadingLaws.{shows-read}
 use Rattle.builder.proofs.show.Statement.{statement}
 use Rattle.builder.proofs.show.Tie as tie
 

@@ -1,7 +1,7 @@
 -- `tags_of` meets its contract: one law for each way.
 use mathlib.Core.Path.{sym, ◌∙◌}
 use borrow.Author.Rules.{rules}
-use Rattle.builder.specs.TagLaws.{kept-none, kept_half, kept-both}
+use Rattle.builder.proofs.TagLaws.{kept-none, kept_half, kept-both}
 use Rattle.builder.proofs.tags_of.Statement.{statement}
 use Rattle.builder.proofs.tags_of.Tie as tie
 

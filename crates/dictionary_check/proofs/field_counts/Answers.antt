@@ -3,7 +3,7 @@ use mathlib.Core.Path.{◌≡◌, sym, ◌∙◌}
 use mathlib.Core.Bool.{true, false}
 use Prim.Native.Nat.{ℕ}
 use native.Mathlib.Omega.{arith}
-use Rattle.dictionary_rules.specs.Passing.{passed-field}
+use Rattle.dictionary_rules.proofs.PassingLaws.{passed-field}
 use Rattle.dictionary_check.proofs.field_counts.Goals as goal
 
 refuses : {A : Type 0} → false ≡ true → A

@@ -1,6 +1,7 @@
 use Prim.Native.Nat.{◌+◌}
 use native.Mathlib.Omega.{arith}
-use Rattle.dictionary_rules.specs.Passing.{Passed, passed_none, passed_on, with_field}
+use Rattle.dictionary_rules.specs.Passing.{Passed, with_field}
+use Rattle.dictionary_rules.proofs.PassingLaws.{passed_none, passed_on}
 use Rattle.dictionary_rules.specs.declared.State.TheVariants.{Inside}
 use Rattle.dictionary_check.proofs.pass_fields.Goals as goal
 

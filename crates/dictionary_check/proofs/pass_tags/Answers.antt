@@ -3,7 +3,7 @@ use Prim.Native.Nat.{◌+◌, ◌≤◌, ◌<◌}
 use native.Mathlib.Omega.{arith}
 use lib.ListN.{length}
 use Rattle.dictionary_rules.specs.RecordsLaws.{record_falls}
-use Rattle.dictionary_rules.specs.Passing.{passed_none, passed_on, passed-tag}
+use Rattle.dictionary_rules.proofs.PassingLaws.{passed_none, passed_on, passed-tag}
 use Rattle.dictionary_check.proofs.pass_tags.Goals as goal
 
 pub loop-tag-init : goal.loop-tag-init

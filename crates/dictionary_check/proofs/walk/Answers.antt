@@ -7,7 +7,8 @@ use Rattle.dictionary_rules.specs.RecordsLaws.{record_falls}
 use Rattle.dictionary_rules.specs.declared.RecordRead.TheVariants.{Whole}
 use Rattle.dictionary_rules.specs.Check.{outcome}
 use Rattle.dictionary_rules.specs.CheckLaws.{walk_end, walk-bad, walk-refuses}
-use Rattle.dictionary_rules.specs.Passing.{Passed, passed_none, passed_on, passed-step}
+use Rattle.dictionary_rules.specs.Passing.{Passed}
+use Rattle.dictionary_rules.proofs.PassingLaws.{passed_none, passed_on, passed-step}
 use Rattle.dictionary_rules.specs.declared.State.TheVariants.{TopLevel}
 use Rattle.dictionary_check.proofs.walk.Goals as goal
 

@@ -1,7 +1,7 @@
 -- `has_room` meets its contract: each return cites the law of its way.
 use mathlib.Core.Path.{sym}
 use native.Mathlib.Omega.{arith}
-use Rattle.dictionary_directory.specs.LayingLaws.{room_far, room_near}
+use Rattle.dictionary_directory.proofs.LayingFacts.{room_far, room_near}
 use Rattle.dictionary_directory.proofs.has_room.Statement.{statement}
 use Rattle.dictionary_directory.proofs.has_room.Tie as tie
 

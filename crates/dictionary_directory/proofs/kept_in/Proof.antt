@@ -4,7 +4,7 @@ use Prim.Native.Nat.{ℕ, ◌+◌, ◌*◌, ◌<◌}
 use native.Mathlib.Omega.{arith}
 use borrow.Author.Rules.{rules}
 use Rattle.dictionary_directory.specs.Directory.{block_at, kept_in}
-use Rattle.dictionary_directory.specs.KeptLaws.{block_none, block_cut, block_other, block_long, block_found}
+use Rattle.dictionary_directory.proofs.KeptLaws.{block_none, block_cut, block_other, block_long, block_found}
 use Rattle.dictionary_directory.specs.declared.Kept.TheVariants.{Table}
 use Rattle.dictionary_directory.proofs.kept_in.Statement.{statement}
 use Rattle.dictionary_directory.proofs.kept_in.Tie as tie

@@ -1,7 +1,7 @@
 -- `lay_listed` meets its contract: the block of the tags that are listed is put.
 use native.Mathlib.Omega.{arith}
 use borrow.Author.Rules.{rules}
-use Rattle.dictionary_directory.specs.LayingLaws.{listed-put}
+use Rattle.dictionary_directory.proofs.LayingFacts.{listed-put}
 use Rattle.dictionary_directory.proofs.lay_listed.Statement.{statement}
 use Rattle.dictionary_directory.proofs.lay_listed.Tie as tie
 

@@ -1,7 +1,7 @@
 -- `table_at` meets its contract: each return cites the law of its way.
 use mathlib.Core.Path.{sym, ◌∙◌}
 use native.Mathlib.Omega.{arith}
-use Rattle.dictionary_directory.specs.KeptLaws.{kept-short, kept-beyond, kept_near}
+use Rattle.dictionary_directory.proofs.KeptLaws.{kept-short, kept-beyond, kept_near}
 use Rattle.dictionary_directory.proofs.table_at.Statement.{statement}
 use Rattle.dictionary_directory.proofs.table_at.Tie as tie
 

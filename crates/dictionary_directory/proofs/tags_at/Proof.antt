@@ -1,7 +1,7 @@
 -- `tags_at` meets its contract: each return cites the law of its way.
 use mathlib.Core.Path.{sym, ◌∙◌}
 use native.Mathlib.Omega.{arith}
-use Rattle.dictionary_directory.specs.KeptLaws.{tags-short, tags-beyond, tags_near}
+use Rattle.dictionary_directory.proofs.KeptLaws.{tags-short, tags-beyond, tags_near}
 use Rattle.dictionary_directory.proofs.tags_at.Statement.{statement}
 use Rattle.dictionary_directory.proofs.tags_at.Tie as tie
 

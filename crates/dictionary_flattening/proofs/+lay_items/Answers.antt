@@ -3,7 +3,7 @@ use Rattle.dictionary_rules.specs.RecordsLaws.{record_falls}
 use Rattle.dictionary_meaning_rules.proofs.LayingLaws.{lay_advances, lay_field, lay_field_full, lay_group, lay_group_broken, lay_group-empty}
 use Rattle.dictionary_meaning_rules.proofs.LayingLaws.{lay_group_full, lay_component, lay_component_broken, lay_component_still, lay_close}
 use Rattle.dictionary_meaning_rules.proofs.LayingLaws.{lay_deep, lay_down}
-use Rattle.dictionary_flattening.specs.Leaps.{leads_past, leads_on}
+use Rattle.dictionary_flattening.proofs.LeapsLaws.{leads_past, leads_on}
 use Rattle.dictionary_flattening.proofs.Arms.{unread, top_level, reached, read_as, laid_as}
 use Rattle.dictionary_flattening.proofs.+lay_items.Goals as goal
 

@@ -6,7 +6,7 @@ use native.Mathlib.Omega.{arith}
 use Rattle.dictionary_rules.specs.Index.{component_at}
 use Rattle.dictionary_meaning_rules.specs.Laying.{laying, lay_items}
 use Rattle.dictionary_meaning_rules.specs.MessageTable.{most_calls, as_table, placed_table}
-use Rattle.dictionary_flattening.specs.Leaps.{leaps_none, leads_items}
+use Rattle.dictionary_flattening.proofs.LeapsLaws.{leaps_none, leads_items}
 use Rattle.dictionary_flattening.proofs.Arms.{laid_as}
 use Rattle.dictionary_flattening.proofs.placed_table.Goals as goal
 

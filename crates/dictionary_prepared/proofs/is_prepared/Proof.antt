@@ -1,7 +1,7 @@
 -- `is_prepared` meets its contract: each test that fails answers false at once, and the last one is the answer.
 use mathlib.Core.Path.{sym}
 use borrow.Author.Rules.{rules}
-use Rattle.dictionary_prepared.specs.MemoryLaws.{few_words, other-first, other-second, by_length}
+use Rattle.dictionary_prepared.proofs.MemoryLaws.{few_words, other-first, other-second, by_length}
 use Rattle.dictionary_prepared.proofs.is_prepared.Statement.{statement}
 use Rattle.dictionary_prepared.proofs.is_prepared.Tie as tie
 

@@ -9,9 +9,9 @@ use borrow.Rule.Slice.PartMut.{same_len_mid}
 use Rattle.dictionary_chains.specs.Chain.{index_words}
 use Rattle.dictionary_rules.specs.Check.{check_of}
 use Rattle.dictionary_rules.specs.declared.Checked.TheVariants.{Passes}
-use Rattle.dictionary_prepared.specs.MemoryLaws.{zero_passes, passes_short, index-left, index-length}
+use Rattle.dictionary_prepared.proofs.MemoryLaws.{zero_passes, passes_short, index-left, index-length}
 use Rattle.dictionary_prepared.specs.Memory.{head_words, index_for}
-use Rattle.dictionary_prepared.specs.MemoryLaws.{prepare_few, prepare_small, prepare_refused, prepare_ready, ready_left, rest-laid}
+use Rattle.dictionary_prepared.proofs.MemoryLaws.{prepare_few, prepare_small, prepare_refused, prepare_ready, ready_left, rest-laid}
 use Rattle.dictionary_directory.specs.Directory.{lay_tables}
 use Rattle.dictionary_prepared.proofs.prepare.Statement.{statement}
 use Rattle.dictionary_prepared.proofs.prepare.Tie as tie

@@ -8,7 +8,7 @@ use lib.ListN.{length, set, length-set}
 use lib.Seq.{paste, paste-zero}
 use Rattle.dictionary_chains.specs.Chain.{index_words}
 use Rattle.dictionary_prepared.specs.Memory.{first_stamp, second_stamp}
-use Rattle.dictionary_prepared.specs.MemoryLaws.{head_grows, head_done}
+use Rattle.dictionary_prepared.proofs.MemoryLaws.{head_grows, head_done}
 use Rattle.dictionary_prepared.proofs.put_head.Statement.{statement}
 use Rattle.dictionary_prepared.proofs.put_head.Tie as tie
 

@@ -4,7 +4,7 @@ use native.Mathlib.Omega.{arith}
 use lib.ListN.{length}
 use Rattle.dictionary_layout_rules.specs.Table.{siblings_from, link_at}
 use Rattle.dictionary_tables_rules.specs.Laid.{part_size}
-use Rattle.dictionary_layout_rules.specs.Tabled.{stands-length}
+use Rattle.dictionary_layout_rules.proofs.TabledLaws.{stands-length}
 use Rattle.dictionary_pressing.specs.Sizing.{least, least-within, size_rows, size-start, counted_most, part_most, parts-on, parts_in, parts-end}
 use Rattle.dictionary_pressing.proofs.table_size.Goals as goal
 use Rattle.dictionary_pressing.proofs.table_size.Goals.{After-own_count-then-rows-row-eq1}

@@ -6,7 +6,7 @@ use Rattle.frame_hunter_rules.specs.Bytes.{number_of_hunter}
 use Rattle.face_framers.specs.declared.HunterState.{HunterState}
 use Rattle.face_framers.specs.declared.HunterReply.{HunterReply}
 use Rattle.face_framers.specs.States.{hunter_told, hunter_fresh}
-use Rattle.face_framers.specs.StateLaws.{hunter-zeros}
+use Rattle.face_framers.proofs.StateLaws.{hunter-zeros}
 use Rattle.face_framers.proofs.hunter_reset.Goals as goal
 
 pub returns : goal.returns

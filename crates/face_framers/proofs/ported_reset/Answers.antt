@@ -6,7 +6,7 @@ use Rattle.frame_parser_rules.specs.Framer.{number_of_parser}
 use Rattle.face_framers.specs.declared.PortedState.{PortedState}
 use Rattle.face_framers.specs.declared.PortedReply.{PortedReply}
 use Rattle.face_framers.specs.States.{ported_told, ported_fresh}
-use Rattle.face_framers.specs.StateLaws.{ported-zeros}
+use Rattle.face_framers.proofs.StateLaws.{ported-zeros}
 use Rattle.face_framers.proofs.ported_reset.Goals as goal
 
 pub returns : goal.returns

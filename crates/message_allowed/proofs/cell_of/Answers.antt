@@ -1,6 +1,6 @@
 use mathlib.Core.Path.{sym, ◌∙◌}
 use native.Mathlib.Omega.{arith}
-use Rattle.message_allowed.specs.KnownLaws.{way_start, way_end, way_small, way_rise, way_hit, way_on}
+use Rattle.message_allowed.proofs.KnownLaws.{way_start, way_end, way_small, way_rise, way_hit, way_on}
 use Rattle.message_allowed.proofs.cell_of.Goals as goal
 
 pub bucket_of-cell-requires : goal.bucket_of-cell-requires

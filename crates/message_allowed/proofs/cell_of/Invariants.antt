@@ -2,7 +2,7 @@
 use mathlib.Core.Path.{◌≡◌}
 use Prim.Native.Nat.{◌-◌}
 use lib.ListN.{get_or}
-use Rattle.message_allowed.specs.KnownLaws.{Way}
+use Rattle.message_allowed.proofs.KnownLaws.{Way}
 use Rattle.message_allowed.proofs.cell_of.Given as goal
 
 abbrev pub invariant-loop-link : goal.invariant-loop-link

@@ -9,7 +9,7 @@ use Rattle.message_maps.specs.Rows.{row_at, rows_before, level_of}
 use Rattle.message_lent_rules.specs.Lent.{row_allowed}
 use Rattle.message_allowed.specs.Distinct.{latest, starts_run}
 use Rattle.message_allowed.specs.Branch.{cell_of, tag_of}
-use Rattle.message_allowed.specs.TurnLaws.{turn_start, turn_end, turn_sized, turn_refused, turn_inside, turn_deep, turn_length, turn_on}
+use Rattle.message_allowed.proofs.TurnLaws.{turn_start, turn_end, turn_sized, turn_refused, turn_inside, turn_deep, turn_length, turn_on}
 use Rattle.message_allowed.proofs.judge.Goals as goal
 use Rattle.message_allowed.proofs.judge.Goals.{After-cell_of-cell}
 

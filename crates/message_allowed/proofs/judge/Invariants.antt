@@ -3,7 +3,7 @@
 use mathlib.Core.Path.{◌≡◌}
 use Prim.Native.Nat.{◌-◌}
 use lib.ListN.{length}
-use Rattle.message_allowed.specs.TurnLaws.{Turn}
+use Rattle.message_allowed.proofs.TurnLaws.{Turn}
 use Rattle.message_allowed.proofs.judge.Given as goal
 
 abbrev pub invariant-loop-i : goal.invariant-loop-i

@@ -6,7 +6,7 @@ use native.Mathlib.Omega.{arith}
 use borrow.Author.Rules.{rules}
 use lib.ListN.{length}
 use Rattle.build_rules.specs.Beginning.{start_of}
-use Rattle.builder.specs.TagLaws.{BothLie, both_lie, headers_kept, headers_listed}
+use Rattle.builder.proofs.TagLaws.{BothLie, both_lie, headers_kept, headers_listed}
 use Rattle.builder.proofs.beginning.begin_by.Statement.{statement}
 use Rattle.builder.proofs.beginning.begin_by.Tie as tie
 

@@ -6,7 +6,7 @@ use borrow.Author.Rules.{rules}
 use lib.ListN.{length-replicate}
 use Rattle.dictionary_directory.specs.Directory.{tags_listed, tag_words}
 use Rattle.build_rules.specs.Beginning.{start_of}
-use Rattle.builder.specs.TagLaws.{TagsLaid, tags-laid}
+use Rattle.builder.proofs.TagLaws.{TagsLaid, tags-laid}
 use Rattle.builder.proofs.beginning.begin_listed.Statement.{statement}
 use Rattle.builder.proofs.beginning.begin_listed.Tie as tie
 

@@ -5,7 +5,7 @@ use native.Mathlib.Omega.{arith}
 use borrow.Author.Rules.{rules}
 use lib.ListN.{length}
 use Rattle.dictionary_layout_rules.specs.Tree.{holds_tag}
-use Rattle.builder.specs.TagLaws.{BothLie, both_lie, trailers-kept, trailers-listed}
+use Rattle.builder.proofs.TagLaws.{BothLie, both_lie, trailers-kept, trailers-listed}
 use Rattle.builder.proofs.finishing.follows.Statement.{statement}
 use Rattle.builder.proofs.finishing.follows.Tie as tie
 

@@ -5,7 +5,7 @@ use borrow.Author.Rules.{rules}
 use lib.ListN.{length-replicate}
 use Rattle.dictionary_layout_rules.specs.Tree.{holds_tag}
 use Rattle.dictionary_directory.specs.Directory.{tags_listed, tag_words}
-use Rattle.builder.specs.TagLaws.{TagsLaid, tags-laid}
+use Rattle.builder.proofs.TagLaws.{TagsLaid, tags-laid}
 use Rattle.builder.proofs.finishing.is_listed.Statement.{statement}
 use Rattle.builder.proofs.finishing.is_listed.Tie as tie
 

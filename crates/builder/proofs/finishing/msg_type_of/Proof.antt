@@ -9,7 +9,7 @@ use Rattle.build_records.proofs.WordLaws.{records_length}
 use Rattle.build_records.specs.declared.Record.{Record}
 use Rattle.build_parts.specs.Parts.{part_of}
 use Rattle.build_rules.specs.Beginning.{msg_type_record}
-use Rattle.builder.specs.HeadedLaws.{type-here, type-later, type-nowhere}
+use Rattle.builder.proofs.HeadedLaws.{type-here, type-later, type-nowhere}
 use Rattle.builder.proofs.finishing.msg_type_of.Statement.{statement}
 use Rattle.builder.proofs.finishing.msg_type_of.Tie as tie
 

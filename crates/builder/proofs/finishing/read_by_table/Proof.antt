@@ -1,7 +1,7 @@
 -- `read_by_table` meets its contract: the body is read behind the header, where it has no records yet.
 use native.Mathlib.Omega.{arith}
 use borrow.Author.Rules.{rules}
-use Rattle.builder.specs.HeadedLaws.{level_told}
+use Rattle.builder.proofs.HeadedLaws.{level_told}
 use Rattle.builder.proofs.finishing.read_by_table.Statement.{statement}
 use Rattle.builder.proofs.finishing.read_by_table.Tie as tie
 

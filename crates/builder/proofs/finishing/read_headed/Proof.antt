@@ -10,12 +10,12 @@ use Rattle.build_parts.specs.Parts.{part_of}
 use Rattle.build_rules.specs.Beginning.{msg_type_record}
 use Rattle.dictionary_meaning_rules.specs.MessageTable.{place_of}
 use Rattle.dictionary_directory.specs.Directory.{kept_at}
-use Rattle.dictionary_directory.specs.DirectoryLaws.{table-lies}
+use Rattle.dictionary_directory.proofs.DirectoryLaws.{table-lies}
 use Rattle.dictionary_directory.specs.declared.Kept.TheVariants.{Table}
 use Rattle.build_parts.specs.PartLaws.{stays-refused}
 use Rattle.builder.specs.Reading.{start_told}
 use Rattle.builder.specs.Through.{after_start}
-use Rattle.builder.specs.HeadedLaws.{type-inside, type-placed, unknown, placed-none, placed-kept, placed-laid}
+use Rattle.builder.proofs.HeadedLaws.{type-inside, type-placed, unknown, placed-none, placed-kept, placed-laid}
 use Rattle.builder.proofs.finishing.read_headed.Statement.{statement}
 use Rattle.builder.proofs.finishing.read_headed.Tie as tie
 

@@ -7,9 +7,9 @@ use borrow.Author.Rules.{rules}
 use lib.ListN.{length-replicate}
 use lib.Seq.{length-take-le}
 use Rattle.dictionary_directory.specs.Directory.{table_words}
-use Rattle.dictionary_directory.specs.AloneLaws.{Alone, alone}
+use Rattle.dictionary_directory.proofs.AloneLaws.{Alone, alone}
 use Rattle.build_parts.specs.PartLaws.{stays-refused}
-use Rattle.builder.specs.HeadedLaws.{unknown, layout_after, unlaid_after}
+use Rattle.builder.proofs.HeadedLaws.{unknown, layout_after, unlaid_after}
 use Rattle.builder.proofs.finishing.read_laid.Statement.{statement}
 use Rattle.builder.proofs.finishing.read_laid.Tie as tie
 

@@ -1,6 +1,6 @@
 -- `refused` meets its contract: what is shown of the header is what `shown_with` says.
 use borrow.Author.Rules.{rules}
-use Rattle.builder.specs.ReadingLaws.{shown-few, refused-told}
+use Rattle.builder.proofs.ReadingLaws.{shown-few, refused-told}
 use Rattle.builder.proofs.showing.refused.Statement.{statement}
 use Rattle.builder.proofs.showing.refused.Tie as tie
 

@@ -1,7 +1,8 @@
 use mathlib.Core.Path.{sym, ◌∙◌}
 use native.Mathlib.Omega.{arith}
 use Rattle.dictionary_rules.specs.Index.{component_at}
-use Rattle.dictionary_flattening.specs.Leaps.{Leads, Leaps, leads_nowhere, leads_on, leads_leaping, leaps_kept, leaps_reached}
+use Rattle.dictionary_flattening.specs.Leaps.{Leads, Leaps}
+use Rattle.dictionary_flattening.proofs.LeapsLaws.{leads_nowhere, leads_on, leads_leaping, leaps_kept, leaps_reached}
 use Rattle.dictionary_flattening.proofs.empty.pass.Goals as goal
 
 pub loop-at-init : goal.loop-at-init

@@ -1,6 +1,6 @@
 -- `past_item` meets its contract: behind an item that stands for nothing laying comes to the same; elsewhere nothing is passed.
 use mathlib.Core.Path.{sym, ◌∙◌}
-use Rattle.dictionary_flattening.specs.Leaps.{leads_nowhere, leads_past}
+use Rattle.dictionary_flattening.proofs.LeapsLaws.{leads_nowhere, leads_past}
 use Rattle.dictionary_flattening.proofs.Arms.{read_as}
 use Rattle.dictionary_flattening.proofs.empty.past_item.Goals as goal
 

@@ -1,0 +1,2 @@
+pub mod TwiceInParts
+pub mod TwiceMessage

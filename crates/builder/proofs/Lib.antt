@@ -1,0 +1,5 @@
+pub mod TagLaws
+pub mod ReadingLaws
+pub mod HeadedLaws
+pub mod ThroughLaws
+pub mod Examples

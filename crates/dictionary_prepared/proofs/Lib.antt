@@ -1,0 +1,2 @@
+pub mod MemoryLaws
+pub mod Examples

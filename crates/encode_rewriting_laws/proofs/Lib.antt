@@ -1,0 +1,14 @@
+pub mod EncodedText
+pub mod EncodedBuilt
+pub mod EncodedFit
+pub mod EncodedParts
+pub mod PlainLaws
+pub mod ReadWritten
+pub mod Copied
+pub mod ReadRewritten
+pub mod PlainSound
+pub mod PlainSum
+pub mod PlainRewritten
+pub mod ReadMessage
+pub mod PlainMessage
+pub mod ReadCopied

@@ -1,0 +1,3 @@
+pub mod StateLaws
+pub mod CallLaws
+pub mod Exports

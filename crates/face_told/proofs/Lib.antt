@@ -1,0 +1,4 @@
+pub mod ToldLaws
+pub mod PartLaws
+pub mod FoundLaws
+pub mod UncutLaws
