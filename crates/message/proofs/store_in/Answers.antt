@@ -30,7 +30,7 @@ put_field-requires c =
     record {
       ready = rw (c.span_of-span.ensures, fields_at)
           (counted_ready _ _ _ _ (lent_in _ _ _ c.requires.values_value) _ _ c.if-value-gt8192.false (few-fields _ _ c.requires.values_value));
-      blank_from = rw (c.span_of-span.ensures, fields_at) (blank-behind _ _ _ _ c.requires.values_value c.requires.blank);
+      blank_from = rw c.span_of-span.ensures (blank-behind _ _ _ _ c.requires.values_value c.requires.blank);
     }
 
 pub returns : goal.returns
