@@ -15,14 +15,13 @@
 #define STACK 131072
 #define PAINT 0xa5
 
-typedef struct { uint8_t *at; size_t length; } slice;
 typedef struct { uint8_t no_room; uint64_t next; } written;
 
 struct library {
     const char *name;
-    void (*number)(written *, slice *, size_t, uint32_t);
-    size_t (*field)(slice *, size_t, uint32_t, slice *, uint8_t);
-    size_t (*rows)(slice *, slice *, slice *, uint8_t);
+    written (*number)(uint8_t *, size_t, size_t, uint32_t);
+    size_t (*field)(uint8_t *, size_t, size_t, uint32_t, const uint8_t *, size_t, uint8_t);
+    size_t (*rows)(const uint32_t *, size_t, const uint8_t *, size_t, uint8_t *, size_t, uint8_t);
     uint32_t (*new)(uint32_t *, size_t, uint8_t *, size_t, const char *, size_t, const char *, size_t, uint32_t *);
     uint32_t (*store)(uint32_t *, size_t, uint8_t *, size_t, uint8_t, uint32_t, const uint8_t *, size_t, uint32_t *);
     uint32_t (*encode)(uint32_t *, size_t, uint8_t *, size_t, uint8_t *, size_t, uint8_t, uint32_t *);
@@ -33,7 +32,6 @@ static const struct library *now;
 static uint32_t numbers[COUNT], words[WORDS], out[4];
 static uint8_t values[VALUES], output[COUNT * 20];
 static uint8_t text[] = "ABCDE";
-static slice value = {text, 5}, whole = {output, sizeof output}, held = {(uint8_t *)words, WORDS}, held_values = {values, VALUES};
 
 static void *symbol(void *file, const char *name) {
     void *found = dlsym(file, name);
@@ -70,8 +68,7 @@ static void compare(uint32_t n, size_t at, size_t length) {
         memset(bytes, '.', 32);
         memset(expected, '.', 32);
         if (fits) memcpy(expected + at, spelled, digits);
-        written answer;
-        libraries[i].number(&answer, &(slice){bytes, length}, at, n);
+        written answer = libraries[i].number(bytes, length, at, n);
         if (memcmp(bytes, expected, 32) || answer.no_room == fits || (fits && answer.next != at + digits)) differs(libraries[i].name, n, at, length);
     }
 }
@@ -116,15 +113,15 @@ static void draw_usual(void) {
 // many calls in a row, as an encoding makes them: each behind the one before
 static void write_numbers(void) {
     written answer = {0, 0};
-    for (int i = 0; i < COUNT; i++) now->number(&answer, &whole, answer.next, numbers[i]);
+    for (int i = 0; i < COUNT; i++) answer = now->number(output, sizeof output, answer.next, numbers[i]);
 }
 
 static void write_fields(void) {
     size_t at = 0;
-    for (int i = 0; i < COUNT; i++) at = now->field(&whole, at, numbers[i], &value, 1);
+    for (int i = 0; i < COUNT; i++) at = now->field(output, sizeof output, at, numbers[i], text, 5, 1);
 }
 
-static void write_rows(void) { now->rows(&held, &held_values, &whole, 1); }
+static void write_rows(void) { now->rows(words, WORDS, values, VALUES, output, sizeof output, 1); }
 static void encode(void) { now->encode(words, WORDS, values, VALUES, output, VALUES, 1, out); }
 
 static void store(uint64_t tag) { now->store(words, WORDS, values, VALUES, 2, (uint32_t)tag, text, 5, out); }
@@ -191,8 +188,8 @@ static __attribute__((noinline)) size_t reached(void (*work)(void)) {
 }
 
 static void nothing(void) {}
-static void a_number(void) { now->number(&(written){0, 0}, &whole, 0, 4294967295u); }
-static void a_field(void) { now->field(&whole, 0, 4294967295u, &value, 1); }
+static void a_number(void) { now->number(output, sizeof output, 0, 4294967295u); }
+static void a_field(void) { now->field(output, sizeof output, 0, 4294967295u, text, 5, 1); }
 
 // what a call takes over one that returns at once, in whole words
 static size_t taken(const struct library *by, void (*work)(void)) {

@@ -1,4 +1,4 @@
-//! Links the archive that `TINKORABA_ARCHIVE` names: `rt staticlib gateway` leaves it as target/staticlib/libgateway.a. An archive that can't serve is
+//! Links the archive that `TINKORABA_ARCHIVE` names: `bash tools/native-staticlib gateway_c target/libgateway.a` leaves it there. An archive that can't serve is
 //! refused here, in one line, before a linker writes pages about it.
 use std::path::{Path, PathBuf};
 use std::{env, fs, process, str};

@@ -145,7 +145,7 @@ fn join(words: &mut [u32], start: usize, progress: Progress, stored: Record) -> 
 }
 
 // The entries of a group, from the field behind its count on.
-#[cycle(read_entry_read_run)]
+#[cycle(reading)]
 pub fn read_run(
     message: &[u8],
     config: Config,
@@ -180,7 +180,7 @@ pub fn read_run(
 }
 
 // One entry, from its delimiter on.
-#[cycle(read_entry_read_run)]
+#[cycle(reading)]
 pub fn read_entry(
     message: &[u8],
     config: Config,

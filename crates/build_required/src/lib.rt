@@ -84,7 +84,7 @@ fn check_fields(words: &[u32], table: &[u16], group: Group, from: usize, to: usi
 }
 
 // "For each entry": the run's records stand from one index to another.
-#[cycle(check_entry_check_run)]
+#[cycle(checking)]
 pub fn check_run(words: &[u32], table: &[u16], group: Group, from: usize, to: usize) -> Lack
     requires { to ≤ length words.now / stride }
     ensures { result ≡ lack_of_run table.now group (between from to (records_of words.now)) }
@@ -105,7 +105,7 @@ pub fn check_run(words: &[u32], table: &[u16], group: Group, from: usize, to: us
 }
 
 // "Its required fields in layout order, then its nested runs."
-#[cycle(check_entry_check_run)]
+#[cycle(checking)]
 pub fn check_entry(words: &[u32], table: &[u16], group: Group, from: usize, to: usize) -> Lack
     requires { (to ≤ length words.now / stride) × (group.depth ≤ 4) }
     ensures { result ≡ lack_of_entry table.now group (between from to (records_of words.now)) }

@@ -38,6 +38,7 @@ pub struct HunterReply {
     pub number: u32,
 }
 
+#[tactic(auto, unfolding(crate::specs::States::is_set))]
 fn is_set(mark: u8) -> bool
     ensures { result ≡ is_set mark }
 {
@@ -48,6 +49,7 @@ fn is_set(mark: u8) -> bool
 }
 
 // "As it was": a set mark that stays set is the byte that was lent.
+#[tactic(auto, unfolding(crate::specs::States::mark_left, crate::specs::States::is_set))]
 fn mark_left(mark: u8, set: bool) -> u8
     ensures { result ≡ mark_left mark set }
 {
@@ -60,6 +62,7 @@ fn mark_left(mark: u8, set: bool) -> u8
     0
 }
 
+#[tactic(auto, unfolding(crate::specs::States::ported_in))]
 fn ported_in(state: PortedState) -> frame_parser_rules::State
     ensures { result ≡ ported_in state }
 {
@@ -70,6 +73,7 @@ fn ported_in(state: PortedState) -> frame_parser_rules::State
     }
 }
 
+#[tactic(auto, unfolding(crate::specs::States::ported_out))]
 fn ported_told(
     lent: PortedState,
     after: frame_parser_rules::State,
@@ -88,6 +92,7 @@ fn ported_told(
     }
 }
 
+#[tactic(auto, unfolding(crate::specs::States::hunter_in))]
 fn hunter_in(state: HunterState) -> frame_hunter_rules::State
     ensures { result ≡ hunter_in state }
 {
@@ -98,6 +103,7 @@ fn hunter_in(state: HunterState) -> frame_hunter_rules::State
     }
 }
 
+#[tactic(auto, unfolding(crate::specs::States::hunter_out))]
 fn hunter_told(
     lent: HunterState,
     after: frame_hunter_rules::State,

@@ -18,6 +18,7 @@ fn low_word(n: usize) -> u32
 }
 
 // Fills the four words: records, first value, second value, 0.
+#[tactic(auto, unfolding(crate::specs::Told::told))]
 pub fn tell(out: &mut [u32; 4], records: usize, first: usize, second: usize)
     ensures { out.new ≡ told records (first, second) }
 {
@@ -30,6 +31,7 @@ pub fn tell(out: &mut [u32; 4], records: usize, first: usize, second: usize)
 }
 
 // A part by its number; every number other than 1 and 2 is the trailer.
+#[tactic(auto, unfolding(crate::specs::Told::part_numbered))]
 pub fn part_numbered(number: u8) -> Part
     ensures { result ≡ part_numbered number }
 {
@@ -59,6 +61,7 @@ pub fn tell_encoding(out: &mut [u32; 4], encoding: Encoding) -> u32
 }
 
 // A map that was looked up: its number, how many were found, and its row as the first value.
+#[tactic(auto, unfolding(crate::specs::Told::told_map, message_rules::specs::LookUps::number_of_map))]
 pub fn tell_map(out: &mut [u32; 4], found: FoundMap) -> u32
     ensures { (result ≡ number_of_map found) × (out.new ≡ told_map found) }
 {
@@ -79,6 +82,7 @@ pub fn tell_map(out: &mut [u32; 4], found: FoundMap) -> u32
 }
 
 // A value that was looked up: its number, how many were found, and its place and length as values.
+#[tactic(auto, unfolding(crate::specs::Told::told_value, message_rules::specs::LookUps::number_of_value))]
 pub fn tell_value(out: &mut [u32; 4], found: FoundValue) -> u32
     ensures { (result ≡ number_of_value found) × (out.new ≡ told_value found) }
 {

@@ -1,6 +1,6 @@
 -- "Two results that satisfy it are shown equal": one schema over a contract as the prover reads it, and each export under it.
 -- The contract is the code's own, so an `ensures` that said less would leave its export here without a proof.
-use mathlib.Core.Path.{◌≡◌, refl}
+use Rattle.std.proofs.Common.{◌≡◌, refl}
 use seplogic.Ra.Ura.{Ura}
 use base.Logic.{SProp}
 use prog.Memory.{Memory}
@@ -65,95 +65,95 @@ use Rattle.gateway.specs.contracts.framers.gateway_hunter_end as of-hunter-end
 use Rattle.gateway.specs.contracts.framers.gateway_hunter_take as of-hunter-take
 use Rattle.gateway.specs.contracts.framers.gateway_hunter_reset as of-hunter-reset
 
-pub gateway_most_records_lem : NoFreedom 0 in-most-records.ps in-most-records.r of-most-records.Post (λ κs x y left other. x ≡ y)
-gateway_most_records_lem κs a x y left other p q = same p q
+pub gateway_most_records : NoFreedom 0 in-most-records.ps in-most-records.r of-most-records.Post (λ κs x y left other. x ≡ y)
+gateway_most_records κs a x y left other p q = same p q
 
-pub gateway_most_message-bytes : NoFreedom 0 in-most-message-bytes.ps in-most-message-bytes.r of-most-message-bytes.Post (λ κs x y left other. x ≡ y)
-gateway_most_message-bytes κs a x y left other p q = same p q
+pub gateway_most_message_bytes : NoFreedom 0 in-most-message-bytes.ps in-most-message-bytes.r of-most-message-bytes.Post (λ κs x y left other. x ≡ y)
+gateway_most_message_bytes κs a x y left other p q = same p q
 
-pub gateway_store-bytes : NoFreedom 0 in-store-bytes.ps in-store-bytes.r of-store-bytes.Post (λ κs x y left other. x ≡ y)
-gateway_store-bytes κs a x y left other p q = same p q
+pub gateway_store_bytes : NoFreedom 0 in-store-bytes.ps in-store-bytes.r of-store-bytes.Post (λ κs x y left other. x ≡ y)
+gateway_store_bytes κs a x y left other p q = same p q
 
-pub gateway_most_dictionary-bytes : NoFreedom 0 in-most-dictionary-bytes.ps in-most-dictionary-bytes.r of-most-dictionary-bytes.Post
+pub gateway_most_dictionary_bytes : NoFreedom 0 in-most-dictionary-bytes.ps in-most-dictionary-bytes.r of-most-dictionary-bytes.Post
     (λ κs x y left other. x ≡ y)
-gateway_most_dictionary-bytes κs a x y left other p q = same p q
+gateway_most_dictionary_bytes κs a x y left other p q = same p q
 
-pub gateway_message_words_lem : NoFreedom 0 in-message-words.ps in-message-words.r of-message-words.Post (λ κs x y left other. x ≡ y)
-gateway_message_words_lem κs a x y left other p q = same p q
+pub gateway_message_words : NoFreedom 0 in-message-words.ps in-message-words.r of-message-words.Post (λ κs x y left other. x ≡ y)
+gateway_message_words κs a x y left other p q = same p q
 
-pub gateway_check_lem : NoFreedom 2 in-check.ps in-check.r of-check.Post (λ κs x y left other. (x ≡ y) × (left.1.0.now ≡ other.1.0.now))
-gateway_check_lem κs a x y left other p q = (same p.0 q.0, same p.1 q.1)
+pub gateway_check : NoFreedom 2 in-check.ps in-check.r of-check.Post (λ κs x y left other. (x ≡ y) × (left.1.0.now ≡ other.1.0.now))
+gateway_check κs a x y left other p q = (same p.0 q.0, same p.1 q.1)
 
-pub gateway_prepared-words : NoFreedom 0 in-prepared-words.ps in-prepared-words.r of-prepared-words.Post (λ κs x y left other. x ≡ y)
-gateway_prepared-words κs a x y left other p q = same p q
+pub gateway_prepared_words : NoFreedom 0 in-prepared-words.ps in-prepared-words.r of-prepared-words.Post (λ κs x y left other. x ≡ y)
+gateway_prepared_words κs a x y left other p q = same p q
 
-pub gateway_prepare_lem : NoFreedom 4 in-prepare.ps in-prepare.r of-prepare.Post
+pub gateway_prepare : NoFreedom 4 in-prepare.ps in-prepare.r of-prepare.Post
     (λ κs x y left other. (x ≡ y) × (left.1.0.now ≡ other.1.0.now) × (left.1.1.0.now ≡ other.1.1.0.now)
     × (left.1.1.1.0.now ≡ other.1.1.1.0.now))
-gateway_prepare_lem κs a x y left other p q = (same p.0 q.0, same p.1.0 q.1.0, same p.1.1.0 q.1.1.0, same p.1.1.1 q.1.1.1)
+gateway_prepare κs a x y left other p q = (same p.0 q.0, same p.1.0 q.1.0, same p.1.1.0 q.1.1.0, same p.1.1.1 q.1.1.1)
 
-pub gateway_find_part_lem : NoFreedom 3 in-find-part.ps in-find-part.r of-find-part.Post
+pub gateway_find_part : NoFreedom 3 in-find-part.ps in-find-part.r of-find-part.Post
     (λ κs x y left other. (x ≡ y) × (left.1.1.1.0.now ≡ other.1.1.1.0.now))
-gateway_find_part_lem κs a x y left other p q = (same p.0 q.0, same p.1 q.1)
+gateway_find_part κs a x y left other p q = (same p.0 q.0, same p.1 q.1)
 
-pub gateway_find_field_lem : NoFreedom 3 in-find-field.ps in-find-field.r of-find-field.Post
+pub gateway_find_field : NoFreedom 3 in-find-field.ps in-find-field.r of-find-field.Post
     (λ κs x y left other. (x ≡ y) × (left.1.1.1.1.0.now ≡ other.1.1.1.1.0.now))
-gateway_find_field_lem κs a x y left other p q = (same p.0 q.0, same p.1 q.1)
+gateway_find_field κs a x y left other p q = (same p.0 q.0, same p.1 q.1)
 
-pub gateway_find_entry_lem : NoFreedom 3 in-find-entry.ps in-find-entry.r of-find-entry.Post
+pub gateway_find_entry : NoFreedom 3 in-find-entry.ps in-find-entry.r of-find-entry.Post
     (λ κs x y left other. (x ≡ y) × (left.1.1.1.1.1.0.now ≡ other.1.1.1.1.1.0.now))
-gateway_find_entry_lem κs a x y left other p q = (same p.0 q.0, same p.1 q.1)
+gateway_find_entry κs a x y left other p q = (same p.0 q.0, same p.1 q.1)
 
-pub gateway_empty_lem : NoFreedom 3 in-empty.ps in-empty.r of-empty.Post
+pub gateway_empty : NoFreedom 3 in-empty.ps in-empty.r of-empty.Post
     (λ κs x y left other. (x ≡ y) × (left.0.now ≡ other.0.now) × (left.1.0.now ≡ other.1.0.now) × (left.1.1.0.now ≡ other.1.1.0.now))
-gateway_empty_lem κs a x y left other p q = (same p.0 q.0, same p.1.0 q.1.0, same p.1.1.0 q.1.1.0, same p.1.1.1 q.1.1.1)
+gateway_empty κs a x y left other p q = (same p.0 q.0, same p.1.0 q.1.0, same p.1.1.0 q.1.1.0, same p.1.1.1 q.1.1.1)
 
-pub gateway_new_lem : NoFreedom 5 in-new.ps in-new.r of-new.Post (λ κs x y left other. (x ≡ y) × (left.0.now ≡ other.0.now)
+pub gateway_new : NoFreedom 5 in-new.ps in-new.r of-new.Post (λ κs x y left other. (x ≡ y) × (left.0.now ≡ other.0.now)
     × (left.1.0.now ≡ other.1.0.now) × (left.1.1.1.1.0.now ≡ other.1.1.1.1.0.now))
-gateway_new_lem κs a x y left other p q = (same p.0 q.0, same p.1.0 q.1.0, same p.1.1.0 q.1.1.0, same p.1.1.1 q.1.1.1)
+gateway_new κs a x y left other p q = (same p.0 q.0, same p.1.0 q.1.0, same p.1.1.0 q.1.1.0, same p.1.1.1 q.1.1.1)
 
-pub gateway_store_lem : NoFreedom 4 in-store.ps in-store.r of-store.Post
+pub gateway_store : NoFreedom 4 in-store.ps in-store.r of-store.Post
     (λ κs x y left other. (x ≡ y) × (left.0.now ≡ other.0.now) × (left.1.0.now ≡ other.1.0.now)
     × (left.1.1.1.1.1.0.now ≡ other.1.1.1.1.1.0.now))
-gateway_store_lem κs a x y left other p q = (same p.0 q.0, same p.1.0 q.1.0, same p.1.1.0 q.1.1.0, same p.1.1.1 q.1.1.1)
+gateway_store κs a x y left other p q = (same p.0 q.0, same p.1.0 q.1.0, same p.1.1.0 q.1.1.0, same p.1.1.1 q.1.1.1)
 
-pub gateway_remove_lem : NoFreedom 3 in_remove.ps in_remove.r of-remove.Post
+pub gateway_remove : NoFreedom 3 in_remove.ps in_remove.r of-remove.Post
     (λ κs x y left other. (x ≡ y) × (left.0.now ≡ other.0.now) × (left.1.0.now ≡ other.1.0.now)
     × (left.1.1.1.1.0.now ≡ other.1.1.1.1.0.now))
-gateway_remove_lem κs a x y left other p q = (same p.0 q.0, same p.1.0 q.1.0, same p.1.1.0 q.1.1.0, same p.1.1.1 q.1.1.1)
+gateway_remove κs a x y left other p q = (same p.0 q.0, same p.1.0 q.1.0, same p.1.1.0 q.1.1.0, same p.1.1.1 q.1.1.1)
 
-pub gateway_draft_lem : NoFreedom 3 in-draft.ps in-draft.r of-draft.Post
+pub gateway_draft : NoFreedom 3 in-draft.ps in-draft.r of-draft.Post
     (λ κs x y left other. (x ≡ y) × (left.0.now ≡ other.0.now) × (left.1.0.now ≡ other.1.0.now) × (left.1.1.0.now ≡ other.1.1.0.now))
-gateway_draft_lem κs a x y left other p q = (same p.0 q.0, same p.1.0 q.1.0, same p.1.1.0 q.1.1.0, same p.1.1.1 q.1.1.1)
+gateway_draft κs a x y left other p q = (same p.0 q.0, same p.1.0 q.1.0, same p.1.1.0 q.1.1.0, same p.1.1.1 q.1.1.1)
 
-pub gateway_add-entry : NoFreedom 3 in-add-entry.ps in-add-entry.r of-add-entry.Post
+pub gateway_add_entry : NoFreedom 3 in-add-entry.ps in-add-entry.r of-add-entry.Post
     (λ κs x y left other. (x ≡ y) × (left.0.now ≡ other.0.now) × (left.1.0.now ≡ other.1.0.now)
     × (left.1.1.1.1.0.now ≡ other.1.1.1.1.0.now))
-gateway_add-entry κs a x y left other p q = (same p.0 q.0, same p.1.0 q.1.0, same p.1.1.0 q.1.1.0, same p.1.1.1 q.1.1.1)
+gateway_add_entry κs a x y left other p q = (same p.0 q.0, same p.1.0 q.1.0, same p.1.1.0 q.1.1.0, same p.1.1.1 q.1.1.1)
 
-pub gateway_store-last : NoFreedom 4 in-store-last.ps in-store-last.r of-store-last.Post
+pub gateway_store_last : NoFreedom 4 in-store-last.ps in-store-last.r of-store-last.Post
     (λ κs x y left other. (x ≡ y) × (left.0.now ≡ other.0.now) × (left.1.0.now ≡ other.1.0.now)
     × (left.1.1.1.1.0.now ≡ other.1.1.1.1.0.now))
-gateway_store-last κs a x y left other p q = (same p.0 q.0, same p.1.0 q.1.0, same p.1.1.0 q.1.1.0, same p.1.1.1 q.1.1.1)
+gateway_store_last κs a x y left other p q = (same p.0 q.0, same p.1.0 q.1.0, same p.1.1.0 q.1.1.0, same p.1.1.1 q.1.1.1)
 
-pub gateway_hang-last : NoFreedom 5 in-hang-last.ps in-hang-last.r of-hang-last.Post
+pub gateway_hang_last : NoFreedom 5 in-hang-last.ps in-hang-last.r of-hang-last.Post
     (λ κs x y left other. (x ≡ y) × (left.0.now ≡ other.0.now) × (left.1.0.now ≡ other.1.0.now)
     × (left.1.1.1.1.0.now ≡ other.1.1.1.1.0.now))
-gateway_hang-last κs a x y left other p q = (same p.0 q.0, same p.1.0 q.1.0, same p.1.1.0 q.1.1.0, same p.1.1.1 q.1.1.1)
+gateway_hang_last κs a x y left other p q = (same p.0 q.0, same p.1.0 q.1.0, same p.1.1.0 q.1.1.0, same p.1.1.1 q.1.1.1)
 
-pub gateway_hang_lem : NoFreedom 5 in-hang.ps in-hang.r of-hang.Post (λ κs x y left other. (x ≡ y) × (left.0.now ≡ other.0.now)
+pub gateway_hang : NoFreedom 5 in-hang.ps in-hang.r of-hang.Post (λ κs x y left other. (x ≡ y) × (left.0.now ≡ other.0.now)
     × (left.1.0.now ≡ other.1.0.now) × (left.1.1.1.1.1.0.now ≡ other.1.1.1.1.1.0.now))
-gateway_hang_lem κs a x y left other p q = (same p.0 q.0, same p.1.0 q.1.0, same p.1.1.0 q.1.1.0, same p.1.1.1 q.1.1.1)
+gateway_hang κs a x y left other p q = (same p.0 q.0, same p.1.0 q.1.0, same p.1.1.0 q.1.1.0, same p.1.1.1 q.1.1.1)
 
-pub gateway_encode_lem : NoFreedom 4 in-encode.ps in-encode.r of-encode.Post
+pub gateway_encode : NoFreedom 4 in-encode.ps in-encode.r of-encode.Post
     (λ κs x y left other. (x ≡ y) × (left.0.now ≡ other.0.now) × (left.1.0.now ≡ other.1.0.now) × (left.1.1.0.now ≡ other.1.1.0.now)
     × (left.1.1.1.1.0.now ≡ other.1.1.1.1.0.now))
-gateway_encode_lem κs a x y left other p q =
+gateway_encode κs a x y left other p q =
     (same p.0 q.0, same p.1.0 q.1.0, same p.1.1.0 q.1.1.0, same p.1.1.1.0 q.1.1.1.0, same p.1.1.1.1 q.1.1.1.1)
 
--- An export over lent records or a lent state is walked by hand, and the prover reads no contract of it. So here is the generated clause itself: in
--- every model it states one plain fact of the values, found by unification and so never said twice, and that fact leaves no freedom.
-pub record Walked (T : Ended) (contract : (M : Type 1) (𝓤 : Ura M) (𝓛 : Logic 𝓤) → (Memory → SProp 𝓤) → (Routine → Fun 𝓤) → Clauses 𝓤 T)
+-- Of an export over lent records or a lent state here is the generated clause itself: in every model it states one plain fact of the values, found by
+-- unification and so never said twice, and that fact leaves no freedom.
+pub record NoFreedomOfClause (T : Ended) (contract : (M : Type 1) (𝓤 : Ura M) (𝓛 : Logic 𝓤) → (Memory → SProp 𝓤) → (Routine → Fun 𝓤) → Clauses 𝓤 T)
     (Same : (κs : Lfts T.signature.lifetimes) → Res T.signature κs → Res T.signature κs → AtExit T κs → AtExit T κs → Type 0) : Type 2 where
   pub Said : (κs : Lfts T.signature.lifetimes) → Args T.signature κs → Res T.signature κs → AtExit T κs → Type 0
   pub states : (M : Type 1) (𝓤 : Ura M) (𝓛 : Logic 𝓤) (mem : Memory → SProp 𝓤) (run : Routine → Fun 𝓤) (κs : Lfts T.signature.lifetimes)
@@ -162,105 +162,105 @@ pub record Walked (T : Ended) (contract : (M : Type 1) (𝓤 : Ura M) (𝓛 : Lo
   pub fixes : (κs : Lfts T.signature.lifetimes) (a : Args T.signature κs) (x y : Res T.signature κs) (left other : AtExit T κs) → Said κs a x left
       → Said κs a y other → Same κs x y left other
 
-pub gateway_build_lem : Walked of-build.ended (λ M. of-build.clauses) (λ κs x y left other. (x ≡ y) × (left.1.1.1.1.0.now ≡ other.1.1.1.1.0.now)
+pub gateway_build : NoFreedomOfClause of-build.ended (λ M 𝓤. of-build.clauses) (λ κs x y left other. (x ≡ y) × (left.1.1.1.1.0.now ≡ other.1.1.1.1.0.now)
     × (left.1.1.1.1.1.0.now ≡ other.1.1.1.1.1.0.now))
-gateway_build_lem =
+gateway_build =
     record {
       Said = _;
       states = λ M 𝓤 𝓛 mem run κs a g x left. refl;
       fixes = λ κs a x y left other p q. (same p.0 q.0, same p.1 q.1, same p.2 q.2);
     }
 
-pub gateway_build_prepared_lem : Walked of-build-prepared.ended (λ M. of-build-prepared.clauses)
+pub gateway_build_prepared : NoFreedomOfClause of-build-prepared.ended (λ M 𝓤. of-build-prepared.clauses)
     (λ κs x y left other. (x ≡ y) × (left.1.1.1.1.1.0.now ≡ other.1.1.1.1.1.0.now)
     × (left.1.1.1.1.1.1.0.now ≡ other.1.1.1.1.1.1.0.now))
-gateway_build_prepared_lem =
+gateway_build_prepared =
     record {
       Said = _;
       states = λ M 𝓤 𝓛 mem run κs a g x left. refl;
       fixes = λ κs a x y left other p q. (same p.0 q.0, same p.1 q.1, same p.2 q.2);
     }
 
-pub gateway_take-over : Walked of-take-over.ended (λ M. of-take-over.clauses)
+pub gateway_take_over : NoFreedomOfClause of-take-over.ended (λ M 𝓤. of-take-over.clauses)
     (λ κs x y left other. (x ≡ y) × (left.1.1.1.0.now ≡ other.1.1.1.0.now) × (left.1.1.1.1.0.now ≡ other.1.1.1.1.0.now)
     × (left.1.1.1.1.1.0.now ≡ other.1.1.1.1.1.0.now))
-gateway_take-over =
+gateway_take_over =
     record {
       Said = _;
       states = λ M 𝓤 𝓛 mem run κs a g x left. refl;
       fixes = λ κs a x y left other p q. (same p.0 q.0, same p.1 q.1, same p.2 q.2, same p.3 q.3);
     }
 
-pub gateway_ported_push_lem : Walked of-ported-push.ended (λ M. of-ported-push.clauses)
+pub gateway_ported_push : NoFreedomOfClause of-ported-push.ended (λ M 𝓤. of-ported-push.clauses)
     (λ κs x y left other. (x ≡ y) × (left.0.now ≡ other.0.now) × (left.1.0.now ≡ other.1.0.now)
     × (left.1.1.1.0.now ≡ other.1.1.1.0.now))
-gateway_ported_push_lem =
+gateway_ported_push =
     record {
       Said = _;
       states = λ M 𝓤 𝓛 mem run κs a g x left. refl;
       fixes = λ κs a x y left other p q. (same p.0 q.0, same p.1 q.1, same p.2 q.2, same p.3 q.3);
     }
 
-pub gateway_ported-end : Walked of-ported-end.ended (λ M. of-ported-end.clauses)
+pub gateway_ported_end : NoFreedomOfClause of-ported-end.ended (λ M 𝓤. of-ported-end.clauses)
     (λ κs x y left other. (x ≡ y) × (left.0.now ≡ other.0.now) × (left.1.1.0.now ≡ other.1.1.0.now))
-gateway_ported-end =
+gateway_ported_end =
     record {
       Said = _;
       states = λ M 𝓤 𝓛 mem run κs a g x left. refl;
       fixes = λ κs a x y left other p q. (same p.0 q.0, same p.1 q.1, same p.2 q.2);
     }
 
-pub gateway_ported-take : Walked of-ported-take.ended (λ M. of-ported-take.clauses)
+pub gateway_ported_take : NoFreedomOfClause of-ported-take.ended (λ M 𝓤. of-ported-take.clauses)
     (λ κs x y left other. (x ≡ y) × (left.0.now ≡ other.0.now) × (left.1.0.now ≡ other.1.0.now) × (left.1.1.0.now ≡ other.1.1.0.now)
     × (left.1.1.1.0.now ≡ other.1.1.1.0.now))
-gateway_ported-take =
+gateway_ported_take =
     record {
       Said = _;
       states = λ M 𝓤 𝓛 mem run κs a g x left. refl;
       fixes = λ κs a x y left other p q. (same p.0 q.0, same p.1 q.1, same p.2 q.2, same p.3 q.3, same p.4 q.4);
     }
 
-pub gateway_ported_reset_lem : Walked of-ported-reset.ended (λ M. of-ported-reset.clauses)
+pub gateway_ported_reset : NoFreedomOfClause of-ported-reset.ended (λ M 𝓤. of-ported-reset.clauses)
     (λ κs x y left other. (x ≡ y) × (left.0.now ≡ other.0.now) × (left.1.0.now ≡ other.1.0.now))
-gateway_ported_reset_lem =
+gateway_ported_reset =
     record {
       Said = _;
       states = λ M 𝓤 𝓛 mem run κs a g x left. refl;
       fixes = λ κs a x y left other p q. (same p.0 q.0, same p.1 q.1, same p.2 q.2);
     }
 
-pub gateway_hunter_push_lem : Walked of-hunter-push.ended (λ M. of-hunter-push.clauses)
+pub gateway_hunter_push : NoFreedomOfClause of-hunter-push.ended (λ M 𝓤. of-hunter-push.clauses)
     (λ κs x y left other. (x ≡ y) × (left.0.now ≡ other.0.now) × (left.1.0.now ≡ other.1.0.now)
     × (left.1.1.1.0.now ≡ other.1.1.1.0.now))
-gateway_hunter_push_lem =
+gateway_hunter_push =
     record {
       Said = _;
       states = λ M 𝓤 𝓛 mem run κs a g x left. refl;
       fixes = λ κs a x y left other p q. (same p.0 q.0, same p.1 q.1, same p.2 q.2, same p.3 q.3);
     }
 
-pub gateway_hunter-end : Walked of-hunter-end.ended (λ M. of-hunter-end.clauses)
+pub gateway_hunter_end : NoFreedomOfClause of-hunter-end.ended (λ M 𝓤. of-hunter-end.clauses)
     (λ κs x y left other. (x ≡ y) × (left.0.now ≡ other.0.now) × (left.1.1.0.now ≡ other.1.1.0.now))
-gateway_hunter-end =
+gateway_hunter_end =
     record {
       Said = _;
       states = λ M 𝓤 𝓛 mem run κs a g x left. refl;
       fixes = λ κs a x y left other p q. (same p.0 q.0, same p.1 q.1, same p.2 q.2);
     }
 
-pub gateway_hunter-take : Walked of-hunter-take.ended (λ M. of-hunter-take.clauses)
+pub gateway_hunter_take : NoFreedomOfClause of-hunter-take.ended (λ M 𝓤. of-hunter-take.clauses)
     (λ κs x y left other. (x ≡ y) × (left.0.now ≡ other.0.now) × (left.1.0.now ≡ other.1.0.now) × (left.1.1.0.now ≡ other.1.1.0.now)
     × (left.1.1.1.0.now ≡ other.1.1.1.0.now))
-gateway_hunter-take =
+gateway_hunter_take =
     record {
       Said = _;
       states = λ M 𝓤 𝓛 mem run κs a g x left. refl;
       fixes = λ κs a x y left other p q. (same p.0 q.0, same p.1 q.1, same p.2 q.2, same p.3 q.3, same p.4 q.4);
     }
 
-pub gateway_hunter_reset_lem : Walked of-hunter-reset.ended (λ M. of-hunter-reset.clauses)
+pub gateway_hunter_reset : NoFreedomOfClause of-hunter-reset.ended (λ M 𝓤. of-hunter-reset.clauses)
     (λ κs x y left other. (x ≡ y) × (left.0.now ≡ other.0.now) × (left.1.0.now ≡ other.1.0.now))
-gateway_hunter_reset_lem =
+gateway_hunter_reset =
     record {
       Said = _;
       states = λ M 𝓤 𝓛 mem run κs a g x left. refl;

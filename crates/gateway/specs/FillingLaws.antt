@@ -40,6 +40,13 @@ module _ (from written : ℕ) (xs : List FieldRecord) where
         ap (set (blanks k) (from + k)) (sym (get_or-replicate (written - from) k blank_field blank_field (omega arith)))
         ∙ paste-suc xs from all k blank_field (omega (arith, lent)) (omega (arith, many))
 
+    -- the blank record at place i is stored
+    pub blanks_at : (i : ℕ) → from ≤ i → i < written → set (blanks (i - from)) i blank_field ≡ blanks (i + 1 - from)
+    blanks_at i h below =
+        let e : from + (i - from) ≡ i = omega (arith, h) in
+        let more : suc (i - from) ≡ i + 1 - from = omega (arith, h) in
+        ap (λ (j : ℕ). set (blanks (i - from)) j blank_field) (sym e) ∙ blanks-next (i - from) (omega (arith, e, below)) ∙ ap blanks more
+
     pub length-blanks : (k : ℕ) → from + k ≤ written → length (blanks k) ≡ length xs
     length-blanks k h = length-paste xs from all k (omega (arith, lent)) (omega (arith, many))
 

@@ -9,8 +9,7 @@ ghost use Rattle.dictionary_prepared.specs.Memory.{head_words, preparation, prep
 use face_messages::FieldRecord;
 
 // Checks a flat dictionary.
-#[unsafe(no_mangle)]
-pub extern "C" fn gateway_check(dictionary: &[u8], out: &mut [u32; 4]) -> u32
+pub fn gateway_check(dictionary: &[u8], out: &mut [u32; 4]) -> u32
     ensures value { result ≡ number_of_check (check_of dictionary.now) }
     ensures out_after { out.new ≡ told 0 (get_or (values_of_check (check_of dictionary.now)) 0 0, 0) }
 {
@@ -20,8 +19,7 @@ pub extern "C" fn gateway_check(dictionary: &[u8], out: &mut [u32; 4]) -> u32
 }
 
 // The words of memory that a dictionary is prepared in, at the least; the copy of its records has as many bytes as it has.
-#[unsafe(no_mangle)]
-pub extern "C" fn gateway_prepared_words() -> u32
+pub fn gateway_prepared_words() -> u32
     ensures { result ≡ head_words }
 {
     dictionary_prepared::HEAD as u32
@@ -29,8 +27,7 @@ pub extern "C" fn gateway_prepared_words() -> u32
 
 // Checks a flat dictionary and prepares it for many builds: its records in the copy, what they name in the memory. On a refusal both are as they
 // were.
-#[unsafe(no_mangle)]
-pub extern "C" fn gateway_prepare(
+pub fn gateway_prepare(
     dictionary: &[u8],
     copy: &mut [u8],
     memory: &mut [u16],
@@ -95,8 +92,7 @@ fn fill(
 }
 
 // Builds a message from its bytes into the lent records, at least 1,024: those past the message's are blank, or all stay as they were.
-#[unsafe(no_mangle)]
-pub extern "C" fn gateway_build(
+pub fn gateway_build(
     message: &[u8],
     separator: u8,
     settings: u32,
@@ -124,8 +120,7 @@ pub extern "C" fn gateway_build(
 }
 
 // Builds a message as `gateway_build` does, over memory that a dictionary was prepared in: it takes no dictionary and checks none.
-#[unsafe(no_mangle)]
-pub extern "C" fn gateway_build_prepared(
+pub fn gateway_build_prepared(
     message: &[u8],
     separator: u8,
     settings: u32,

@@ -4,13 +4,7 @@ ghost use Rattle.message_rules.specs.LookUps.{number_of_value, number_of_map, pa
 ghost use Rattle.face_told.specs.Told.{part_numbered, told_map, told_value};
 
 // The map of a part: how many were found, 1, and its row as the first value.
-#[unsafe(no_mangle)]
-pub extern "C" fn gateway_find_part(
-    words: &[u32],
-    values: &[u8],
-    part: u8,
-    out: &mut [u32; 4],
-) -> u32
+pub fn gateway_find_part(words: &[u32], values: &[u8], part: u8, out: &mut [u32; 4]) -> u32
     ensures value { result ≡ number_of_map (part_found (part_numbered part) words.now values.now) }
     ensures out_after { out.new ≡ told_map (part_found (part_numbered part) words.now values.now) }
 {
@@ -19,8 +13,7 @@ pub extern "C" fn gateway_find_part(
 }
 
 // The value of a field in a map: how many were found, and its place and length in the values.
-#[unsafe(no_mangle)]
-pub extern "C" fn gateway_find_field(
+pub fn gateway_find_field(
     words: &[u32],
     values: &[u8],
     map: usize,
@@ -35,8 +28,7 @@ pub extern "C" fn gateway_find_field(
 }
 
 // The map of an entry in a run that hangs in a map; entries are numbered from 0.
-#[unsafe(no_mangle)]
-pub extern "C" fn gateway_find_entry(
+pub fn gateway_find_entry(
     words: &[u32],
     values: &[u8],
     map: usize,

@@ -8,8 +8,7 @@ ghost use Rattle.face_framers.specs.States.{ported_in, ported_out, ported_fresh,
 use face_framers::{HunterState, PortedState};
 
 // A chunk of the stream for the ported framer.
-#[unsafe(no_mangle)]
-pub extern "C" fn gateway_ported_push(
+pub fn gateway_ported_push(
     state: &mut PortedState,
     store: &mut [u8],
     chunk: &[u8],
@@ -26,12 +25,7 @@ pub extern "C" fn gateway_ported_push(
 }
 
 // The stream's end for the ported framer.
-#[unsafe(no_mangle)]
-pub extern "C" fn gateway_ported_end(
-    state: &mut PortedState,
-    store: &[u8],
-    out: &mut [u32; 4],
-) -> u32
+pub fn gateway_ported_end(state: &mut PortedState, store: &[u8], out: &mut [u32; 4]) -> u32
     ensures { (result ≡ number_of_parser (finished (ported_in state.old) store.now).answer)
         × (state.new ≡ ported_out state.old (finished (ported_in state.old) store.now).state)
         × (out.new ≡ told 0 (0, 0)) }
@@ -42,8 +36,7 @@ pub extern "C" fn gateway_ported_end(
 }
 
 // The message at the front of the ported framer's store, if it is whole; the first value is its length, 0 if none is ready.
-#[unsafe(no_mangle)]
-pub extern "C" fn gateway_ported_take(
+pub fn gateway_ported_take(
     state: &mut PortedState,
     store: &mut [u8],
     output: &mut [u8],
@@ -61,8 +54,7 @@ pub extern "C" fn gateway_ported_take(
 }
 
 // Makes the ported framer's state fresh and empty, whatever it was.
-#[unsafe(no_mangle)]
-pub extern "C" fn gateway_ported_reset(state: &mut PortedState, out: &mut [u32; 4]) -> u32
+pub fn gateway_ported_reset(state: &mut PortedState, out: &mut [u32; 4]) -> u32
     ensures { (result ≡ 0) × (state.new ≡ ported_fresh) × (out.new ≡ told 0 (0, 0)) }
 {
     let reply = face_framers::ported_reset(out);
@@ -71,8 +63,7 @@ pub extern "C" fn gateway_ported_reset(state: &mut PortedState, out: &mut [u32; 
 }
 
 // A chunk of the stream for the hunting framer.
-#[unsafe(no_mangle)]
-pub extern "C" fn gateway_hunter_push(
+pub fn gateway_hunter_push(
     state: &mut HunterState,
     store: &mut [u8],
     chunk: &[u8],
@@ -89,12 +80,7 @@ pub extern "C" fn gateway_hunter_push(
 }
 
 // The stream's end for the hunting framer.
-#[unsafe(no_mangle)]
-pub extern "C" fn gateway_hunter_end(
-    state: &mut HunterState,
-    store: &[u8],
-    out: &mut [u32; 4],
-) -> u32
+pub fn gateway_hunter_end(state: &mut HunterState, store: &[u8], out: &mut [u32; 4]) -> u32
     ensures { (result ≡ number_of_hunter (hunter_finished (hunter_in state.old) store.now).reply.answer)
         × (state.new ≡ hunter_out state.old (hunter_finished (hunter_in state.old) store.now).reply.state)
         × (out.new ≡ told 0 (0, 0)) }
@@ -105,8 +91,7 @@ pub extern "C" fn gateway_hunter_end(
 }
 
 // The first frame in the hunting framer's store, if one is ready; the first value is its length, 0 if none is.
-#[unsafe(no_mangle)]
-pub extern "C" fn gateway_hunter_take(
+pub fn gateway_hunter_take(
     state: &mut HunterState,
     store: &mut [u8],
     output: &mut [u8],
@@ -124,8 +109,7 @@ pub extern "C" fn gateway_hunter_take(
 }
 
 // Makes the hunting framer's state fresh and empty, whatever it was.
-#[unsafe(no_mangle)]
-pub extern "C" fn gateway_hunter_reset(state: &mut HunterState, out: &mut [u32; 4]) -> u32
+pub fn gateway_hunter_reset(state: &mut HunterState, out: &mut [u32; 4]) -> u32
     ensures { (result ≡ 0) × (state.new ≡ hunter_fresh) × (out.new ≡ told 0 (0, 0)) }
 {
     let reply = face_framers::hunter_reset(out);

@@ -7,8 +7,7 @@ ghost use Rattle.encode_rules.specs.Encode.{encoding_of};
 ghost use Rattle.face_told.specs.Told.{told, part_numbered, change_number, changed_words, changed_values, encoding_number, encoding_length, left_words, left_values, left_output};
 
 // Makes what is lent an empty message.
-#[unsafe(no_mangle)]
-pub extern "C" fn gateway_empty(words: &mut [u32], values: &mut [u8], out: &mut [u32; 4]) -> u32
+pub fn gateway_empty(words: &mut [u32], values: &mut [u8], out: &mut [u32; 4]) -> u32
     ensures value { result ≡ change_number (emptying words.old values.old) }
     ensures words_after { words.new ≡ changed_words (emptying words.old values.old) }
     ensures values_after { values.new ≡ changed_values (emptying words.old values.old) }
@@ -19,8 +18,7 @@ pub extern "C" fn gateway_empty(words: &mut [u32], values: &mut [u8], out: &mut 
 }
 
 // Makes what is lent a new message, with a BeginString and a MsgType.
-#[unsafe(no_mangle)]
-pub extern "C" fn gateway_new(
+pub fn gateway_new(
     words: &mut [u32],
     values: &mut [u8],
     begin_string: &[u8],
@@ -37,8 +35,7 @@ pub extern "C" fn gateway_new(
 }
 
 // Stores a field in a part of a message.
-#[unsafe(no_mangle)]
-pub extern "C" fn gateway_store(
+pub fn gateway_store(
     words: &mut [u32],
     values: &mut [u8],
     part: u8,
@@ -56,8 +53,7 @@ pub extern "C" fn gateway_store(
 }
 
 // Removes a field from a part of a message.
-#[unsafe(no_mangle)]
-pub extern "C" fn gateway_remove(
+pub fn gateway_remove(
     words: &mut [u32],
     values: &mut [u8],
     part: u8,
@@ -74,8 +70,7 @@ pub extern "C" fn gateway_remove(
 }
 
 // Makes what is lent a draft of a run, without any entry.
-#[unsafe(no_mangle)]
-pub extern "C" fn gateway_draft(words: &mut [u32], values: &mut [u8], out: &mut [u32; 4]) -> u32
+pub fn gateway_draft(words: &mut [u32], values: &mut [u8], out: &mut [u32; 4]) -> u32
     ensures value { result ≡ change_number (starting words.old values.old) }
     ensures words_after { words.new ≡ changed_words (starting words.old values.old) }
     ensures values_after { values.new ≡ changed_values (starting words.old values.old) }
@@ -86,8 +81,7 @@ pub extern "C" fn gateway_draft(words: &mut [u32], values: &mut [u8], out: &mut 
 }
 
 // Adds an entry to a draft.
-#[unsafe(no_mangle)]
-pub extern "C" fn gateway_add_entry(
+pub fn gateway_add_entry(
     words: &mut [u32],
     values: &mut [u8],
     start: u32,
@@ -104,8 +98,7 @@ pub extern "C" fn gateway_add_entry(
 }
 
 // Stores a field in a draft's last entry.
-#[unsafe(no_mangle)]
-pub extern "C" fn gateway_store_last(
+pub fn gateway_store_last(
     words: &mut [u32],
     values: &mut [u8],
     tag: u32,
@@ -122,8 +115,7 @@ pub extern "C" fn gateway_store_last(
 }
 
 // Hangs a run, lent as a draft, in another draft's last entry.
-#[unsafe(no_mangle)]
-pub extern "C" fn gateway_hang_last(
+pub fn gateway_hang_last(
     words: &mut [u32],
     values: &mut [u8],
     run_words: &[u32],
@@ -140,8 +132,7 @@ pub extern "C" fn gateway_hang_last(
 }
 
 // Hangs a run, lent as a draft, on a part of a message.
-#[unsafe(no_mangle)]
-pub extern "C" fn gateway_hang(
+pub fn gateway_hang(
     words: &mut [u32],
     values: &mut [u8],
     part: u8,
@@ -165,8 +156,7 @@ pub extern "C" fn gateway_hang(
 }
 
 // Encodes a message at the start of the output; the first value is its length.
-#[unsafe(no_mangle)]
-pub extern "C" fn gateway_encode(
+pub fn gateway_encode(
     words: &mut [u32],
     values: &mut [u8],
     output: &mut [u8],

@@ -19,8 +19,7 @@ fn lay(records: &[FieldRecord], read: usize, words: &mut [u32; build_records::WO
 }
 
 // Takes a build's records, the first `count` of those that are lent, and the bytes that they point into over into a lent message.
-#[unsafe(no_mangle)]
-pub extern "C" fn gateway_take_over(
+pub fn gateway_take_over(
     records: &[FieldRecord],
     count: usize,
     message: &[u8],

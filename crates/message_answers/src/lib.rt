@@ -11,6 +11,7 @@ use encode_rules::Encoding;
 use message_rules::Change;
 use message_take_over::Taken;
 
+#[tactic(auto, unfolding(message_rules::specs::Changes::number_of_change))]
 pub fn change_number(change: Change) -> u32
     ensures { result ≡ number_of_change change }
 {
@@ -23,6 +24,7 @@ pub fn change_number(change: Change) -> u32
     }
 }
 
+#[tactic(auto, unfolding(message_take_over::specs::Taking::number_of_taken))]
 pub fn taken_number(taken: Taken) -> u32
     ensures { result ≡ number_of_taken taken }
 {
@@ -32,6 +34,7 @@ pub fn taken_number(taken: Taken) -> u32
     }
 }
 
+#[tactic(auto, unfolding(encode_rules::specs::Encode::number_of_encoding))]
 pub fn encoding_number(encoding: Encoding) -> u32
     ensures { result ≡ number_of_encoding encoding }
 {
@@ -47,6 +50,7 @@ pub fn encoding_number(encoding: Encoding) -> u32
 }
 
 // How many bytes were written, 0 where it was refused.
+#[tactic(auto, unfolding(encode_rules::specs::Encode::length_of_encoding))]
 pub fn encoding_length(encoding: Encoding) -> usize
     ensures { result ≡ length_of_encoding encoding }
 {

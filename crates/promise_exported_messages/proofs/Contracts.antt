@@ -1,6 +1,6 @@
 -- The records of `Exports` say what the contracts in the code say: each contract is taken as the prover reads it from crates/gateway/src, and gives
 -- its record. An `ensures` that said less or something else would leave its line here without a proof.
-use mathlib.Core.Path.{◌≡◌, refl}
+use Rattle.std.proofs.Common.{◌≡◌, refl}
 use contract.Lifetimes.{Lfts}
 use denote.Triple.Clauses.{AtExit}
 use borrow.Fn.Kinds.{Dens, res_t, ended_of}
@@ -27,9 +27,9 @@ pub prepare_says : (κs : Lfts 4) (a : Dens κs in-prepare.ps) (x : (res_t in-pr
     → Prepares a.0.now a.1.0.now a.1.1.0.now x left.1.0.now left.1.1.0.now left.1.1.1.0.now
 prepare_says κs a x left p = record { answers = p.0; leaves-copy = p.1.0; leaves-memory = p.1.1.0; tells = p.1.1.1 }
 
--- An export over lent records is walked by hand, and the prover reads no contract of it. So here is the generated clause itself, as for the
+-- Of an export over lent records here is the generated clause itself, as of the
 -- framers' exports: in every model it states one plain fact of the values, and that fact is the record.
-pub build_says : Ensures of-build.ended (λ M. of-build.clauses)
+pub build_says : Ensures of-build.ended (λ M 𝓤. of-build.clauses)
     (λ κs a x left. Builds a.0.now a.1.0 a.1.1.0 a.1.1.1.0.now a.1.1.1.1.0.now x left.1.1.1.1.0.now
     left.1.1.1.1.1.0.now)
 build_says =
@@ -40,7 +40,7 @@ build_says =
       back = λ κs a x left p. (p.answers, p.fills, p.tells);
     }
 
-pub build_prepared_says : Ensures of-build-prepared.ended (λ M. of-build-prepared.clauses)
+pub build_prepared_says : Ensures of-build-prepared.ended (λ M 𝓤. of-build-prepared.clauses)
     (λ κs a x left. BuildsPrepared a.0.now a.1.0 a.1.1.0 a.1.1.1.0.now a.1.1.1.1.0.now a.1.1.1.1.1.0.now x
     left.1.1.1.1.1.0.now left.1.1.1.1.1.1.0.now)
 build_prepared_says =
@@ -51,7 +51,7 @@ build_prepared_says =
       back = λ κs a x left p. (p.answers, p.fills, p.tells);
     }
 
-pub take-over_says : Ensures of-take-over.ended (λ M. of-take-over.clauses)
+pub take-over_says : Ensures of-take-over.ended (λ M 𝓤. of-take-over.clauses)
     (λ κs a x left. TakesOver a.0.now a.1.0 a.1.1.0.now a.1.1.1.0.now a.1.1.1.1.0.now x left.1.1.1.0.now
     left.1.1.1.1.0.now left.1.1.1.1.1.0.now)
 take-over_says =

@@ -1,0 +1,12 @@
+-- It tells what the change leaves.
+use Rattle.gateway.specs.MessageLaws.{change_told, storing_in}
+use Rattle.gateway.proofs.messages.gateway_store.Goals as goal
+
+pub returns-clause-value : goal.returns-clause-value
+returns-clause-value c = (change_told _ _ _ _ _ _ (storing_in _ _ _ _ _ _ _ c.part_numbered.ensures c.store-change.ensures) c.tell_change.ensures).0
+
+pub returns-clause-words_after : goal.returns-clause-words_after
+returns-clause-words_after c = (change_told _ _ _ _ _ _ (storing_in _ _ _ _ _ _ _ c.part_numbered.ensures c.store-change.ensures) c.tell_change.ensures).1.0
+
+pub returns-clause-values_after : goal.returns-clause-values_after
+returns-clause-values_after c = (change_told _ _ _ _ _ _ (storing_in _ _ _ _ _ _ _ c.part_numbered.ensures c.store-change.ensures) c.tell_change.ensures).1.1.0
