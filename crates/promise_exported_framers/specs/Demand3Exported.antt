@@ -115,7 +115,7 @@ nothing_again_exported {s = s} {z = z} {store = store} {store' = store'} {output
       answered = p.answered ∙ ap number_of_hunter n.0;
       none = length-uncut s store output r z store' output' out p ∙ n.1.none;
       state-kept = as_lent p.state-left n.1.state_is;
-      store_kept = n.1.Store-is;
+      store_kept = n.1.store_is;
       output_kept = n.1.output_is;
     }
 
