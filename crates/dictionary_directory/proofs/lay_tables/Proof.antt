@@ -8,7 +8,7 @@ use Rattle.dictionary_rules.specs.Record.{record_at}
 use Rattle.dictionary_rules.specs.RecordsLaws.{record_falls}
 use Rattle.dictionary_rules.specs.declared.RecordRead.TheVariants.{Whole}
 use Rattle.dictionary_directory.specs.Directory.{directory_words, filling, messages_from, lay_messages}
-use Rattle.dictionary_directory.specs.LayingLaws.{rest-message, rest-other, lay_short, lay_all}
+use Rattle.dictionary_directory.proofs.LayingFacts.{rest-message, rest-other, lay_short, lay_all}
 use Rattle.dictionary_directory.proofs.Arms.{unread, a-message, no_message}
 use Rattle.dictionary_directory.proofs.lay_tables.Statement.{statement}
 use Rattle.dictionary_directory.proofs.lay_tables.Tie as tie

@@ -4,7 +4,7 @@ use native.Mathlib.Omega.{arith}
 use borrow.Author.Rules.{rules}
 use lib.ListN.{replicate}
 use Rattle.dictionary_meaning_rules.specs.PlainTags.{listing, plain_tags}
-use Rattle.dictionary_directory.specs.LayingLaws.{tags-taken, tags-none}
+use Rattle.dictionary_directory.proofs.LayingFacts.{tags-taken, tags-none}
 use Rattle.dictionary_directory.proofs.tags_of.Statement.{statement}
 use Rattle.dictionary_directory.proofs.tags_of.Tie as tie
 
