@@ -7,7 +7,7 @@ use Rattle.dictionary_rules.specs.declared.Placed.TheVariants.{At}
 use Rattle.dictionary_meaning_rules.specs.MessageTable.{tabling, placed_table}
 use Rattle.dictionary_meaning_rules.proofs.LaidLayoutLaws.{placed_layout}
 use Rattle.dictionary_meaning_rules.specs.declared.MessageTable.TheVariants.{Rows}
-use Rattle.dictionary_directory.specs.LayingLaws.{message-beyond, message_rows}
+use Rattle.dictionary_directory.proofs.LayingFacts.{message-beyond, message_rows}
 use Rattle.dictionary_directory.proofs.Arms.{made_as, unlaid}
 use Rattle.dictionary_directory.proofs.lay_message.Goals as goal
 use Rattle.dictionary_directory.proofs.lay_message.Goals.{In-Rows}

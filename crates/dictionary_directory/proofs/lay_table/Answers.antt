@@ -12,7 +12,7 @@ use Rattle.dictionary_meaning_rules.proofs.LaidLayoutLaws.{placed_layout}
 use Rattle.dictionary_meaning_rules.specs.MessageTable.{tabling, placed_table}
 use Rattle.dictionary_meaning_rules.specs.declared.MessageTable.TheVariants.{Rows}
 use Rattle.dictionary_directory.specs.Directory.{table_words}
-use Rattle.dictionary_directory.specs.LayingLaws.{alone_rows, over_rows}
+use Rattle.dictionary_directory.proofs.LayingFacts.{alone_rows, over_rows}
 use Rattle.dictionary_directory.proofs.LayingFacts.{held_tabled, held-few, held_fits, held_pressable}
 use Rattle.dictionary_directory.proofs.Arms.{made_as, unlaid_alone}
 use Rattle.dictionary_directory.proofs.lay_table.Goals as goal

@@ -4,7 +4,7 @@ use lib.ListN.{length}
 use Rattle.dictionary_rules.specs.Record.{record_at}
 use Rattle.dictionary_rules.specs.RecordsLaws.{record_falls}
 use Rattle.dictionary_rules.specs.declared.RecordRead.TheVariants.{Whole}
-use Rattle.dictionary_directory.specs.LayingLaws.{rest-message, rest-other, lay_short, lay_all}
+use Rattle.dictionary_directory.proofs.LayingFacts.{rest-message, rest-other, lay_short, lay_all}
 use Rattle.dictionary_directory.proofs.Arms.{unread, a-message, no_message}
 use Rattle.dictionary_directory.proofs.lay_tables.Goals as goal
 use Rattle.dictionary_directory.proofs.lay_tables.Goals.{In-Whole}

@@ -8,7 +8,7 @@ use lib.ListN.{length, length-take, length-drop}
 use Rattle.dictionary_layout_rules.specs.RowsLayout.{layout_in}
 use Rattle.dictionary_tables_rules.specs.Laid.{table_size}
 use Rattle.dictionary_directory.specs.Directory.{block_stride, room_for}
-use Rattle.dictionary_directory.specs.LayingLaws.{put-none, put-words}
+use Rattle.dictionary_directory.proofs.LayingFacts.{put-none, put-words}
 use Rattle.dictionary_directory.proofs.LayingFacts.{held_tabled, held-few, held_small, held_pressable, room-here}
 use Rattle.dictionary_directory.proofs.put_block.Goals as goal
 use Rattle.dictionary_directory.proofs.put_block.Goals.{After-table_size-size}

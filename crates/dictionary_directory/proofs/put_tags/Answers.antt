@@ -11,7 +11,7 @@ use Rattle.dictionary_tables_rules.specs.Laid.{part_size, table_size, table_of}
 use Rattle.dictionary_tables_rules.specs.Tags.{fields_of}
 use Rattle.dictionary_tables_rules.proofs.TagsLaws.{fields-part, fields-few}
 use Rattle.dictionary_directory.specs.Directory.{block_stride, room_for}
-use Rattle.dictionary_directory.specs.LayingLaws.{put-none, put-words}
+use Rattle.dictionary_directory.proofs.LayingFacts.{put-none, put-words}
 use Rattle.dictionary_directory.proofs.LayingFacts.{room-here}
 use Rattle.dictionary_directory.proofs.put_tags.Goals as goal
 

@@ -3,7 +3,7 @@ use mathlib.Core.Path.{◌≡◌}
 use native.Mathlib.Omega.{arith}
 use lib.ListN.{replicate}
 use Rattle.dictionary_meaning_rules.specs.PlainTags.{listing, plain_tags}
-use Rattle.dictionary_directory.specs.LayingLaws.{tags-taken, tags-none}
+use Rattle.dictionary_directory.proofs.LayingFacts.{tags-taken, tags-none}
 use Rattle.dictionary_directory.proofs.tags_of.Goals as goal
 
 pub returns-in-Listed : goal.returns-in-Listed

@@ -15,10 +15,10 @@ use Rattle.build_group_rules.specs.Groups.{Rules, opens, Kind, plain, count, end
 use Rattle.build_group_rules.specs.Reading.{layout_rules, list_store}
 use Rattle.promise_standard.specs.Reading.{ReadsAs, no_field, one_field}
 use Rattle.promise_standard.specs.Groups.{numbered, records_as, tag_behind, entries_of, members_of, Leaves, Fits}
-use Rattle.promise_standard.specs.GroupSteps.{reads_split, numbered_each, records_tell, tell_each}
-use Rattle.promise_standard.specs.GroupReading.{some-fields, layout_group-read}
-use Rattle.promise_standard.specs.GroupTakes.{Takes, takes, Says, says_plain, says_count, says_joins, says_wrong, says_ends, kind_says, walk-takes, same_numbers, given}
-use Rattle.promise_standard.specs.GroupOpen.{Above, Elsewhere, Head, head_none, head_map, members_head, entries_head, entries-start, Gives, run_gives, entry_gives, Goes, goes-plain, goes-joins, goes-count, entry-goes, run-goes, entry-over, run-over, count_open, not_deeper}
+use Rattle.promise_standard.proofs.GroupSteps.{reads_split, numbered_each, records_tell, tell_each}
+use Rattle.promise_standard.proofs.GroupReading.{some-fields, layout_group-read}
+use Rattle.promise_standard.proofs.GroupTakes.{Takes, takes, Says, says_plain, says_count, says_joins, says_wrong, says_ends, kind_says, walk-takes, same_numbers, given}
+use Rattle.promise_standard.proofs.GroupOpen.{Above, Elsewhere, Head, head_none, head_map, members_head, entries_head, entries-start, Gives, run_gives, entry_gives, Goes, goes-plain, goes-joins, goes-count, entry-goes, run-goes, entry-over, run-over, count_open, not_deeper}
 
 module _ {L : Type 0} (rules : Rules L) (message : List ℕ) (x : Field) (rest : Fields) where
   abbrev Untaken : L → ℕ → Type 0

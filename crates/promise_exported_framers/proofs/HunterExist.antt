@@ -14,7 +14,7 @@ use Rattle.face_framers.specs.declared.HunterState.{HunterState}
 use Rattle.face_framers.proofs.Exports.{HunterPush, HunterEnd, HunterTake}
 use Rattle.promise_exported_framers.specs.ToldLength.{length_told}
 use Rattle.promise_exported_framers.specs.HunterRule.{HunterRefused, refused_push, refused_take, refused_end, HunterTakenAll, last-take, next-take, after-refusal, HunterCalls, after_reset, after-chunk, after-end, take_again, call_in_vain}
-use Rattle.promise_exported_framers.specs.HunterLaws.{length-uncut}
+use Rattle.promise_exported_framers.proofs.HunterLaws.{length-uncut}
 
 -- the state that calls leave from a reset on: its marks are 0 or 1
 abbrev pub hunter_plain : State → HunterState

@@ -17,7 +17,7 @@ use Rattle.promise_standard.specs.Reading.{ReadsAs, no_field, one_field}
 use Rattle.standard_rules.proofs.StandardLaws.{distinct_behind}
 use Rattle.promise_standard.specs.Groups.{numbered, records_as, tag_behind, Part, entries_of, members_of, Leaves, Rises, Joins, Fits}
 use Rattle.promise_standard.specs.GroupOwn.{Fresh, fresh-entry, fresh-field, fresh-nested, fresh-joined}
-use Rattle.promise_standard.specs.GroupSteps.{kind_delimiter, kind_leaves, kind_joins, entry-joined, kind_plain, kind_count, walk-next, none-takes, run-opens, run_passes, entry-takes, entry-counts, entry_passes, reads_split, numbered_each, records_behind}
+use Rattle.promise_standard.proofs.GroupSteps.{kind_delimiter, kind_leaves, kind_joins, entry-joined, kind_plain, kind_count, walk-next, none-takes, run-opens, run_passes, entry-takes, entry-counts, entry_passes, reads_split, numbered_each, records_behind}
 
 -- the tag behind an entry is the delimiter again, or the one behind all entries
 entries-first : {T : Tables} {Here : ℕ → Type 0} {stretch : Stretch} {gs : List Told} (c d n next : ℕ) → Stands T Here stretch gs → stretch ≡ entries c d n → (tag_behind next gs ≡ d) ⊎ (tag_behind next gs ≡ next)

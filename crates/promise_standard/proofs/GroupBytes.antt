@@ -23,7 +23,7 @@ use Rattle.build_group_rules.specs.declared.Group.{Group}
 use Rattle.build_group_rules.specs.declared.Progress.{Progress}
 use Rattle.promise_standard.specs.Reading.{ReadsAs, Readable, fields_read}
 use Rattle.promise_standard.specs.Groups.{numbered, records_as, entries_of, Leaves, Fits}
-use Rattle.promise_standard.specs.GroupReading.{group-read, layout_group-read}
+use Rattle.promise_standard.proofs.GroupReading.{group-read, layout_group-read}
 
 module _ {T : Tables} {Here : ℕ → Type 0} {c d n : ℕ} {gs : List Told} (s : Stands T Here (entries c d (suc n)) gs) (layout : Layout) (message : List ℕ) (left : ℕ) (x : Field) where
   -- the bytes of a group's entries, wherever they stand in a message

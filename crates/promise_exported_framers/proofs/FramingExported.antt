@@ -12,8 +12,8 @@ use Rattle.standard_rules.specs.Standard.{Tables}
 use Rattle.face_framers.proofs.Exports.{PortedPush, PortedTake}
 use Rattle.promise_exported_framers.specs.ToldLength.{length_told}
 use Rattle.promise_exported_framers.specs.PortedRule.{PortedCalls}
-use Rattle.promise_exported_framers.specs.PortedLaws.{length-uncut, at_end, is_run_lem, is_quiet}
-use Rattle.promise_exported_framers.specs.PortedExist.{ported_plain, run_exported}
+use Rattle.promise_exported_framers.proofs.PortedLaws.{length-uncut, at_end, is_run_lem, is_quiet}
+use Rattle.promise_exported_framers.proofs.PortedExist.{ported_plain, run_exported}
 
 -- the messages that came out, when the bytes `given` have arrived of the messages `all`: `Framed`, in the numbers that the exports answer
 pub record FramedExported (over : Bool) (given : List ℕ) (all messages : List (List ℕ)) (state : PortedState) (store : List ℕ) : Type 0 where

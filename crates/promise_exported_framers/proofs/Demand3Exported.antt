@@ -20,8 +20,8 @@ use Rattle.face_framers.specs.declared.HunterState.{HunterState}
 use Rattle.face_framers.proofs.Exports.{HunterPush, HunterEnd, HunterTake}
 use Rattle.promise_exported_framers.specs.ToldLength.{length_told}
 use Rattle.promise_exported_framers.specs.HunterRule.{HunterRefused, refused_push, refused_take, refused_end, HunterCalls}
-use Rattle.promise_exported_framers.specs.HunterLaws.{reads, push_is, take_is, length-uncut, refused_is, calls_are}
-use Rattle.promise_exported_framers.specs.HunterExist.{hunter_plain, calls_exported}
+use Rattle.promise_exported_framers.proofs.HunterLaws.{reads, push_is, take_is, length-uncut, refused_is, calls_are}
+use Rattle.promise_exported_framers.proofs.HunterExist.{hunter_plain, calls_exported}
 
 -- DEMAND 3 AT THE EXPORTS, in the words of demand_3: only the calls are those of the exports
 pub demand_3_exported : {over : Bool} {given : List ℕ} {frames : List (List ℕ)} {s : HunterState} {store : List ℕ} (rest D : List ℕ) (Fs : List (List ℕ)) →
@@ -115,7 +115,7 @@ nothing_again_exported {s = s} {z = z} {store = store} {store' = store'} {output
       answered = p.answered ∙ ap number_of_hunter n.0;
       none = length-uncut s store output r z store' output' out p ∙ n.1.none;
       state-kept = as_lent p.state-left n.1.state_is;
-      store_kept = n.1.Store-is;
+      store_kept = n.1.store_is;
       output_kept = n.1.output_is;
     }
 

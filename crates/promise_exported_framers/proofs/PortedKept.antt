@@ -8,7 +8,7 @@ use Rattle.face_framers.specs.declared.PortedState.{PortedState}
 use Rattle.face_framers.proofs.Exports.{PortedTake}
 use Rattle.promise_exported_framers.specs.PortedRule.{PortedRefused, refused_push, refused_take, refused_end, PortedCalls}
 use Rattle.promise_exported_framers.specs.PortedAnswers.{take-nothing}
-use Rattle.promise_exported_framers.specs.PortedLaws.{reads, refused-leaves, is_run_lem, is_quiet}
+use Rattle.promise_exported_framers.proofs.PortedLaws.{reads, refused-leaves, is_run_lem, is_quiet}
 
 -- what means the same is the same, byte for byte
 as_lent : {s z : PortedState} {t : State} → z ≡ ported_out s t → t ≡ ported_in s → z ≡ s

@@ -159,10 +159,10 @@ module _ {L : Type 0} (rules : Rules L) where
   same_numbers message _ last (n ∷ ns) (over here e) (one_field tag value r) s q = let z : ◌≡◌ {A = ℕ} 0 1 = cc in absurd (omega arith)
   same_numbers message _ last [] (takes here e t) r s q = let z : ◌≡◌ {A = ℕ} 0 1 = cc in absurd (omega arith)
   same_numbers message _ last (n ∷ ns) (takes here e t) no_field s q = absurd (omega arith)
-  same_numbers message _ last (n ∷ ns) (takes here {n = m} {ns = ms} {f = f} {later = later} e t) (one_field tag value r) s q =
+  same_numbers {frames = frames} message _ last (n ∷ ns) (takes here {more = others_open} {n = m} {ns = ms} {f = f} {later = later} e t) (one_field tag value r) s q =
       let one : entry_record m.0 m.1 f ≡ entry_record n.0 n.1 f = cc in
       let others : records_as ms later ≡ records_as ns later = cc in
       let depths : m.0 ≡ n.0 = ap (λ (r : Record). r.depth) one in
       let numbers : m.1 ≡ n.1 = ap (λ (r : Record). r.number) one in
       let same : m ≡ n = rw (depths, numbers) refl in
-      rw (same, same_numbers message _ last ns t r (omega arith) others) refl
+      rw (same, same_numbers {frames = others_open} message _ last ns t r (omega arith) others) refl

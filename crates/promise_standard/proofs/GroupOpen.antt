@@ -11,7 +11,7 @@ use Rattle.standard_rules.specs.Standard.{Tables, Told, Stretch, entries, Stands
 use Rattle.field_rules.specs.declared.Field.{Field}
 use Rattle.build_group_rules.specs.Groups.{none, opened, Rules, opens, Kind, plain, count, joins, wrong, ends, entry_kind, OpenGroup, OpenEntry, Frame, run, entry, Numbers, Move, adds, disorders, reaching, numbers_in, nested, in_entry_lem, decide}
 use Rattle.promise_standard.specs.Groups.{numbered, Rises, Joins}
-use Rattle.promise_standard.specs.GroupTakes.{Takes, over, takes, Says, says_plain, says_count, says_joins, kind_says, given}
+use Rattle.promise_standard.proofs.GroupTakes.{Takes, over, takes, Says, says_plain, says_count, says_joins, kind_says, given}
 
 -- a depth and number that are above a depth; or not below it and not those of an entry
 pub record Above (depth d n : ℕ) : Type 0 where
