@@ -28,7 +28,7 @@ loop-read-init c =
     let clear_kept : length c.clear_directory.new.tables ≡ length c.args.tables.now = c.clear_directory.auto.tables in
     let header-kept : length c.lay_listed-header.new.tables ≡ length c.args.tables.now = c.lay_listed-header.auto.tables ∙ clear_kept in
     let trailer-kept : length c.lay_listed-free.new.tables ≡ length c.args.tables.now = c.lay_listed-free.auto.tables ∙ header-kept in
-    (omega (arith, trailer-kept, c.if-tables-lt-DIRECTORY.left), refl, refl)
+    (omega (arith, trailer-kept, c.if-tables-lt-DIRECTORY.false), refl, refl)
 
 read_here : (c : In-Whole) → record_at c.args.dictionary.now c.loop-read.at ≡
     Whole c.in-Whole.read c.in-Whole.next
@@ -42,7 +42,7 @@ shape_of-tables-in_default c =
     c.loop-read.invariant.1 ∙ trailer-kept
 
 pub returns-in_default : goal.returns-in_default
-returns-in_default c = sym (lay_all _ _ _ c.if-tables-lt-DIRECTORY.left _ _ _ c.clear_directory.ensures c.lay_listed-header.ensures c.lay_listed-free.ensures _ _
+returns-in_default c = sym (lay_all _ _ _ c.if-tables-lt-DIRECTORY.false _ _ _ c.clear_directory.ensures c.lay_listed-header.ensures c.lay_listed-free.ensures _ _
     (c.loop-read.invariant.2 ∙ unread _ _ _ _ _ c.record_at.ensures c.in_default.not-Whole))
 
 pub lay_message-free-requires : goal.lay_message-free-requires

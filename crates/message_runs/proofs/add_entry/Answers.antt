@@ -41,11 +41,12 @@ cut_rows-requires c =
     record { cuttable = enter_able _ _ _ (draft-at) _ _ _ _ c.row_count-count.ensures (ap (λ (n : ℕ). n + 1) (fields_at)); blank_from = not_blank _ _ _ }
 
 pub returns : goal.returns
+unfolding entering
 returns c =
     let is_at : is_draft c.args.words.now c.args.values.now ≡ true = sym c.is_draft.ensures ∙ c.if-not-is_draft.false in
     let draft-at : Draft c.args.words.now c.args.values.now (run_in c.args.words.now c.args.values.now) = draft_of _ _ (is_at) in
     let entered_at : entering c.args.start c.args.delimiter c.args.words.now c.args.values.now
-    ≡ judged_run c.args.words.now c.args.values.now true (joined (run_in c.args.words.now c.args.values.now) (entry c.args.start c.args.delimiter end end)) = unfold entering in draft_yes _ _ _ _ (is_at) in
+    ≡ judged_run c.args.words.now c.args.values.now true (joined (run_in c.args.words.now c.args.values.now) (entry c.args.start c.args.delimiter end end)) = draft_yes _ _ _ _ (is_at) in
     let fields_at : c.fields_in-fields.result ≡ field_count (run_in c.args.words.now c.args.values.now) = c.fields_in-fields.ensures ∙ fields_now _ _ _ (draft-at) _ c.row_count-count.ensures in
     c.cut_rows.ensures
     ∙ enter_done _ _ _ (draft-at) _ _ _ _ c.row_count-count.ensures (ap (λ (n : ℕ). n + 1) (fields_at))
