@@ -29,11 +29,13 @@ fields_rising mode message =
     (λ c f e later. let l = step-lies mode message c f e in rising_field {place = c.at} {f = f} (omega (arith, l.starts)) (rising_from (omega (arith, l.starts, l.falls)) later))
 
 reached-behind : {place n : ℕ} {fields rest : Fields} {f : Field} → Rising place fields → Reaches fields n (field f rest) → place ≤ f.first
+reached-behind {n = n} {rest = rest} {f = f} (rising_end {place = place} {at = at} {cause = cause}) x4 = elim x4 [ ]
 reached-behind (rising_field p r) here = p
 reached-behind (rising_field p r) (further a) = omega (arith, p, reached-behind r a)
 
 counted_to_lem : {place n : ℕ} {fields rest : Fields} {f : Field} → Rising place fields → Reaches fields n (field f rest) → counted_to f.first fields ≡ suc n
 unfolding counted_to
+counted_to_lem {n = n} {rest = rest} {f = f} (rising_end {place = place} {at = at} {cause = cause}) x4 = elim x4 [ ]
 counted_to_lem {f = f} (rising_field p r) here = rw (eq-eqb f.first f.first refl)
 counted_to_lem {f = f} (rising_field {f = g} p r) (further a) = let l = reached-behind r a in rw (ne_eqb g.first f.first (λ e. omega arith)) (ap suc (counted_to_lem r a))
 

@@ -22,7 +22,7 @@ use Rattle.dictionary_meaning_rules.specs.contracts.MessageTable as table-type
 use Rattle.dictionary_meaning_rules.specs.declared.MessageTable.TheVariants.{Rows, NoMessage, Unprepared}
 use Rattle.dictionary_directory.specs.Directory.{longest, Filling, filling, lay_message, is_message, messages_from, lay_messages, laid_alone, laid_over}
 use Rattle.dictionary_directory.specs.declared.Kept.TheVariants.{Nowhere}
-use Rattle.dictionary_directory.specs.LayingLaws.{message-none, message_unprepared, rest_end, rest-bad}
+use Rattle.dictionary_directory.proofs.LayingFacts.{message-none, message_unprepared, rest_end, rest-bad}
 
 -- rows that were made are as many as their arm names
 pub made_as : {r named : MessageTable} {rows : List ℕ} {made : Tabling} → tabling r rows ≡ made → r ≡ named → tabling named rows ≡ made

@@ -20,7 +20,7 @@ use Rattle.dictionary_directory.specs.Directory.{longest, directory_words, block
 use Rattle.dictionary_directory.proofs.KeptLaws.{kept-short, tags-short, Found, kept-found, found-tags}
 use Rattle.dictionary_directory.proofs.BlockLaws.{with-length}
 use Rattle.dictionary_directory.proofs.FillingLaws.{LaidFor, for_message, for_tags, BlockStands, Fills, clear_fills, block_fills}
-use Rattle.dictionary_directory.specs.LayingLaws.{lay_short, lay_all}
+use Rattle.dictionary_directory.proofs.LayingFacts.{lay_short, lay_all}
 use Rattle.dictionary_directory.proofs.LayingFacts.{room-here}
 use Rattle.dictionary_directory.specs.declared.Kept.{Kept}
 use Rattle.dictionary_directory.specs.declared.Kept.TheVariants.{Table, Nowhere}

@@ -1,11 +1,4 @@
 pub mod ToldLength
 pub mod HunterRule
-pub mod HunterLaws
-pub mod HunterExist
-pub mod Demand3Exported
 pub mod PortedRule
 pub mod PortedAnswers
-pub mod PortedLaws
-pub mod PortedKept
-pub mod PortedExist
-pub mod FramingExported

@@ -15,12 +15,12 @@ use Rattle.frame_verdict_rules.specs.Frame as frame
 use Rattle.promise_standard.specs.Texts.{sum_same, tag-text, digits_int, digits_plain}
 
 without : (text : List ℕ) → standard.All standard.NotDelimiter text → frame.All NoSeparator text
-without [] standard.All.none = frame.All.All-none
-without (x ∷ text) (standard.All.also p a) = frame.All.All-more p (without text a)
+without [] standard.All.none = frame.All.all_none
+without (x ∷ text) (standard.All.also p a) = frame.All.all_more p (without text a)
 
 delimited : (text : List ℕ) → frame.All NoSeparator text → standard.All standard.NotDelimiter text
-delimited [] frame.All.All-none = standard.All.none
-delimited (x ∷ text) (frame.All.All-more p a) = standard.All.also p (delimited text a)
+delimited [] frame.All.all_none = standard.All.none
+delimited (x ∷ text) (frame.All.all_more p a) = standard.All.also p (delimited text a)
 
 -- a field with the digits of its tag
 field_bytes : (tag : ℕ) (value bytes : List ℕ) → standard.Field tag value bytes → bytes ≡ decimal tag ++ (61 ∷ (value ++ (1 ∷ [])))

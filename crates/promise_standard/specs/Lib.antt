@@ -3,11 +3,5 @@ pub mod Frames
 pub mod Reading
 pub mod Sound
 pub mod Groups
-pub mod GroupSteps
 pub mod GroupOwn
-pub mod GroupReading
-pub mod GroupBytes
 pub mod GroupExamples
-pub mod GroupTakes
-pub mod GroupOpen
-pub mod GroupExact

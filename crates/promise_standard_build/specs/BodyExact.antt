@@ -28,11 +28,11 @@ use Rattle.build_order_laws.specs.BodyStores.{walk_stores}
 use Rattle.build_order_laws.specs.Follows.{Reaches, here as at_place, further}
 use Rattle.promise_standard.specs.Reading.{ReadsAs, no_field, one_field}
 use Rattle.promise_standard.specs.Groups.{numbered, records_as}
-use Rattle.promise_standard.specs.GroupSteps.{Split, reads_split, numbered_each, records_split, records_tell, tell_each}
-use Rattle.promise_standard.specs.GroupTakes.{walk-takes}
-use Rattle.promise_standard.specs.GroupOpen.{Above, Head, head_none, head_some, count_open}
-use Rattle.promise_standard.specs.GroupReading.{some-fields}
-use Rattle.promise_standard.specs.GroupExact.{group_fits}
+use Rattle.promise_standard.proofs.GroupSteps.{Split, reads_split, numbered_each, records_split, records_tell, tell_each}
+use Rattle.promise_standard.proofs.GroupTakes.{walk-takes}
+use Rattle.promise_standard.proofs.GroupOpen.{Above, Head, head_none, head_some, count_open}
+use Rattle.promise_standard.proofs.GroupReading.{some-fields}
+use Rattle.promise_standard.proofs.GroupExact.{group_fits}
 use Rattle.promise_standard_build.specs.Fitting.{BodyFits}
 use Rattle.promise_standard_build.specs.RequiredExact.{before-append, nested-deeper, members-shallow, required_exact}
 use Rattle.promise_standard_build.specs.BodySteps.{same-behind, the_body, Step, over, took, counted, body-step}

@@ -29,8 +29,8 @@ use Rattle.build_body_rules.specs.Kinds.{body_kind, checked, ran_as, run_from, b
 use Rattle.promise_standard.specs.Reading.{ReadsAs, no_field, one_field}
 use Rattle.promise_standard.specs.Groups.{numbered, records_as, tag_behind, entries_of, Leaves, Fits}
 use Rattle.promise_standard.specs.GroupOwn.{Free, free-none, free_more, Fresh, fresh_record, fresh-nested, stored-free}
-use Rattle.promise_standard.specs.GroupSteps.{reads_split, numbered_each, records_behind}
-use Rattle.promise_standard.specs.GroupReading.{group-read}
+use Rattle.promise_standard.proofs.GroupSteps.{reads_split, numbered_each, records_behind}
+use Rattle.promise_standard.proofs.GroupReading.{group-read}
 use Rattle.promise_standard_build.specs.Fitting.{HasRequired, BodyFits}
 use Rattle.promise_standard_build.specs.RequiredExact.{required_exact}
 

@@ -36,7 +36,7 @@ use Rattle.promise_standard.specs.Reading.{standard_mode, ReadsAs, no_field, one
 use Rattle.promise_standard.specs.Sound.{SoundAs, standard_sound, standard_read}
 use Rattle.promise_standard.specs.Groups.{numbered, records_as, Tell, one_record, tag_behind}
 use Rattle.promise_standard.specs.GroupOwn.{Fresh}
-use Rattle.promise_standard.specs.GroupSteps.{reads_split, numbered_each, records_tell}
+use Rattle.promise_standard.proofs.GroupSteps.{reads_split, numbered_each, records_tell}
 use Rattle.promise_standard_build.specs.Fitting.{header_fields, trailer_fields, header_numbers, trailer_numbers, fields_of, behind_body, behind_header, FitsDictionary, TellMessage}
 use Rattle.promise_standard_build.specs.BodyWalk.{body-walk}
 use Rattle.promise_standard_build.specs.PartWalks.{plain-outside, Recorded, part-stored, part-fresh, header-walk, trailer-walk}

@@ -40,8 +40,8 @@ use Rattle.build_order_laws.specs.HeaderStores.{header_stores}
 use Rattle.build_rules.specs.Message.{Outcome, message_read}
 use Rattle.promise_standard.specs.Reading.{standard_mode, ReadsAs, no_field, one_field, Readable}
 use Rattle.promise_standard.specs.Groups.{numbered, records_as, Tell, no_record, one_record, tag_behind}
-use Rattle.promise_standard.specs.GroupOpen.{entries-start}
-use Rattle.promise_standard.specs.GroupSteps.{tell_each, reads_split}
+use Rattle.promise_standard.proofs.GroupOpen.{entries-start}
+use Rattle.promise_standard.proofs.GroupSteps.{tell_each, reads_split}
 use Rattle.promise_standard.specs.Sound.{standard_sound, standard_read}
 use Rattle.build_integrity_rules.specs.Integrity.{integrity_of}
 use Rattle.build_integrity_rules.specs.declared.Integrity.TheVariants.{Sound}

@@ -27,7 +27,7 @@ use Rattle.build_required_rules.specs.declared.Lack.TheVariants.{Missing, Comple
 use Rattle.promise_standard.specs.Reading.{ReadsAs, one_field}
 use Rattle.promise_standard.specs.Groups.{numbered, records_as, tag_behind, Part, entries_of, members_of, Fits}
 use Rattle.promise_standard.specs.GroupOwn.{Deep, deep_none, deep_more, numbered-deep}
-use Rattle.promise_standard.specs.GroupSteps.{reads_split, numbered_each, records_split}
+use Rattle.promise_standard.proofs.GroupSteps.{reads_split, numbered_each, records_split}
 use Rattle.promise_standard_build.specs.Fitting.{HasRequired}
 
 -- ===== records of a kind, and those behind them =====

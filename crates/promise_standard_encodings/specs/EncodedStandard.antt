@@ -111,7 +111,7 @@ module _ {T : Tables} {IsValue : List ℕ → Type 0} (m : Message) (whole : Com
       (of_others (λ t b k. b.no_trailer k) of_body of_trailer))
       (both-append (tags_of m.body) (tags_of last) (of_others (λ t h b. b.no_header h) of_header of_body) differ)
     where
-      both-append : {xs : List ℕ} (ys zs : List ℕ) → All (λ x. All (λ y. y ≢ x) ys) xs → All (λ x. All (λ y. y ≢ x) zs) xs → All (λ x. All (λ y. y ≢ x) (ys ++ zs)) xs
+      both-append : (ys zs : List ℕ) {xs : List ℕ} → All (λ x. All (λ y. y ≢ x) ys) xs → All (λ x. All (λ y. y ≢ x) zs) xs → All (λ x. All (λ y. y ≢ x) (ys ++ zs)) xs
       both-append ys zs All.none All.none = All.none
       both-append ys zs (All.also p a) (All.also q b) = All.also (numbers_append ys zs p q) (both-append ys zs a b)
 
