@@ -34,7 +34,7 @@ use Rattle.encode_rewriting_laws.proofs.ReadWritten.{Writable, follows_writable}
 use Rattle.encode_rewriting_laws.proofs.ReadMessage.{Followed, followed_writable}
 use Rattle.promise_standard_encodings.specs.EncodedMaps.{Some}
 use Rattle.promise_standard_encodings.specs.EncodedStandard.{Conformant}
-use Rattle.promise_standard_encodings.specs.EncodedClean.{built_standard}
+use Rattle.promise_standard_encodings.proofs.EncodedClean.{built_standard}
 use Rattle.promise_roundtrip.specs.BuiltTaken.{BuiltTaken}
 use Rattle.promise_roundtrip.specs.Clean.{Clean}
 use Rattle.promise_roundtrip.specs.ComesBack.{repeat-free-order, order-built, clean_text}

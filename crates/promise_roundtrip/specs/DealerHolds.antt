@@ -25,7 +25,7 @@ use Rattle.build_rules.specs.declared.Stop.{Stop}
 use Rattle.message_maps.specs.Map.{Map, holds}
 use Rattle.message_lent_rules.specs.Meaning.{Message}
 use Rattle.message_rules.specs.Changes.{field_total}
-use Rattle.message_take_over.specs.Derived.{Stands, StandFor, own as stands-own, in_entry as stands-entry}
+use Rattle.message_take_over.specs.Derived.{Stands, StandFor, no_more as stands_none, own as stands-own, in_entry as stands-entry}
 use Rattle.message_read_laws.specs.Parted.{Takes}
 use Rattle.encode_rules.specs.Encoding.{encoded_message}
 use Rattle.encoder.specs.SizeLaws.{encoded-fields}
@@ -176,6 +176,7 @@ module _ (dictionary : Dictionary) (config : Config) (message : List ℕ) (outco
 -- the records that stand for a map are of its part
 stands-part : {bytes : List ℕ} {part depth number start entries other tag : ℕ} {map : Map} {rs : List Record}
     → Stands bytes part depth number start entries map rs → Held other tag rs → other ≡ part
+stands-part stands_none never = elim never [ ]
 stands-part (stands-own r o more) (held_first u) = sym u.of ∙ o.of
 stands-part (stands-own r o more) (held-later h) = stands-part more h
 stands-part (stands-entry r o inner more) (held_first u) = sym u.of ∙ o.of
@@ -185,6 +186,7 @@ stands-part (stands-entry {rs = rs} {ss = ss} r o inner more) (held-later h) =
 -- no record of an entry stands outside groups
 entry-deep : {bytes : List ℕ} {part depth number start entries other tag : ℕ} {map : Map} {rs : List Record} → 0 < depth
     → Stands bytes part depth number start entries map rs → Held other tag rs → ⊥
+entry-deep deep stands_none never = elim never [ ]
 entry-deep deep (stands-own r o more) (held_first u) = omega (arith, o.deep, u.shallow)
 entry-deep deep (stands-own r o more) (held-later h) = entry-deep deep more h
 entry-deep deep (stands-entry r o inner more) (held_first u) = omega (arith, o.deep, u.shallow)
@@ -195,6 +197,7 @@ entry-deep deep (stands-entry {rs = rs} {ss = ss} r o inner more) (held-later h)
 stands_hold : {bytes : List ℕ} {part number start entries other tag : ℕ} {map : Map} {rs : List Record} → Stands bytes part 0 number start entries map rs
     → Held other tag rs → holds tag map ≡ true
 unfolding holds
+stands_hold stands_none never = elim never [ ]
 stands_hold {tag = tag} (stands-own r o more) (held_first u) = rw (eq-eqb r.tag tag u.tagged)
 stands_hold {tag = tag} (stands-own r o more) (held-later h) = rw (stands_hold more h) (pick_same (eqb r.tag tag) true)
 stands_hold (stands-entry r o inner more) (held_first u) = absurd (omega (arith, o.deep, u.shallow))

@@ -33,6 +33,7 @@ pub data Member (x : Record) : List Record → Type 0 where
   member-later : {r : Record} {rs : List Record} → Member x rs → Member x (r ∷ rs)
 
 pub all-member : {P : Record → Type 0} {x : Record} {rs : List Record} → All P rs → Member x rs → P x
+all-member all_none never = elim never [ ]
 all-member (all_more p a) member-first = p
 all-member (all_more p a) (member-later m) = all-member a m
 

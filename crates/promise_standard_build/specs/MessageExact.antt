@@ -132,6 +132,7 @@ follows_reaches (follows-one r o f) = further (follows_reaches f)
 -- a field that reading comes to stands before the end, or is the last
 reaches_fewer : {message : List ℕ} {fields more : Fields} {g : Field} {fs : List Told} {n place : ℕ} {cause : Cause}
     → ReadsAs message fields fs (unreadable cause place) → Reaches fields n (field g more) → n < length fs
+reaches_fewer no_field never = elim never [ ]
 reaches_fewer (one_field tag value reads) at_place = omega arith
 reaches_fewer (one_field tag value reads) (further r) = omega (arith, reaches_fewer reads r)
 
@@ -140,9 +141,10 @@ record From (message : List ℕ) (fields : Fields) (z : Field) (end : Fields) : 
   reads : ReadsAs message fields fields-left (field z end)
 
 reads-from : {message : List ℕ} {fields more : Fields} {g z : Field} {fs : List Told} {n place : ℕ} {cause : Cause}
-    → ReadsAs message fields fs (field z (unreadable cause place)) → Reaches fields n (field g more) → From message (field g more) z (unreadable cause place)
-reads-from {fs = fs} reads at_place = record { fields-left = fs; reads = reads }
-reads-from (one_field tag value reads) (further r) = reads-from reads r
+    → Reaches fields n (field g more) → ReadsAs message fields fs (field z (unreadable cause place)) → From message (field g more) z (unreadable cause place)
+reads-from {message = message} {more = more} {g = g} {place = place} {cause = cause} (further {f = f} {n = n} r) no_field = elim r [ ]
+reads-from {fs = fs} at_place reads = record { fields-left = fs; reads = reads }
+reads-from (further r) (one_field tag value reads) = reads-from r reads
 
 -- records that follow fields and tell numbers are theirs
 follows_told : {message : List ℕ} {fields last : Fields} {ns : List (ℕ × ℕ)} {fs : List Told} {rs : List Record} → Follows 2 fields rs last
@@ -229,7 +231,7 @@ module _ (dictionary : Dictionary) (config : Config) {T : Tables} {bytes : List 
   counted_most g more room n k rs ts _ _ (at-stop ten) r f e = reaches_fewer all_read r
   counted_most g more room n k rs ts _ _ at_end r f e =
       let l = to_last in
-      absurd (trailer-stopped l.last _ room rs ts l.tag_is (reads-from l.reads f).reads e)
+      absurd (trailer-stopped l.last _ room rs ts l.tag_is (reads-from f l.reads).reads e)
 
   ordered : ReadAs m read → InOrder dictionary config bytes
   ordered r =

@@ -17,7 +17,8 @@ use Rattle.encode_rules.specs.Encoding.{text, text_under, is_first, is_rest, hea
 use Rattle.encoder.specs.FoundLaws.{hangs}
 use Rattle.promise_standard_encodings.specs.EncodedMaps.{fields, Conforms, no_more, alone, with_data, counted, no_entry, one_entry, tags_of}
 use Rattle.promise_standard_encodings.specs.EncodedHeader.{others_of}
-use Rattle.promise_standard_encodings.specs.EncodedStandard.{Complete, Conformant, encoding_standard}
+use Rattle.promise_standard_encodings.specs.EncodedStandard.{Complete, Conformant}
+use Rattle.promise_standard_encodings.proofs.EncodedStandardLaws.{encoding_standard}
 
 abbrev allocations : Map → Map
 allocations rest = field 78 (bytes "2") (entry 78 79 (field 79 (bytes "A") end) (entry 78 79 (field 79 (bytes "B") end) rest))

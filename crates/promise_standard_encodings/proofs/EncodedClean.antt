@@ -19,9 +19,11 @@ use Rattle.message_take_over.specs.Derived.{Stands, no_more as stands-none, own 
 use Rattle.encode_rules.specs.Encoding.{encoding}
 use Rattle.encode_rewriting_laws.proofs.EncodedBuilt.{Built, built_maps}
 use Rattle.encode_rewriting_laws.proofs.ReadWritten.{Writable}
-use Rattle.promise_standard_encodings.specs.EncodedMaps.{Values, none, one, within, of_field, of_entry, Some, plain_conforms}
+use Rattle.promise_standard_encodings.specs.EncodedMaps.{Values, none, one, within, Some}
+use Rattle.promise_standard_encodings.proofs.EncodedMapsLaws.{of_field, of_entry, plain_conforms}
 use Rattle.promise_standard_encodings.specs.EncodedHeader.{others_of}
-use Rattle.promise_standard_encodings.specs.EncodedStandard.{Conformant, encoding_standard}
+use Rattle.promise_standard_encodings.specs.EncodedStandard.{Conformant}
+use Rattle.promise_standard_encodings.proofs.EncodedStandardLaws.{encoding_standard}
 
 -- no delimiter in a text
 abbrev Plain : List ℕ → Type 0

@@ -20,7 +20,8 @@ use Rattle.encoder.specs.VerdictLaws.{refused_incomplete, encodes, refuses}
 use Rattle.encode_rules.specs.declared.Encoding.TheVariants.{Written, Incomplete}
 use Rattle.encode_rules.specs.declared.Verdict.{Verdict}
 use Rattle.encode_rules.specs.declared.Verdict.TheVariants.{Measured, Refused}
-use Rattle.promise_standard_encodings.specs.EncodedStandard.{Complete, Conformant, encoding_standard}
+use Rattle.promise_standard_encodings.specs.EncodedStandard.{Complete, Conformant}
+use Rattle.promise_standard_encodings.proofs.EncodedStandardLaws.{encoding_standard}
 
 -- "a header without 8 or 35" is incomplete
 holds-both : (m : Message) → is_incomplete (dropped m) ≡ false → (holds 8 m.header ≡ true) × (holds 35 m.header ≡ true)

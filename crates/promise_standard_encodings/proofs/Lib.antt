@@ -1,0 +1,5 @@
+pub mod EncodedClean
+pub mod EncodedAnswer
+pub mod EncodedExamples
+pub mod EncodedStandardLaws
+pub mod EncodedMapsLaws
