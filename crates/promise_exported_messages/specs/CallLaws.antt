@@ -16,7 +16,7 @@ use Rattle.encode_rules.specs.declared.Encoding.TheVariants.{Written, TooLong, N
 use Rattle.face_told.specs.Told.{told, taking_number, taken_words, taken_values, encoding_number, encoding_length, left_words, left_values, left_output}
 use Rattle.face_messages.specs.declared.FieldRecord.{FieldRecord}
 use Rattle.face_messages.specs.Lent.{built_from, records_from, words_lent}
-use Rattle.promise_records.specs.Uncut.{few_records}
+use Rattle.promise_records.proofs.Uncut.{few_records}
 use Rattle.promise_exported_messages.specs.Exports.{Builds, TakesOver, Encodes, Calls}
 use Rattle.promise_exported_messages.specs.LentWords.{taken_alike, records_shown}
 use Rattle.promise_exported_messages.specs.Numbers.{answered_valid}

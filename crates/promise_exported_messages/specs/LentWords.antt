@@ -23,7 +23,7 @@ use Rattle.message_take_over.specs.Taking.{taking_over}
 use Rattle.face_messages.specs.declared.FieldRecord.{FieldRecord}
 use Rattle.face_messages.specs.Lent.{table, filled, field_record_at, built_from, records_lent, record_of_lent, records_from, words_lent, read_count}
 use Rattle.face_messages.specs.TakeLaws.{read_all}
-use Rattle.promise_records.specs.Uncut.{Uncut, shown-uncut, few_records}
+use Rattle.promise_records.proofs.Uncut.{Uncut, shown-uncut, few_records}
 use Rattle.gateway.specs.TakingLaws.{length_from, take-from, lent_records, first_of}
 
 -- WHAT TAKE-OVER READS: the first records, as many as are counted, and whether there are so many; no other word

@@ -18,7 +18,7 @@ use Rattle.builder.specs.Build.{BuildOutcome, shown, checked_read}
 use Rattle.builder.specs.BuildLaws.{check-reads}
 use Rattle.face_messages.specs.declared.FieldRecord.{FieldRecord}
 use Rattle.face_messages.specs.Lent.{field_record_at, table, shown_of, filled, records_lent, built_from, record_of_lent, records_from}
-use Rattle.promise_records.specs.Uncut.{Uncut, shown-uncut, few_records}
+use Rattle.promise_records.proofs.Uncut.{Uncut, shown-uncut, few_records}
 use Rattle.promise_standard.specs.Reading.{Readable}
 use Rattle.promise_standard_build.specs.Fitting.{fields_of, FitsDictionary, TellMessage}
 use Rattle.promise_standard_build.specs.MessageBuilt.{fitting_read}

@@ -47,8 +47,9 @@ use Rattle.build_body_rules.specs.Kinds.{checked, ran_as, run_from, body_of, bod
 use Rattle.build_rules.specs.Beginning.{header_of, verified_records, with_checksum, started_by, start_of, msg_type_record}
 use Rattle.build_rules.specs.Message.{refusal, after_trailer, after_body, after_type, after_header, message_read}
 use Rattle.builder.specs.Build.{untouched, shown, checked_read, build_of}
-use Rattle.promise_records.specs.Small.{Small, Kept, header-kept}
-use Rattle.promise_records.specs.SmallRead.{verified-kept}
+use Rattle.promise_records.specs.Small.{Small, Kept}
+use Rattle.promise_records.proofs.SmallLaws.{header-kept}
+use Rattle.promise_records.proofs.SmallRead.{verified-kept}
 use Rattle.promise_told.specs.DictionaryNumbers.{value_of_check, check_small}
 use Rattle.promise_told.specs.LayoutNumbers.{LayoutSmall, ChoiceSmall, layout_small, group_of_small}
 use Rattle.promise_told.specs.RunNumbers.{FieldTagSmall, fields_small, first_small, rest_small, RefusalSmall, RunSmall, LackSmall, nothing_open, run_open, walk_small, OpenedSmall, opened_small, run_small}

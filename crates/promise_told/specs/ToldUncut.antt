@@ -17,7 +17,7 @@ use Rattle.frame_hunter_rules.specs.declared.State.{State as HunterState}
 use Rattle.face_told.specs.Told.{told, encoding_length, told_map, told_value}
 use Rattle.face_told.proofs.UncutLaws.{uncut, told-uncut, one-uncut, uncut_map, uncut_value, map-uncut, value_uncut}
 use Rattle.face_messages.specs.Lent.{built_from}
-use Rattle.promise_records.specs.Uncut.{few_records}
+use Rattle.promise_records.proofs.Uncut.{few_records}
 use Rattle.promise_told.specs.DictionaryNumbers.{value_of_check, check_small}
 use Rattle.promise_told.specs.AnswerNumbers.{AnswerSmall, build_small}
 use Rattle.promise_told.specs.LengthNumbers.{encoded_small, ported_small, hunter_small}

@@ -26,7 +26,7 @@ use Rattle.face_messages.specs.declared.FieldRecord.{FieldRecord}
 use Rattle.build_config.specs.Settings.{config_of}
 use Rattle.face_messages.specs.Lent.{field_of, field_record_at, built_from}
 use Rattle.promise_records.specs.Small.{Small}
-use Rattle.promise_records.specs.SmallRead.{refusal_small, read_small}
+use Rattle.promise_records.proofs.SmallRead.{refusal_small, read_small}
 use Rattle.promise_records.specs.FewRecords.{refused-few, read-few}
 
 -- the numbers of a lent record, as the core has them

@@ -1,0 +1,3 @@
+pub mod SmallRead
+pub mod Uncut
+pub mod SmallLaws
