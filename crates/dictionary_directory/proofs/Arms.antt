@@ -1,24 +1,17 @@
 -- What an arm says that stands for several cases: no rows were made, no record can be read, or it opens no message.
 use mathlib.Core.Path.{◌≡◌, refl, sym}
-use mathlib.Core.Logic.{⊎_elim}
 use mathlib.Core.Bool.{true, false}
 use mathlib.Core.List.{List, [], ◌∷◌}
 use Prim.Native.Nat.{ℕ, ◌<◌}
-use native.Mathlib.Omega.{arith}
 use lib.ListN.{replicate}
-use types.Run.{OneOf}
-use denote.Enum.Declared.{tag_of}
 use Rattle.dictionary_rules.specs.Record.{record_at}
 use Rattle.dictionary_rules.specs.declared.Record.{Record}
-use Rattle.dictionary_rules.specs.contracts.Record as record-type
 use Rattle.dictionary_rules.specs.declared.Record.TheVariants.{KnownTag, OpensComponent, OpensMessage, FieldItem, ComponentItem, OpensGroup, Closes}
 use Rattle.dictionary_rules.specs.declared.RecordRead.{RecordRead}
-use Rattle.dictionary_rules.specs.contracts.RecordRead as read-type
 use Rattle.dictionary_rules.specs.declared.RecordRead.TheVariants.{Whole, Bad, End}
 use Rattle.dictionary_rules.specs.declared.Placed.TheVariants.{At}
 use Rattle.dictionary_meaning_rules.specs.MessageTable.{Tabling, tabling, placed_table}
 use Rattle.dictionary_meaning_rules.specs.declared.MessageTable.{MessageTable}
-use Rattle.dictionary_meaning_rules.specs.contracts.MessageTable as table-type
 use Rattle.dictionary_meaning_rules.specs.declared.MessageTable.TheVariants.{Rows, NoMessage, Unprepared}
 use Rattle.dictionary_directory.specs.Directory.{longest, Filling, filling, lay_message, is_message, messages_from, lay_messages, laid_alone, laid_over}
 use Rattle.dictionary_directory.specs.declared.Kept.TheVariants.{Nowhere}
@@ -30,24 +23,24 @@ made_as e n = cc
 
 -- no rows: nothing is laid
 pub unlaid : (d index : List ℕ) (place : ℕ) (tables : List ℕ) (free : ℕ) → place < longest → (r : MessageTable) (rows : List ℕ) →
-    tabling r rows ≡ placed_table d index (At place) (replicate 4096 0) → OneOf (1 ∷ 2 ∷ []) (tag_of table-type.the_type r) →
+    tabling r rows ≡ placed_table d index (At place) (replicate 4096 0) → ((count : ℕ) → r ≡ Rows count → ⊥) →
     lay_message d index place (filling tables free) ≡ filling tables free
-unlaid d index place tables free near (Rows count) rows e k = ⊎_elim (λ (z : 0 ≡ 1). absurd (omega arith)) (λ (z : 0 ≡ 2). absurd (omega arith)) k
+unlaid d index place tables free near (Rows count) rows e k = absurd (k count refl)
 unlaid d index place tables free near NoMessage rows e k = message-none d index place tables free near rows e
 unlaid d index place tables free near Unprepared rows e k = message_unprepared d index place tables free near rows e
 
 -- no rows: no table by itself
-pub unlaid_alone : {told : Tabling} (r : MessageTable) (rows : List ℕ) → tabling r rows ≡ told → OneOf (1 ∷ 2 ∷ []) (tag_of table-type.the_type r) → (table : List ℕ) →
+pub unlaid_alone : {told : Tabling} (r : MessageTable) (rows : List ℕ) → tabling r rows ≡ told → ((count : ℕ) → r ≡ Rows count → ⊥) → (table : List ℕ) →
     (Nowhere ≡ laid_alone told) × (table ≡ laid_over told table)
 unfolding laid_alone laid_over
-unlaid_alone (Rows count) rows e k table = ⊎_elim (λ (z : 0 ≡ 1). absurd (omega arith)) (λ (z : 0 ≡ 2). absurd (omega arith)) k
+unlaid_alone (Rows count) rows e k table = absurd (k count refl)
 unlaid_alone NoMessage rows e k table = rw (← e) (refl, refl)
 unlaid_alone Unprepared rows e k table = rw (← e) (refl, refl)
 
 -- no record: all is laid
-pub unread : (d index : List ℕ) (at : ℕ) (sofar : Filling) (read : RecordRead) → read ≡ record_at d at → OneOf (1 ∷ 2 ∷ []) (tag_of read-type.the_type read) →
+pub unread : (d index : List ℕ) (at : ℕ) (sofar : Filling) (read : RecordRead) → read ≡ record_at d at → ((r : Record) (next : ℕ) → read ≡ Whole r next → ⊥) →
     lay_messages d index (messages_from d at) sofar ≡ sofar
-unread d index at sofar (Whole r next) e k = ⊎_elim (λ (z : 0 ≡ 1). absurd (omega arith)) (λ (z : 0 ≡ 2). absurd (omega arith)) k
+unread d index at sofar (Whole r next) e k = absurd (k r next refl)
 unread d index at sofar Bad e k = rest-bad d index at sofar (sym e)
 unread d index at sofar End e k = rest_end d index at sofar (sym e)
 
@@ -55,14 +48,9 @@ pub a-message : {r : Record} (msg_type : ℕ) → r ≡ OpensMessage msg_type �
 unfolding is_message
 a-message msg_type e = rw e
 
-pub no_message : (r : Record) → OneOf (0 ∷ 1 ∷ 3 ∷ 4 ∷ 5 ∷ 6 ∷ []) (tag_of record-type.the_type r) → is_message r ≡ false
+pub no_message : (r : Record) → ((msg_type : ℕ) → r ≡ OpensMessage msg_type → ⊥) → is_message r ≡ false
 unfolding is_message
-no_message (OpensMessage msg_type) k =
-    ⊎_elim (λ (z : 2 ≡ 0). absurd (omega arith))
-    (⊎_elim (λ (z : 2 ≡ 1). absurd (omega arith))
-    (⊎_elim (λ (z : 2 ≡ 3). absurd (omega arith))
-    (⊎_elim (λ (z : 2 ≡ 4). absurd (omega arith))
-    (⊎_elim (λ (z : 2 ≡ 5). absurd (omega arith)) (λ (z : 2 ≡ 6). absurd (omega arith)))))) k
+no_message (OpensMessage msg_type) k = absurd (k msg_type refl)
 no_message (KnownTag tag) k = refl
 no_message (OpensComponent number) k = refl
 no_message (FieldItem tag required) k = refl

@@ -78,7 +78,6 @@ module _ (words free size : ℕ) where
       go true q = let near = ltb-true _ _ q in (near, leb-true _ _ (sym (room_near near) ∙ e))
       go false q = let none = room_far (ltb-false _ _ q) in let z : ◌≡◌ {A = ℕ} 0 1 = cc in absurd (omega arith)
 
-
 module _ (slot place : ℕ) (layout : Layout) (tables : List ℕ) (free size : ℕ) (sized : size ≡ table_size layout) where
   pub put-none : room_for (length tables) free size ≡ false → put_block slot place layout tables free ≡ filling tables free
   unfolding put_block

@@ -1,3 +1,4 @@
+pub mod MarkLaws
 pub mod StateLaws
 pub mod CallLaws
 pub mod Exports

@@ -48,6 +48,7 @@ fn low_byte(n: u32) -> u8
 }
 
 // Record i of the words, of which so many are shown; past them there are only blank ones.
+#[tactic(auto, unfolding(crate::specs::Lent::field_record_at, crate::specs::Lent::field_of))]
 pub fn field_at(words: &[u32; build_records::WORDS], shown: usize, i: usize) -> FieldRecord
     ensures { result ≡ field_record_at words.now shown i }
 {
@@ -139,6 +140,7 @@ pub fn build_prepared(
 }
 
 // A lent record as record i of the words.
+#[tactic(auto, unfolding(crate::specs::Lent::record_of_lent))]
 pub fn put_field(words: &mut [u32; build_records::WORDS], i: usize, field: FieldRecord)
     ensures { words.new ≡ on_records (replaced i (record_of_lent field)) words.old }
 {
@@ -154,6 +156,7 @@ pub fn put_field(words: &mut [u32; build_records::WORDS], i: usize, field: Field
 }
 
 // How many of the lent records are read for a count of them: so many, or none where there are not so many or they are over 1,024.
+#[tactic(auto, unfolding(crate::specs::Lent::read_count))]
 pub fn read_count(lent: usize, count: usize) -> usize
     ensures { result ≡ read_count lent count }
 {

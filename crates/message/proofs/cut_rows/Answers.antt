@@ -36,28 +36,20 @@ overflow_sub-used c = let p = places-at c in omega (arith, p.forwards, p.back, p
 pub overflow_add-first-3 : goal.overflow_add-first-3
 overflow_add-first-3 c = let p = places-at c in omega (arith, p.forwards, p.back, p.on, p.last, p.within)
 
-room_at : (c : tie.After-fits2)
-    → let s = c.before.before.before.before.before.before.before.args in
-    c.fits2.result ≡ true → let p = c.before.places_of.result in
-    p.from + (p.until - p.to) + (p.to - p.kept) + (p.used - p.until) + length s.bytes.now ≤ 8192
-room_at c h = leb-true _ _ (sym c.fits2.ensures ∙ h)
-
-size-at : (c : tie.After-fits2)
-    → let s = c.before.before.before.before.before.before.before.args in
-    leb (cut_size s.words.now s.cut + length s.bytes.now) 8192 ≡ c.fits2.result
-unfolding cut_size
-size-at c =
-    let e = c.before.places_of.ensures in
-    sym (rw (e.0, e.1, e.2, e.3, e.4) at c.fits2.ensures)
-
 pub returns-then-not-fits : goal.returns-then-not-fits
-returns-then-not-fits c = sym (change_large _ _ _ _ _ _ _ _ (size-at c ∙ c.if-not-fits.true))
+returns-then-not-fits c =
+    let size-at : leb (cut_size c.args.words.now c.args.cut + length c.args.bytes.now) 8192 ≡ c.fits.result = unfold cut_size in sym (rw (c.places_of-places.ensures.0, c.places_of-places.ensures.1, c.places_of-places.ensures.2, c.places_of-places.ensures.3, c.places_of-places.ensures.4) at c.fits.ensures) in
+    sym (change_large _ _ _ _ _ _ _ _ (size-at ∙ c.if-not-fits.true))
 
 pub returns-then-not-whole : goal.returns-then-not-whole
-returns-then-not-whole c = sym (change_run _ _ _ _ _ _ _ _ (size-at c ∙ c.if-not-fits.false) (c.if-not-whole.true))
+returns-then-not-whole c =
+    let size-at : leb (cut_size c.args.words.now c.args.cut + length c.args.bytes.now) 8192 ≡ c.fits.result = unfold cut_size in sym (rw (c.places_of-places.ensures.0, c.places_of-places.ensures.1, c.places_of-places.ensures.2, c.places_of-places.ensures.3, c.places_of-places.ensures.4) at c.fits.ensures) in
+    sym (change_run _ _ _ _ _ _ _ _ (size-at ∙ c.if-not-fits.false) (c.if-not-whole.true))
 
 pub returns-then-fields-gt1024 : goal.returns-then-fields-gt1024
-returns-then-fields-gt1024 c = sym (change_many _ _ _ _ _ _ _ _ (size-at c ∙ c.if-not-fits.false) (c.if-not-whole.false)
+returns-then-fields-gt1024 c =
+    let size-at : leb (cut_size c.args.words.now c.args.cut + length c.args.bytes.now) 8192 ≡ c.fits.result = unfold cut_size in sym (rw (c.places_of-places.ensures.0, c.places_of-places.ensures.1, c.places_of-places.ensures.2, c.places_of-places.ensures.3, c.places_of-places.ensures.4) at c.fits.ensures) in
+    sym (change_many _ _ _ _ _ _ _ _ (size-at ∙ c.if-not-fits.false) (c.if-not-whole.false)
     c.if-fields-gt1024.true)
 
 pub overflow_sub-left : goal.overflow_sub-left
@@ -131,10 +123,14 @@ overflow_cast-words c = let room = c.requires.cuttable.room c.if-fields-gt1024.f
 
 pub splice_bytes-requires : goal.splice_bytes-requires
 unfolding BlankFrom
-splice_bytes-requires c = let p = places-at (goal.at.splice_bytes-requires c).After-places_of-places in
-    let s = room_at c (c.if-not-fits.false) in record { from_le_to = (omega (arith, p.forwards, p.back), p.back, p.on, p.last, p.within, c.requires.cuttable.store, omega (arith, s, p.forwards, p.back, p.on, p.last)); values_value = λ e. rw c.places_of-places.ensures.4 (c.requires.blank_from e).1 }
+splice_bytes-requires c =
+    let room_at : c.fits.result ≡ true → c.places_of-places.result.from + (c.places_of-places.result.until - c.places_of-places.result.to) + (c.places_of-places.result.to - c.places_of-places.result.kept) + (c.places_of-places.result.used - c.places_of-places.result.until) + length c.args.bytes.now ≤ 8192 = λ h. leb-true _ _ (sym c.fits.ensures ∙ h) in
+    let p = places-at (goal.at.splice_bytes-requires c).After-places_of-places in
+    let s = room_at (c.if-not-fits.false) in record { from_le_to = (omega (arith, p.forwards, p.back), p.back, p.on, p.last, p.within, c.requires.cuttable.store, omega (arith, s, p.forwards, p.back, p.on, p.last)); values_value = λ e. rw c.places_of-places.ensures.4 (c.requires.blank_from e).1 }
 
 pub returns : goal.returns
-returns c = sym
-    (change_made _ _ _ _ _ _ _ _ (size-at c ∙ c.if-not-fits.false) (c.if-not-whole.false) c.if-fields-gt1024.false
+returns c =
+    let size-at : leb (cut_size c.args.words.now c.args.cut + length c.args.bytes.now) 8192 ≡ c.fits.result = unfold cut_size in sym (rw (c.places_of-places.ensures.0, c.places_of-places.ensures.1, c.places_of-places.ensures.2, c.places_of-places.ensures.3, c.places_of-places.ensures.4) at c.fits.ensures) in
+    sym
+    (change_made _ _ _ _ _ _ _ _ (size-at ∙ c.if-not-fits.false) (c.if-not-whole.false) c.if-fields-gt1024.false
     ∙ (unfold cut_words cut_values cut_rows in rw (← c.places_of-places.ensures.0, ← c.places_of-places.ensures.1, ← c.places_of-places.ensures.2, ← c.places_of-places.ensures.3, ← c.places_of-places.ensures.4, ← c.splice_words.ensures, ← c.splice_bytes.ensures)))

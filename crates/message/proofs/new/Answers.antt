@@ -13,8 +13,8 @@ returns-then-values-ne8192 c = sym (new-store _ _ _ _ c.if-words-ne-WORDS.false 
 
 pub returns-then-not-fits : goal.returns-then-not-fits
 returns-then-not-fits c = sym (new_large _ _ _ _ c.if-words-ne-WORDS.false c.if-values-ne8192.false
-    (sym c.fits2.ensures ∙ c.if-not-fits.true))
+    (sym c.fits.ensures ∙ c.if-not-fits.true))
 
 pub returns : goal.returns
-returns c = new-done _ _ _ _ c.if-words-ne-WORDS.false c.if-values-ne8192.false (leb-true _ _ (sym c.fits2.ensures ∙ c.if-not-fits.false)) _ _ _ _ _ _ _ _ _ c.empty.ensures
+returns c = new-done _ _ _ _ c.if-words-ne-WORDS.false c.if-values-ne8192.false (leb-true _ _ (sym c.fits.ensures ∙ c.if-not-fits.false)) _ _ _ _ _ _ _ _ _ c.empty.ensures
     c.store.ensures c.store-2.ensures

@@ -28,10 +28,9 @@ pub put_field-requires : goal.put_field-requires
 put_field-requires c =
     let fields_at : c.counted_fields-fields.result ≡ counted_fields c.args.words.now (span_of c.args.part (message_in c.args.words.now c.args.values.now)).count = rw c.span_of-span.ensures at c.counted_fields-fields.ensures in
     record {
-      ready = (rw (c.span_of-span.ensures, fields_at)
-          (counted_ready _ _ _ _ (lent_in _ _ _ c.requires.values_value) _ _ c.if-value-gt8192.false (few-fields _ _ c.requires.values_value), blank-behind _ _ _ _ c.requires.values_value c.requires.blank)).0;
-      blank_from = (rw (c.span_of-span.ensures, fields_at)
-          (counted_ready _ _ _ _ (lent_in _ _ _ c.requires.values_value) _ _ c.if-value-gt8192.false (few-fields _ _ c.requires.values_value), blank-behind _ _ _ _ c.requires.values_value c.requires.blank)).1;
+      ready = rw (c.span_of-span.ensures, fields_at)
+          (counted_ready _ _ _ _ (lent_in _ _ _ c.requires.values_value) _ _ c.if-value-gt8192.false (few-fields _ _ c.requires.values_value));
+      blank_from = rw c.span_of-span.ensures (blank-behind _ _ _ _ c.requires.values_value c.requires.blank);
     }
 
 pub returns : goal.returns

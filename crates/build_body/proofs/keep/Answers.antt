@@ -1,0 +1,18 @@
+-- `keep` meets its contract: where the tag was held the number of records stays, else there is one more.
+-- Each way cites its law of storing.
+use mathlib.Core.Path.{sym, ◌∙◌}
+use native.Mathlib.Omega.{arith}
+use Rattle.build_parts.specs.Parts.{part_of}
+use Rattle.build_parts.specs.PartLaws.{keep-held, keep-new}
+use Rattle.build_body.proofs.keep.Goals as goal
+
+pub store-requires : goal.store-requires
+store-requires c = record { records_in_bounds = (omega arith, c.requires.from_le_records.2); covers = c.requires.covers }
+
+pub returns-in-At : goal.returns-in-At
+unfolding part_of
+returns-in-At c = record { kept = rw c.store.ensures.words_after (keep-held _ _ _ _ (omega arith) (omega arith) _ (sym c.store.ensures.value ∙ c.in-At.is)); seen_after = c.store.ensures.seen_after }
+
+pub returns-in-Nowhere : goal.returns-in-Nowhere
+unfolding part_of
+returns-in-Nowhere c = record { kept = rw c.store.ensures.words_after (keep-new _ _ _ _ (omega arith) (omega arith) (sym c.store.ensures.value ∙ c.in-Nowhere.is)); seen_after = c.store.ensures.seen_after }

@@ -1,0 +1,11 @@
+-- `holds` meets its contract: the row that is found is one of the span.
+use mathlib.Core.Path.{ap}
+use Prim.Native.Nat.{ℕ}
+use lib.Dec.{ltb}
+use Rattle.message_rules.specs.RowChanges.{field_place}
+use Rattle.encoder.specs.Judging.{held_at}
+use Rattle.encoder.proofs.holds.Goals as goal
+
+pub returns : goal.returns
+unfolding held_at field_place
+returns c = ap (λ (n : ℕ). ltb n c.args.span.to) c.find_row.ensures
