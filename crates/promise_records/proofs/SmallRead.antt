@@ -29,8 +29,8 @@ use Rattle.build_rules.specs.Beginning.{header_of, verified_records, with_checks
 use Rattle.build_rules.specs.Message.{shown_with, refusal, after_trailer, after_body, after_type, after_header, message_read}
 use Rattle.message_read_laws.specs.Counting.{Fine}
 use Rattle.message_read_laws.specs.CountLaws.{read_fine, all_fine}
-use Rattle.promise_records.specs.Small.{Small, Kept, TrailerSmall, body_kept}
-use Rattle.promise_records.proofs.SmallLaws.{part_small, header-kept, trailer_small}
+use Rattle.promise_records.specs.Small.{Small, Kept, TrailerSmall}
+use Rattle.promise_records.proofs.SmallLaws.{part_small, header-kept, trailer_small, body_kept}
 
 module _ (message : List ℕ) where
   abbrev AllSmall : List Record → Type 0

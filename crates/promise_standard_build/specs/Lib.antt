@@ -1,13 +1,4 @@
 pub mod Fitting
-pub mod RequiredExact
-pub mod BodyWalk
-pub mod PartWalks
 pub mod MessageTags
-pub mod MessageBuilt
-pub mod StandardBuilt
-pub mod MessageLent
 pub mod BodySteps
-pub mod BodyExact
-pub mod MessageExact
-pub mod Examples
 pub mod Unfit

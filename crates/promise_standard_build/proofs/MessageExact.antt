@@ -54,9 +54,9 @@ use Rattle.build_order_laws.specs.InParts.{InParts, in_parts}
 use Rattle.build_order_laws.specs.InOrder.{sizes, never_more, InOrder, in_order}
 use Rattle.promise_standard_build.specs.Fitting.{BodyFits, header_fields, trailer_fields, header_numbers, trailer_numbers, fields_of, behind_body, behind_header, FitsDictionary, TellMessage}
 use Rattle.promise_standard_build.specs.MessageTags.{behind-both}
-use Rattle.promise_standard_build.specs.BodyExact.{same_place, BodyEnds, body_exact}
-use Rattle.promise_standard_build.specs.MessageBuilt.{Last, reads-last, verified, verified_are, others-read, three_of, type_value, ReadAs, fitting_read}
-use Rattle.promise_standard_build.specs.RequiredExact.{before-append}
+use Rattle.promise_standard_build.proofs.BodyExact.{same_place, BodyEnds, body_exact}
+use Rattle.promise_standard_build.proofs.MessageBuilt.{Last, reads-last, verified, verified_are, others-read, three_of, type_value, ReadAs, fitting_read}
+use Rattle.promise_standard_build.proofs.RequiredExact.{before-append}
 use Rattle.promise_standard_build.specs.BodySteps.{same-behind, the_body}
 
 -- ===== header and trailer =====

@@ -38,8 +38,8 @@ use Rattle.promise_standard.specs.Groups.{numbered, records_as, Tell, one_record
 use Rattle.promise_standard.specs.GroupOwn.{Fresh}
 use Rattle.promise_standard.proofs.GroupSteps.{reads_split, numbered_each, records_tell}
 use Rattle.promise_standard_build.specs.Fitting.{header_fields, trailer_fields, header_numbers, trailer_numbers, fields_of, behind_body, behind_header, FitsDictionary, TellMessage}
-use Rattle.promise_standard_build.specs.BodyWalk.{body-walk}
-use Rattle.promise_standard_build.specs.PartWalks.{plain-outside, Recorded, part-stored, part-fresh, header-walk, trailer-walk}
+use Rattle.promise_standard_build.proofs.BodyWalk.{body-walk}
+use Rattle.promise_standard_build.proofs.PartWalks.{plain-outside, Recorded, part-stored, part-fresh, header-walk, trailer-walk}
 use Rattle.promise_standard_build.specs.MessageTags.{header-fresh, body-fresh, trailer-fresh, no_ten, behind-both}
 
 -- ===== what is read, field by field =====
@@ -172,19 +172,9 @@ pub record ReadAs {T : Tables} {bytes : List ℕ} (m : Message T bytes) (read : 
   pub tell : TellMessage m read.records
 
 module _ (dictionary : Dictionary) (config : Config) {T : Tables} {bytes : List ℕ} (m : Message T bytes) (separator : config.mode ≡ standard_mode)
-    (few : length (fields_of m) ≤ 1024) (fits : FitsDictionary dictionary config m) where
+    (size : length m.header + length m.body + length m.trailer ≤ 1020) (fits : FitsDictionary dictionary config m) where
   abbrev accepts : ℕ → Bool
   accepts = accepted config (knows dictionary)
-
-  size : length m.header + length m.body + length m.trailer ≤ 1020
-  size =
-      omega (
-        arith,
-        length-append (others m) (told 10 m.check-sum ∷ []),
-        length-append m.header (m.body ++ m.trailer),
-        length-append m.body
-            m.trailer,
-      )
 
   -- the header's fields are read up to x, the body's up to y, the trailer's up to z
   module _ (s : SoundAs bytes m) (are : VerifiedTags s.verified) (x y z : Field) (rest later end : Fields) (last : z.tag ≡ 10)
@@ -265,6 +255,8 @@ module _ (dictionary : Dictionary) (config : Config) {T : Tables} {bytes : List 
           };
         }
 
+module _ (dictionary : Dictionary) (config : Config) {T : Tables} {bytes : List ℕ} (m : Message T bytes) (separator : config.mode ≡ standard_mode)
+    (few : length (fields_of m) ≤ 1024) (fits : FitsDictionary dictionary config m) where
   -- THE STANDARD, messages: a message of the standard that fits the dictionary, of at most 8,192 bytes and 1,024 fields, is valid, and its
   -- records are its fields.
   pub fitting_read : length bytes ≤ 8192 → Readable (told 35 m.msg_type ∷ others m) → ReadAs m (message_read dictionary config bytes)
@@ -272,7 +264,9 @@ module _ (dictionary : Dictionary) (config : Config) {T : Tables} {bytes : List 
       let l = others-read m small readable in
       let a = reads_split bytes l.last (unreadable NoEquals (length bytes)) (behind_type m small) m.header (m.body ++ m.trailer) l.reads in
       let b = reads_split bytes l.last (unreadable NoEquals (length bytes)) (field a.next a.rest) m.body m.trailer a.reads_second in
-      parts-read (standard_sound bytes m small) (verified_are m small) a.next b.next l.last a.rest b.rest (unreadable NoEquals (length bytes))
+      let size : length m.header + length m.body + length m.trailer ≤ 1020 =
+      omega (arith, length-append (others m) (told 10 m.check-sum ∷ []), length-append m.header (m.body ++ m.trailer), length-append m.body m.trailer) in
+      parts-read dictionary config m separator size fits (standard_sound bytes m small) (verified_are m small) a.next b.next l.last a.rest b.rest (unreadable NoEquals (length bytes))
       l.tag_is
       (a.tag_is ∙ ap (λ (k : ℕ). tag_behind k (m.body ++ m.trailer)) l.tag_is ∙ behind-both 10 m.body m.trailer)
       (b.tag_is ∙ ap (λ (k : ℕ). tag_behind k m.trailer) l.tag_is) a.reads_first b.reads_first b.reads_second

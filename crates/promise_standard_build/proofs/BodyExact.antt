@@ -34,7 +34,7 @@ use Rattle.promise_standard.proofs.GroupOpen.{Above, Head, head_none, head_some,
 use Rattle.promise_standard.proofs.GroupReading.{some-fields}
 use Rattle.promise_standard.proofs.GroupExact.{group_fits}
 use Rattle.promise_standard_build.specs.Fitting.{BodyFits}
-use Rattle.promise_standard_build.specs.RequiredExact.{before-append, nested-deeper, members-shallow, required_exact}
+use Rattle.promise_standard_build.proofs.RequiredExact.{before-append, nested-deeper, members-shallow, required_exact}
 use Rattle.promise_standard_build.specs.BodySteps.{same-behind, the_body, Step, over, took, counted, body-step}
 
 -- ===== what is read is told =====

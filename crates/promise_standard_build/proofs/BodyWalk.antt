@@ -32,7 +32,7 @@ use Rattle.promise_standard.specs.GroupOwn.{Free, free-none, free_more, Fresh, f
 use Rattle.promise_standard.proofs.GroupSteps.{reads_split, numbered_each, records_behind}
 use Rattle.promise_standard.proofs.GroupReading.{group-read}
 use Rattle.promise_standard_build.specs.Fitting.{HasRequired, BodyFits}
-use Rattle.promise_standard_build.specs.RequiredExact.{required_exact}
+use Rattle.promise_standard_build.proofs.RequiredExact.{required_exact}
 
 -- ===== what is new comes last =====
 

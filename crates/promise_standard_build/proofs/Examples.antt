@@ -24,7 +24,7 @@ use Rattle.build_rules.specs.Message.{message_read}
 use Rattle.promise_standard.specs.Reading.{Readable}
 use Rattle.promise_standard.specs.Groups.{numbered, Tell, no_record, one_record, tag_behind, entries_of, Leaves, Rises, Fits}
 use Rattle.promise_standard_build.specs.Fitting.{BodyFits, HasRequired, FitsDictionary, TellMessage}
-use Rattle.promise_standard_build.specs.MessageBuilt.{ReadAs, fitting_read}
+use Rattle.promise_standard_build.proofs.MessageBuilt.{ReadAs, fitting_read}
 
 -- ===== the order =====
 

@@ -21,8 +21,8 @@ use Rattle.face_messages.specs.Lent.{field_record_at, table, shown_of, filled, r
 use Rattle.promise_records.proofs.Uncut.{Uncut, shown-uncut, few_records}
 use Rattle.promise_standard.specs.Reading.{Readable}
 use Rattle.promise_standard_build.specs.Fitting.{fields_of, FitsDictionary, TellMessage}
-use Rattle.promise_standard_build.specs.MessageBuilt.{fitting_read}
-use Rattle.promise_standard_build.specs.StandardBuilt.{build_is_read}
+use Rattle.promise_standard_build.proofs.MessageBuilt.{fitting_read}
+use Rattle.promise_standard_build.proofs.StandardBuilt.{build_is_read}
 
 take-table : {A : Type 0} (f : ℕ → A) (n m : ℕ) (rest : List A) → n ≤ m → take n (table f m ++ rest) ≡ table f n
 unfolding table

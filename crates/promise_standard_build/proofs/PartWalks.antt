@@ -20,7 +20,7 @@ use Rattle.build_parts.specs.TrailerLaws.{trailer-stops, trailer_takes}
 use Rattle.promise_standard.specs.Reading.{ReadsAs, no_field, one_field}
 use Rattle.promise_standard.specs.Groups.{numbered, Tell, no_record, one_record}
 use Rattle.promise_standard.specs.GroupOwn.{Fresh, fresh_record}
-use Rattle.promise_standard_build.specs.BodyWalk.{fresh-stored}
+use Rattle.promise_standard_build.proofs.BodyWalk.{fresh-stored}
 
 -- depth and entry number of fields that stand outside groups
 unfoldable pub outside : List Told → List (ℕ × ℕ)

@@ -20,7 +20,7 @@ use Rattle.builder.specs.BuildLaws.{check-reads}
 use Rattle.builder.proofs.ReadingLaws.{build_reads}
 use Rattle.promise_standard.specs.Reading.{standard_mode, Readable}
 use Rattle.promise_standard_build.specs.Fitting.{fields_of, FitsDictionary, TellMessage}
-use Rattle.promise_standard_build.specs.MessageBuilt.{ReadAs, fitting_read}
+use Rattle.promise_standard_build.proofs.MessageBuilt.{ReadAs, fitting_read}
 
 -- what a build of a message comes to: Valid, and these records, as words
 pub record BuiltAs {T : Tables} {bytes : List ℕ} (m : Message T bytes) (lent : ℕ) (built : BuildOutcome) : Type 0 where

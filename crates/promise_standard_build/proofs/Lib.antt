@@ -1,0 +1,9 @@
+pub mod RequiredExact
+pub mod BodyWalk
+pub mod PartWalks
+pub mod MessageBuilt
+pub mod StandardBuilt
+pub mod MessageLent
+pub mod BodyExact
+pub mod MessageExact
+pub mod Examples
