@@ -35,7 +35,7 @@ returns-in-Refused c =
     let seen : c.open_run-opening.new.seen ≡ noted c.args.count.tag c.args.seen.now = unfold part_record in c.open_run-opening.ensures.seen_after ∙ ap (λ (r : Record). noted r.tag c.args.seen.now) c.record_of.ensures in
     let words_left : c.open_run-opening.result.records + c.args.progress.room ≤ length c.open_run-opening.new.words / stride = omega (arith, c.open_run-opening.ensures.opened.by_one, c.open_run-opening.auto.words, c.requires.message_len_bound.3) in
     let a = answers-stopped _ _ _ _ _ _ _ _ _ _ _ _ _ _ _ c.open_run-opening.ensures.opened c.open_run-opening.auto.words c.read_run.auto.words (words_left) _ c.record_of.ensures _ _ c.in-Refused.is c.read_run.ensures in
-    record { words_after = rw c.answer_of.ensures (a.0); stays = rw c.answer_of.ensures (a.1); seen_after = rw c.answer_of.ensures (seen) }
+    record { words_after = rw c.answer_of.ensures (a.0); stays = rw c.answer_of.ensures (a.1); seen_after = seen }
 
 pub returns-in-Missing : goal.returns-in-Missing
 returns-in-Missing c =

@@ -1,11 +1,19 @@
-use mathlib.Core.Path.{refl, sym, ap, ◌∙◌}
-use Prim.Native.Nat.{suc}
+use mathlib.Core.Path.{◌≡◌, refl, sym, ap, ◌∙◌}
+use mathlib.Core.List.{List}
+use Prim.Native.Nat.{ℕ, suc, ◌+◌, ◌-◌, ◌/◌, ◌<◌, ◌^◌}
 use native.Mathlib.Omega.{arith}
-use Rattle.build_parts.specs.Parts.{part_record, part_told, Ends}
+use lib.ListN.{length}
+use borrow.Author.Rules.{rules}
+use Rattle.build_records.specs.Records.{stride}
+use Rattle.dictionary_rules.specs.Index.{tag_at}
+use Rattle.build_group_rules.specs.Reading.{table_rules}
+use Rattle.build_required_rules.specs.Checking.{table_demands}
+use Rattle.build_parts.specs.Parts.{part_record, part_of, part_told, Ends, Stays}
 use Rattle.build_parts.specs.PartLaws.{stays_at}
 use Rattle.build_body_rules.specs.Body.{and_then}
 use Rattle.build_body_rules.specs.Kinds.{meant_by}
-use Rattle.build_body_rules.proofs.BodyReading.{part_room, left-refused, left-plain, left-run, left_other, stays_on, room_falls}
+use Rattle.build_body_rules.proofs.BodyReading.{part_room, left, left-refused, left-plain, left-run, left_other, stays_on, room_falls}
+use Rattle.build_body_rules.specs.Seen.{Covers, Follows}
 use Rattle.build_body_rules.proofs.SeenLaws.{follows_at, follows_plain, follows_run}
 use Rattle.build_body.proofs.read_on.Goals as goal
 use Rattle.build_body.proofs.read_on.Goals.{In-At}
@@ -37,6 +45,13 @@ kind_of-requires c = c.requires.index_len
 ends : (c : In-At) → Ends c.args.message.now c.args.words.now c.args.from (suc c.args.progress.room) c.in-At.field c.in-At.so_far
 unfolding part_room
 ends c = c.loop-reading.invariant.1.ends _ _ c.in-At.is
+
+-- what the steps of the body ask
+record Asks (c : In-At) : Type 0 where
+  short : length c.args.message.now < 2 ^ 32
+  fits : c.in-At.so_far.records + c.in-At.so_far.room < length c.loop-reading.words / stride
+  words-short : length c.loop-reading.words < 2 ^ 32
+  covers : Covers c.loop-reading.seen (part_of c.args.from c.in-At.so_far.records c.loop-reading.words)
 
 asks : (c : In-At) → Asks c
 asks c = let e = ends c in

@@ -20,6 +20,9 @@ keep-records-requires c = record { from_le_records = (omega arith, omega arith, 
 got : (c : In-Got) → Taken c.args.config.mode c.args.message.now c.args.plain.next c.args.progress.room c.in-Got.field
 got c = taken _ _ _ _ _ (sym c.next_field.ensures ∙ c.in-Got.is)
 
+pub overflow_sub-result : goal.overflow_sub-result
+overflow_sub-result c = omega (arith, (got (goal.at.overflow_sub-result c).In-Got).one_less)
+
 pub returns-in-Missing : goal.returns-in-Missing
 unfolding part_told
 returns-in-Missing c =

@@ -69,4 +69,4 @@ returns c =
     let size : length c.prepare-checked.new.index ≡ index_words = ap length (made) ∙ index-length _ (passes) in
     ready_left _ _ c.args.memory.now _ _ _ c.copy.ensures.target_after
     (rest-laid index_words _ _ _ (size) _ c.put_head.ensures (lay_tables c.args.dictionary.now _) _ c.lay_tables.ensures) (made)
-    ∙ sym (prepare_ready _ _ _ c.if-memory-lt-HEAD.left c.if-copy-dictionary.left _ c.prepare-checked.ensures.value (sym c.number_of.ensures ∙ c.if-number_of-ne0.left))
+    ∙ sym (prepare_ready _ _ _ c.if-memory-lt-HEAD.false c.if-copy-dictionary.false _ c.prepare-checked.ensures.value (sym c.number_of.ensures ∙ c.if-number_of-ne0.false))
