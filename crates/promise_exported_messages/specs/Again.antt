@@ -22,8 +22,8 @@ use Rattle.face_messages.specs.Lent.{built_from, records_from}
 use Rattle.promise_records.specs.TakenOver.{Shown, build_shown, shown_build, build_of-taken}
 use Rattle.promise_roundtrip.specs.Clean.{RepeatFree}
 use Rattle.promise_roundtrip.specs.AgainValues.{Split}
-use Rattle.promise_roundtrip.specs.Again.{Again}
-use Rattle.promise_roundtrip.specs.AgainTheorem.{comes_back}
+use Rattle.promise_roundtrip.proofs.Again.{Again}
+use Rattle.promise_roundtrip.proofs.AgainTheorem.{comes_back}
 use Rattle.promise_exported_messages.specs.Exports.{Builds, Calls}
 use Rattle.promise_exported_messages.specs.CallLaws.{same-separator, from-blank, number_valid, number-written, length-written, number_too_long}
 use Rattle.promise_exported_messages.specs.CallLaws.{length_too_long, counts-told, built_valid, count-told, taking_is, records_are, taken_made}

@@ -9,7 +9,7 @@ use Rattle.encode_rules.specs.declared.Encoding.TheVariants.{Written}
 use Rattle.face_messages.specs.declared.FieldRecord.{FieldRecord}
 use Rattle.promise_records.specs.TakenOver.{build_shown}
 use Rattle.promise_roundtrip.specs.Clean.{Clean}
-use Rattle.promise_roundtrip.specs.ComesBack.{clean_message_comes_back}
+use Rattle.promise_roundtrip.proofs.ComesBack.{clean_message_comes_back}
 use Rattle.promise_exported_messages.specs.Exports.{Calls}
 use Rattle.promise_exported_messages.specs.CallLaws.{same-separator, number-written, length-written, built_valid, taking_is, taken_made, encoding_as, encoded_so}
 

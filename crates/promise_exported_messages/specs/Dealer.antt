@@ -20,9 +20,9 @@ use Rattle.build_order_laws.specs.InParts.{InParts, in_parts}
 use Rattle.face_messages.specs.declared.FieldRecord.{FieldRecord}
 use Rattle.face_messages.specs.Lent.{records_from}
 use Rattle.promise_records.specs.TakenOver.{build_shown}
-use Rattle.promise_roundtrip.specs.LastRead.{LastRead, last-read}
-use Rattle.promise_roundtrip.specs.Dealer.{message_loses}
-use Rattle.promise_roundtrip.specs.DealerEarlier.{EarlierLost, stored_twice_earlier}
+use Rattle.promise_roundtrip.proofs.LastReadLaws.{LastRead, last-read}
+use Rattle.promise_roundtrip.proofs.Dealer.{message_loses}
+use Rattle.promise_roundtrip.proofs.DealerEarlier.{EarlierLost, stored_twice_earlier}
 use Rattle.promise_exported_messages.specs.Exports.{Calls}
 use Rattle.promise_exported_messages.specs.CallLaws.{same-separator, number-written, length-written, number_too_long, length_too_long, number_no_room}
 use Rattle.promise_exported_messages.specs.CallLaws.{length_no_room, built_valid, counted_as, taking_is, records_are, taken_made, encoding_as}

@@ -1,1 +1,14 @@
+pub mod ComesBack
+pub mod Again
+pub mod AgainTheorem
+pub mod AgainBuilt
+pub mod CleanStandard
+pub mod RunLost
+pub mod TwiceRepeats
+pub mod TwiceInBody
+pub mod Dealer
+pub mod DealerEarlier
+pub mod DealerOrder
+pub mod LaterHeldLaws
+pub mod LastReadLaws
 pub mod NoFreedom

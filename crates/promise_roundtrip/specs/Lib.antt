@@ -1,14 +1,9 @@
 pub mod Clean
 pub mod BuiltTaken
-pub mod ComesBack
 pub mod AgainFields
 pub mod AgainParts
 pub mod AgainRead
 pub mod AgainValues
-pub mod Again
-pub mod AgainTheorem
-pub mod AgainBuilt
-pub mod CleanStandard
 pub mod Table
 pub mod BodyTurns
 pub mod RunSteps
@@ -16,12 +11,6 @@ pub mod UnderTag
 pub mod LastRead
 pub mod LaterHeld
 pub mod StoredOver
-pub mod RunLost
-pub mod TwiceRepeats
-pub mod TwiceInBody
 pub mod DealerHolds
 pub mod DealerEncodes
-pub mod Dealer
-pub mod DealerEarlier
-pub mod DealerOrder
 pub mod Examples

@@ -199,8 +199,12 @@ unfolding run_lack entries_lack entry_lack layout_demands
 entry_shape levels layout group depth r ms es o not e =
     let own : before (opens_entry layout_demands layout depth) (ms ++ es) ≡ ms = before-append (opens_entry layout_demands layout depth) es not
     ∙ ap (λ (l : List Record). ms ++ l) e ∙ append-nil ms in
-    rw (o, own, entries-append (opens_entry layout_demands layout depth)
-    (entry_lack layout_demands (λ inner tag entries. run_lack layout_demands levels inner tag (depth + 1) entries) layout group depth) es not)
+    rw (
+      o,
+      own,
+      entries-append (opens_entry layout_demands layout depth)
+          (entry_lack layout_demands (λ inner tag entries. run_lack layout_demands levels inner tag (depth + 1) entries) layout group depth) es not,
+    )
 
 module _ (message : List ℕ) (accepts : ℕ → Bool) (T : Tables) (Here : ℕ → Type 0) where
   -- no member but the delimiter opens an entry

@@ -22,10 +22,12 @@ use Rattle.build_order_laws.specs.VerifiedTags.{verified-tags}
 use Rattle.build_order_laws.specs.InParts.{InParts, in_parts}
 use Rattle.build_order_laws.specs.Twice.{twice_in_header, twice_in_trailer, twice_in_body, twice_behind, twice_from_body, twice_from_header, stored_twice}
 use Rattle.promise_roundtrip.specs.UnderTag.{under, single-none}
-use Rattle.promise_roundtrip.specs.LastRead.{latest, trailer_takes, field-single, stored_one, verified-single, verified-last, of_header, of_body}
-use Rattle.promise_roundtrip.specs.LaterHeld.{LaterHeld, body-starts, header_loses, body_loses, trailer_loses}
-use Rattle.promise_roundtrip.specs.TwiceRepeats.{RepeatedIn, NotTen, header_repeats, trailer_repeats}
-use Rattle.promise_roundtrip.specs.TwiceInBody.{EntryLoses, BodyTwice, of_body_lem, of_entry, body_repeats}
+use Rattle.promise_roundtrip.specs.LastRead.{latest, trailer_takes}
+use Rattle.promise_roundtrip.proofs.LastReadLaws.{field-single, stored_one, verified-single, verified-last, of_header, of_body}
+use Rattle.promise_roundtrip.specs.LaterHeld.{LaterHeld}
+use Rattle.promise_roundtrip.proofs.LaterHeldLaws.{body-starts, header_loses, body_loses, trailer_loses}
+use Rattle.promise_roundtrip.proofs.TwiceRepeats.{RepeatedIn, NotTen, header_repeats, trailer_repeats}
+use Rattle.promise_roundtrip.proofs.TwiceInBody.{EntryLoses, BodyTwice, of_body_lem, of_entry, body_repeats}
 
 module _ (dictionary : Dictionary) (config : Config) (message : List ℕ) where
   module _ {outcome : Outcome} (p : InParts dictionary config message outcome) where

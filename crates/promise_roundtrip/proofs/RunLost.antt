@@ -18,7 +18,8 @@ use Rattle.build_nesting_laws.specs.Entries.{All, all_none, all_more, all_append
 use Rattle.build_order_laws.specs.BodyStores.{walk_stores}
 use Rattle.build_order_laws.specs.Twice.{twice_moved, twice_in_run}
 use Rattle.promise_roundtrip.specs.RunSteps.{run_ends}
-use Rattle.promise_roundtrip.specs.LaterHeld.{Rising, rising_field, rising_first, Repeats}
+use Rattle.promise_roundtrip.specs.LaterHeld.{Rising, rising_field, Repeats}
+use Rattle.promise_roundtrip.proofs.LaterHeldLaws.{rising_first}
 use Rattle.promise_roundtrip.specs.StoredOver.{Before, Elsewhere, Distinct, distinct_none, all-member, Sequence, next_field, reached, all-joined, distinct_last, distinct_joined, Over, over-joined}
 
 -- a record that was made of one of some fields

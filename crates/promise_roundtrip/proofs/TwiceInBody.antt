@@ -27,12 +27,14 @@ use Rattle.build_order_laws.specs.StoresLaws.{reaches_then}
 use Rattle.build_order_laws.specs.BodyStores.{walk_stores}
 use Rattle.build_order_laws.specs.Twice.{twice_in_run, twice_behind, twice_taking, twice_within}
 use Rattle.promise_roundtrip.specs.BodyTurns.{RunRead, body-ends}
-use Rattle.promise_roundtrip.specs.LastRead.{taken_behind, body_taking, body_takes, run-deeper}
-use Rattle.promise_roundtrip.specs.LaterHeld.{Rising, rising_field, rising_first, rising_lower, rising_reaches}
+use Rattle.promise_roundtrip.specs.LastRead.{taken_behind, body_taking, body_takes}
+use Rattle.promise_roundtrip.proofs.LastReadLaws.{run-deeper}
+use Rattle.promise_roundtrip.specs.LaterHeld.{Rising, rising_field}
+use Rattle.promise_roundtrip.proofs.LaterHeldLaws.{rising_first, rising_lower, rising_reaches}
 use Rattle.promise_roundtrip.specs.StoredOver.{Before, Elsewhere, Sequence, no_field, next_field, all-joined}
-use Rattle.promise_roundtrip.specs.RunLost.{entry_place, kept-none, walk_gone, RunLoses, walk_loses}
+use Rattle.promise_roundtrip.proofs.RunLost.{entry_place, kept-none, walk_gone, RunLoses, walk_loses}
 use Rattle.promise_roundtrip.specs.RunSteps.{run_ends}
-use Rattle.promise_roundtrip.specs.TwiceRepeats.{RepeatedIn, HoldsLast, repeated_now, stored-holds, run_holds, Any}
+use Rattle.promise_roundtrip.proofs.TwiceRepeats.{RepeatedIn, HoldsLast, repeated_now, stored-holds, run_holds, Any}
 
 sequence_rises : {at : ℕ} {fields last : Fields} {fs : List Field} → Sequence fields fs last → Rising at fields → Rising at last
 sequence_rises no_field r = r

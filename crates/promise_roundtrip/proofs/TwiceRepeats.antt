@@ -15,7 +15,8 @@ use Rattle.build_parts.specs.Parts.{part_record}
 use Rattle.build_body_rules.specs.Body.{stored_run}
 use Rattle.build_order_laws.specs.Twice.{twice_in_header, twice_in_trailer}
 use Rattle.promise_roundtrip.specs.UnderTag.{under, Single}
-use Rattle.promise_roundtrip.specs.LastRead.{latest, header_takes, trailer_takes, field-under, field-single, count_under, count-single}
+use Rattle.promise_roundtrip.specs.LastRead.{latest, header_takes, trailer_takes}
+use Rattle.promise_roundtrip.proofs.LastReadLaws.{field-under, field-single, count_under, count-single}
 use Rattle.promise_roundtrip.specs.LaterHeld.{Repeats}
 
 -- a field with a tag among fields

@@ -37,7 +37,7 @@ use Rattle.promise_standard_encodings.specs.EncodedStandard.{Conformant}
 use Rattle.promise_standard_encodings.proofs.EncodedClean.{built_standard}
 use Rattle.promise_roundtrip.specs.BuiltTaken.{BuiltTaken}
 use Rattle.promise_roundtrip.specs.Clean.{Clean}
-use Rattle.promise_roundtrip.specs.ComesBack.{repeat-free-order, order-built, clean_text}
+use Rattle.promise_roundtrip.proofs.ComesBack.{repeat-free-order, order-built, clean_text}
 
 module _ (dictionary : Dictionary) (config : Config) (message : List ℕ) (o : InOrder dictionary config message) where
   abbrev check : Record

@@ -22,10 +22,10 @@ use Rattle.encode_rewriting_laws.proofs.EncodedFit.{encoding-written, encoding_t
 use Rattle.encode_rewriting_laws.proofs.EncodedParts.{read-built}
 use Rattle.encode_rewriting_laws.proofs.ReadMessage.{Followed, followed_sound}
 use Rattle.encode_rewriting_laws.proofs.ReadRewritten.{ReadsLike, no_digit}
-use Rattle.promise_roundtrip.specs.ComesBack.{repeat-free-order}
+use Rattle.promise_roundtrip.proofs.ComesBack.{repeat-free-order}
 use Rattle.promise_roundtrip.specs.Clean.{RepeatFree}
 use Rattle.promise_roundtrip.specs.AgainValues.{Split}
-use Rattle.promise_roundtrip.specs.Again.{follows_as, split_parts, Again, split_of, read_same, once_again}
+use Rattle.promise_roundtrip.proofs.Again.{follows_as, split_parts, Again, split_of, read_same, once_again}
 
 -- a message that was read, and what its records stand for: encoding it "succeeds or passes 8,192 bytes", and what is written reads the same
 pub record ComesBack (dictionary : Dictionary) (config : Config) (message : List ℕ) (m : Message) : Type 0 where

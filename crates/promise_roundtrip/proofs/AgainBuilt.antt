@@ -20,9 +20,9 @@ use Rattle.encode_rules.specs.declared.Encoding.TheVariants.{Written, TooLong}
 use Rattle.build_order_laws.specs.SimilarLaws.{similar_length}
 use Rattle.promise_roundtrip.specs.Clean.{RepeatFree}
 use Rattle.promise_roundtrip.specs.AgainValues.{Split}
-use Rattle.promise_roundtrip.specs.Again.{Again}
+use Rattle.promise_roundtrip.proofs.Again.{Again}
 use Rattle.promise_roundtrip.specs.BuiltTaken.{BuiltTaken}
-use Rattle.promise_roundtrip.specs.AgainTheorem.{comes_back}
+use Rattle.promise_roundtrip.proofs.AgainTheorem.{comes_back}
 
 module _ (message : List ℕ) (config : Config) (dictionary : List ℕ) (lent : ℕ) where
   -- what is read of some bytes with the dictionary and the setting

@@ -47,7 +47,7 @@ use Rattle.encode_rewriting_laws.specs.Written.{written, rewritten}
 use Rattle.encode_rewriting_laws.proofs.EncodedBuilt.{Built, encoding-rewritten}
 use Rattle.encode_rewriting_laws.proofs.EncodedFit.{encoding-written}
 use Rattle.encode_rewriting_laws.proofs.EncodedParts.{stands_parted}
-use Rattle.promise_roundtrip.specs.Dealer.{Lost, a-field_each, stored_twice_lost}
+use Rattle.promise_roundtrip.proofs.Dealer.{Lost, a-field_each, stored_twice_lost}
 
 -- P5 as the dealer's customer sent it, and as it is encoded
 abbrev pub sent : List ℕ
