@@ -36,6 +36,7 @@ pub struct Values {
 }
 
 // The rules' number for a reason why a message is garbled.
+#[tactic(auto, unfolding(build_integrity_rules::specs::Integrity::number_of_reason))]
 fn reason_number(reason: GarbledReason) -> u32
     ensures { result ≡ number_of_reason reason }
 {
@@ -49,6 +50,7 @@ fn reason_number(reason: GarbledReason) -> u32
 }
 
 // The rules' number for an answer.
+#[tactic(auto, unfolding(crate::specs::Answer::number_of))]
 pub fn number_of(answer: Answer) -> u32
     ensures { result ≡ number_of answer }
 {
@@ -76,6 +78,7 @@ fn returned(first: usize, second: usize) -> Values
 }
 
 // The values that are returned with an answer.
+#[tactic(auto, unfolding(crate::specs::Answer::values_of))]
 pub fn values_of(answer: Answer) -> Values
     ensures { (result.first, result.second) ≡ values_of answer }
 {

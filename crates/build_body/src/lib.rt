@@ -17,11 +17,10 @@ ghost use Rattle.build_body_rules.specs.Seen.{noted, Covers};
 use build_answers::Answer;
 use build_body_rules::{BodyKind, Opening};
 use build_config::Config;
-use build_group_rules::{Group, Reading, Refusal};
-use build_parts::{Next, PartRead, Progress};
-use build_records::{Record, Standing};
+use build_group_rules::{Group, Refusal};
+use build_parts::Progress;
+use build_records::Record;
 use build_required_rules::Lack;
-use dictionary_tables_rules::Item;
 use field_rules::Field;
 
 // A tag's cell is its remainder. Where a cell isn't set, the body holds no field of its own with such a tag.
@@ -32,7 +31,7 @@ fn kind_of(config: Config, table: &[u16], index: &[u16], level: usize, tag: u32)
     requires { length index.now ≡ index_words }
     ensures { meant_by result ≡ body_kind (table_rules config table.now (tag_at index.now)) level tag }
 {
-    let Item::At(_, inner) = dictionary_tables::item_of(table, level, tag) else {
+    let Some((_, inner)) = dictionary_tables::item_of(table, level, tag) else {
         if build_groups::accepted(config, index, tag) {
             return BodyKind::Plain;
         }
@@ -51,7 +50,7 @@ fn store(
     from: usize,
     records: usize,
     stored: Record,
-) -> Standing
+) -> Option<usize>
     requires records_in_bounds { (records < length words.old / stride) × (stored.depth ≡ 0) }
     requires covers { Covers seen.old (part_of from records words.old) }
     ensures value { result ≡ held_from from stored.depth stored.tag (part_of from records words.old) }
@@ -64,7 +63,7 @@ fn store(
     }
     seen[cell] = true;
     build_records::replace(words, records, stored);
-    Standing::Nowhere
+    None
 }
 
 // The same; answers how many records there are then.
@@ -75,8 +74,8 @@ fn keep(words: &mut [u32], seen: &mut [bool], from: usize, records: usize, store
     ensures seen_after { seen.new ≡ noted stored.tag seen.old }
 {
     match store(words, seen, from, records, stored) {
-        Standing::At(_) => records,
-        Standing::Nowhere => records + 1,
+        Some(_) => records,
+        None => records + 1,
     }
 }
 
@@ -89,7 +88,7 @@ fn read_plain(
     seen: &mut [bool],
     from: usize,
     progress: Progress,
-) -> PartRead
+) -> Result<(Field, Progress), Answer>
     requires message_len_bound { (length message.now < 2 ^ 32) × (Inside message.now plain) × (from ≤ progress.records) × (progress.records + progress.room < length words.old / stride) }
     requires covers { Covers seen.old (part_of from progress.records words.old) }
     ensures words_after { part_told config.mode message.now from result words.new ≡ next_from (fields_from config.mode message.now plain.next) progress.room (stored (part_record 2 plain) (part_of from progress.records words.old)) }
@@ -104,14 +103,14 @@ fn read_plain(
         build_parts::record_of(build_records::BODY, plain),
     );
     match build_parts::next_field(message, config, plain.next, progress.room) {
-        Next::Missing(answer) => PartRead::Refused(answer),
-        Next::Got(field) => PartRead::At(
+        Err(answer) => Err(answer),
+        Ok(field) => Ok((
             field,
             Progress {
                 room: progress.room - 1,
                 records,
             },
-        ),
+        )),
     }
 }
 
@@ -131,15 +130,13 @@ fn run_end(words: &[u32], place: usize, records: usize) -> usize
     requires { (place ≤ records) × (records ≤ length words.now / stride) }
     ensures { RunEnd words.now place records result }
 {
-    let mut end = place;
-    while end < records {
+    for end in place..records {
         let found = build_records::record_at(words, end);
         if found.depth == 0 {
             return end;
         }
-        end += 1;
     }
-    end
+    records
 }
 
 // Takes the run out that starts at a place; answers how many records are left.
@@ -166,14 +163,14 @@ fn open_run(
     ensures seen_after { seen.new ≡ noted stored.tag seen.old }
 {
     match store(words, seen, from, records, stored) {
-        Standing::At(i) => {
+        Some(i) => {
             let place = i + 1;
             Opening {
                 records: drop_run(words, place, records),
                 place,
             }
         }
-        Standing::Nowhere => Opening {
+        None => Opening {
             records: records + 1,
             place: records + 1,
         },
@@ -192,7 +189,7 @@ fn read_group(
     seen: &mut [bool],
     from: usize,
     progress: Progress,
-) -> PartRead
+) -> Result<(Field, Progress), Answer>
     requires message_len_bound { (length message.now < 2 ^ 32) × (Inside message.now count) × (from ≤ progress.records) × (progress.records + progress.room < length words.old / stride) × (length words.old < 2 ^ 32) }
     requires index_len { length index.now ≡ index_words }
     requires covers { Covers seen.old (part_of from progress.records words.old) }
@@ -222,19 +219,17 @@ fn read_group(
     match build_groups::read_run(
         message, config, table, index, group, count.next, words, start,
     ) {
-        Reading::Refused(refusal) => PartRead::Refused(answer_of(refusal)),
-        Reading::At(field, run) => {
+        Err(refusal) => Err(answer_of(refusal)),
+        Ok((field, run)) => {
             match build_required::check_run(words, table, group, opening.place, run.place) {
-                Lack::Missing(tag, group_tag) => PartRead::Refused(Answer::RequiredFieldMissing(
-                    tag, group_tag,
-                )),
-                Lack::Complete => PartRead::At(
+                Lack::Missing(tag, group_tag) => Err(Answer::RequiredFieldMissing(tag, group_tag)),
+                Lack::Complete => Ok((
                     field,
                     Progress {
                         room: run.room,
                         records: run.records,
                     },
-                ),
+                )),
             }
         }
     }
@@ -252,7 +247,7 @@ fn read_on(
     seen: &mut [bool],
     from: usize,
     progress: Progress,
-) -> PartRead
+) -> Result<(Field, Progress), Answer>
     requires message_len_bound { (length message.now < 2 ^ 32) × (Inside message.now first) × (from ≤ progress.records) × (progress.records + progress.room < length words.old / stride) × (length words.old < 2 ^ 32) }
     requires index_len { length index.now ≡ index_words }
     requires covers { Covers seen.old (part_of from progress.records words.old) }
@@ -261,9 +256,9 @@ fn read_on(
         (field first (fields_from config.mode message.now first.next)) (suc progress.room) (part_of from progress.records words.old) }
     ensures stays { Stays message.now words.old words.new from (suc progress.room) result }
 {
-    let mut reading = PartRead::At(first, progress);
+    let mut reading = Ok((first, progress));
     loop {
-        let PartRead::At(field, so_far) = reading else {
+        let Ok((field, so_far)) = reading else {
             return reading;
         };
         match kind_of(config, table, index, level, field.tag) {
@@ -276,7 +271,7 @@ fn read_on(
                 );
             }
             BodyKind::Other => {
-                return reading;
+                return Ok((field, so_far));
             }
         }
     }
@@ -293,7 +288,7 @@ pub fn read_body(
     words: &mut [u32],
     from: usize,
     progress: Progress,
-) -> PartRead
+) -> Result<(Field, Progress), Answer>
     requires message_len_bound { (length message.now < 2 ^ 32) × (Inside message.now first) × (from ≤ progress.records) × (progress.records + progress.room < length words.old / stride) × (length words.old < 2 ^ 32) }
     requires index_len { length index.now ≡ index_words }
     ensures by_index { (trailers : List ℕ) → must_follow trailers (part_told config.mode message.now from result words.new)

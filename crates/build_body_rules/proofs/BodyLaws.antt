@@ -1,6 +1,6 @@
 -- Each way that the body goes at a field. A run leaves less room than it had, so turns never run out before the room does.
 use Rattle.std.proofs.Math.Path.{◌≡◌, refl, ap}
-use Rattle.std.proofs.Common.{sym, ◌∙◌, arith}
+use Rattle.std.proofs.Common.{sym, ◌∙◌, arith, Result, Ok, Err, ℕ}
 use Rattle.std.specs.Prelude.{Bool, true, false}
 use mathlib.Core.List.{List}
 use Prim.Native.Nat.{ℕ, zero, suc, ◌+◌, ◌-◌, ◌≤◌, ◌<◌}
@@ -10,17 +10,15 @@ use Rattle.field_rules.specs.Fields.{Fields, unreadable, field, fields_from}
 use Rattle.field_rules.proofs.FieldsLaws.{fields-field, fields-end}
 use Rattle.field_rules.specs.declared.Cursor.{Cursor}
 use Rattle.field_rules.specs.declared.Field.{Field}
-use Rattle.field_rules.specs.declared.FieldRead.{FieldRead}
-use Rattle.field_rules.specs.declared.FieldRead.TheVariants.{Read, Unreadable}
 use Rattle.dictionary_layout_rules.specs.Tree.{holds_tag}
 use Rattle.build_records.specs.Records.{stored}
 use Rattle.build_records.specs.declared.Record.{Record}
 use Rattle.build_answers.specs.declared.Answer.{Answer}
 use Rattle.build_answers.specs.declared.Answer.TheVariants.{InvalidField}
-use Rattle.build_parts.specs.declared.Next.TheVariants.{Got, Missing}
 use Rattle.build_parts.specs.Parts.{Reading, ended, refused, part_record, next_of}
 use Rattle.build_parts.specs.PartLaws.{taken}
 use Rattle.build_body_rules.specs.Body.{Body, Kind, plain, counts, other, and_then, next_from, with_run, must_follow, takes, body_within, body_from}
+use Rattle.field_rules.specs.declared.Cause.{Cause}
 
 -- a run leaves less room than it had
 abbrev pub Falls : (Fields → ℕ → Reading) → Type 0
@@ -90,16 +88,16 @@ module _ {L : Type 0} (body : Body L) (falls : (inner : L) (tag : ℕ) → Falls
     body_invalid e h = body-other e ∙ rw h
 
 module _ (mode : Mode) (message : List ℕ) (c : Cursor) (room : ℕ) (records : List Record) where
-  pub next_missing : (answer : Answer) → next_of room (field_at mode message c) ≡ Missing answer → next_from (fields_from mode message c) room records ≡ refused answer
+  pub next_missing : (answer : Answer) → next_of room (field_at mode message c) ≡ Err answer → next_from (fields_from mode message c) room records ≡ refused answer
   unfolding next_of next_from
   next_missing answer h = go (field_at mode message c) refl room h
     where
-      go : (r : FieldRead) → field_at mode message c ≡ r → (room : ℕ) → next_of room r ≡ Missing answer → next_from (fields_from mode message c) room records ≡ refused answer
-      go (Unreadable cause place) e room h = rw (fields-end mode message c cause place e) (ap refused (cc))
-      go (Read f) e zero h = rw (fields-field mode message c f e) (ap refused (cc))
-      go (Read f) e (suc room) h = let z : ◌≡◌ {A = ℕ} 0 1 = cc in absurd (omega arith)
+      go : (r : Result Field (Cause × ℕ)) → field_at mode message c ≡ r → (room : ℕ) → next_of room r ≡ Err answer → next_from (fields_from mode message c) room records ≡ refused answer
+      go (Err (cause, place)) e room h = rw (fields-end mode message c cause place e) (ap refused (cc))
+      go (Ok f) e zero h = rw (fields-field mode message c f e) (ap refused (cc))
+      go (Ok f) e (suc room) h = let z : ◌≡◌ {A = ℕ} 0 1 = cc in absurd (omega arith)
 
-  pub next-found : (f : Field) → next_of room (field_at mode message c) ≡ Got f → next_from (fields_from mode message c) room records ≡ ended f (fields_from mode message f.next) (room - 1) records
+  pub next-found : (f : Field) → next_of room (field_at mode message c) ≡ Ok f → next_from (fields_from mode message c) room records ≡ ended f (fields_from mode message f.next) (room - 1) records
   unfolding next_from
   next-found f got =
       let t = taken mode message c f room got in

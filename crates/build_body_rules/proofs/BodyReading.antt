@@ -1,6 +1,6 @@
 -- The body as the code reads it: where reading stands, and each way that it goes on there.
 use Rattle.std.proofs.Math.Path.{◌≡◌, refl, ap}
-use Rattle.std.proofs.Common.{sym, ◌∙◌, arith}
+use Rattle.std.proofs.Common.{sym, ◌∙◌, arith, Result, Ok, Err}
 use mathlib.Core.List.{List, [], ◌∷◌}
 use Rattle.std.specs.Prelude.{ℕ, zero, suc, ◌+◌, ◌-◌, ◌/◌, ◌≤◌, ◌<◌, length}
 use Rattle.field_rules.specs.declared.Mode.{Mode}
@@ -17,17 +17,15 @@ use Rattle.build_required_rules.specs.declared.Lack.{Lack}
 use Rattle.build_required_rules.specs.declared.Lack.TheVariants.{Missing, Complete}
 use Rattle.build_answers.specs.declared.Answer.{Answer}
 use Rattle.build_parts.specs.declared.Progress.{Progress}
-use Rattle.build_parts.specs.declared.PartRead.{PartRead}
-use Rattle.build_parts.specs.declared.PartRead.TheVariants.{At, Refused}
 use Rattle.build_parts.specs.Parts.{Reading, ended, part_record, part_of, part_told, Stays}
 use Rattle.build_body_rules.specs.Body.{plain, counts, other, and_then, next_from, with_run, must_follow, body_from}
 use Rattle.build_body_rules.proofs.BodyLaws.{Falls, body-plain, body_run, body-other}
 use Rattle.build_body_rules.specs.Kinds.{body_kind, checked, ran_as, run_from, body_of}
 
 -- how many fields may still be read, the one that is read already counted in
-unfoldable pub part_room : PartRead → ℕ
-part_room (At f p) = suc p.room
-part_room (Refused answer) = 0
+unfoldable pub part_room : Result (Field × Progress) Answer → ℕ
+part_room (Ok (f, p)) = suc p.room
+part_room (Err answer) = 0
 
 each_field_is : (fields : Fields) → Each (λ (f : Field). f.tag ≡ f.tag) fields
 each_field_is (unreadable cause place) = each_end
@@ -51,15 +49,15 @@ module _ {L : Type 0} (rules : Rules L) (demands : Demands L) where
           let same = by_lack g behind here entries (run_lack demands 4 inner tag 1 entries) e in
           omega (arith, k.holds)
 
-  module _ (mode : Mode) (message : List ℕ) (from : ℕ) (trailer_tags_lem : List ℕ) (level : L) (reading : PartRead) (words : List ℕ) where
+  module _ (mode : Mode) (message : List ℕ) (from : ℕ) (trailer_tags_lem : List ℕ) (level : L) (reading : Result (Field × Progress) Answer) (words : List ℕ) where
     abbrev pub left : Reading
     left = and_then (part_told mode message from reading words) (body_from (body_of rules demands trailer_tags_lem level))
 
-    pub left-refused : (answer : Answer) → reading ≡ Refused answer → left ≡ must_follow trailer_tags_lem (part_told mode message from reading words)
+    pub left-refused : (answer : Answer) → reading ≡ Err answer → left ≡ must_follow trailer_tags_lem (part_told mode message from reading words)
     unfolding part_told and_then must_follow
     left-refused answer e = rw e
 
-    module _ (f : Field) (p : Progress) (e : reading ≡ At f p) where
+    module _ (f : Field) (p : Progress) (e : reading ≡ Ok (f, p)) where
       abbrev here : Reading
       here = body_from (body_of rules demands trailer_tags_lem level) (field f (fields_from mode message f.next)) (suc p.room) (part_of from p.records words)
 
@@ -67,34 +65,34 @@ module _ {L : Type 0} (rules : Rules L) (demands : Demands L) where
       unfolding part_told and_then
       left_here = rw e
 
-      pub left-plain : body_kind rules level f.tag ≡ plain → (next : PartRead) (later : List ℕ) → part_told mode message from next later ≡ next_from (fields_from mode message f.next) p.room (stored (part_record 2 f) (part_of from p.records words)) →
+      pub left-plain : body_kind rules level f.tag ≡ plain → (next : Result (Field × Progress) Answer) (later : List ℕ) → part_told mode message from next later ≡ next_from (fields_from mode message f.next) p.room (stored (part_record 2 f) (part_of from p.records words)) →
           left ≡ and_then (part_told mode message from next later) (body_from (body_of rules demands trailer_tags_lem level))
       unfolding body_of
       left-plain k next later told =
           left_here ∙ body-plain (body_of rules demands trailer_tags_lem level) run_falls f (fields_from mode message f.next) p.room (part_of from p.records words) k
           ∙ ap (λ (r : Reading). and_then r (body_from (body_of rules demands trailer_tags_lem level))) (sym told)
 
-      pub left-run : (inner : L) → body_kind rules level f.tag ≡ counts inner → (next : PartRead) (later : List ℕ) → part_told mode message from next later ≡ with_run (part_record 2 f) (part_of from p.records words) (run_from rules demands inner f.tag (fields_from mode message f.next) p.room) →
+      pub left-run : (inner : L) → body_kind rules level f.tag ≡ counts inner → (next : Result (Field × Progress) Answer) (later : List ℕ) → part_told mode message from next later ≡ with_run (part_record 2 f) (part_of from p.records words) (run_from rules demands inner f.tag (fields_from mode message f.next) p.room) →
           left ≡ and_then (part_told mode message from next later) (body_from (body_of rules demands trailer_tags_lem level))
       unfolding body_of
       left-run inner k next later told =
           left_here ∙ body_run (body_of rules demands trailer_tags_lem level) run_falls f (fields_from mode message f.next) p.room (part_of from p.records words) inner k
           ∙ ap (λ (r : Reading). and_then r (body_from (body_of rules demands trailer_tags_lem level))) (sym told)
 
-      pub left_other : body_kind rules level f.tag ≡ other → left ≡ must_follow trailer_tags_lem (part_told mode message from (At f p) words)
+      pub left_other : body_kind rules level f.tag ≡ other → left ≡ must_follow trailer_tags_lem (part_told mode message from (Ok (f, p)) words)
       unfolding body_of part_told
       left_other k =
           left_here
           ∙ body-other (body_of rules demands trailer_tags_lem level) run_falls f (fields_from mode message f.next) p.room (part_of from p.records words) k
 
 -- one step after another
-pub stays_on : (message entry words exit : List ℕ) (from room limit : ℕ) (next : PartRead) → length words ≡ length entry → part_of 0 from words ≡ part_of 0 from entry → room < limit → Stays message words exit from room next → Stays message entry exit from limit next
+pub stays_on : (message entry words exit : List ℕ) (from room limit : ℕ) (next : Result (Field × Progress) Answer) → length words ≡ length entry → part_of 0 from words ≡ part_of 0 from entry → room < limit → Stays message words exit from room next → Stays message entry exit from limit next
 stays_on message entry words exit from room limit next same before less s = record {
   before = s.before ∙ before;
   ends = λ f p e. let d = s.ends f p e in record { fits = omega (arith, d.fits); inside = d.inside; starts = d.starts; falls = omega (arith, d.falls) };
 }
 
-pub room_falls : (message words exit : List ℕ) (from : ℕ) (reading next : PartRead) (f : Field) (p : Progress) → reading ≡ At f p → Stays message words exit from p.room next → part_room next < part_room reading
+pub room_falls : (message words exit : List ℕ) (from : ℕ) (reading next : Result (Field × Progress) Answer) (f : Field) (p : Progress) → reading ≡ Ok (f, p) → Stays message words exit from p.room next → part_room next < part_room reading
 unfolding part_room
-room_falls message words exit from reading (At g q) f p e s = rw e (omega (arith, (s.ends g q refl).falls))
-room_falls message words exit from reading (Refused answer) f p e s = rw e (omega arith)
+room_falls message words exit from reading (Ok (g, q)) f p e s = rw e (omega (arith, (s.ends g q refl).falls))
+room_falls message words exit from reading (Err answer) f p e s = rw e (omega arith)

@@ -1,7 +1,7 @@
 -- A count's run as the code reads it into the words is the run of the definition, and stands right behind its count.
 use Rattle.std.specs.Prelude.{◌≡◌, Bool, ℕ, zero, suc, ◌+◌, ◌-◌, ◌/◌, ◌≤◌, ◌<◌, ◌^◌}
 use Rattle.std.proofs.Math.Path.{refl, sym, ap}
-use Rattle.std.proofs.Common.{◌∙◌, arith, take-append-drop, take-take}
+use Rattle.std.proofs.Common.{◌∙◌, arith, take-append-drop, take-take, Result, Ok, Err}
 use mathlib.Core.List.{List, [], ◌∷◌, ◌++◌, append_assoc}
 use Rattle.std.proofs.Math.ListN.{length, take, drop, length-append, length-drop}
 use Rattle.std.proofs.Math.Seq.{length-take-le, take-append_seam}
@@ -16,8 +16,6 @@ use Rattle.build_records.specs.declared.Record.{Record}
 use Rattle.build_group_rules.specs.Groups.{run, outermost, RunOutcome, ended, refused, walk}
 use Rattle.build_group_rules.specs.Reading.{Memory, memory, list_store, table_rules, told_by, run_of, Fits, answer_of}
 use Rattle.build_group_rules.proofs.ReadingLaws.{room_of, told_follows}
-use Rattle.build_group_rules.specs.declared.Reading.{Reading}
-use Rattle.build_group_rules.specs.declared.Reading.TheVariants.{At, Refused}
 use Rattle.build_group_rules.specs.declared.Progress.{Progress}
 use Rattle.build_group_rules.specs.declared.Refusal.{Refusal}
 use Rattle.build_required_rules.specs.Checking.{table_demands, lack_of_run}
@@ -25,7 +23,6 @@ use Rattle.build_required_rules.specs.declared.Lack.{Lack}
 use Rattle.build_required_rules.specs.declared.Lack.TheVariants.{Missing, Complete}
 use Rattle.build_body_rules.specs.declared.Opening.{Opening}
 use Rattle.build_answers.specs.declared.Answer.TheVariants.{RequiredFieldMissing}
-use Rattle.build_parts.specs.declared.PartRead.TheVariants.{At as at_field, Refused as refuses-part}
 use Rattle.build_parts.specs.Parts.{part_of, part_told, Stays, Reading as Read, ended as ends, refused as refuses}
 use Rattle.build_body_rules.specs.Kinds.{checked, ran_as, run_from}
 use Rattle.build_parts.specs.PartLaws.{parted, part_length, stays-refused, stays_at}
@@ -90,7 +87,7 @@ module _ (message : List ℕ) (config : Config) (table : List ℕ) (known : ℕ 
         fits = omega (arith, length-drop opening.records (records_of mid));
       }
 
-  agrees : (reading : Reading) → told_by config.mode message reading exit ≡ run_of message config table known (record { level = inner; tag = tag; depth = 1 }) cursor start mid → Agrees before after (told_by config.mode message reading exit) alone
+  agrees : (reading : Result (Field × Progress) Refusal) → told_by config.mode message reading exit ≡ run_of message config table known (record { level = inner; tag = tag; depth = 1 }) cursor start mid → Agrees before after (told_by config.mode message reading exit) alone
   unfolding run_of shifted
   agrees reading told =
       rw told (walk_agrees before after (table_rules config table known) room (run (outermost tag inner) 0 ∷ []) (memory start mid) [] (fields_from config.mode message cursor) stands)
@@ -107,10 +104,10 @@ module _ (message : List ℕ) (config : Config) (table : List ℕ) (known : ℕ 
     pub alone_is : alone ≡ refused refusal entries
     pub before-stays : part_of 0 from exit ≡ part_of 0 from entry
 
-  pub group-stopped : (refusal : Refusal) → told_by config.mode message (Refused refusal) exit ≡ run_of message config table known (record { level = inner; tag = tag; depth = 1 }) cursor start mid → GroupStopped refusal
+  pub group-stopped : (refusal : Refusal) → told_by config.mode message (Err refusal) exit ≡ run_of message config table known (record { level = inner; tag = tag; depth = 1 }) cursor start mid → GroupStopped refusal
   unfolding told_by
   group-stopped refusal told =
-      let a = agrees_refused before after alone (agrees (Refused refusal) told) in
+      let a = agrees_refused before after alone (agrees (Err refusal) told) in
       record { entries = a.entries; alone_is = a.is; before-stays = front_kept a.front }
 
   -- a run that ended: its entries stand from the place on, and count and entries are in the part
@@ -124,12 +121,12 @@ module _ (message : List ℕ) (config : Config) (table : List ℕ) (known : ℕ 
     pub inside : Inside message f
     pub falls : p.room < room
 
-  pub group-ended : Fits message start → (f : Field) (p : Progress) → told_by config.mode message (At f p) exit ≡ run_of message config table known (record { level = inner; tag = tag; depth = 1 }) cursor start mid → GroupEnded f p
+  pub group-ended : Fits message start → (f : Field) (p : Progress) → told_by config.mode message (Ok (f, p)) exit ≡ run_of message config table known (record { level = inner; tag = tag; depth = 1 }) cursor start mid → GroupEnded f p
   unfolding told_by memory part_of room_of run_of
   group-ended short f p told =
-      let follows = told_follows (table_rules config table known) config.mode message (run (outermost tag inner) 0 ∷ []) cursor start mid short (At f p) exit told in
+      let follows = told_follows (table_rules config table known) config.mode message (run (outermost tag inner) 0 ∷ []) cursor start mid short (Ok (f, p)) exit told in
       let at = follows.fits f p refl in
-      let a = agrees_ended before after alone (agrees (At f p) told) in
+      let a = agrees_ended before after alone (agrees (Ok (f, p)) told) in
       let s = a.stands in
       let n₀ = records_length mid in
       let n₁ = records_length exit in
@@ -178,28 +175,28 @@ module _ (message : List ℕ) (config : Config) (table : List ℕ) (known : ℕ 
     run_completes e = rw (g.alone_is, e) (ap (ends f (fields_from config.mode message f.next) p.room) (sym g.stores))
 
   -- what the code answers in each of these ways
-  pub answers-stopped : (count_is : Record) → r ≡ count_is → (reading : Reading) (refusal : Refusal) → reading ≡ Refused refusal → told_by config.mode message reading exit ≡ run_of message config table known (record { level = inner; tag = tag; depth = 1 }) cursor start mid →
-      (part_told config.mode message from (refuses-part (answer_of refusal)) exit ≡ with_run count_is (part_of from count entry) runs) × Stays message entry exit from room (refuses-part (answer_of refusal))
+  pub answers-stopped : (count_is : Record) → r ≡ count_is → (reading : Result (Field × Progress) Refusal) (refusal : Refusal) → reading ≡ Err refusal → told_by config.mode message reading exit ≡ run_of message config table known (record { level = inner; tag = tag; depth = 1 }) cursor start mid →
+      (part_told config.mode message from (Err (answer_of refusal)) exit ≡ with_run count_is (part_of from count entry) runs) × Stays message entry exit from room (Err (answer_of refusal))
   unfolding part_told with_run
   answers-stopped count_is e reading refusal q told =
-      let g = group-stopped refusal (ap (λ (k : Reading). told_by config.mode message k exit) (sym q) ∙ told) in
+      let g = group-stopped refusal (ap (λ (k : Result (Field × Progress) Refusal). told_by config.mode message k exit) (sym q) ∙ told) in
       (sym (ap (with_run count_is (part_of from count entry)) (run-stops refusal g)), stays-refused message entry exit from room g.before-stays (answer_of refusal))
 
-  module _ (short : Fits message start) (reading : Reading) (f : Field) (p : Progress) (q : reading ≡ At f p) (told : told_by config.mode message reading exit ≡ run_of message config table known (record { level = inner; tag = tag; depth = 1 }) cursor start mid) where
+  module _ (short : Fits message start) (reading : Result (Field × Progress) Refusal) (f : Field) (p : Progress) (q : reading ≡ Ok (f, p)) (told : told_by config.mode message reading exit ≡ run_of message config table known (record { level = inner; tag = tag; depth = 1 }) cursor start mid) where
     group-read : GroupEnded f p
-    group-read = group-ended short f p (ap (λ (k : Reading). told_by config.mode message k exit) (sym q) ∙ told)
+    group-read = group-ended short f p (ap (λ (k : Result (Field × Progress) Refusal). told_by config.mode message k exit) (sym q) ∙ told)
 
     pub run_fits : p.place ≤ length exit / stride
     run_fits = group-read.ends_in
 
     pub answers_lack : (count_is : Record) → r ≡ count_is → (lack : Lack) → lack ≡ lack_of_run table (record { level = inner; tag = tag; depth = 1 }) (between opening.place p.place (records_of exit)) → (wanted group : ℕ) → lack ≡ Missing wanted group →
-        (part_told config.mode message from (refuses-part (RequiredFieldMissing wanted group)) exit ≡ with_run count_is (part_of from count entry) runs) × Stays message entry exit from room (refuses-part (RequiredFieldMissing wanted group))
+        (part_told config.mode message from (Err (RequiredFieldMissing wanted group)) exit ≡ with_run count_is (part_of from count entry) runs) × Stays message entry exit from room (Err (RequiredFieldMissing wanted group))
     unfolding part_told with_run part_of
     answers_lack count_is e lack c wanted group m =
         (sym (ap (with_run count_is (part_of from count entry)) (run_lacks_lem f p group-read wanted group (sym c ∙ m))), stays-refused message entry exit from room group-read.before-stays (RequiredFieldMissing wanted group))
 
     pub answers-complete : (count_is : Record) → r ≡ count_is → (lack : Lack) → lack ≡ lack_of_run table (record { level = inner; tag = tag; depth = 1 }) (between opening.place p.place (records_of exit)) → lack ≡ Complete →
-        (part_told config.mode message from (at_field f (record { room = p.room; records = p.records })) exit ≡ with_run count_is (part_of from count entry) runs) × Stays message entry exit from room (at_field f (record { room = p.room; records = p.records }))
+        (part_told config.mode message from (Ok (f, (record { room = p.room; records = p.records }))) exit ≡ with_run count_is (part_of from count entry) runs) × Stays message entry exit from room (Ok (f, (record { room = p.room; records = p.records })))
     unfolding part_told part_of
     answers-complete count_is e lack c m = (
       sym (ap (λ (k : Record). with_run k (part_of from count entry) runs) (sym e) ∙ run_completes f p group-read (sym c ∙ m)),

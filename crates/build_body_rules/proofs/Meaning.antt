@@ -2,7 +2,7 @@
 -- The body looks at nothing but the kind of a tag, the run of a count and the trailer's tags; where these are alike, the readings are the same.
 use Rattle.std.specs.Prelude.{◌≡◌, Bool}
 use Rattle.std.proofs.Math.Path.{refl, ap}
-use Rattle.std.proofs.Common.{◌∙◌}
+use Rattle.std.proofs.Common.{◌∙◌, Option, Some, None, ℕ}
 use Rattle.std.proofs.Math.Bool.{true, false}
 use mathlib.Core.List.{List, []}
 use Prim.Native.Nat.{ℕ, zero, suc}
@@ -12,8 +12,6 @@ use Rattle.field_rules.specs.Fields.{Fields, unreadable, field}
 use Rattle.field_rules.specs.declared.Field.{Field}
 use Rattle.dictionary_layout_rules.specs.Layout.{Layout}
 use Rattle.dictionary_tables_rules.proofs.Tabled.{Tabled}
-use Rattle.dictionary_layout_rules.specs.declared.Position.{Position}
-use Rattle.dictionary_layout_rules.specs.declared.Position.TheVariants.{At, Nowhere}
 use Rattle.build_records.specs.Records.{stored}
 use Rattle.build_records.specs.declared.Record.{Record}
 use Rattle.build_group_rules.proofs.Alike.{OpenedAlike, none_alike, opened_alike, RulesAlike}
@@ -53,10 +51,10 @@ module _ {L M : Type 0} (Same : L → M → Type 0) where
 
   -- rules that answer alike give a tag the same kind
   module _ (rules : Rules L) (others : Rules M) (alike : RulesAlike Same rules others) (l : L) (m : M) (s : Same l m) (tag : ℕ) where
-    placed_alike : (p : Position) → KindAlike (placed_kind rules l tag p) (placed_kind others m tag p)
+    placed_alike : (p : Option ℕ) → KindAlike (placed_kind rules l tag p) (placed_kind others m tag p)
     unfolding placed_kind
-    placed_alike (At position) = group_alike (alike.groups l m s tag)
-    placed_alike Nowhere = rw (alike.accepting tag) (go (others.accepts tag))
+    placed_alike (Some position) = group_alike (alike.groups l m s tag)
+    placed_alike None = rw (alike.accepting tag) (go (others.accepts tag))
       where
         go : (b : Bool) → KindAlike (pick b plain other) (pick b plain other)
         go true = plain_alike

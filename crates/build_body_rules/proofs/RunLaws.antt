@@ -1,7 +1,7 @@
 -- A run among the records of the body: the records before it, its count the last of them, and those behind it.
 use Rattle.std.specs.Prelude.{◌≡◌, refl, Bool, true, false, ℕ, zero, suc, ◌+◌, ◌-◌, ◌/◌, ◌≤◌, ◌<◌, length, get_or, set, eqb}
 use Rattle.std.proofs.Math.Path.{sym, ap}
-use Rattle.std.proofs.Common.{◌∙◌, length-append, length-set, length-drop, length-take, take-append-drop, drop-drop, take_at, drop_at, length-take-le}
+use Rattle.std.proofs.Common.{◌∙◌, length-append, length-set, length-drop, length-take, take-append-drop, drop-drop, take_at, drop_at, length-take-le, Option, Some, None}
 use mathlib.Core.List.{List, [], ◌∷◌, ◌++◌, append_assoc, append-nil}
 use native.Mathlib.Omega.{arith}
 use Rattle.std.proofs.Math.ListN.{take, drop}
@@ -12,8 +12,6 @@ use Rattle.build_records.specs.Records.{records_of, on_records, blank, record_at
 use Rattle.build_records.proofs.WordLaws.{records_length, records_on}
 use Rattle.build_records.proofs.RecordLaws.{between-on, between_past, between-end, between-parts, removed-parts, stored-held, stored-new}
 use Rattle.build_records.specs.declared.Record.{Record}
-use Rattle.build_records.specs.declared.Standing.{Standing}
-use Rattle.build_records.specs.declared.Standing.TheVariants.{At, Nowhere}
 use Rattle.build_parts.specs.Parts.{part_of, Kept}
 use Rattle.build_parts.specs.PartLaws.{part_tail, parted, part_length, keep-held, keep-new}
 use Rattle.build_body_rules.specs.Body.{behind_run, stored_run, RunEnd, Dropped, Opened}
@@ -90,8 +88,8 @@ run-later x r rs run at i h e =
     let k : i + 1 - at ≡ suc (i + 1 - (at + 1)) = omega arith in
     rw k (ap (λ (l : List Record). x ∷ l) e)
 
-run_step : (x r : Record) (rs run : List Record) (at i : ℕ) (d t : Bool) (later : Standing) → pick d (pick t (At at) later) later ≡ At i → (later ≡ At i →
-    at + 1 ≤ i) → (later ≡ At i → stored_run r run rs ≡ take (i + 1 - (at + 1)) (stored r rs) ++ (run
+run_step : (x r : Record) (rs run : List Record) (at i : ℕ) (d t : Bool) (later : Option ℕ) → pick d (pick t (Some at) later) later ≡ Some i → (later ≡ Some i →
+    at + 1 ≤ i) → (later ≡ Some i → stored_run r run rs ≡ take (i + 1 - (at + 1)) (stored r rs) ++ (run
     ++ behind_run (drop (i + 1 - (at + 1)) (stored r rs)))) →
     pick d (pick t (r ∷ (run ++ behind_run rs)) (x ∷ stored_run r run rs)) (x ∷ stored_run r run rs) ≡ take (i + 1 - at) (pick d (pick t (r ∷ rs) (x ∷ stored r rs)) (x ∷ stored r rs)) ++ (run ++ behind_run (drop (i + 1 - at) (pick d (pick t (r ∷ rs) (x ∷ stored r rs)) (x ∷ stored r rs))))
 run_step x r rs run at i true true later e from next =
@@ -101,20 +99,20 @@ run_step x r rs run at i true true later e from next =
 run_step x r rs run at i true false later e from next = run-later x r rs run at i (from e) (next e)
 run_step x r rs run at i false t later e from next = run-later x r rs run at i (from e) (next e)
 
-pub run-held : (r : Record) (rs run : List Record) (at i : ℕ) → held_from at r.depth r.tag rs ≡ At i → stored_run r run rs ≡ take (i + 1 - at) (stored r rs) ++ (run ++ behind_run (drop (i + 1 - at) (stored r rs)))
+pub run-held : (r : Record) (rs run : List Record) (at i : ℕ) → held_from at r.depth r.tag rs ≡ Some i → stored_run r run rs ≡ take (i + 1 - at) (stored r rs) ++ (run ++ behind_run (drop (i + 1 - at) (stored r rs)))
 unfolding held_from stored stored_run
 run-held r [] run at i e = let z : ◌≡◌ {A = ℕ} 0 1 = cc in absurd (omega arith)
 run-held r (x ∷ rs) run at i e =
     run_step x r rs run at i (eqb x.depth r.depth) (eqb x.tag r.tag) (held_from (at + 1) r.depth r.tag rs) e (λ q. (stored-held r rs (at + 1) i q).from) (run-held r rs run (at + 1) i)
 
-new-step : (x r : Record) (rs run : List Record) (at : ℕ) (d t : Bool) (later : Standing) → pick d (pick t (At at) later) later ≡ Nowhere → (later ≡ Nowhere → stored_run r run rs ≡ stored r rs ++ run) →
+new-step : (x r : Record) (rs run : List Record) (at : ℕ) (d t : Bool) (later : Option ℕ) → pick d (pick t (Some at) later) later ≡ None → (later ≡ None → stored_run r run rs ≡ stored r rs ++ run) →
     pick d (pick t (r ∷ (run ++ behind_run rs)) (x ∷ stored_run r run rs)) (x ∷ stored_run r run rs) ≡ pick d (pick t (r ∷ rs) (x ∷ stored r rs)) (x ∷ stored r rs) ++ run
 new-step x r rs run at true true later e next = let z : ◌≡◌ {A = ℕ} 0 1 = cc in absurd (omega arith)
 new-step x r rs run at true false later e next = ap (λ (l : List Record). x ∷ l) (next e)
 new-step x r rs run at false t later e next = ap (λ (l : List Record). x ∷ l) (next e)
 
 -- a new count comes last, and its run behind it
-pub run-new : (r : Record) (rs run : List Record) (at : ℕ) → held_from at r.depth r.tag rs ≡ Nowhere → stored_run r run rs ≡ stored r rs ++ run
+pub run-new : (r : Record) (rs run : List Record) (at : ℕ) → held_from at r.depth r.tag rs ≡ None → stored_run r run rs ≡ stored r rs ++ run
 unfolding held_from stored stored_run
 run-new r [] run at e = refl
 run-new r (x ∷ rs) run at e =
@@ -123,7 +121,7 @@ run-new r (x ∷ rs) run at e =
 module _ (entry stores exit : List ℕ) (from count : ℕ) (r : Record) where
   -- a count that is held keeps its place, and its old run goes
   pub open_held : (i after : ℕ) → from ≤ count → count < length entry / stride → length stores ≡ length entry → length exit ≡ length entry →
-      held_from from r.depth r.tag (between from count (records_of entry)) ≡ At i → stores ≡ on_records (stored_between count from count r) entry →
+      held_from from r.depth r.tag (between from count (records_of entry)) ≡ Some i → stores ≡ on_records (stored_between count from count r) entry →
       Dropped stores exit (i + 1) count after → Opened entry exit from count r (record { records = after; place = i + 1 })
   unfolding part_of
   open_held i after h l same last e is gone =
@@ -157,7 +155,7 @@ module _ (entry stores exit : List ℕ) (from count : ℕ) (r : Record) where
       }
 
   -- a new count comes last
-  pub open_new : from ≤ count → count < length entry / stride → held_from from r.depth r.tag (between from count (records_of entry)) ≡ Nowhere → exit ≡ on_records (stored_between count from count r) entry → Opened entry exit from count r (record { records = count + 1; place = count + 1 })
+  pub open_new : from ≤ count → count < length entry / stride → held_from from r.depth r.tag (between from count (records_of entry)) ≡ None → exit ≡ on_records (stored_between count from count r) entry → Opened entry exit from count r (record { records = count + 1; place = count + 1 })
   unfolding part_of
   open_new h l e is = let kept : Kept entry exit from count r (count + 1) = rw is (keep-new entry from count r h l e) in
       record {
@@ -169,7 +167,7 @@ module _ (entry stores exit : List ℕ) (from count : ℕ) (r : Record) where
       }
 
 -- a held record stands in its part
-pub held-within : (words : List ℕ) (from count i : ℕ) (r : Record) → from ≤ count → held_from from r.depth r.tag (between from count (records_of words)) ≡ At i → i < count
+pub held-within : (words : List ℕ) (from count i : ℕ) (r : Record) → from ≤ count → held_from from r.depth r.tag (between from count (records_of words)) ≡ Some i → i < count
 unfolding between
 held-within words from count i r h e =
     let at = stored-held r (take (count - from) (drop from (records_of words))) from i e in

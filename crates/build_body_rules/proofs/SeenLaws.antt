@@ -1,7 +1,7 @@
 -- What is stored in the body stays covered by the cells: a field's record, a count with its run, and what stands behind a run that goes.
 -- A tag whose cell isn't set is held nowhere.
 use Rattle.std.proofs.Math.Path.{◌≡◌, refl, ap}
-use Rattle.std.proofs.Common.{sym, ◌∙◌, arith, get_or-set_other, eqb-true, ltb-false}
+use Rattle.std.proofs.Common.{sym, ◌∙◌, arith, get_or-set_other, eqb-true, ltb-false, Some, None, Result, Ok}
 use Rattle.std.specs.Prelude.{Bool, ℕ, zero, suc, ◌+◌, ◌-◌, ◌/◌, ◌%◌, ◌<◌, length, get_or, set, replicate, eqb, ltb}
 use Rattle.std.proofs.Math.Bool.{true, false}
 use mathlib.Core.List.{List, [], ◌∷◌, ◌++◌}
@@ -17,7 +17,6 @@ use Rattle.build_records.specs.Records.{records_of, on_records, replaced, betwee
 use Rattle.build_records.proofs.WordLaws.{records_length, on_same}
 use Rattle.build_records.proofs.RecordLaws.{inserted-last, between-new, between-end}
 use Rattle.build_records.specs.declared.Record.{Record}
-use Rattle.build_records.specs.declared.Standing.TheVariants.{At as held_at, Nowhere}
 use Rattle.build_group_rules.specs.Groups.{Rules, run, outermost, RunOutcome, walk}
 use Rattle.build_group_rules.specs.Groups.{ended as ran, refused as stops}
 use Rattle.build_group_rules.specs.Reading.{list_store}
@@ -27,12 +26,11 @@ use Rattle.build_required_rules.specs.Required.{Demands, run_lack}
 use Rattle.build_required_rules.specs.declared.Lack.{Lack}
 use Rattle.build_required_rules.specs.declared.Lack.TheVariants.{Missing, Complete}
 use Rattle.build_parts.specs.declared.Progress.{Progress}
-use Rattle.build_parts.specs.declared.PartRead.{PartRead}
-use Rattle.build_parts.specs.declared.PartRead.TheVariants.{At}
 use Rattle.build_parts.specs.Parts.{Reading, ended, refused, part_of, part_told}
 use Rattle.build_body_rules.specs.Body.{behind_run, stored_run, next_from, with_run}
 use Rattle.build_body_rules.specs.Kinds.{checked, ran_as, run_from}
 use Rattle.build_body_rules.specs.Seen.{cells, is_seen, noted, Noticed, Covers, Follows}
+use Rattle.build_answers.specs.declared.Answer.{Answer}
 
 -- a cell that is set stays set
 set-stays : (seen : List Bool) (i j : ℕ) → i < length seen → get_or seen j false ≡ true → get_or (set seen i true) j false ≡ true
@@ -64,13 +62,13 @@ module _ (seen : List Bool) (tag : ℕ) where
     noted_each a = all_map (λ r n. record { notices = λ d. noted_more r.tag (n.notices d) }) a
 
 -- a tag that wasn't seen is held nowhere
-each_other : (seen : List Bool) (tag : ℕ) → is_seen tag seen ≡ false → (at : ℕ) {rs : List Record} → All (Noticed seen) rs → held_from at 0 tag rs ≡ Nowhere
+each_other : (seen : List Bool) (tag : ℕ) → is_seen tag seen ≡ false → (at : ℕ) {rs : List Record} → All (Noticed seen) rs → held_from at 0 tag rs ≡ None
 unfolding held_from
 each_other seen tag e at all_none = refl
 each_other seen tag e at (all_more {r = r} {rs = rs} n a) = go (eqb r.depth 0) refl (eqb r.tag tag) refl (each_other seen tag e (at + 1) a)
   where
-    go : (d : Bool) → eqb r.depth 0 ≡ d → (t : Bool) → eqb r.tag tag ≡ t → held_from (at + 1) 0 tag rs ≡ Nowhere →
-        pick d (pick t (held_at at) (held_from (at + 1) 0 tag rs)) (held_from (at + 1) 0 tag rs) ≡ Nowhere
+    go : (d : Bool) → eqb r.depth 0 ≡ d → (t : Bool) → eqb r.tag tag ≡ t → held_from (at + 1) 0 tag rs ≡ None →
+        pick d (pick t (Some at) (held_from (at + 1) 0 tag rs)) (held_from (at + 1) 0 tag rs) ≡ None
     go true p true q later =
         let yes : is_seen tag seen ≡ true = ap (λ (k : ℕ). is_seen k seen) (sym (eqb-true _ _ q)) ∙ n.notices (eqb-true _ _ p) in
         let z : ◌≡◌ {A = ℕ} 0 1 = cc in
@@ -79,7 +77,7 @@ each_other seen tag e at (all_more {r = r} {rs = rs} n a) = go (eqb r.depth 0) r
     go false p t q later = later
 
 module _ (words : List ℕ) (seen : List Bool) (from count : ℕ) (r : Record) (covers : Covers seen (part_of from count words)) (own : r.depth ≡ 0) (unseen : is_seen r.tag seen ≡ false) where
-  pub new-held : held_from from r.depth r.tag (between from count (records_of words)) ≡ Nowhere
+  pub new-held : held_from from r.depth r.tag (between from count (records_of words)) ≡ None
   unfolding part_of
   new-held = rw own (each_other seen r.tag unseen from covers.each)
 
@@ -160,8 +158,8 @@ next_records (unreadable cause place) room records f after left kept e = let z :
 next_records (field g rest) zero records f after left kept e = let z : ◌≡◌ {A = ℕ} 0 1 = cc in absurd (omega arith)
 next_records (field g rest) (suc room) records f after left kept e = cc
 
-module _ (mode : Mode) (message : List ℕ) (from : ℕ) (next : PartRead) (later : List ℕ) where
-  told_at : (f : Field) (p : Progress) → next ≡ At f p → part_told mode message from next later ≡ ended f (fields_from mode message f.next) p.room (part_of from p.records later)
+module _ (mode : Mode) (message : List ℕ) (from : ℕ) (next : Result (Field × Progress) Answer) (later : List ℕ) where
+  told_at : (f : Field) (p : Progress) → next ≡ Ok (f, p) → part_told mode message from next later ≡ ended f (fields_from mode message f.next) p.room (part_of from p.records later)
   unfolding part_told
   told_at f p e = rw e
 
@@ -181,5 +179,8 @@ module _ (mode : Mode) (message : List ℕ) (from : ℕ) (next : PartRead) (late
             rw (is, ← same) (covers_run seen r covers (run-deep rules demands inner tag rest room g behind here entries w))
 
 -- where reading starts
-pub follows_at : (seen : List Bool) (from : ℕ) (f : Field) (p : Progress) (words : List ℕ) → Covers seen (part_of from p.records words) → Follows seen from (At f p) words
-follows_at seen from f p words c = record { covers = λ g q e. let same : p ≡ q = cc in rw (← same) c }
+pub follows_at : (seen : List Bool) (from : ℕ) (f : Field) (p : Progress) (words : List ℕ) → Covers seen (part_of from p.records words) → Follows seen from (Ok (f, p)) words
+follows_at seen from f p words c = record {
+  covers = λ g q e. let both : ◌≡◌ {A = Field × Progress} (f, p) (g, q) = cc in
+      let same : p ≡ q = ap (λ (read : Field × Progress). read.1) both in rw (← same) c;
+}

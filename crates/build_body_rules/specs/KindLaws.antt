@@ -1,16 +1,15 @@
 -- What a tag is to the body, by what the table answers: one law for each way.
-use Rattle.std.specs.Prelude.{◌≡◌, Bool, true, false, List, ℕ}
+use Rattle.std.specs.Prelude.{◌≡◌, Bool, true, false, List, ℕ, Some, None}
 use Rattle.build_config.specs.declared.Config.{Config}
 use Rattle.dictionary_tables_rules.specs.Table.{item_of}
 use Rattle.dictionary_tables_rules.proofs.Tabled.{place_of, group_of_item}
-use Rattle.dictionary_tables_rules.specs.declared.Item.TheVariants.{At, Nowhere}
 use Rattle.build_group_rules.specs.Reading.{accepted, table_rules}
 use Rattle.build_group_rules.proofs.ReadingLaws.{opened-none, opened_some}
 use Rattle.build_body_rules.specs.Body.{plain, counts, other}
 use Rattle.build_body_rules.specs.Kinds.{group_kind, placed_kind, body_kind}
 
 module _ (config : Config) (table : List ℕ) (known : ℕ → Bool) (level tag : ℕ) where
-  module _ (e : item_of table level tag ≡ Nowhere) where
+  module _ (e : item_of table level tag ≡ None) where
     pub kind_user : accepted config known tag ≡ true → body_kind (table_rules config table known) level tag ≡ plain
     unfolding body_kind placed_kind table_rules place_of
     kind_user h = rw (e, h)
@@ -19,7 +18,7 @@ module _ (config : Config) (table : List ℕ) (known : ℕ → Bool) (level tag 
     unfolding body_kind placed_kind table_rules place_of
     kind_other h = rw (e, h)
 
-  module _ (position inner : ℕ) (e : item_of table level tag ≡ At position inner) where
+  module _ (position inner : ℕ) (e : item_of table level tag ≡ Some (position, inner)) where
     pub kind_plain : inner ≡ 0 → body_kind (table_rules config table known) level tag ≡ plain
     unfolding body_kind placed_kind table_rules place_of group_of_item group_kind
     kind_plain h = rw (e, e, opened-none inner h)

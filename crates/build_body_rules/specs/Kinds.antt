@@ -1,11 +1,9 @@
 -- What a tag is to the body of a message with a layout, and what the run of a count comes to there.
-use Rattle.std.specs.Prelude.{ℕ, List, [], ◌∷◌, Bool, true, false}
+use Rattle.std.specs.Prelude.{ℕ, List, [], ◌∷◌, Bool, true, false, Option, Some, None}
 use Rattle.field_rules.specs.Choice.{pick}
 use Rattle.field_rules.specs.Fields.{Fields}
 use Rattle.field_rules.specs.declared.Field.{Field}
 use Rattle.build_records.specs.declared.Record.{Record}
-use Rattle.dictionary_layout_rules.specs.declared.Position.{Position}
-use Rattle.dictionary_layout_rules.specs.declared.Position.TheVariants.{At, Nowhere}
 use Rattle.build_group_rules.specs.Groups.{Opened, none, opened, Rules, run, outermost, RunOutcome, walk}
 use Rattle.build_group_rules.specs.Groups.{ended as ran, refused as stops}
 use Rattle.build_group_rules.specs.Reading.{list_store, answer_of}
@@ -30,9 +28,9 @@ group_kind (opened inner) = counts inner
 
 module _ {L : Type 0} (rules : Rules L) (level : L) where
   -- "with validation off, tags of 5000 and above that the dictionary lacks"
-  unfoldable pub placed_kind : ℕ → Position → Kind L
-  placed_kind tag (At position) = group_kind (rules.group level tag)
-  placed_kind tag Nowhere = pick (rules.accepts tag) plain other
+  unfoldable pub placed_kind : ℕ → Option ℕ → Kind L
+  placed_kind tag (Some position) = group_kind (rules.group level tag)
+  placed_kind tag None = pick (rules.accepts tag) plain other
 
   unfoldable pub body_kind : ℕ → Kind L
   body_kind tag = placed_kind tag (rules.position level tag)

@@ -1,13 +1,12 @@
 -- What was read is a tree: the records of a run that was read to its end are those of a tree that keeps to its level, so what the required check
 -- answers on them is what it answers on the tree. The tree is grown along the form that `run_formed` gives to the records.
-use Rattle.std.specs.Prelude.{◌≡◌, Bool, true, false, ℕ, zero, suc, ◌+◌, ◌<◌}
+use Rattle.std.specs.Prelude.{◌≡◌, Bool, true, false, ℕ, zero, suc, ◌+◌, ◌<◌, Some, None}
 use Rattle.std.proofs.Math.Path.{refl, ap}
-use Rattle.std.proofs.Common.{sym, ◌∙◌, arith}
+use Rattle.std.proofs.Common.{Option, sym, ◌∙◌, arith}
 use mathlib.Core.List.{List, [], ◌∷◌, ◌++◌, append-nil}
 use Rattle.field_rules.specs.Fields.{Fields}
 use Rattle.field_rules.specs.declared.Field.{Field}
 use Rattle.dictionary_layout_rules.specs.Layout.{Layout}
-use Rattle.dictionary_layout_rules.specs.declared.Position.TheVariants.{At, Nowhere}
 use Rattle.build_records.specs.Records.{stored}
 use Rattle.build_records.specs.declared.Record.{Record}
 use Rattle.build_group_rules.specs.Groups.{opened, Rules, opens, run, outermost, RunOutcome, walk}
@@ -31,7 +30,7 @@ use Rattle.build_body_rules.specs.Kinds.{checked, ran_as, run_from}
 pub record OneLayout {L : Type 0} (rules : Rules L) (demands : Demands L) : Type 0 where
   pub same_delimiter : (level : L) (tag : ℕ) → demands.opens level tag ≡ opens rules level tag
   pub same-group : (level : L) (tag : ℕ) → demands.group level tag ≡ rules.group level tag
-  pub delimiter_first : (level : L) (tag : ℕ) → opens rules level tag ≡ true → rules.position level tag ≡ At 0
+  pub delimiter_first : (level : L) (tag : ℕ) → opens rules level tag ≡ true → rules.position level tag ≡ Some 0
 
 module _ {L : Type 0} (demands : Demands L) where
   -- records that are those of a run's tree, or of an entry's
@@ -61,18 +60,18 @@ module _ {L : Type 0} (rules : Rules L) (demands : Demands L) (inner : L) (tag :
 
 module _ {L : Type 0} (rules : Rules L) (demands : Demands L) (one : OneLayout rules demands) where
   -- no tag behind the first position, or without one, is the delimiter
-  later-tag : (level : L) (tag position : ℕ) → rules.position level tag ≡ At position → 0 < position → demands.opens level tag ≡ false
+  later-tag : (level : L) (tag position : ℕ) → rules.position level tag ≡ Some position → 0 < position → demands.opens level tag ≡ false
   later-tag level tag position p l = one.same_delimiter level tag ∙ by_test (opens rules level tag) refl
     where
       by_test : (b : Bool) → opens rules level tag ≡ b → b ≡ false
-      by_test true e = let z : At 0 ≡ At position = sym (one.delimiter_first level tag e) ∙ p in let same : 0 ≡ position = cc in absurd (omega arith)
+      by_test true e = let z : Some 0 ≡ Some position = sym (one.delimiter_first level tag e) ∙ p in let same : 0 ≡ position = cc in absurd (omega arith)
       by_test false e = refl
 
-  user-tag : (level : L) (tag : ℕ) → rules.position level tag ≡ Nowhere → demands.opens level tag ≡ false
+  user-tag : (level : L) (tag : ℕ) → rules.position level tag ≡ None → demands.opens level tag ≡ false
   user-tag level tag p = one.same_delimiter level tag ∙ by_test (opens rules level tag) refl
     where
       by_test : (b : Bool) → opens rules level tag ≡ b → b ≡ false
-      by_test true e = let q : At 0 ≡ Nowhere = sym (one.delimiter_first level tag e) ∙ p in let z : ◌≡◌ {A = ℕ} 0 1 = cc in absurd (omega arith)
+      by_test true e = let q : ◌≡◌ {A = Option ℕ} (Some 0) None = sym (one.delimiter_first level tag e) ∙ p in let z : ◌≡◌ {A = ℕ} 0 1 = cc in absurd (omega arith)
       by_test false e = refl
 
   -- a count comes last in its entry, with its run; less than four levels are open, so one is left for the run

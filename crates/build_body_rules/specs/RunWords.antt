@@ -1,6 +1,6 @@
 -- A run that is read into the words at a place is the run that is read on its own: its entries stand between the records before the place
 -- and those from it on, and nothing happens to either. Where an entry starts is counted from the place.
-use Rattle.std.specs.Prelude.{◌≡◌, Bool, eqb, leb}
+use Rattle.std.specs.Prelude.{◌≡◌, Bool, eqb, leb, Option, Some, None, ℕ}
 use Rattle.std.proofs.Math.Path.{refl, sym, ap}
 use Rattle.std.proofs.Common.{◌∙◌, arith, length-set, length-drop, take-append-drop, length-take-le, leb-true, leb-false}
 use Rattle.std.proofs.Math.Bool.{true, false}
@@ -15,8 +15,6 @@ use Rattle.build_records.specs.Records.{records_of, on_records, between, held_fr
 use Rattle.build_records.proofs.WordLaws.{records_on, on_same}
 use Rattle.build_records.proofs.RecordLaws.{inserted-parts, between-parts, between-end, between-new, stored-held, stored-new, stored-parts-held, stored-parts-new}
 use Rattle.build_records.specs.declared.Record.{Record}
-use Rattle.build_records.specs.declared.Standing.{Standing}
-use Rattle.build_records.specs.declared.Standing.TheVariants.{At, Nowhere}
 use Rattle.build_group_rules.specs.Groups.{Rules, opens, Kind, plain, count, joins, wrong, ends, entry_kind, OpenGroup, OpenEntry, Frame, run, entry, Move, adds, joins_at, disorders, leaves, numbers_in, in_entry_lem, decide, entry_record, RunOutcome, ended, refused, moved, walk}
 use Rattle.build_group_rules.specs.Reading.{Memory, list_store, joined_list, word_store, added_words, joined_words, makes, standing_in}
 use Rattle.build_group_rules.specs.declared.Refusal.{Refusal}
@@ -97,7 +95,7 @@ module _ (before after : List Record) where
   joins-held : (words : List ℕ) (place records room start i : ℕ) (kept map : List Record) (r : Record) (slack : List Record) → records_of words ≡ before
       ++ ((kept ++ map) ++ (after ++ slack)) → start ≡ length kept → place ≡ length before + length (kept ++ map) → records ≡ place + length after →
       suc room ≤ length slack →
-      held_from (length before + start) r.depth r.tag map ≡ At i → WordsStand room (record { words = on_records (stored_between records (length before + start) place r) words; records = records + 0; place = place + 0 }) (kept ++ stored r map)
+      held_from (length before + start) r.depth r.tag map ≡ Some i → WordsStand room (record { words = on_records (stored_between records (length before + start) place r) words; records = records + 0; place = place + 0 }) (kept ++ stored r map)
   joins-held words place records room start i kept map r slack whole starts here counted fits e =
       let front = length-append before kept in
       let size = length-append kept map in
@@ -118,7 +116,7 @@ module _ (before after : List Record) where
   joins-new : (words : List ℕ) (place records room start : ℕ) (kept map : List Record) (r : Record) (slack : List Record) → records_of words ≡ before
       ++ ((kept ++ map) ++ (after ++ slack)) → start ≡ length kept → place ≡ length before + length (kept ++ map) → records ≡ place + length after →
       suc room ≤ length slack →
-      held_from (length before + start) r.depth r.tag map ≡ Nowhere → WordsStand room (record { words = on_records (stored_between records (length before + start) place r) words; records = records + 1; place = place + 1 }) (kept ++ stored r map)
+      held_from (length before + start) r.depth r.tag map ≡ None → WordsStand room (record { words = on_records (stored_between records (length before + start) place r) words; records = records + 1; place = place + 1 }) (kept ++ stored r map)
   joins-new words place records room start kept map r [] whole starts here counted fits e = absurd (omega arith)
   joins-new words place records room start kept map r (x ∷ slack) whole starts here counted fits e =
       let front = length-append before kept in
@@ -139,7 +137,7 @@ module _ (before after : List Record) where
 
   module _ (room start : ℕ) (m : Memory) (entries : List Record) (r : Record) (s : WordsStand (suc room) m entries) where
     -- an entry that starts among those that are read
-    join_inside : start ≤ length entries → (standing : Standing) → standing_in (length before + start) m.place r m.words ≡ standing → WordsStand room (joined_words (length before + start) r m) (joined_list start r entries)
+    join_inside : start ≤ length entries → (standing : Option ℕ) → standing_in (length before + start) m.place r m.words ≡ standing → WordsStand room (joined_words (length before + start) r m) (joined_list start r entries)
     unfolding joined_words joined_list makes standing_in
     join_inside h standing e =
         let split : entries ≡ take start entries ++ drop start entries = sym (take-append-drop start entries) in
@@ -153,13 +151,13 @@ module _ (before after : List Record) where
         ∙ between-parts (before ++ take start entries) (drop start entries) (after ++ s.slack) (length before + start) m.place (omega arith) (omega (arith, s.here)) in
         go standing e (sym (ap (held_from (length before + start) r.depth r.tag) map) ∙ e) whole starts here
       where
-        go : (standing : Standing) → standing_in (length before + start) m.place r m.words ≡ standing →
+        go : (standing : Option ℕ) → standing_in (length before + start) m.place r m.words ≡ standing →
             held_from (length before + start) r.depth r.tag (drop start entries) ≡ standing → records_of m.words ≡ before ++ ((take start entries
             ++ drop start entries) ++ (after ++ s.slack)) → start ≡ length (take start entries) → m.place ≡ length before + length (take start entries
             ++ drop start entries) →
             WordsStand room (joined_words (length before + start) r m) (joined_list start r entries)
-        go (At i) e held whole starts here = rw e (joins-held m.words m.place m.records room start i (take start entries) (drop start entries) r s.slack whole starts here s.counted s.fits held)
-        go Nowhere e held whole starts here = rw e (joins-new m.words m.place m.records room start (take start entries) (drop start entries) r s.slack whole starts here s.counted s.fits held)
+        go (Some i) e held whole starts here = rw e (joins-held m.words m.place m.records room start i (take start entries) (drop start entries) r s.slack whole starts here s.counted s.fits held)
+        go None e held whole starts here = rw e (joins-new m.words m.place m.records room start (take start entries) (drop start entries) r s.slack whole starts here s.counted s.fits held)
 
     -- one that starts behind them is empty
     join_behind : length entries < start → WordsStand room (joined_words (length before + start) r m) (joined_list start r entries)
@@ -168,7 +166,7 @@ module _ (before after : List Record) where
         let none : between (length before + start) m.place (records_of m.words) ≡ [] = between-end (length before + start) m.place (records_of m.words) (omega (arith, s.here)) in
         let kept : take start entries ≡ entries = take_all start entries (omega arith) in
         let map : drop start entries ≡ [] = drop_of_length-le entries {i = start} (omega arith) in
-        let nowhere : held_from (length before + start) r.depth r.tag (between (length before + start) m.place (records_of m.words)) ≡ Nowhere = rw none in
+        let nowhere : held_from (length before + start) r.depth r.tag (between (length before + start) m.place (records_of m.words)) ≡ None = rw none in
         let same : on_records (stored_between m.records (length before + start) m.place r) m.words ≡ on_records (inserted m.records m.place r) m.words =
         on_same (stored_between m.records (length before + start) m.place r) (inserted m.records m.place r) m.words (between-new m.records (length before + start) m.place r (records_of m.words) nowhere) in
         rw (nowhere, same, kept, map) (added m.words m.place m.records room entries r s.slack s.whole s.here s.counted s.fits)

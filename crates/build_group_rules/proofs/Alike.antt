@@ -6,12 +6,10 @@ use Prim.Native.Nat.{ℕ, zero, suc, ◌+◌}
 use Rattle.field_rules.specs.Choice.{pick}
 use Rattle.field_rules.specs.Fields.{Fields, unreadable, field}
 use Rattle.field_rules.specs.declared.Field.{Field}
-use Rattle.dictionary_layout_rules.specs.declared.Position.{Position}
-use Rattle.dictionary_layout_rules.specs.declared.Position.TheVariants.{At, Nowhere}
-use Rattle.dictionary_layout_rules.specs.declared.FirstTag.{FirstTag}
 use Rattle.build_records.specs.declared.Record.{Record}
 use Rattle.build_group_rules.specs.Groups.{Opened, none, opened, Rules, is_delimiter, opens, Kind, plain, count, joins, wrong, ends, counting, declared, entry_kind, OpenGroup, OpenEntry, Frame, run, entry, Numbers, Move, adds, joins_at, disorders, leaves, numbers_in, in_entry_lem, decide, Store, RunOutcome, ended, refused, moved, walk}
 use Rattle.build_group_rules.specs.declared.Refusal.{Refusal}
+use Rattle.std.proofs.Common.{Option, Some, None, ℕ}
 
 -- the group with its entries' level as other rules have it
 abbrev pub on_level : {L M : Type 0} → M → OpenGroup L → OpenGroup M
@@ -66,16 +64,16 @@ module _ {L M : Type 0} (Same : L → M → Type 0) where
   module _ (rules : Rules L) (others : Rules M) (alike : RulesAlike rules others) where
     opens-same : (l : L) (m : M) → Same l m → (tag : ℕ) → opens rules l tag ≡ opens others m tag
     unfolding opens
-    opens-same l m s tag = ap (λ (d : FirstTag). is_delimiter d tag) (alike.delimiters l m s)
+    opens-same l m s tag = ap (λ (d : Option ℕ). is_delimiter d tag) (alike.delimiters l m s)
 
-    declared_alike : (l : L) (m : M) → Same l m → (depth last tag : ℕ) (p : Position) → KindAlike (declared rules l depth last tag p) (declared others m depth last tag p)
+    declared_alike : (l : L) (m : M) → Same l m → (depth last tag : ℕ) (p : Option ℕ) → KindAlike (declared rules l depth last tag p) (declared others m depth last tag p)
     unfolding declared
-    declared_alike l m s depth last tag Nowhere = rw (alike.accepting tag) (go (others.accepts tag))
+    declared_alike l m s depth last tag None = rw (alike.accepting tag) (go (others.accepts tag))
       where
         go : (b : Bool) → KindAlike (pick b joins ends) (pick b joins ends)
         go true = joins_alike
         go false = ends_alike
-    declared_alike l m s depth last tag (At position) = go (leb position last) (counting_alike depth position _ _ (alike.groups l m s tag))
+    declared_alike l m s depth last tag (Some position) = go (leb position last) (counting_alike depth position _ _ (alike.groups l m s tag))
       where
         go : (b : Bool) → KindAlike (counting depth position (rules.group l tag)) (counting depth position (others.group m tag)) → KindAlike (pick b wrong (counting depth position (rules.group l tag))) (pick b wrong (counting depth position (others.group m tag)))
         go true k = wrong_alike

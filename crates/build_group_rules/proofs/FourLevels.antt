@@ -1,7 +1,7 @@
 -- "A nested count starts a nested run." Reading stops by itself where four levels are open; in a layout that is no deeper than that, as
 -- every message's is of a dictionary that passes (35), the stop is never met: wherever reading comes, depth and level are within four.
 use Rattle.std.specs.Prelude.{◌≡◌, refl, Bool, ◌⊎◌, List, [], ◌∷◌, ◌++◌, ℕ, suc, ◌+◌, ◌≤◌, eqb, leb, ltb}
-use Rattle.std.proofs.Common.{ap, inl, inr, ⊎_elim, arith, lt-ltb}
+use Rattle.std.proofs.Common.{ap, inl, inr, ⊎_elim, arith, lt-ltb, Option, Some, None}
 use Rattle.std.proofs.Math.Bool.{true, false}
 use Rattle.field_rules.specs.Choice.{pick}
 use Rattle.field_rules.specs.Fields.{Fields, field}
@@ -10,8 +10,6 @@ use Rattle.dictionary_layout_rules.specs.Layout.{Layout, Group, group_since, gro
 use Rattle.dictionary_layout_rules.specs.Layout.{end as layout-end, field as layout-field, group as layout-group, none as no_group, entries as entries-of, depth as nesting}
 use Rattle.dictionary_layout_rules.specs.Measures.{most_depth}
 use Rattle.dictionary_layout_rules.proofs.MeasuresLaws.{larger-first, larger-second}
-use Rattle.dictionary_layout_rules.specs.declared.Position.{Position}
-use Rattle.dictionary_layout_rules.specs.declared.Position.TheVariants.{At, Nowhere}
 use Rattle.build_group_rules.specs.Groups.{Rules, opens, Kind, plain, count, joins, wrong, ends, counting, declared, entry_kind, OpenGroup, OpenEntry, Frame, run, entry, Numbers, Move, adds, joins_at, disorders, leaves, numbers_in, outermost, in_entry_lem, decide, entry_record, Store, moved, walk}
 use Rattle.build_group_rules.specs.Reading.{opened_as, layout_rules}
 
@@ -112,9 +110,9 @@ module _ (accepts : ℕ → Bool) where
   kind_within depth last level h tag =
       pick_kind depth (opens (layout_rules accepts) level tag) ends _ within-ends (go (position_in tag level))
     where
-      go : (p : Position) → KindWithin depth (declared (layout_rules accepts) level depth last tag p)
-      go Nowhere = unfold declared in pick_kind depth (accepts tag) joins ends within-joins within-ends
-      go (At position) = unfold declared in pick_kind depth (leb position last) wrong _ within-wrong (counting-within depth level h tag position (group_of tag level) refl)
+      go : (p : Option ℕ) → KindWithin depth (declared (layout_rules accepts) level depth last tag p)
+      go None = unfold declared in pick_kind depth (accepts tag) joins ends within-joins within-ends
+      go (Some position) = unfold declared in pick_kind depth (leb position last) wrong _ within-wrong (counting-within depth level h tag position (group_of tag level) refl)
 
   decide-within : (here tag : ℕ) {stack : List (Frame Layout)} → WithinFour stack → MoveWithin (decide (layout_rules accepts) here stack tag)
   unfolding decide

@@ -2,7 +2,7 @@
 -- out. So a run that was read from a table into words is the run of the layout, its records as a list.
 use Rattle.std.specs.Prelude.{◌≡◌, refl, Bool, true, false, ℕ, suc, ◌+◌, ◌-◌, ◌≤◌, ◌<◌, length, take, drop, ltb}
 use Rattle.std.proofs.Math.Path.{sym, ap}
-use Rattle.std.proofs.Common.{◌∙◌, arith, drop_of_length-le, take-append-drop, length-drop, length-set, length-take-le, ltb-true, ltb-false}
+use Rattle.std.proofs.Common.{◌∙◌, arith, drop_of_length-le, take-append-drop, length-drop, length-set, length-take-le, ltb-true, ltb-false, Option, Some, None}
 use mathlib.Core.List.{List, [], ◌∷◌, ◌++◌, append_assoc}
 use Rattle.std.proofs.Math.ListN.{length-append}
 use Rattle.std.proofs.Math.Seq.{take-append_seam}
@@ -16,8 +16,6 @@ use Rattle.build_records.specs.Records.{records_of, leftover, inserted, between,
 use Rattle.build_records.proofs.WordLaws.{records_on, leftover-on, on_same}
 use Rattle.build_records.proofs.RecordLaws.{HeldAs, inserted-parts, between-new, stored-new, stored-held, stored-parts-held}
 use Rattle.build_records.specs.declared.Record.{Record}
-use Rattle.build_records.specs.declared.Standing.{Standing}
-use Rattle.build_records.specs.declared.Standing.TheVariants.{At as held_at, Nowhere as not_held}
 use Rattle.build_group_rules.specs.Groups.{OpenGroup, run, Store, RunOutcome, ended, refused, walk}
 use Rattle.build_group_rules.proofs.Alike.{OpenedAlike, none_alike, opened_alike, RulesAlike, on_level, empty_alike, run_alike, StoresAlike, OutcomeAlike, ended_alike, refused_alike, walk_alike}
 use Rattle.build_group_rules.specs.Reading.{accepted, opened_by, table_rules, opened_as, layout_rules, joined_list, list_store, Memory, memory, added_words, makes, standing_in, joined_words, word_store, open_group, run_of}
@@ -100,20 +98,20 @@ entry_records done rest start to e = go (ltb (length done) start) refl
         let size : to - start ≡ length (drop start done) = omega (arith, length-drop start done) in
         rw (drop-append-le start done rest within, size) (take-append_seam (drop start done) rest)
 
-new-words : (start : ℕ) (r : Record) (m : Memory) → standing_in start m.place r m.words ≡ not_held → joined_words start r m ≡ added_words r m
+new-words : (start : ℕ) (r : Record) (m : Memory) → standing_in start m.place r m.words ≡ None → joined_words start r m ≡ added_words r m
 unfolding joined_words added_words makes standing_in
 new-words start r m e =
     rw (on_same (stored_between m.records start m.place r) (inserted m.records m.place r) m.words (between-new m.records start m.place r (records_of m.words) e), e)
 
-new_list : (start : ℕ) (r : Record) (done : List Record) → held_from start r.depth r.tag (drop start done) ≡ not_held → joined_list start r done ≡ done ++ (r ∷ [])
+new_list : (start : ℕ) (r : Record) (done : List Record) → held_from start r.depth r.tag (drop start done) ≡ None → joined_list start r done ≡ done ++ (r ∷ [])
 unfolding joined_list
 new_list start r done e =
     rw (stored-new r (drop start done) start e) (sym (append_assoc (take start done) (drop start done) (r ∷ [])) ∙ ap (λ (l : List Record). l ++ (r ∷ [])) (take-append-drop start done))
 
-stored-length : (r : Record) (rs : List Record) (at i : ℕ) → held_from at r.depth r.tag rs ≡ held_at i → length (stored r rs) ≡ length rs
+stored-length : (r : Record) (rs : List Record) (at i : ℕ) → held_from at r.depth r.tag rs ≡ Some i → length (stored r rs) ≡ length rs
 stored-length r rs at i h = ap length (stored-held r rs at i h).storing ∙ length-set rs (i - at) r
 
-held-memory : (after : List Record) (tail : List ℕ) (room : ℕ) (m : Memory) (done : List Record) (start : ℕ) (r : Record) (slack : List Record) (i : ℕ) → standing_in start m.place r m.words ≡ held_at i →
+held-memory : (after : List Record) (tail : List ℕ) (room : ℕ) (m : Memory) (done : List Record) (start : ℕ) (r : Record) (slack : List Record) (i : ℕ) → standing_in start m.place r m.words ≡ Some i →
     stored_between m.records start m.place r (records_of m.words) ≡ (take start done ++ stored r (drop start done)) ++ (after ++ slack) → leftover m.words ≡ tail → m.place ≡ length done → m.records ≡ length done + length after →
     length (take start done ++ stored r (drop start done)) ≡ length done → room ≤ length slack → Holds after tail room (joined_words start r m) (joined_list start r done)
 unfolding joined_words joined_list makes
@@ -123,9 +121,9 @@ held-memory after tail room m done start r slack i q whole same place count size
 
 -- a record joins the entry: its own field is replaced, or it comes last
 join_holds : (after : List Record) (tail : List ℕ) (room : ℕ) (m : Memory) (done : List Record) (start : ℕ) (r : Record) → Holds after tail (suc room) m done →
-    (standing : Standing) → held_from start r.depth r.tag (drop start done) ≡ standing → standing_in start m.place r m.words ≡ standing → Holds after tail room (joined_words start r m) (joined_list start r done)
-join_holds after tail room m done start r h not_held e q = rw (new-words start r m q, new_list start r done e) (holds-add after tail room m done r h)
-join_holds after tail room m done start r h (held_at i) e q = held-holds
+    (standing : Option ℕ) → held_from start r.depth r.tag (drop start done) ≡ standing → standing_in start m.place r m.words ≡ standing → Holds after tail room (joined_words start r m) (joined_list start r done)
+join_holds after tail room m done start r h None e q = rw (new-words start r m q, new_list start r done e) (holds-add after tail room m done r h)
+join_holds after tail room m done start r h (Some i) e q = held-holds
   where
     held : HeldAs r (drop start done) start i
     held = stored-held r (drop start done) start i e

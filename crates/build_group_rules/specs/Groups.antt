@@ -1,13 +1,9 @@
 -- RULES.md, Groups: one field to a step, over a stack of what is open. Stage one's list of fields is taken from the front; the room is
 -- how many fields may still be read. What a level is and how records are kept are parameters: `Rules` look a level up, a `Store` keeps.
-use Rattle.std.specs.Prelude.{ℕ, zero, suc, ◌+◌, List, [], ◌∷◌, Bool, false, eqb, leb, ltb}
+use Rattle.std.specs.Prelude.{ℕ, zero, suc, ◌+◌, List, [], ◌∷◌, Bool, false, eqb, leb, ltb, Option, Some, None}
 use Rattle.field_rules.specs.Choice.{pick}
 use Rattle.field_rules.specs.Fields.{Fields, unreadable, field}
 use Rattle.field_rules.specs.declared.Field.{Field}
-use Rattle.dictionary_layout_rules.specs.declared.Position.{Position}
-use Rattle.dictionary_layout_rules.specs.declared.Position.TheVariants.{At, Nowhere}
-use Rattle.dictionary_layout_rules.specs.declared.FirstTag.{FirstTag}
-use Rattle.dictionary_layout_rules.specs.declared.FirstTag.TheVariants.{First, NoTag}
 use Rattle.build_records.specs.declared.Record.{Record}
 use Rattle.build_group_rules.specs.declared.Refusal.{Refusal}
 use Rattle.build_group_rules.specs.declared.Refusal.TheVariants.{Malformed, TooManyFields, InvalidOrderInGroup}
@@ -19,15 +15,15 @@ pub data Opened (L : Type 0) : Type 0 where
 
 -- what is looked up of a level, and which unknown tags are taken
 pub record Rules (L : Type 0) : Type 0 where
-  pub delimiter : L → FirstTag
-  pub position : L → ℕ → Position
+  pub delimiter : L → Option ℕ
+  pub position : L → ℕ → Option ℕ
   pub group : L → ℕ → Opened L
   pub accepts : ℕ → Bool
 
 -- "the delimiter (the layout's first tag)"
-unfoldable pub is_delimiter : FirstTag → ℕ → Bool
-is_delimiter NoTag tag = false
-is_delimiter (First delimiter) tag = eqb delimiter tag
+unfoldable pub is_delimiter : Option ℕ → ℕ → Bool
+is_delimiter None tag = false
+is_delimiter (Some delimiter) tag = eqb delimiter tag
 
 -- what a tag is to an open entry; a tag of the level comes with its position
 pub data Kind (L : Type 0) : Type 0 where
@@ -47,9 +43,9 @@ module _ {L : Type 0} (rules : Rules L) where
   opens level tag = is_delimiter (rules.delimiter level) tag
 
   -- "Declared tags must rise in position, else 2." "Unknown user tags join the open entry under the rule above."
-  unfoldable pub declared : L → ℕ → ℕ → ℕ → Position → Kind L
-  declared level depth last tag Nowhere = pick (rules.accepts tag) joins ends
-  declared level depth last tag (At position) = pick (leb position last) wrong (counting depth position (rules.group level tag))
+  unfoldable pub declared : L → ℕ → ℕ → ℕ → Option ℕ → Kind L
+  declared level depth last tag None = pick (rules.accepts tag) joins ends
+  declared level depth last tag (Some position) = pick (leb position last) wrong (counting depth position (rules.group level tag))
 
   -- "Each delimiter opens an entry", and so ends the one before; "a delimiter that is itself a group tag is stored plain"
   unfoldable pub entry_kind : L → ℕ → ℕ → ℕ → Kind L

@@ -1,13 +1,11 @@
 -- Reading as the code does it: levels are looked up in a table, records are words, and where reading stands is a field with its progress.
 -- The same with levels as layouts and records as a list is what a reader of the rules looks at.
-use Rattle.std.specs.Prelude.{ℕ, zero, suc, ◌+◌, ◌-◌, ◌≤◌, ◌<◌, ◌^◌, List, [], ◌∷◌, ◌++◌, Bool, true, false, length, take, drop, ltb}
+use Rattle.std.specs.Prelude.{ℕ, zero, suc, ◌+◌, ◌-◌, ◌≤◌, ◌<◌, ◌^◌, List, [], ◌∷◌, ◌++◌, Bool, true, false, length, take, drop, ltb, Option, Some, None, Result, Ok, Err}
 use Rattle.field_rules.specs.declared.Mode.{Mode}
 use Rattle.field_rules.specs.Choice.{pick}
 use Rattle.field_rules.specs.Fields.{fields_from, Inside}
 use Rattle.field_rules.specs.declared.Cursor.{Cursor}
 use Rattle.field_rules.specs.declared.Field.{Field}
-use Rattle.field_rules.specs.declared.FieldRead.{FieldRead}
-use Rattle.field_rules.specs.declared.FieldRead.TheVariants.{Read, Unreadable}
 use Rattle.build_config.specs.declared.Config.{Config}
 use Rattle.build_answers.specs.declared.Answer.{Answer}
 use Rattle.build_answers.specs.declared.Answer.TheVariants.{Malformed as malformed, TooManyFields as too-many-fields, InvalidOrderInGroup as invalid-order}
@@ -16,17 +14,14 @@ use Rattle.dictionary_tables_rules.specs.Table.{item_of, delimiter_at}
 use Rattle.dictionary_tables_rules.proofs.Tabled.{place_of, group_of_item}
 use Rattle.build_records.specs.Records.{records_of, on_records, inserted, between, held_from, stored_between, stored}
 use Rattle.build_records.specs.declared.Record.{Record}
-use Rattle.build_records.specs.declared.Standing.{Standing}
-use Rattle.build_records.specs.declared.Standing.TheVariants.{At as held_at, Nowhere as not_held}
 use Rattle.build_group_rules.specs.Groups.{Opened, none, opened, Rules, is_delimiter, Kind, plain, count, joins, wrong, ends, entry_kind, OpenGroup, run, entry, entry_record, Store, RunOutcome, ended, refused, walk}
 use Rattle.build_group_rules.specs.declared.Group.{Group}
 use Rattle.build_group_rules.specs.declared.Progress.{Progress}
 use Rattle.build_group_rules.specs.declared.Refusal.{Refusal}
 use Rattle.build_group_rules.specs.declared.Refusal.TheVariants.{Malformed, TooManyFields, InvalidOrderInGroup}
-use Rattle.build_group_rules.specs.declared.Reading.{Reading}
-use Rattle.build_group_rules.specs.declared.Reading.TheVariants.{At, Refused}
 use Rattle.build_group_rules.specs.declared.Kind.{Kind as CodeKind}
 use Rattle.build_group_rules.specs.declared.Kind.TheVariants.{Plain, Count, Joins, Wrong, Ends}
+use Rattle.field_rules.specs.declared.Cause.{Cause}
 
 -- a refusal of a run as the answer to the message
 unfoldable pub answer_of : Refusal → Answer
@@ -95,12 +90,12 @@ unfoldable pub added_words : Record → Memory → Memory
 added_words r m = record { words = on_records (inserted m.records m.place r) m.words; records = m.records + 1; place = m.place + 1 }
 
 -- a tag that is held makes no record
-unfoldable pub makes : Standing → ℕ
-makes (held_at i) = 0
-makes not_held = 1
+unfoldable pub makes : Option ℕ → ℕ
+makes (Some i) = 0
+makes None = 1
 
 -- where a record stands in the entry that starts at a place
-unfoldable pub standing_in : ℕ → ℕ → Record → List ℕ → Standing
+unfoldable pub standing_in : ℕ → ℕ → Record → List ℕ → Option ℕ
 standing_in start to r words = held_from start r.depth r.tag (between start to (records_of words))
 
 unfoldable pub joined_words : ℕ → Record → Memory → Memory
@@ -127,19 +122,19 @@ pub record FitsAt (message : List ℕ) (f : Field) (progress : Progress) : Type 
   pub placed : progress.place + suc progress.room < 2 ^ 32
 
 -- a field is read: "21 comes before any other verdict on that field", and a field that can't be read is none
-unfoldable pub room_for : Field → Progress → ℕ → Reading
-room_for f progress zero = Refused TooManyFields
-room_for f progress (suc room) = At f (record { room = room; records = progress.records; place = progress.place })
+unfoldable pub room_for : Field → Progress → ℕ → Result (Field × Progress) Refusal
+room_for f progress zero = Err TooManyFields
+room_for f progress (suc room) = Ok (f, (record { room = room; records = progress.records; place = progress.place }))
 
-unfoldable pub next_reading : FieldRead → Progress → Reading
-next_reading (Unreadable cause place) progress = Refused (Malformed cause place)
-next_reading (Read f) progress = room_for f progress progress.room
+unfoldable pub next_reading : Result Field (Cause × ℕ) → Progress → Result (Field × Progress) Refusal
+next_reading (Err (cause, place)) progress = Err (Malformed cause place)
+next_reading (Ok f) progress = room_for f progress progress.room
 
 module _ (mode : Mode) (message : List ℕ) where
   -- what the code's answer says, with the words that it leaves
-  unfoldable pub told_by : Reading → List ℕ → RunOutcome Memory (List ℕ)
-  told_by (At f progress) words = ended f (fields_from mode message f.next) progress.room (memory progress words)
-  told_by (Refused refusal) words = refused refusal words
+  unfoldable pub told_by : Result (Field × Progress) Refusal → List ℕ → RunOutcome Memory (List ℕ)
+  told_by (Ok (f, progress)) words = ended f (fields_from mode message f.next) progress.room (memory progress words)
+  told_by (Err refusal) words = refused refusal words
 
 -- the code's group, as what is open
 abbrev pub open_group : Group → OpenGroup ℕ

@@ -31,13 +31,6 @@ pub enum Refusal {
     InvalidOrderInGroup(u32, u32),
 }
 
-// Where reading stands: at a field that is read already, or it was refused.
-#[derive(Clone, Copy)]
-pub enum Reading {
-    At(Field, Progress),
-    Refused(Refusal),
-}
-
 // What a tag is to an open entry. A tag of the level comes with its position, a count also with where the level of its entries starts.
 #[derive(Clone, Copy)]
 pub enum Kind {

@@ -7,14 +7,13 @@ use lib.Dec.{eqb}
 use borrow.Author.Tests.{le-leb, lt-leb, lt-ltb, le-ltb}
 use Rattle.field_rules.specs.Choice.{pick, pick_same}
 use Rattle.build_config.specs.declared.Config.{Config}
-use Rattle.dictionary_layout_rules.specs.declared.FirstTag.TheVariants.{First, NoTag}
 use Rattle.dictionary_tables_rules.specs.Table.{item_of, delimiter_at}
 use Rattle.dictionary_tables_rules.proofs.Tabled.{place_of, group_of_item}
-use Rattle.dictionary_tables_rules.specs.declared.Item.TheVariants.{At, Nowhere}
 use Rattle.build_group_rules.specs.Groups.{is_delimiter, opens, plain, count, joins, wrong, ends, counting, declared, entry_kind}
 use Rattle.build_group_rules.specs.Reading.{accepted, table_rules, opens_at, kind_at}
 use Rattle.build_group_rules.proofs.ReadingLaws.{opened-none, opened_some}
 use Rattle.build_group_rules.specs.declared.Group.{Group}
+use Rattle.std.proofs.Common.{Some, None}
 
 module _ (config : Config) (known : ℕ → Bool) (tag : ℕ) where
   pub validated : config.validate ≡ true → accepted config known tag ≡ false
@@ -34,11 +33,11 @@ module _ (config : Config) (known : ℕ → Bool) (tag : ℕ) where
       turned false = refl
 
 module _ (table : List ℕ) (level tag : ℕ) where
-  pub no_delimiter : delimiter_at table level ≡ NoTag → opens_at table level tag ≡ false
+  pub no_delimiter : delimiter_at table level ≡ None → opens_at table level tag ≡ false
   unfolding opens_at is_delimiter
   no_delimiter e = rw e
 
-  pub one_delimiter : (delimiter : ℕ) → delimiter_at table level ≡ First delimiter → opens_at table level tag ≡ eqb delimiter tag
+  pub one_delimiter : (delimiter : ℕ) → delimiter_at table level ≡ Some delimiter → opens_at table level tag ≡ eqb delimiter tag
   unfolding opens_at is_delimiter
   one_delimiter delimiter e = rw e
 
@@ -53,15 +52,15 @@ module _ (config : Config) (table : List ℕ) (known : ℕ → Bool) (group : Gr
   kind_delimiter o = rw o
 
   module _ (o : opens_at table group.level tag ≡ false) where
-    pub kind_user : item_of table group.level tag ≡ Nowhere → accepted config known tag ≡ true → kind_at config table known group last tag ≡ joins
+    pub kind_user : item_of table group.level tag ≡ None → accepted config known tag ≡ true → kind_at config table known group last tag ≡ joins
     unfolding kind_at entry_kind opens table_rules opens_at declared place_of
     kind_user p a = rw (o, p, a)
 
-    pub kind_other : item_of table group.level tag ≡ Nowhere → accepted config known tag ≡ false → kind_at config table known group last tag ≡ ends
+    pub kind_other : item_of table group.level tag ≡ None → accepted config known tag ≡ false → kind_at config table known group last tag ≡ ends
     unfolding kind_at entry_kind opens table_rules opens_at declared place_of
     kind_other p a = rw (o, p, a)
 
-    module _ (position inner : ℕ) (p : item_of table group.level tag ≡ At position inner) where
+    module _ (position inner : ℕ) (p : item_of table group.level tag ≡ Some (position, inner)) where
       pub kind_wrong : position ≤ last → kind_at config table known group last tag ≡ wrong
       unfolding kind_at entry_kind opens table_rules opens_at declared place_of
       kind_wrong h = rw (o, p, le-leb _ _ h)

@@ -14,8 +14,6 @@ use Rattle.field_rules.specs.Fields.{fields_from}
 use Rattle.field_rules.specs.declared.Cursor.{Cursor}
 use Rattle.field_rules.specs.declared.Field.{Field}
 use Rattle.build_config.specs.declared.Config.{Config}
-use Rattle.dictionary_layout_rules.specs.declared.Position.{Position}
-use Rattle.dictionary_layout_rules.specs.declared.Position.TheVariants.{At as position_at, Nowhere}
 use Rattle.build_records.specs.Records.{on_records, inserted, stored_between}
 use Rattle.build_records.specs.declared.Record.{Record}
 use Rattle.build_group_rules.specs.Groups.{Opened, none, opened, Rules, opens, plain, count, joins, wrong, ends, counting, declared, entry_kind, OpenEntry, Frame, run, entry, entry_record, RunOutcome, walk, taking}
@@ -26,11 +24,10 @@ use Rattle.build_group_rules.specs.declared.Group.{Group}
 use Rattle.build_group_rules.specs.declared.Progress.{Progress}
 use Rattle.build_group_rules.specs.declared.Refusal.{Refusal}
 use Rattle.build_group_rules.specs.declared.Refusal.TheVariants.{InvalidOrderInGroup}
-use Rattle.build_group_rules.specs.declared.Reading.{Reading}
-use Rattle.build_group_rules.specs.declared.Reading.TheVariants.{At, Refused}
 use Rattle.build_group_rules.specs.declared.Kind.{Kind as CodeKind}
 use Rattle.build_group_rules.specs.declared.Kind.TheVariants.{Plain, Count, Joins, Wrong, Ends}
 use Rattle.build_groups.proofs.LookUps.{opens-table}
+use Rattle.std.proofs.Common.{Option, Some, None, Result, Ok, Err, ℕ}
 
 -- a count that starts a run leaves a level below
 counting-below : {L : Type 0} (depth position : ℕ) (group : Opened L) (inner : L) (at : ℕ) → counting depth position group ≡ count inner at → depth < 4
@@ -43,14 +40,14 @@ counting-below depth position (opened level) inner at e = go (ltb depth 4) refl 
     go false q e = let z : ◌≡◌ {A = ℕ} 0 1 = cc in absurd (omega arith)
 
 module _ {L : Type 0} (rules : Rules L) (level : L) (depth last tag : ℕ) (inner : L) (at : ℕ) where
-  declared-below : (p : Position) → declared rules level depth last tag p ≡ count inner at → depth < 4
+  declared-below : (p : Option ℕ) → declared rules level depth last tag p ≡ count inner at → depth < 4
   unfolding declared
-  declared-below Nowhere e = go (rules.accepts tag) e
+  declared-below None e = go (rules.accepts tag) e
     where
       go : (t : Bool) → pick t joins ends ≡ count inner at → depth < 4
       go true e = let z : ◌≡◌ {A = ℕ} 0 1 = cc in absurd (omega arith)
       go false e = let z : ◌≡◌ {A = ℕ} 0 1 = cc in absurd (omega arith)
-  declared-below (position_at position) e = go (leb position last) e
+  declared-below (Some position) e = go (leb position last) e
     where
       go : (t : Bool) → pick t wrong (counting depth position (rules.group level tag)) ≡ count inner at → depth < 4
       go true e = let z : ◌≡◌ {A = ℕ} 0 1 = cc in absurd (omega arith)
@@ -65,25 +62,25 @@ module _ {L : Type 0} (rules : Rules L) (level : L) (depth last tag : ℕ) (inne
       go false e = declared-below (rules.position level tag) e
 
 -- a refusal is told as it came
-pub left-refused : (message : List ℕ) (config : Config) (table : List ℕ) (known : ℕ → Bool) (stack : List (Frame ℕ)) (reading : Reading) (words : List ℕ) (refusal : Refusal) → reading ≡ Refused refusal →
+pub left-refused : (message : List ℕ) (config : Config) (table : List ℕ) (known : ℕ → Bool) (stack : List (Frame ℕ)) (reading : Result (Field × Progress) Refusal) (words : List ℕ) (refusal : Refusal) → reading ≡ Err refusal →
     told_by config.mode message reading words ≡ going (table_rules config table known) config.mode message stack reading words
 unfolding told_by going
 left-refused message config table known stack reading words refusal e = rw e
 
 module _ (message : List ℕ) (config : Config) (table : List ℕ) (known : ℕ → Bool) (group : Group) where
   -- what is left of an entry, and of a run
-  abbrev pub entry_left : OpenEntry → Reading → List ℕ → RunOutcome Memory (List ℕ)
+  abbrev pub entry_left : OpenEntry → Result (Field × Progress) Refusal → List ℕ → RunOutcome Memory (List ℕ)
   entry_left own reading words = going (table_rules config table known) config.mode message (entry (open_group group) own ∷ []) reading words
 
-  abbrev pub run_left : ℕ → Reading → List ℕ → RunOutcome Memory (List ℕ)
+  abbrev pub run_left : ℕ → Result (Field × Progress) Refusal → List ℕ → RunOutcome Memory (List ℕ)
   run_left number reading words = going (table_rules config table known) config.mode message (run (open_group group) number ∷ []) reading words
 
-  pub run-starts : (cursor : Cursor) (progress : Progress) (words : List ℕ) (reading : Reading) → reading ≡ next_reading (field_at config.mode message cursor) progress →
+  pub run-starts : (cursor : Cursor) (progress : Progress) (words : List ℕ) (reading : Result (Field × Progress) Refusal) → reading ≡ next_reading (field_at config.mode message cursor) progress →
       run_of message config table known group cursor progress words ≡ run_left 0 reading words
   unfolding run_of
   run-starts cursor progress words reading e = rw e (walk-next _ _ _ _ progress words cursor)
 
-  pub entry-starts : (number : ℕ) (delimiter : Field) (progress begun : Progress) (words words₁ : List ℕ) (r : Record) (reading : Reading) →
+  pub entry-starts : (number : ℕ) (delimiter : Field) (progress begun : Progress) (words words₁ : List ℕ) (r : Record) (reading : Result (Field × Progress) Refusal) →
       r ≡ entry_record group.depth number delimiter → begun ≡ further 1 progress → words₁ ≡ on_records (inserted progress.records progress.place r) words → reading ≡ next_reading (field_at config.mode message delimiter.next) begun →
       entry_of message config table known group number delimiter progress words ≡ entry_left (record { number = number; last = 0; start = progress.place }) reading words₁
   unfolding entry_of added_words memory further
@@ -91,12 +88,12 @@ module _ (message : List ℕ) (config : Config) (table : List ℕ) (known : ℕ 
       rw (d, c, b, a) (walk-next _ _ _ _ (further 1 progress) (on_records (inserted progress.records progress.place (entry_record group.depth number delimiter)) words) delimiter.next)
 
   -- going on from a field is taking it
-  at_field : (stack : List (Frame ℕ)) (reading : Reading) (words : List ℕ) (f : Field) (progress : Progress) → reading ≡ At f progress →
+  at_field : (stack : List (Frame ℕ)) (reading : Result (Field × Progress) Refusal) (words : List ℕ) (f : Field) (progress : Progress) → reading ≡ Ok (f, progress) →
       going (table_rules config table known) config.mode message stack reading words ≡ taking (table_rules config table known) word_store progress.room stack (memory progress words) f (fields_from config.mode message f.next)
   unfolding going
   at_field stack reading words f progress e = rw e
 
-  module _ (number : ℕ) (reading : Reading) (words : List ℕ) (f : Field) (progress : Progress) (e : reading ≡ At f progress) where
+  module _ (number : ℕ) (reading : Result (Field × Progress) Refusal) (words : List ℕ) (f : Field) (progress : Progress) (e : reading ≡ Ok (f, progress)) where
     -- what is kept after a field is what the words hold then
     added_field : (stack : List (Frame ℕ)) →
         walk (table_rules config table known) word_store progress.room stack (word_store.add (entry_record group.depth number f) (memory progress words)) (fields_from config.mode message f.next)
@@ -111,17 +108,17 @@ module _ (message : List ℕ) (config : Config) (table : List ℕ) (known : ℕ 
     joined-field stack start = refl
 
     module _ (last start : ℕ) (kind : CodeKind) (k : meant kind ≡ kind_at config table known group last f.tag) where
-      pub left-ends : kind ≡ Ends → told_by config.mode message (At f progress) words
+      pub left-ends : kind ≡ Ends → told_by config.mode message (Ok (f, progress)) words
           ≡ entry_left (record { number = number; last = last; start = start }) reading words
       unfolding going told_by meant kind_at
       left-ends q = rw e (sym (entry-ends _ _ _ _ _ _ _ _ (sym k ∙ ap meant q)))
 
-      pub left-wrong : kind ≡ Wrong → told_by config.mode message (Refused (InvalidOrderInGroup f.tag group.tag)) words
+      pub left-wrong : kind ≡ Wrong → told_by config.mode message (Err (InvalidOrderInGroup f.tag group.tag)) words
           ≡ entry_left (record { number = number; last = last; start = start }) reading words
       unfolding going told_by meant kind_at word_store memory
       left-wrong q = rw e (sym (entry-wrong _ _ _ _ _ _ _ _ (sym k ∙ ap meant q)))
 
-      module _ (r : Record) (is : r ≡ entry_record group.depth number f) (stored : Progress) (words₁ : List ℕ) (reading₁ : Reading) where
+      module _ (r : Record) (is : r ≡ entry_record group.depth number f) (stored : Progress) (words₁ : List ℕ) (reading₁ : Result (Field × Progress) Refusal) where
         pub turn_joins : kind ≡ Joins → stored ≡ further (makes (standing_in start progress.place r words)) progress → words₁ ≡ on_records (stored_between progress.records start progress.place r) words →
             reading₁ ≡ next_reading (field_at config.mode message f.next) stored →
             entry_left (record { number = number; last = last; start = start }) reading words
@@ -153,7 +150,7 @@ module _ (message : List ℕ) (config : Config) (table : List ℕ) (known : ℕ 
               ∙ going_on _ _ _ _ reading₁ words₂ _ (t ∙ rw (b, a, is) (sym (added_field _)))
 
     -- a field in a run
-    pub turn_entry : opens_at table group.level f.tag ≡ true → (reading₁ : Reading) (words₁ : List ℕ) →
+    pub turn_entry : opens_at table group.level f.tag ≡ true → (reading₁ : Result (Field × Progress) Refusal) (words₁ : List ℕ) →
         told_by config.mode message reading₁ words₁ ≡ entry_of message config table known group (number + 1) f progress words →
         run_left number reading words ≡ run_left (number + 1) reading₁ words₁
     unfolding entry_of word_store memory
@@ -163,12 +160,12 @@ module _ (message : List ℕ) (config : Config) (table : List ℕ) (known : ℕ 
         ∙ going_on _ _ _ _ reading₁ words₁ _ t
 
     pub left-first : opens_at table group.level f.tag ≡ false → number ≡ 0 →
-        told_by config.mode message (Refused (InvalidOrderInGroup f.tag group.tag)) words ≡ run_left number reading words
+        told_by config.mode message (Err (InvalidOrderInGroup f.tag group.tag)) words ≡ run_left number reading words
     unfolding going told_by word_store memory
     left-first o z = rw e (sym (run-first _ _ _ _ _ _ _ _ (opens-table config table known group.level f.tag ∙ o) z))
 
     pub left_over : opens_at table group.level f.tag ≡ false → (number ≡ 0 → ⊥) →
-        told_by config.mode message (At f progress) words ≡ run_left number reading words
+        told_by config.mode message (Ok (f, progress)) words ≡ run_left number reading words
     unfolding going told_by
     left_over o n = rw e (sym (run-over _ _ _ _ _ _ _ _ (opens-table config table known group.level f.tag ∙ o) n))
 
@@ -177,19 +174,19 @@ unfolding meant kind_at
 count-below config table known group last tag kind inner position k q = kind_below _ _ _ _ _ inner position (sym k ∙ ap meant q)
 
 -- where a run ended, and where an entry did
-pub run_follows : (message : List ℕ) (config : Config) (table : List ℕ) (known : ℕ → Bool) (group : Group) (cursor : Cursor) (progress : Progress) (words : List ℕ) → Fits message progress → (reading : Reading) (words₁ : List ℕ) →
+pub run_follows : (message : List ℕ) (config : Config) (table : List ℕ) (known : ℕ → Bool) (group : Group) (cursor : Cursor) (progress : Progress) (words : List ℕ) → Fits message progress → (reading : Result (Field × Progress) Refusal) (words₁ : List ℕ) →
     told_by config.mode message reading words₁ ≡ run_of message config table known group cursor progress words → Follows message progress.room reading
 unfolding run_of
 run_follows message config table known group cursor progress words fits reading words₁ e = told_follows _ _ message _ cursor progress words fits reading words₁ e
 
-pub entry_follows : (message : List ℕ) (config : Config) (table : List ℕ) (known : ℕ → Bool) (group : Group) (number : ℕ) (delimiter : Field) (progress : Progress) (words : List ℕ) → FitsAt message delimiter progress → (reading : Reading) (words₁ : List ℕ) →
+pub entry_follows : (message : List ℕ) (config : Config) (table : List ℕ) (known : ℕ → Bool) (group : Group) (number : ℕ) (delimiter : Field) (progress : Progress) (words : List ℕ) → FitsAt message delimiter progress → (reading : Result (Field × Progress) Refusal) (words₁ : List ℕ) →
     told_by config.mode message reading words₁ ≡ entry_of message config table known group number delimiter progress words → Follows message progress.room reading
 unfolding entry_of added_words memory further
 entry_follows message config table known group number delimiter progress words fits reading words₁ e =
     told_follows _ _ message _ delimiter.next (further 1 progress) _ (record { short = fits.short; counted = omega (arith, fits.counted); placed = omega (arith, fits.placed) }) reading words₁ e
 
 -- the room falls from a field to where reading stands after it
-pub room_falls : (message : List ℕ) (reading reading₁ : Reading) (f : Field) (progress : Progress) → reading ≡ At f progress → Follows message progress.room reading₁ → room_of reading₁ < room_of reading
+pub room_falls : (message : List ℕ) (reading reading₁ : Result (Field × Progress) Refusal) (f : Field) (progress : Progress) → reading ≡ Ok (f, progress) → Follows message progress.room reading₁ → room_of reading₁ < room_of reading
 room_falls message reading reading₁ f progress e follows =
     let at : room_of reading ≡ suc progress.room = ap room_of e ∙ unfold room_of in refl in
     omega (arith, follows.falls)
@@ -204,12 +201,12 @@ unfolding further
 stored-room progress stored k e = rw e
 
 -- the field after one that was stored
-pub stored_follows : (mode : Mode) (message : List ℕ) (c : Cursor) (f : Field) (progress stored : Progress) (k : ℕ) (reading : Reading) → k ≤ 1 → FitsAt message f progress → stored ≡ further k progress → reading ≡ next_reading (field_at mode message c) stored → Follows message progress.room reading
+pub stored_follows : (mode : Mode) (message : List ℕ) (c : Cursor) (f : Field) (progress stored : Progress) (k : ℕ) (reading : Result (Field × Progress) Refusal) → k ≤ 1 → FitsAt message f progress → stored ≡ further k progress → reading ≡ next_reading (field_at mode message c) stored → Follows message progress.room reading
 stored_follows mode message c f progress stored k reading h fits e q =
     rw (q, ← stored-room progress stored k e) (next_follows mode message c stored (stored_fits message f progress stored k h fits e))
 
 -- the entries after a count that was stored
-pub count_follows : (message : List ℕ) (config : Config) (table : List ℕ) (known : ℕ → Bool) (group : Group) (f : Field) (progress stored : Progress) (words : List ℕ) → FitsAt message f progress → stored ≡ further 1 progress → (reading : Reading) (words₁ : List ℕ) →
+pub count_follows : (message : List ℕ) (config : Config) (table : List ℕ) (known : ℕ → Bool) (group : Group) (f : Field) (progress stored : Progress) (words : List ℕ) → FitsAt message f progress → stored ≡ further 1 progress → (reading : Result (Field × Progress) Refusal) (words₁ : List ℕ) →
     told_by config.mode message reading words₁ ≡ run_of message config table known group f.next stored words → Follows message progress.room reading
 count_follows message config table known group f progress stored words fits e reading words₁ t =
     rw (← stored-room progress stored 1 e) (run_follows message config table known group f.next stored words (stored_fits message f progress stored 1 (omega arith) fits e) reading words₁ t)

@@ -11,11 +11,9 @@ ghost use Rattle.build_records.specs.Records.{on_records, inserted, stored_betwe
 ghost use Rattle.build_group_rules.specs.Reading.{accepted, opens_at, kind_at, meant, next_reading, further, makes, standing_in, told_by, run_of, entry_of, Fits, FitsAt};
 
 use build_config::Config;
-use build_group_rules::{Group, Kind, Progress, Reading, Refusal};
-use build_records::{Record, Standing};
-use dictionary_layout_rules::FirstTag;
-use dictionary_tables_rules::Item;
-use field_rules::{Cursor, Field, FieldRead};
+use build_group_rules::{Group, Kind, Progress, Refusal};
+use build_records::Record;
+use field_rules::{Cursor, Field};
 
 // The first of the tags that users define.
 const USER_DEFINED: u32 = 5000;
@@ -25,10 +23,7 @@ pub fn accepted(config: Config, index: &[u16], tag: u32) -> bool
     requires { length index.now ≡ index_words }
     ensures { result ≡ accepted config (tag_at index.now) tag }
 {
-    if config.validate {
-        return false;
-    }
-    if tag < USER_DEFINED {
+    if config.validate || tag < USER_DEFINED {
         return false;
     }
     !dictionary_names::tag_known(index, tag)
@@ -38,7 +33,7 @@ pub fn accepted(config: Config, index: &[u16], tag: u32) -> bool
 pub fn opens(table: &[u16], level: usize, tag: u32) -> bool
     ensures { result ≡ opens_at table.now level tag }
 {
-    let FirstTag::First(delimiter) = dictionary_tables::delimiter(table, level) else {
+    let Some(delimiter) = dictionary_tables::delimiter(table, level) else {
         return false;
     };
     delimiter == tag
@@ -59,7 +54,7 @@ fn kind_of(
     if opens(table, level, tag) {
         return Kind::Ends;
     }
-    let Item::At(position, inner) = dictionary_tables::item_of(table, level, tag) else {
+    let Some((position, inner)) = dictionary_tables::item_of(table, level, tag) else {
         if accepted(config, index, tag) {
             return Kind::Joins;
         }
@@ -77,29 +72,35 @@ fn kind_of(
     Kind::Plain(position)
 }
 
-// The next field, where one can be read and there is room for it.
-pub fn next_field(message: &[u8], config: Config, cursor: Cursor, progress: Progress) -> Reading
+// The next field, where one can be read and there is room for it. It stays apart from `build_parts::next_field`, since each counts and
+// refuses in its reader's own words: one function would hand both kinds on, and be no plainer.
+pub fn next_field(
+    message: &[u8],
+    config: Config,
+    cursor: Cursor,
+    progress: Progress,
+) -> Result<(Field, Progress), Refusal>
     ensures { result ≡ next_reading (field_at config.mode message.now cursor) progress }
 {
     match field_tagvalue::next_field(cursor, message, config.mode) {
-        FieldRead::Unreadable(cause, place) => Reading::Refused(Refusal::Malformed(cause, place)),
-        FieldRead::Read(field) => {
+        Err((cause, place)) => Err(Refusal::Malformed(cause, place)),
+        Ok(field) => {
             if progress.room == 0 {
-                return Reading::Refused(Refusal::TooManyFields);
+                return Err(Refusal::TooManyFields);
             }
-            Reading::At(
+            Ok((
                 field,
                 Progress {
                     room: progress.room - 1,
-                    records: progress.records,
-                    place: progress.place,
+                    ..progress
                 },
-            )
+            ))
         }
     }
 }
 
-// The record of a field of the body that stands in an entry.
+// The record of a field of the body that stands in an entry. It stays apart from `build_parts::record_of`: `entry_record` and
+// `part_record` tell the two, and one function of four numbers would have to cite both, which is no plainer.
 fn record_of(depth: u32, number: u32, field: Field) -> Record
     requires { (field.place < 2 ^ 32) × (field.length < 2 ^ 32) }
     ensures { result ≡ entry_record depth number field }
@@ -122,9 +123,9 @@ fn add(words: &mut [u32], progress: Progress, stored: Record) -> Progress
 {
     build_records::insert(words, progress.records, progress.place, stored);
     Progress {
-        room: progress.room,
         records: progress.records + 1,
         place: progress.place + 1,
+        ..progress
     }
 }
 
@@ -135,11 +136,11 @@ fn join(words: &mut [u32], start: usize, progress: Progress, stored: Record) -> 
     ensures words_after { words.new ≡ on_records (stored_between progress.records start progress.place stored) words.old }
 {
     match build_records::store(words, progress.records, start, progress.place, stored) {
-        Standing::At(_) => progress,
-        Standing::Nowhere => Progress {
-            room: progress.room,
+        Some(_) => progress,
+        None => Progress {
             records: progress.records + 1,
             place: progress.place + 1,
+            ..progress
         },
     }
 }
@@ -155,7 +156,7 @@ pub fn read_run(
     cursor: Cursor,
     words: &mut [u32],
     progress: Progress,
-) -> Reading
+) -> Result<(Field, Progress), Refusal>
     requires fits { Fits message.now progress }
     requires index_len { length index.now ≡ index_words }
     ensures { told_by config.mode message.now result words.new ≡ run_of message.now config table.now (tag_at index.now) group cursor progress words.old }
@@ -163,14 +164,14 @@ pub fn read_run(
     let mut reading = next_field(message, config, cursor, progress);
     let mut number: u32 = 0;
     loop {
-        let Reading::At(field, so_far) = reading else {
+        let Ok((field, so_far)) = reading else {
             return reading;
         };
         if !opens(table, group.level, field.tag) {
             if number == 0 {
-                return Reading::Refused(Refusal::InvalidOrderInGroup(field.tag, group.tag));
+                return Err(Refusal::InvalidOrderInGroup(field.tag, group.tag));
             }
-            return reading;
+            return Ok((field, so_far));
         }
         number += 1;
         reading = read_entry(
@@ -191,7 +192,7 @@ pub fn read_entry(
     delimiter: Field,
     words: &mut [u32],
     progress: Progress,
-) -> Reading
+) -> Result<(Field, Progress), Refusal>
     requires fits_at { FitsAt message.now delimiter progress }
     requires index_len { length index.now ≡ index_words }
     ensures { told_by config.mode message.now result words.new ≡ entry_of message.now config table.now (tag_at index.now) group number delimiter progress words.old }
@@ -201,7 +202,7 @@ pub fn read_entry(
     let mut reading = next_field(message, config, delimiter.next, begun);
     let mut last: usize = 0;
     loop {
-        let Reading::At(field, so_far) = reading else {
+        let Ok((field, so_far)) = reading else {
             return reading;
         };
         let next = field.next;
@@ -227,10 +228,10 @@ pub fn read_entry(
                 reading = next_field(message, config, next, stored);
             }
             Kind::Wrong => {
-                return Reading::Refused(Refusal::InvalidOrderInGroup(field.tag, group.tag));
+                return Err(Refusal::InvalidOrderInGroup(field.tag, group.tag));
             }
             Kind::Ends => {
-                return reading;
+                return Ok((field, so_far));
             }
         }
     }

@@ -5,15 +5,8 @@
 ghost use Rattle.std.specs.Prelude.{◌≡◌};
 ghost use Rattle.build_integrity_rules.specs.Integrity.{integrity_of, length_agrees, sum_agrees};
 
-use build_integrity_rules::{GarbledReason, Integrity, Verified};
-use field_numbers::wide;
-use field_rules::{Field, FieldRead, Mode, Number};
-
-fn widened(byte: u8) -> u32
-    ensures { result ≡ byte }
-{
-    byte as u32
-}
+use build_integrity_rules::{GarbledReason, Verified};
+use field_rules::{Field, Mode};
 
 // "The message length is the place after field 2, plus that number, plus 7."
 fn length_agrees(message: &[u8], body_length: Field) -> bool
@@ -21,8 +14,7 @@ fn length_agrees(message: &[u8], body_length: Field) -> bool
 {
     let next = body_length.next;
     let after = next.at;
-    let Number::Worth(n) = field_numbers::number_of(field_tagvalue::value_of(message, body_length))
-    else {
+    let Some(n) = field_numbers::number_of(field_tagvalue::value_of(message, body_length)) else {
         return false;
     };
     if message.len() < after {
@@ -32,7 +24,7 @@ fn length_agrees(message: &[u8], body_length: Field) -> bool
     if left < 7 {
         return false;
     }
-    left - 7 == wide(n)
+    left - 7 == n as usize
 }
 
 // "Where its value is three digits it equals the sum mod 256 of all bytes before it."
@@ -40,55 +32,52 @@ fn sum_agrees(message: &[u8], checksum: Field) -> bool
     ensures { result ≡ sum_agrees message.now checksum }
 {
     let first = checksum.first;
-    let Number::Worth(n) = field_numbers::checksum_of(field_tagvalue::value_of(message, checksum))
-    else {
+    let Some(n) = field_numbers::checksum_of(field_tagvalue::value_of(message, checksum)) else {
         return true;
     };
-    if message.len() < first {
-        return n == widened(field_numbers::sum_of(message));
-    }
-    n == widened(field_numbers::sum_of(&message[..first]))
+    let before = &message[..first.min(message.len())];
+    n == u32::from(field_numbers::sum_of(before))
 }
 
 // The checks in their order: 11, 12, 12, 14, 14, 13.
-pub fn verify(message: &[u8], mode: Mode) -> Integrity
+pub fn verify(message: &[u8], mode: Mode) -> Result<Verified, GarbledReason>
     ensures { result ≡ integrity_of mode message.now }
 {
     let start = field_tagvalue::start_at(0);
-    let FieldRead::Read(begin_string) = field_tagvalue::next_field(start, message, mode) else {
-        return Integrity::Garbled(GarbledReason::InvalidBeginString);
+    let Ok(begin_string) = field_tagvalue::next_field(start, message, mode) else {
+        return Err(GarbledReason::InvalidBeginString);
     };
     if begin_string.tag != 8 {
-        return Integrity::Garbled(GarbledReason::InvalidBeginString);
+        return Err(GarbledReason::InvalidBeginString);
     }
     let second = begin_string.next;
-    let FieldRead::Read(body_length) = field_tagvalue::next_field(second, message, mode) else {
-        return Integrity::Garbled(GarbledReason::InvalidBodyLength);
+    let Ok(body_length) = field_tagvalue::next_field(second, message, mode) else {
+        return Err(GarbledReason::InvalidBodyLength);
     };
     if body_length.tag != 9 {
-        return Integrity::Garbled(GarbledReason::InvalidBodyLength);
+        return Err(GarbledReason::InvalidBodyLength);
     }
     if !length_agrees(message, body_length) {
-        return Integrity::Garbled(GarbledReason::InvalidBodyLength);
+        return Err(GarbledReason::InvalidBodyLength);
     }
     let last = field_tagvalue::start_at(message.len() - 7);
-    let FieldRead::Read(checksum) = field_tagvalue::next_field(last, message, mode) else {
-        return Integrity::Garbled(GarbledReason::InvalidChecksum);
+    let Ok(checksum) = field_tagvalue::next_field(last, message, mode) else {
+        return Err(GarbledReason::InvalidChecksum);
     };
     if checksum.tag != 10 {
-        return Integrity::Garbled(GarbledReason::InvalidChecksum);
+        return Err(GarbledReason::InvalidChecksum);
     }
     if !sum_agrees(message, checksum) {
-        return Integrity::Garbled(GarbledReason::InvalidChecksum);
+        return Err(GarbledReason::InvalidChecksum);
     }
     let third = body_length.next;
-    let FieldRead::Read(msg_type) = field_tagvalue::next_field(third, message, mode) else {
-        return Integrity::Garbled(GarbledReason::InvalidMsgType);
+    let Ok(msg_type) = field_tagvalue::next_field(third, message, mode) else {
+        return Err(GarbledReason::InvalidMsgType);
     };
     if msg_type.tag != 35 {
-        return Integrity::Garbled(GarbledReason::InvalidMsgType);
+        return Err(GarbledReason::InvalidMsgType);
     }
-    Integrity::Sound(Verified {
+    Ok(Verified {
         begin_string,
         body_length,
         checksum,

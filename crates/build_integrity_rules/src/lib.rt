@@ -22,9 +22,3 @@ pub struct Verified {
     pub checksum: Field,
     pub msg_type: Field,
 }
-
-#[derive(Clone, Copy)]
-pub enum Integrity {
-    Sound(Verified),
-    Garbled(GarbledReason),
-}

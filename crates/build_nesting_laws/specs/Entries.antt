@@ -1,13 +1,12 @@
 -- What follows from the form: an entry starts with its delimiter, every record of it stands at its depth or deeper, and none of its own
 -- tags stands twice.
-use Rattle.std.specs.Prelude.{◌≡◌, Bool, List, [], ◌∷◌, ◌++◌, ℕ, ◌+◌, ◌-◌, ◌≤◌, ◌<◌, eqb}
+use Rattle.std.specs.Prelude.{◌≡◌, Bool, List, [], ◌∷◌, ◌++◌, ℕ, ◌+◌, ◌-◌, ◌≤◌, ◌<◌, eqb, Some, None}
 use Rattle.std.proofs.Math.Path.{refl}
 use Rattle.std.proofs.Common.{sym, ap, ◌∙◌, arith, eqb-true}
 use Rattle.std.proofs.Math.Bool.{true, false}
 use Rattle.std.proofs.lemmas.Bool.{eqb-false}
 use Rattle.field_rules.specs.Choice.{pick}
 use Rattle.dictionary_layout_rules.specs.Layout.{Layout, end, field, group, first_of, position_from, position_in, delimiter_of_lem}
-use Rattle.dictionary_layout_rules.specs.declared.Position.TheVariants.{At, Nowhere}
 use Rattle.build_records.specs.Records.{stored}
 use Rattle.build_records.specs.declared.Record.{Record}
 use Rattle.build_group_rules.specs.Groups.{Rules, is_delimiter, opens}
@@ -125,38 +124,38 @@ module _ (depth : ℕ) where
   once_stored r e (once_more {r = x} {rs = rs} m n) = once_step x r rs e m n (once_stored r e n) (eqb x.depth r.depth) (eqb x.tag r.tag) refl refl
 
 -- where the delimiter has the first position, as in every layout
-module _ {L : Type 0} (rules : Rules L) (first : (level : L) (tag : ℕ) → opens rules level tag ≡ true → rules.position level tag ≡ At 0) where
+module _ {L : Type 0} (rules : Rules L) (first : (level : L) (tag : ℕ) → opens rules level tag ≡ true → rules.position level tag ≡ Some 0) where
   -- the own tags of an entry have positions up to the last, or none
   record Below (level : L) (depth last : ℕ) (x : Record) : Type 0 where
-    below : x.depth ≡ depth → (position : ℕ) → rules.position level x.tag ≡ At position → position ≤ last
+    below : x.depth ≡ depth → (position : ℕ) → rules.position level x.tag ≡ Some position → position ≤ last
 
   module _ (level : L) (depth : ℕ) (r : Record) where
-    below_at : (position : ℕ) → rules.position level r.tag ≡ At position → Below level depth position r
+    below_at : (position : ℕ) → rules.position level r.tag ≡ Some position → Below level depth position r
     below_at position p = record { below = at }
       where
-        at : r.depth ≡ depth → (q : ℕ) → rules.position level r.tag ≡ At q → q ≤ position
+        at : r.depth ≡ depth → (q : ℕ) → rules.position level r.tag ≡ Some q → q ≤ position
         at d q e = let z : position ≡ q = cc in omega arith
 
-    below_none : (last : ℕ) → rules.position level r.tag ≡ Nowhere → Below level depth last r
+    below_none : (last : ℕ) → rules.position level r.tag ≡ None → Below level depth last r
     below_none last p = record { below = at }
       where
-        at : r.depth ≡ depth → (q : ℕ) → rules.position level r.tag ≡ At q → q ≤ last
+        at : r.depth ≡ depth → (q : ℕ) → rules.position level r.tag ≡ Some q → q ≤ last
         at d q e = let z : ◌≡◌ {A = ℕ} 0 1 = cc in absurd (omega arith)
 
     below-deep : (last : ℕ) → Deep (depth + 1) r → Below level depth last r
     below-deep last deep = record { below = at }
       where
-        at : r.depth ≡ depth → (q : ℕ) → rules.position level r.tag ≡ At q → q ≤ last
+        at : r.depth ≡ depth → (q : ℕ) → rules.position level r.tag ≡ Some q → q ≤ last
         at d q e = absurd (omega (arith, deep.deep))
 
     below-later : (last position : ℕ) → last < position → Below level depth last r → Below level depth position r
     below-later last position l b = record { below = at }
       where
-        at : r.depth ≡ depth → (q : ℕ) → rules.position level r.tag ≡ At q → q ≤ position
+        at : r.depth ≡ depth → (q : ℕ) → rules.position level r.tag ≡ Some q → q ≤ position
         at d q e = omega (arith, b.below d q e)
 
     -- a tag that rises is none of those before
-    other-later : (last position tag : ℕ) → rules.position level tag ≡ At position → last < position → Below level depth last r → Other depth tag r
+    other-later : (last position tag : ℕ) → rules.position level tag ≡ Some position → last < position → Below level depth last r → Other depth tag r
     other-later last position tag p l b = record { other = at }
       where
         at : r.depth ≡ depth → r.tag ≡ tag → ⊥
@@ -173,7 +172,7 @@ module _ {L : Type 0} (rules : Rules L) (first : (level : L) (tag : ℕ) → ope
   entry-below {level} {depth} {number} {last} (user {r = r} f p a own) = all-stored _ r (below_none level depth r last p) (entry-below f)
 
   -- a declared tag that rises is none of the entry's own so far
-  pub entry_other : {level : L} {depth number last : ℕ} {entry : List Record} (position tag : ℕ) → Formed rules (fields_of level depth number last) entry → rules.position level tag ≡ At position → last < position → All (Other depth tag) entry
+  pub entry_other : {level : L} {depth number last : ℕ} {entry : List Record} (position tag : ℕ) → Formed rules (fields_of level depth number last) entry → rules.position level tag ≡ Some position → last < position → All (Other depth tag) entry
   entry_other {level} {depth} {number} {last} position tag f p l = all_map (λ x b. other-later level depth x last position tag p l b) (entry-below f)
 
   -- "declared tags must rise", and a user tag is stored: within an entry no tag stands twice
@@ -185,13 +184,13 @@ module _ {L : Type 0} (rules : Rules L) (first : (level : L) (tag : ℕ) → ope
       once_deep depth (once_last depth c (all_map (λ x b. other-later level depth x last position c.tag p l b) (entry-below f)) (entry_once f)) (formed_deep rules m)
   entry_once {level} {depth} (user {r = r} f p a own) = once_stored depth r own.deep (entry_once f)
 
-opens-first : (layout : Layout) (tag : ℕ) → is_delimiter (delimiter_of_lem layout) tag ≡ true → position_from tag 0 layout ≡ At 0
+opens-first : (layout : Layout) (tag : ℕ) → is_delimiter (delimiter_of_lem layout) tag ≡ true → position_from tag 0 layout ≡ Some 0
 unfolding is_delimiter delimiter_of_lem position_from first_of
 opens-first end tag o = let z : ◌≡◌ {A = ℕ} 0 1 = cc in absurd (omega arith)
 opens-first (field t required rest) tag o = rw o
 opens-first (group t required inner rest) tag o = rw o
 
 -- the delimiter of a layout has its first position
-pub layout_first : (accepts : ℕ → Bool) (layout : Layout) (tag : ℕ) → opens (layout_rules accepts) layout tag ≡ true → (layout_rules accepts).position layout tag ≡ At 0
+pub layout_first : (accepts : ℕ → Bool) (layout : Layout) (tag : ℕ) → opens (layout_rules accepts) layout tag ≡ true → (layout_rules accepts).position layout tag ≡ Some 0
 unfolding opens layout_rules position_in
 layout_first accepts layout tag o = opens-first layout tag o

@@ -1,7 +1,7 @@
 -- A run that was read to its end has records of that form, behind those that stood there before. What is open while reading goes on is
 -- such a run whose last entry, or whose last nested run, may still grow; a field that nothing takes closes them.
 use Rattle.std.proofs.Math.Path.{◌≡◌, refl}
-use Rattle.std.specs.Prelude.{Bool, length, eqb}
+use Rattle.std.specs.Prelude.{Bool, length, eqb, Option, Some, None, ℕ}
 use Rattle.std.proofs.Math.Bool.{true, false}
 use mathlib.Core.List.{List, [], ◌∷◌, ◌++◌, append_assoc, append-nil}
 use Prim.Native.Nat.{ℕ, zero, suc, ◌+◌, ◌-◌, ◌≤◌, ◌<◌}
@@ -11,8 +11,6 @@ use Rattle.std.proofs.Math.Dec.{leb, ltb}
 use Rattle.field_rules.specs.Choice.{pick}
 use Rattle.field_rules.specs.Fields.{Fields, unreadable, field}
 use Rattle.field_rules.specs.declared.Field.{Field}
-use Rattle.dictionary_layout_rules.specs.declared.Position.{Position}
-use Rattle.dictionary_layout_rules.specs.declared.Position.TheVariants.{At, Nowhere}
 use Rattle.build_records.specs.Records.{stored}
 use Rattle.build_records.specs.declared.Record.{Record}
 use Rattle.build_group_rules.specs.Groups.{Opened, none, opened, Rules, opens, Kind, plain, count, joins, wrong, ends, counting, declared, entry_kind, OpenGroup, Frame, run, entry, Numbers, Move, adds, joins_at, disorders, leaves, numbers_in, nested, in_entry_lem, decide, entry_record, ended, moved, walk}
@@ -35,13 +33,13 @@ join_own before own r = rw (take-append_seam before own, drop-append_seam before
 module _ {L : Type 0} (rules : Rules L) where
   -- what a kind says of its tag
   data Says (level : L) (depth last tag : ℕ) : Kind L → Type 0 where
-    says_plain : {position : ℕ} → rules.position level tag ≡ At position → last < position → Says level depth last tag (plain position)
-    says_count : {inner : L} {position : ℕ} → rules.position level tag ≡ At position → last < position → depth < 4 → rules.group level tag ≡ opened inner → Says level depth last tag (count inner position)
-    says_joins : rules.position level tag ≡ Nowhere → rules.accepts tag ≡ true → Says level depth last tag joins
+    says_plain : {position : ℕ} → rules.position level tag ≡ Some position → last < position → Says level depth last tag (plain position)
+    says_count : {inner : L} {position : ℕ} → rules.position level tag ≡ Some position → last < position → depth < 4 → rules.group level tag ≡ opened inner → Says level depth last tag (count inner position)
+    says_joins : rules.position level tag ≡ None → rules.accepts tag ≡ true → Says level depth last tag joins
     says_wrong : Says level depth last tag wrong
     says_ends : Says level depth last tag ends
 
-  counting_says : (level : L) (depth last tag position : ℕ) → rules.position level tag ≡ At position → last < position → (o : Opened L) → rules.group level tag ≡ o → Says level depth last tag (counting depth position o)
+  counting_says : (level : L) (depth last tag position : ℕ) → rules.position level tag ≡ Some position → last < position → (o : Opened L) → rules.group level tag ≡ o → Says level depth last tag (counting depth position o)
   unfolding counting
   counting_says level depth last tag position p l none g = says_plain p l
   counting_says level depth last tag position p l (opened inner) g = go (ltb depth 4) refl
@@ -50,14 +48,14 @@ module _ {L : Type 0} (rules : Rules L) where
       go true q = says_count p l (ltb-true _ _ q) g
       go false q = says_plain p l
 
-  declared_says : (level : L) (depth last tag : ℕ) (p : Position) → rules.position level tag ≡ p → Says level depth last tag (declared rules level depth last tag p)
+  declared_says : (level : L) (depth last tag : ℕ) (p : Option ℕ) → rules.position level tag ≡ p → Says level depth last tag (declared rules level depth last tag p)
   unfolding declared
-  declared_says level depth last tag Nowhere e = go (rules.accepts tag) refl
+  declared_says level depth last tag None e = go (rules.accepts tag) refl
     where
       go : (b : Bool) → rules.accepts tag ≡ b → Says level depth last tag (pick b joins ends)
       go true a = says_joins e a
       go false a = says_ends
-  declared_says level depth last tag (At position) e = go (leb position last) refl
+  declared_says level depth last tag (Some position) e = go (leb position last) refl
     where
       go : (b : Bool) → leb position last ≡ b → Says level depth last tag (pick b wrong (counting depth position (rules.group level tag)))
       go true q = says_wrong
@@ -75,7 +73,7 @@ module _ {L : Type 0} (rules : Rules L) where
     -- an entry, and a count that rises behind it where a run may hang
     pub record Counted (group : OpenGroup L) (number last position : ℕ) (own : List Record) (c : Record) : Type 0 where
       pub entry_formed : Formed rules (fields_of group.level group.depth number last) own
-      pub placed : rules.position group.level c.tag ≡ At position
+      pub placed : rules.position group.level c.tag ≡ Some position
       pub rises_to : last < position
       pub count-own : Own group.depth number c
       pub within : group.depth < 4
@@ -129,13 +127,13 @@ module _ {L : Type 0} (rules : Rules L) where
       opens_entry rs o otherwise d false false e = d
 
       module _ {group : OpenGroup L} {number last : ℕ} {stack : List (Frame L)} (before own : List Record) (o : Open (run group number ∷ stack) before) (fm : Formed rules (fields_of group.level group.depth (number + 1) last) own) where
-        open_plain : (position : ℕ) → rules.position group.level f.tag ≡ At position → last < position →
+        open_plain : (position : ℕ) → rules.position group.level f.tag ≡ Some position → last < position →
             Open (entry group (record { number = number + 1; last = position; start = length before }) ∷ run group (number + 1) ∷ stack) ((before ++ own) ++ (entry_record group.depth (number + 1) f ∷ []))
         unfolding entry_record
         open_plain position p l =
             rw (append_assoc before own (entry_record group.depth (number + 1) f ∷ [])) (in_entry before (own ++ (entry_record group.depth (number + 1) f ∷ [])) o (rises position fm p l (own_record group.depth (number + 1) f)))
 
-        open_count : (inner : L) (position : ℕ) → rules.position group.level f.tag ≡ At position → last < position → group.depth < 4
+        open_count : (inner : L) (position : ℕ) → rules.position group.level f.tag ≡ Some position → last < position → group.depth < 4
             → rules.group group.level f.tag ≡ opened inner →
             Open (run (nested group f.tag inner) 0 ∷ entry group (record { number = number + 1; last = position; start = length before }) ∷ run group (number + 1) ∷ stack)
             ((before ++ own) ++ (entry_record group.depth (number + 1) f ∷ []))
@@ -144,7 +142,7 @@ module _ {L : Type 0} (rules : Rules L) where
             let counted = nested-run (entry_record group.depth (number + 1) f) before own [] o (record { entry_formed = fm; placed = p; rises_to = l; count-own = own_record group.depth (number + 1) f; within = w }) g no_entry in
             rw (append_assoc before own (entry_record group.depth (number + 1) f ∷ [])) (rw (append-nil (before ++ (own ++ (entry_record group.depth (number + 1) f ∷ [])))) at counted)
 
-        open_user : rules.position group.level f.tag ≡ Nowhere → rules.accepts f.tag ≡ true →
+        open_user : rules.position group.level f.tag ≡ None → rules.accepts f.tag ≡ true →
             Open (entry group (record { number = number + 1; last = last; start = length before }) ∷ run group (number + 1) ∷ stack) (joined_list (length before) (entry_record group.depth (number + 1) f) (before ++ own))
         unfolding entry_record
         open_user p a =

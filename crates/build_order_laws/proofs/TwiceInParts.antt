@@ -5,7 +5,7 @@ use Rattle.std.specs.Prelude.{Bool, length, drop, eqb}
 use Rattle.std.proofs.Math.Bool.{true, false}
 use mathlib.Core.List.{List, [], ◌∷◌, ◌++◌}
 use Prim.Native.Nat.{ℕ, zero, suc, ◌+◌}
-use Rattle.std.proofs.Common.{arith}
+use Rattle.std.proofs.Common.{arith, Option}
 use Rattle.field_rules.specs.Choice.{pick}
 use Rattle.field_rules.specs.Fields.{Fields, unreadable, field}
 use Rattle.field_rules.specs.declared.Field.{Field}
@@ -24,7 +24,6 @@ use Rattle.build_parts.specs.Header.{header_from}
 use Rattle.build_parts.specs.Trailer.{stopped, trailer_from}
 use Rattle.build_body_rules.specs.Body.{Kind, plain, counts, other, Body, stored_run, and_then, next_from, with_run, takes, body_within, body_from}
 use Rattle.build_body_rules.specs.Kinds.{checked, ran_as, run_from, body_of}
-use Rattle.build_rules.specs.declared.Stop.{Stop}
 use Rattle.build_order_laws.specs.Counted.{trailer_fields}
 use Rattle.build_order_laws.specs.TrailerStores.{trailer_at, not_crowded, stopped-with, unstopped-with}
 use Rattle.build_order_laws.specs.Twice.{twice_in_header, twice_in_trailer, twice_moved, twice_in_run, twice_behind, twice_taking, twice_within, twice_in_body}
@@ -46,7 +45,7 @@ header_tells tags (field g more) (suc room) rs f rest room₁ rs₁ e = by_tag (
     by_tag true e later = tells_then (has 0 g.tag rs) twice (tells_field 1 g rs room) (later e)
     by_tag false e later = let a : room ≡ room₁ = cc in let d : rs ≡ rs₁ = cc in rw (← a, ← d) (tells_once refl)
 
-pub trailer_tells : (fields : Fields) (room : ℕ) (rs : List Record) (stop : Stop) (ts : List Record) → trailer_from fields room rs ≡ trailer_at stop ts → Tells (twice_in_trailer fields rs) (length rs + trailer_fields fields) (length ts)
+pub trailer_tells : (fields : Fields) (room : ℕ) (rs : List Record) (stop : Option Field) (ts : List Record) → trailer_from fields room rs ≡ trailer_at stop ts → Tells (twice_in_trailer fields rs) (length rs + trailer_fields fields) (length ts)
 unfolding trailer_from twice_in_trailer trailer_fields
 trailer_tells (unreadable cause place) zero rs stop ts e = absurd (not_crowded stop ts e)
 trailer_tells (unreadable cause place) (suc room) rs stop ts e = let q = unstopped-with rs ts stop e in rw (← q) (tells_once (omega arith))

@@ -1,6 +1,6 @@
 -- Fields that are read one behind the other start at rising places. So the fields counted up to the one that stopped the trailer are those
 -- that were read up to it: none before it starts where it does.
-use Rattle.std.specs.Prelude.{◌≡◌, refl, List, ℕ, zero, suc, ◌≤◌}
+use Rattle.std.specs.Prelude.{◌≡◌, refl, List, ℕ, zero, suc, ◌≤◌, Option}
 use Rattle.std.proofs.Common.{ap, arith, eq-eqb, ne_eqb}
 use Rattle.field_rules.specs.declared.Mode.{Mode}
 use Rattle.field_rules.specs.Field.{start_at}
@@ -9,7 +9,6 @@ use Rattle.field_rules.proofs.FieldsLaws.{step-lies, by_fields}
 use Rattle.field_rules.specs.declared.Cause.{Cause}
 use Rattle.field_rules.specs.declared.Cursor.{Cursor}
 use Rattle.field_rules.specs.declared.Field.{Field}
-use Rattle.build_rules.specs.declared.Stop.{Stop}
 use Rattle.build_order_laws.specs.Counted.{counted_to, counted_all, counted_fields, fields_counted}
 use Rattle.build_order_laws.specs.Follows.{Reaches, here, further}
 use Rattle.build_order_laws.specs.TrailerStores.{Last, at-stop, at_end}
@@ -45,7 +44,7 @@ counted_all_lem here = refl
 counted_all_lem (further a) = ap suc (counted_all_lem a)
 
 -- "Counted are the fields read in sequence, the 10 that stops the trailer included; where none stops it, the verified 10 counts last."
-pub counted-read : (mode : Mode) (message : List ℕ) {n : ℕ} {stop : Stop} {last : Fields} → Reaches (fields_from mode message (start_at 0)) n last → Last stop last → fields_counted mode message stop ≡ suc n
+pub counted-read : (mode : Mode) (message : List ℕ) {n : ℕ} {stop : Option Field} {last : Fields} → Reaches (fields_from mode message (start_at 0)) n last → Last stop last → fields_counted mode message stop ≡ suc n
 unfolding fields_counted counted_fields
 counted-read mode message r (at-stop ten) = counted_to_lem (fields_rising mode message (start_at 0)) r
 counted-read mode message r at_end = counted_all_lem r

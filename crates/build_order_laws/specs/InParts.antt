@@ -2,7 +2,7 @@
 -- Each part was stored field by field, from the message's start to where the trailer stopped.
 use Rattle.std.proofs.Math.Path.{◌≡◌, refl, ap}
 use Rattle.std.proofs.Common.{◌∙◌, arith}
-use Rattle.std.specs.Prelude.{Bool, ℕ, suc}
+use Rattle.std.specs.Prelude.{Bool, ℕ, suc, Result, Ok, Err}
 use mathlib.Core.List.{List, [], ◌∷◌, ◌++◌}
 use Rattle.build_records.specs.Records.{value_at}
 use Rattle.field_rules.specs.declared.Mode.{Mode}
@@ -13,8 +13,6 @@ use Rattle.field_rules.proofs.FieldsLaws.{fields-field}
 use Rattle.field_rules.specs.declared.Field.{Field}
 use Rattle.build_integrity_rules.specs.Integrity.{integrity_of}
 use Rattle.build_integrity_rules.proofs.VerifiedLaws.{VerifiedRead}
-use Rattle.build_integrity_rules.specs.declared.Integrity.{Integrity}
-use Rattle.build_integrity_rules.specs.declared.Integrity.TheVariants.{Sound, Garbled}
 use Rattle.build_integrity_rules.specs.declared.Verified.{Verified}
 use Rattle.dictionary_layout_rules.specs.Layout.{Layout}
 use Rattle.dictionary_layout_rules.specs.Tree.{Dictionary, knows, header_tags_lem, trailer_tags_lem, Choice, no_message, laid_out, layout_of}
@@ -32,12 +30,13 @@ use Rattle.message_read_laws.specs.Refusals.{header_never, body_never}
 use Rattle.build_order_laws.specs.Follows.{Stores}
 use Rattle.build_order_laws.specs.StoresLaws.{stores_then, stores_field}
 use Rattle.build_order_laws.specs.TrailerStores.{trailer_at}
+use Rattle.build_integrity_rules.specs.declared.GarbledReason.{GarbledReason}
 
 module _ (dictionary : Dictionary) (config : Config) (message : List ℕ) where
   -- the parts of a message with an outcome; the whole trailer is that with the verified CheckSum, which stands first in it
   pub record InParts (outcome : Outcome) : Type 0 where
     pub verified : Verified
-    pub sound : integrity_of config.mode message ≡ Sound verified
+    pub sound : integrity_of config.mode message ≡ Ok verified
     pub layout : Layout
     pub f : Field
     pub rest : Fields
@@ -55,7 +54,7 @@ module _ (dictionary : Dictionary) (config : Config) (message : List ℕ) where
     pub trailer-read : trailer_from (field g more) (suc room₂) (part_record 3 verified.checksum ∷ []) ≡ trailer_at outcome.stop whole-trailer
     pub records : outcome.records ≡ header ++ (body ++ whole-trailer)
 
-  module _ (v : Verified) (sound : integrity_of config.mode message ≡ Sound v) (f : Field) (rest : Fields) (room : ℕ) (h : List Record)
+  module _ (v : Verified) (sound : integrity_of config.mode message ≡ Ok v) (f : Field) (rest : Fields) (room : ℕ) (h : List Record)
       (header : header_of (header_tags_lem dictionary) config message v ≡ ended f rest room h) where
     module _ (layout : Layout) (chosen : layout_of dictionary (value_at message (msg_type_record h)) ≡ laid_out layout) where
       trailer-parts : (g : Field) (more : Fields) (room₂ : ℕ) (b : List Record)
@@ -125,7 +124,7 @@ module _ (dictionary : Dictionary) (config : Config) (message : List ℕ) where
         body-parts layout c (body_from (body_of (layout_rules (accepted config (knows dictionary))) layout_demands (trailer_tags_lem dictionary) layout) (field f rest)
         (suc room) []) refl a
 
-  header-parts : (v : Verified) → integrity_of config.mode message ≡ Sound v → (r : Reading) → header_of (header_tags_lem dictionary) config message v ≡ r
+  header-parts : (v : Verified) → integrity_of config.mode message ≡ Ok v → (r : Reading) → header_of (header_tags_lem dictionary) config message v ≡ r
       → (after_header dictionary config message (with_checksum v.checksum r)).answer ≡ Valid
       → InParts (after_header dictionary config message (with_checksum v.checksum r))
   unfolding after_header with_checksum
@@ -134,12 +133,12 @@ module _ (dictionary : Dictionary) (config : Config) (message : List ℕ) where
       (unfold header_of in (e ∙ ap refused (unfold refusal in a))))
   header-parts v sound (ended f rest room h) e a = type-parts v sound f rest room h e (layout_of dictionary (value_at message (msg_type_record h))) refl a
 
-  integrity_parts : (i : Integrity) → integrity_of config.mode message ≡ i
+  integrity_parts : (i : Result Verified GarbledReason) → integrity_of config.mode message ≡ i
       → (after_header dictionary config message (started_by (header_tags_lem dictionary) config message i)).answer ≡ Valid
       → InParts (after_header dictionary config message (started_by (header_tags_lem dictionary) config message i))
   unfolding started_by
-  integrity_parts (Garbled reason) e a = let z : ◌≡◌ {A = ℕ} 0 1 = unfold after_header refusal in cc in absurd (omega arith)
-  integrity_parts (Sound v) e a = header-parts v e (header_of (header_tags_lem dictionary) config message v) refl a
+  integrity_parts (Err reason) e a = let z : ◌≡◌ {A = ℕ} 0 1 = unfold after_header refusal in cc in absurd (omega arith)
+  integrity_parts (Ok v) e a = header-parts v e (header_of (header_tags_lem dictionary) config message v) refl a
 
   pub in_parts : (message_read dictionary config message).answer ≡ Valid → InParts (message_read dictionary config message)
   unfolding message_read start_of

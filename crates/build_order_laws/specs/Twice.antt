@@ -1,13 +1,11 @@
 -- "no tag stored twice in one map": whether a tag of a message is. Header, body, the entries of its runs, and trailer are gone through as they
 -- are read; a tag is stored twice where the map that takes its field holds it already.
-use Rattle.std.specs.Prelude.{ℕ, zero, suc, List, [], ◌∷◌, ◌++◌, Bool, true, false, length, drop, eqb}
+use Rattle.std.specs.Prelude.{ℕ, zero, suc, List, [], ◌∷◌, ◌++◌, Bool, true, false, length, drop, eqb, Result, Ok, Err}
 use Rattle.build_config.specs.declared.Config.{Config}
 use Rattle.field_rules.specs.Choice.{pick}
 use Rattle.field_rules.specs.Fields.{Fields, unreadable, field, fields_from}
 use Rattle.field_rules.specs.declared.Field.{Field}
 use Rattle.build_integrity_rules.specs.Integrity.{integrity_of}
-use Rattle.build_integrity_rules.specs.declared.Integrity.{Integrity}
-use Rattle.build_integrity_rules.specs.declared.Integrity.TheVariants.{Sound, Garbled}
 use Rattle.dictionary_layout_rules.specs.Tree.{Dictionary, knows, header_tags_lem, trailer_tags_lem, holds_tag, Choice, no_message, laid_out, layout_of}
 use Rattle.build_records.specs.Records.{stored, value_at}
 use Rattle.build_records.specs.declared.Record.{Record}
@@ -20,6 +18,8 @@ use Rattle.build_parts.specs.Parts.{Reading, ended, refused, part_record}
 use Rattle.build_body_rules.specs.Body.{Kind, plain, counts, other, Body, with_run, body_from}
 use Rattle.build_body_rules.specs.Kinds.{body_of}
 use Rattle.build_rules.specs.Beginning.{header_of, verified_records, msg_type_record}
+use Rattle.build_integrity_rules.specs.declared.GarbledReason.{GarbledReason}
+use Rattle.build_integrity_rules.specs.declared.Verified.{Verified}
 
 -- "Header tags go to the header; the first other field ends it."
 unfoldable pub twice_in_header : List ℕ → Fields → List Record → Bool
@@ -82,9 +82,9 @@ module _ (dictionary : Dictionary) (config : Config) (message : List ℕ) where
       (twice_behind (body_from (body_of (layout_rules (accepted config (knows dictionary))) layout_demands (trailer_tags_lem dictionary) layout) fields room []) (λ behind left body. twice_in_trailer behind (part_record 3 checksum ∷ [])))
 
   -- in the header, where the three verified fields stand first, each with a tag of its own; or behind it
-  unfoldable pub twice_from_header : Integrity → Bool
-  twice_from_header (Garbled reason) = false
-  twice_from_header (Sound v) =
+  unfoldable pub twice_from_header : Result Verified GarbledReason → Bool
+  twice_from_header (Err reason) = false
+  twice_from_header (Ok v) =
       pick (twice_in_header (header_tags_lem dictionary) (fields_from config.mode message v.msg_type.next) (verified_records v)) true
       (twice_behind (header_of (header_tags_lem dictionary) config message v) (λ behind left header. twice_from_body v.checksum behind left (layout_of dictionary (value_at message (msg_type_record header)))))
 

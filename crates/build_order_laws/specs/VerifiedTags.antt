@@ -1,13 +1,11 @@
 -- What integrity found right, taken apart: the four tags that it looks for, the length and the sum.
 -- Each is what its test, which was passed, says.
-use Rattle.std.specs.Prelude.{◌≡◌, refl, Bool, true, false, List, ℕ, eqb}
+use Rattle.std.specs.Prelude.{◌≡◌, refl, Bool, true, false, List, ℕ, eqb, Result, Ok, Err}
 use Rattle.std.proofs.Common.{arith, eqb-true}
 use Rattle.field_rules.specs.declared.Mode.{Mode}
 use Rattle.field_rules.specs.Choice.{pick}
 use Rattle.build_integrity_rules.specs.Integrity.{integrity_of, begun, counted, summed, typed, length_agrees, sum_agrees}
 use Rattle.build_integrity_rules.proofs.VerifiedLaws.{verified-read}
-use Rattle.build_integrity_rules.specs.declared.Integrity.{Integrity}
-use Rattle.build_integrity_rules.specs.declared.Integrity.TheVariants.{Sound, Garbled}
 use Rattle.build_integrity_rules.specs.declared.GarbledReason.{GarbledReason}
 use Rattle.build_integrity_rules.specs.declared.GarbledReason.TheVariants.{InvalidBeginString, InvalidBodyLength, InvalidMsgType, InvalidChecksum}
 use Rattle.build_integrity_rules.specs.declared.Verified.{Verified}
@@ -25,11 +23,11 @@ pub record Checked (message : List ℕ) (v : Verified) : Type 0 where
   pub length_right : length_agrees message v.body_length ≡ true
   pub sum_right : sum_agrees message v.checksum ≡ true
 
-passes : (b : Bool) (on : Integrity) (reason : GarbledReason) (v : Verified) → pick b on (Garbled reason) ≡ Sound v → (b ≡ true) × (on ≡ Sound v)
+passes : (b : Bool) (on : Result Verified GarbledReason) (reason : GarbledReason) (v : Verified) → pick b on (Err reason) ≡ Ok v → (b ≡ true) × (on ≡ Ok v)
 passes true on reason v e = (refl, e)
 passes false on reason v e = let z : ◌≡◌ {A = ℕ} 0 1 = cc in absurd (omega arith)
 
-pub verified-checked : (mode : Mode) (message : List ℕ) (v : Verified) → integrity_of mode message ≡ Sound v → Checked message v
+pub verified-checked : (mode : Mode) (message : List ℕ) (v : Verified) → integrity_of mode message ≡ Ok v → Checked message v
 unfolding integrity_of begun counted summed typed
 verified-checked mode message v e =
     let r = verified-read mode message v e in
@@ -45,5 +43,5 @@ verified-checked mode message v e =
       sum_right = sum.0;
     }
 
-pub verified-tags : (mode : Mode) (message : List ℕ) (v : Verified) → integrity_of mode message ≡ Sound v → VerifiedTags v
+pub verified-tags : (mode : Mode) (message : List ℕ) (v : Verified) → integrity_of mode message ≡ Ok v → VerifiedTags v
 verified-tags mode message v e = (verified-checked mode message v e).tags

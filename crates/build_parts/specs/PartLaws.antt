@@ -5,7 +5,7 @@ use Rattle.std.proofs.Common.{◌∙◌, length-append, length-set, take-append-
 use mathlib.Core.List.{List, [], ◌∷◌, ◌++◌}
 use Prim.Native.Nat.{ℕ, zero, suc, ◌+◌, ◌-◌, ◌/◌, ◌≤◌, ◌<◌}
 use native.Mathlib.Omega.{arith}
-use Rattle.std.specs.Prelude.{length, get_or, set}
+use Rattle.std.specs.Prelude.{length, get_or, set, Some, None, Result, Ok, Err, ℕ}
 use Rattle.std.proofs.Math.ListN.{take, drop, length-drop}
 use Rattle.std.proofs.Math.Seq.{length-take-le}
 use Rattle.field_rules.specs.declared.Mode.{Mode}
@@ -15,19 +15,14 @@ use Rattle.field_rules.proofs.FieldsLaws.{fields-field, step-inside}
 use Rattle.field_rules.specs.declared.Cursor.{Cursor}
 use Rattle.field_rules.specs.declared.Cause.{Cause}
 use Rattle.field_rules.specs.declared.Field.{Field}
-use Rattle.field_rules.specs.declared.FieldRead.{FieldRead}
-use Rattle.field_rules.specs.declared.FieldRead.TheVariants.{Read, Unreadable}
 use Rattle.build_records.specs.Records.{records_of, on_records, blank, between, held_from, stored_between, stored, stride}
 use Rattle.build_records.proofs.WordLaws.{records_length, records_on}
 use Rattle.build_records.proofs.RecordLaws.{between-end, between-parts, stored-held, stored-new, stored-parts-held, stored-parts-new}
 use Rattle.build_records.specs.declared.Record.{Record}
-use Rattle.build_records.specs.declared.Standing.TheVariants.{At, Nowhere}
 use Rattle.build_parts.specs.Parts.{part_of, Kept, next_of, Ends, Stays}
 use Rattle.build_answers.specs.declared.Answer.TheVariants.{Malformed, TooManyFields}
 use Rattle.build_answers.specs.declared.Answer.{Answer}
 use Rattle.build_parts.specs.declared.Progress.{Progress}
-use Rattle.build_parts.specs.declared.PartRead.TheVariants.{At as at_field, Refused}
-use Rattle.build_parts.specs.declared.Next.TheVariants.{Got, Missing}
 
 module _ (rs : List Record) (from to : ℕ) (rises : from ≤ to) where
   -- the part's records, and those behind it
@@ -63,7 +58,7 @@ module _ (words : List ℕ) (from count : ℕ) (r : Record) (rises : from ≤ co
   map-length = part_length (records_of words) from count rises (omega (arith, records_length words))
 
   -- a new record comes last
-  pub keep-new : held_from from r.depth r.tag (between from count (records_of words)) ≡ Nowhere → Kept words (on_records (stored_between count from count r) words) from count r (count + 1)
+  pub keep-new : held_from from r.depth r.tag (between from count (records_of words)) ≡ None → Kept words (on_records (stored_between count from count r) words) from count r (count + 1)
   keep-new e =
       let rs : List Record = records_of words in
       let was : rs ≡ take from rs ++ (between from count rs ++ (get_or rs count blank ∷ drop (suc count) rs)) =
@@ -79,7 +74,7 @@ module _ (words : List ℕ) (from count : ℕ) (r : Record) (rises : from ≤ co
       (omega arith)
 
   -- a held tag keeps its place
-  pub keep-held : (i : ℕ) → held_from from r.depth r.tag (between from count (records_of words)) ≡ At i → Kept words (on_records (stored_between count from count r) words) from count r count
+  pub keep-held : (i : ℕ) → held_from from r.depth r.tag (between from count (records_of words)) ≡ Some i → Kept words (on_records (stored_between count from count r) words) from count r count
   keep-held i e =
       let rs : List Record = records_of words in
       let size : length (stored r (between from count rs)) ≡ length (between from count rs) = ap length (stored-held r (between from count rs) from i e).storing ∙ length-set (between from count rs) (i - from) r in
@@ -92,19 +87,19 @@ module _ (words : List ℕ) (from count : ℕ) (r : Record) (rises : from ≤ co
       (omega arith)
       (omega arith)
 
-module _ (room : ℕ) (r : FieldRead) where
-  pub next-unreadable : (cause : Cause) (place : ℕ) → r ≡ Unreadable cause place → next_of room r ≡ Missing (Malformed cause place)
+module _ (room : ℕ) (r : Result Field (Cause × ℕ)) where
+  pub next-unreadable : (cause : Cause) (place : ℕ) → r ≡ Err (cause, place) → next_of room r ≡ Err (Malformed cause place)
   unfolding next_of
   next-unreadable cause place e = rw e
 
-  module _ (f : Field) (e : r ≡ Read f) where
-    pub next-crowded : room ≡ 0 → next_of room r ≡ Missing TooManyFields
+  module _ (f : Field) (e : r ≡ Ok f) where
+    pub next-crowded : room ≡ 0 → next_of room r ≡ Err TooManyFields
     unfolding next_of
     next-crowded z = rw (e, z)
 
-    pub next_got : (room ≡ 0 → ⊥) → next_of room r ≡ Got f
+    pub next_got : (room ≡ 0 → ⊥) → next_of room r ≡ Ok f
     unfolding next_of
-    next_got some = let one : room ≡ suc (room - 1) = omega arith in rw e (ap (λ (n : ℕ). next_of n (Read f)) one)
+    next_got some = let one : room ≡ suc (room - 1) = omega arith in rw e (ap (λ (n : ℕ). next_of n (Ok f)) one)
 
 -- a field that was read is the first of those that are left, there was room for it, and it lies in the message
 pub record Taken (mode : Mode) (message : List ℕ) (c : Cursor) (room : ℕ) (f : Field) : Type 0 where
@@ -113,15 +108,15 @@ pub record Taken (mode : Mode) (message : List ℕ) (c : Cursor) (room : ℕ) (f
   pub inside : Inside message f
 
 module _ (mode : Mode) (message : List ℕ) (c : Cursor) (f : Field) where
-  pub taken : (room : ℕ) → next_of room (field_at mode message c) ≡ Got f → Taken mode message c room f
+  pub taken : (room : ℕ) → next_of room (field_at mode message c) ≡ Ok f → Taken mode message c room f
   unfolding next_of
   taken room h = go (field_at mode message c) refl room h
     where
-      go : (r : FieldRead) → field_at mode message c ≡ r → (room : ℕ) → next_of room r ≡ Got f → Taken mode message c room f
-      go (Unreadable cause place) e room h = let z : ◌≡◌ {A = ℕ} 0 1 = cc in absurd (omega arith)
-      go (Read g) e zero h = let z : ◌≡◌ {A = ℕ} 0 1 = cc in absurd (omega arith)
-      go (Read g) e (suc room) h =
-          let same : field_at mode message c ≡ Read f = cc in
+      go : (r : Result Field (Cause × ℕ)) → field_at mode message c ≡ r → (room : ℕ) → next_of room r ≡ Ok f → Taken mode message c room f
+      go (Err (cause, place)) e room h = let z : ◌≡◌ {A = ℕ} 0 1 = cc in absurd (omega arith)
+      go (Ok g) e zero h = let z : ◌≡◌ {A = ℕ} 0 1 = cc in absurd (omega arith)
+      go (Ok g) e (suc room) h =
+          let same : field_at mode message c ≡ Ok f = cc in
           record { fields = fields-field mode message c f same; one_less = omega arith; inside = step-inside mode message c f same }
 
 -- before the first part there is nothing
@@ -130,11 +125,15 @@ unfolding part_of
 none_before words other = between-end 0 0 (records_of words) (omega arith) ∙ sym (between-end 0 0 (records_of other) (omega arith))
 
 module _ (message entry exit : List ℕ) (from room : ℕ) (before : part_of 0 from exit ≡ part_of 0 from entry) where
-  pub stays-refused : (answer : Answer) → Stays message entry exit from room (Refused answer)
+  pub stays-refused : (answer : Answer) → Stays message entry exit from room (Err answer)
   stays-refused answer = record { before = before; ends = λ f p e. let z : ◌≡◌ {A = ℕ} 0 1 = cc in absurd (omega arith) }
 
-  pub stays_at : (f : Field) (p : Progress) → Ends message entry from room f p → Stays message entry exit from room (at_field f p)
+  pub stays_at : (f : Field) (p : Progress) → Ends message entry from room f p → Stays message entry exit from room (Ok (f, p))
   stays_at f p ends = record {
     before = before;
-    ends = λ g q e. let same : f ≡ g = cc in let also : p ≡ q = cc in rw (← same, ← also) ends;
+    ends = λ g q e.
+        let both : ◌≡◌ {A = Field × Progress} (f, p) (g, q) = cc in
+        let same : f ≡ g = ap (λ (read : Field × Progress). read.0) both in
+        let also : p ≡ q = ap (λ (read : Field × Progress). read.1) both in
+        rw (← same, ← also) ends;
   }

@@ -1,5 +1,5 @@
 -- Each way that the trailer goes at a field that is read already.
-use Rattle.std.specs.Prelude.{◌≡◌, refl, Bool, true, false, List, ℕ, zero, suc, ◌+◌, ◌-◌, ◌<◌, eqb}
+use Rattle.std.specs.Prelude.{◌≡◌, refl, Bool, true, false, List, ℕ, zero, suc, ◌+◌, ◌-◌, ◌<◌, eqb, Ok, Err}
 use Rattle.std.proofs.Common.{sym, ap, ◌∙◌, arith}
 use borrow.Author.Tests.{eq-eqb, ne_eqb}
 use Rattle.field_rules.specs.declared.Mode.{Mode}
@@ -8,7 +8,6 @@ use Rattle.field_rules.specs.Fields.{Fields, unreadable, field, fields_from}
 use Rattle.field_rules.proofs.FieldsLaws.{fields-field, fields-end}
 use Rattle.field_rules.specs.declared.Cause.{Cause}
 use Rattle.field_rules.specs.declared.Field.{Field}
-use Rattle.field_rules.specs.declared.FieldRead.TheVariants.{Read, Unreadable}
 use Rattle.build_records.specs.Records.{stored}
 use Rattle.build_records.specs.declared.Record.{Record}
 use Rattle.build_parts.specs.Parts.{part_record}
@@ -42,9 +41,9 @@ module _ (mode : Mode) (message : List ℕ) (f : Field) (room : ℕ) (records : 
       trailer_takes f (fields_from mode message f.next) room records other
       ∙ ap (λ (n : ℕ). trailer_from (fields_from mode message f.next) n (stored (part_record 3 f) records)) one
 
-  pub trailer-ends : (cause : Cause) (place : ℕ) → field_at mode message f.next ≡ Unreadable cause place → trailer_from (field f (fields_from mode message f.next)) (room + 1) records ≡ unstopped (stored (part_record 3 f) records)
+  pub trailer-ends : (cause : Cause) (place : ℕ) → field_at mode message f.next ≡ Err (cause, place) → trailer_from (field f (fields_from mode message f.next)) (room + 1) records ≡ unstopped (stored (part_record 3 f) records)
   unfolding trailer_from
   trailer-ends cause place e = left ∙ rw (fields-end mode message f.next cause place e, one_more (room - 1))
 
-  pub trailer-on : (g : Field) → field_at mode message f.next ≡ Read g → trailer_from (field f (fields_from mode message f.next)) (room + 1) records ≡ trailer_from (field g (fields_from mode message g.next)) (room - 1 + 1) (stored (part_record 3 f) records)
+  pub trailer-on : (g : Field) → field_at mode message f.next ≡ Ok g → trailer_from (field f (fields_from mode message f.next)) (room + 1) records ≡ trailer_from (field g (fields_from mode message g.next)) (room - 1 + 1) (stored (part_record 3 f) records)
   trailer-on g e = left ∙ ap (λ (l : Fields). trailer_from l (room - 1 + 1) (stored (part_record 3 f) records)) (fields-field mode message f.next g e)

@@ -13,8 +13,8 @@ ghost use Rattle.build_parts.specs.Trailer.{trailer_from, trailer_told, trailer_
 
 use build_answers::Answer;
 use build_config::Config;
-use build_records::{Record, Standing};
-use field_rules::{Cursor, Field, FieldRead};
+use build_records::Record;
+use field_rules::{Cursor, Field};
 
 const CHECKSUM: u32 = 10;
 
@@ -25,26 +25,12 @@ pub struct Progress {
     pub records: usize,
 }
 
-// A part ends at a field that is read already, or reading was refused.
-#[derive(Clone, Copy)]
-pub enum PartRead {
-    At(Field, Progress),
-    Refused(Answer),
-}
-
 // The trailer stops at a CheckSum or where no field can be read; the number is that of all records.
 #[derive(Clone, Copy)]
 pub enum TrailerRead {
     Stopped(Field, usize),
     Unstopped(usize),
     TooManyFields,
-}
-
-// The next field, or why there is none.
-#[derive(Clone, Copy)]
-pub enum Next {
-    Got(Field),
-    Missing(Answer),
 }
 
 // A field's record in one of the parts.
@@ -68,22 +54,27 @@ pub fn keep(words: &mut [u32], from: usize, records: usize, stored: Record) -> u
     ensures { Kept words.old words.new from records stored result }
 {
     match build_records::store(words, records, from, records, stored) {
-        Standing::At(_) => records,
-        Standing::Nowhere => records + 1,
+        Some(_) => records,
+        None => records + 1,
     }
 }
 
 // The next field, where one can be read and there is room for it.
-pub fn next_field(message: &[u8], config: Config, cursor: Cursor, room: usize) -> Next
+pub fn next_field(
+    message: &[u8],
+    config: Config,
+    cursor: Cursor,
+    room: usize,
+) -> Result<Field, Answer>
     ensures { result ≡ next_of room (field_at config.mode message.now cursor) }
 {
     match field_tagvalue::next_field(cursor, message, config.mode) {
-        FieldRead::Unreadable(cause, place) => Next::Missing(Answer::Malformed(cause, place)),
-        FieldRead::Read(field) => {
+        Err((cause, place)) => Err(Answer::Malformed(cause, place)),
+        Ok(field) => {
             if room == 0 {
-                return Next::Missing(Answer::TooManyFields);
+                return Err(Answer::TooManyFields);
             }
-            Next::Got(field)
+            Ok(field)
         }
     }
 }
@@ -96,7 +87,7 @@ pub fn read_header(
     cursor: Cursor,
     words: &mut [u32],
     progress: Progress,
-) -> PartRead
+) -> Result<(Field, Progress), Answer>
     requires { (length message.now < 2 ^ 32) × (progress.records + progress.room ≤ length words.old / stride) }
     ensures words_after { part_told config.mode message.now 0 result words.new ≡ header_from (tags_found header_tags.now) (fields_from config.mode message.now cursor) progress.room (part_of 0 progress.records words.old) }
     ensures stays { Stays message.now words.old words.new 0 progress.room result }
@@ -106,13 +97,13 @@ pub fn read_header(
     let mut records = progress.records;
     loop {
         match next_field(message, config, at, room) {
-            Next::Missing(answer) => {
-                return PartRead::Refused(answer);
+            Err(answer) => {
+                return Err(answer);
             }
-            Next::Got(field) => {
+            Ok(field) => {
                 room -= 1;
                 if !dictionary_tables::holds(header_tags, field.tag) {
-                    return PartRead::At(field, Progress { room, records });
+                    return Ok((field, Progress { room, records }));
                 }
                 records = keep(words, 0, records, record_of(build_records::HEADER, field));
                 at = field.next;
@@ -154,7 +145,7 @@ pub fn read_trailer(
             record_of(build_records::TRAILER, field),
         );
         let next = field.next;
-        let FieldRead::Read(read) = field_tagvalue::next_field(next, message, config.mode) else {
+        let Ok(read) = field_tagvalue::next_field(next, message, config.mode) else {
             return TrailerRead::Unstopped(records);
         };
         field = read;

@@ -1,6 +1,6 @@
 -- The laws of changing a list of records: one turn of each loop, and what a change is where the records are known by their parts.
 use Rattle.std.specs.Prelude.{◌≡◌, refl, Bool, true, false, ℕ, suc, ◌+◌, ◌-◌, ◌≤◌, ◌<◌, length, get_or, take, drop, set, eqb, leb}
-use Rattle.std.proofs.Common.{sym, ◌∙◌, arith, add-one, length-append, drop_of_length-le, take-append-drop, take-suc-set, drop-set-lt, drop-cons, get_or-drop, take_at, drop_at}
+use Rattle.std.proofs.Common.{sym, ◌∙◌, arith, add-one, length-append, drop_of_length-le, take-append-drop, take-suc-set, drop-set-lt, drop-cons, get_or-drop, take_at, drop_at, Option, Some, None}
 use Rattle.std.proofs.Math.Path.{ap}
 use mathlib.Core.List.{List, [], ◌∷◌, ◌++◌, append_assoc, append-nil}
 use Rattle.std.proofs.Math.Seq.{take-nil, take-append_seam, drop-append_seam, set-append_seam, get_or-append_seam}
@@ -9,8 +9,6 @@ use borrow.Author.Tests.{eq-eqb, ne_eqb, lt-ltb, le-ltb, le-leb, lt-leb}
 use Rattle.field_rules.specs.Choice.{pick, pick_same}
 use Rattle.build_records.specs.Records.{blank, record_at, replaced, pushed, inserted, pulled, removed, between, held_from, stored_at, stored_between, stored}
 use Rattle.build_records.specs.declared.Record.{Record}
-use Rattle.build_records.specs.declared.Standing.{Standing}
-use Rattle.build_records.specs.declared.Standing.TheVariants.{At, Nowhere}
 
 -- the records before an index, and then what pushing makes of those from it on
 unfoldable pub pushing : ℕ → ℕ → Record → List Record → List Record
@@ -93,7 +91,7 @@ between-end at to rs h =
     rw m
 
 module _ (at to depth tag : ℕ) (rs : List Record) where
-  pub held-here : at < to → at < length rs → (record_at at rs).depth ≡ depth → (record_at at rs).tag ≡ tag → held_from at depth tag (between at to rs) ≡ At at
+  pub held-here : at < to → at < length rs → (record_at at rs).depth ≡ depth → (record_at at rs).tag ≡ tag → held_from at depth tag (between at to rs) ≡ Some at
   unfolding held_from
   held-here h l d t = rw (between-on at to rs h l, eq-eqb _ _ d, eq-eqb _ _ t)
 
@@ -105,11 +103,11 @@ module _ (at to depth tag : ℕ) (rs : List Record) where
   unfolding held_from
   held-other h l t = rw (between-on at to rs h l, ne_eqb _ _ t) (pick_same (eqb (record_at at rs).depth depth) _)
 
-  pub held_past : length rs ≤ at → held_from at depth tag (between at to rs) ≡ Nowhere
+  pub held_past : length rs ≤ at → held_from at depth tag (between at to rs) ≡ None
   unfolding held_from
   held_past h = rw (between_past at to rs h)
 
-  pub held-end : to ≤ at → held_from at depth tag (between at to rs) ≡ Nowhere
+  pub held-end : to ≤ at → held_from at depth tag (between at to rs) ≡ None
   unfolding held_from
   held-end h = rw (between-end at to rs h)
 
@@ -184,7 +182,7 @@ held-later x r rs at i h =
     let k : i - at ≡ suc (i - (at + 1)) = omega (arith, h.from) in
     (omega (arith, h.from), omega (arith, h.within), rw k (ap (λ (l : List Record). x ∷ l) h.storing))
 
-held-step : (x r : Record) (rs : List Record) (at i : ℕ) (d t : Bool) (later : Standing) → pick d (pick t (At at) later) later ≡ At i → (later ≡ At i → HeldAs r rs (at + 1) i) →
+held-step : (x r : Record) (rs : List Record) (at i : ℕ) (d t : Bool) (later : Option ℕ) → pick d (pick t (Some at) later) later ≡ Some i → (later ≡ Some i → HeldAs r rs (at + 1) i) →
     (at ≤ i) × (i < at + suc (length rs)) × (pick d (pick t (r ∷ rs) (x ∷ stored r rs)) (x ∷ stored r rs) ≡ set (x ∷ rs) (i - at) r)
 held-step x r rs at i true true later e next =
     let same : at ≡ i = cc in
@@ -194,31 +192,31 @@ held-step x r rs at i true false later e next = held-later x r rs at i (next e)
 held-step x r rs at i false t later e next = held-later x r rs at i (next e)
 
 -- storing a held tag replaces it where it stands
-pub stored-held : (r : Record) (rs : List Record) (at i : ℕ) → held_from at r.depth r.tag rs ≡ At i → HeldAs r rs at i
+pub stored-held : (r : Record) (rs : List Record) (at i : ℕ) → held_from at r.depth r.tag rs ≡ Some i → HeldAs r rs at i
 unfolding held_from stored
 stored-held r [] at i e = let z : ◌≡◌ {A = ℕ} 0 1 = cc in absurd (omega arith)
 stored-held r (x ∷ rs) at i e =
     let h = held-step x r rs at i (eqb x.depth r.depth) (eqb x.tag r.tag) (held_from (at + 1) r.depth r.tag rs) e (stored-held r rs (at + 1) i) in
     record { from = h.0; within = h.1; storing = h.2 }
 
-new-step : (x r : Record) (rs : List Record) (at : ℕ) (d t : Bool) (later : Standing) → pick d (pick t (At at) later) later ≡ Nowhere → (later ≡ Nowhere → stored r rs ≡ rs ++ (r ∷ [])) →
+new-step : (x r : Record) (rs : List Record) (at : ℕ) (d t : Bool) (later : Option ℕ) → pick d (pick t (Some at) later) later ≡ None → (later ≡ None → stored r rs ≡ rs ++ (r ∷ [])) →
     pick d (pick t (r ∷ rs) (x ∷ stored r rs)) (x ∷ stored r rs) ≡ x ∷ (rs ++ (r ∷ []))
 new-step x r rs at true true later e next = let z : ◌≡◌ {A = ℕ} 0 1 = cc in absurd (omega arith)
 new-step x r rs at true false later e next = ap (λ (l : List Record). x ∷ l) (next e)
 new-step x r rs at false t later e next = ap (λ (l : List Record). x ∷ l) (next e)
 
 -- a new one comes last
-pub stored-new : (r : Record) (rs : List Record) (at : ℕ) → held_from at r.depth r.tag rs ≡ Nowhere → stored r rs ≡ rs ++ (r ∷ [])
+pub stored-new : (r : Record) (rs : List Record) (at : ℕ) → held_from at r.depth r.tag rs ≡ None → stored r rs ≡ rs ++ (r ∷ [])
 unfolding held_from stored
 stored-new r [] at e = refl
 stored-new r (x ∷ rs) at e = new-step x r rs at (eqb x.depth r.depth) (eqb x.tag r.tag) (held_from (at + 1) r.depth r.tag rs) e (stored-new r rs (at + 1))
 
 module _ (n from to : ℕ) (r : Record) (rs : List Record) where
-  pub between-held : (i : ℕ) → held_from from r.depth r.tag (between from to rs) ≡ At i → stored_between n from to r rs ≡ replaced i r rs
+  pub between-held : (i : ℕ) → held_from from r.depth r.tag (between from to rs) ≡ Some i → stored_between n from to r rs ≡ replaced i r rs
   unfolding stored_between stored_at
   between-held i e = rw e
 
-  pub between-new : held_from from r.depth r.tag (between from to rs) ≡ Nowhere → stored_between n from to r rs ≡ inserted n to r rs
+  pub between-new : held_from from r.depth r.tag (between from to rs) ≡ None → stored_between n from to r rs ≡ inserted n to r rs
   unfolding stored_between stored_at
   between-new e = rw e
 
@@ -232,7 +230,7 @@ set-within (x ∷ before) map rest i k r e h =
 
 -- where a map's records stand between others, what is stored goes into the map
 module _ (before map after : List Record) (r : Record) (n from to : ℕ) (e : from ≡ length before) (f : to ≡ length before + length map) (g : n ≡ to + length after) where
-  pub stored-parts-new : (x : Record) (slack : List Record) → held_from from r.depth r.tag map ≡ Nowhere →
+  pub stored-parts-new : (x : Record) (slack : List Record) → held_from from r.depth r.tag map ≡ None →
       stored_between n from to r (before ++ (map ++ (after ++ (x ∷ slack)))) ≡ before ++ (stored r map ++ (after ++ slack))
   stored-parts-new x slack h =
       between-new n from to r _ (ap (λ (l : List Record). held_from from r.depth r.tag l) (between-parts before map (after ++ (x ∷ slack)) from to e f) ∙ h)
@@ -241,7 +239,7 @@ module _ (before map after : List Record) (r : Record) (n from to : ℕ) (e : fr
       ∙ append_assoc before map (r ∷ (after ++ slack))
       ∙ ap (λ (l : List Record). before ++ l) (sym (append_assoc map (r ∷ []) (after ++ slack)) ∙ ap (λ (l : List Record). l ++ (after ++ slack)) (sym (stored-new r map from h)))
 
-  pub stored-parts-held : (rest : List Record) (i : ℕ) → held_from from r.depth r.tag map ≡ At i →
+  pub stored-parts-held : (rest : List Record) (i : ℕ) → held_from from r.depth r.tag map ≡ Some i →
       stored_between n from to r (before ++ (map ++ rest)) ≡ before ++ (stored r map ++ rest)
   stored-parts-held rest i h =
       let s = stored-held r map from i h in

@@ -1,9 +1,7 @@
 -- Worked examples of this crate's definitions, one table to a definition, each under one statement that antt computes.
-use Rattle.std.specs.Prelude.{◌≡◌, refl, List, [], ◌∷◌, map, ℕ, ◌-◌, ◌*◌}
+use Rattle.std.specs.Prelude.{◌≡◌, refl, List, [], ◌∷◌, map, ℕ, ◌*◌, Option, Some, None}
 use Rattle.build_records.specs.Records.{laid, records_of, leftover, on_records, blank, record_at, replaced, pushed, inserted, pulled, removed, between, held_from, stored_at, stored_between, stored, stride, record_room, record_words}
 use Rattle.build_records.specs.declared.Record.{Record}
-use Rattle.build_records.specs.declared.Standing.{Standing}
-use Rattle.build_records.specs.declared.Standing.TheVariants.{At, Nowhere}
 
 -- a field of the body with a tag and a place
 abbrev body : ℕ → ℕ → Record
@@ -43,7 +41,7 @@ unfolding stored stored_between stored_at held_from between replaced inserted pu
 stores = refl
 
 -- the depth counts as well as the tag
-holdings : map {B = Standing} (λ (row : ℕ × ℕ × ℕ × ℕ). held_from row.0 row.2 row.3 (between row.0 row.1 order)) ((0, 3, 0, 58) ∷ (2, 3, 0, 58) ∷ (0, 1, 0, 58) ∷ (0, 3, 1, 58) ∷ (1, 9, 0, 44) ∷ []) ≡ At 1 ∷ Nowhere ∷ Nowhere ∷ Nowhere ∷ At 2 ∷ []
+holdings : map {B = Option ℕ} (λ (row : ℕ × ℕ × ℕ × ℕ). held_from row.0 row.2 row.3 (between row.0 row.1 order)) ((0, 3, 0, 58) ∷ (2, 3, 0, 58) ∷ (0, 1, 0, 58) ∷ (0, 3, 1, 58) ∷ (1, 9, 0, 44) ∷ []) ≡ Some 1 ∷ None ∷ None ∷ None ∷ Some 2 ∷ []
 unfolding held_from between
 holdings = refl
 

@@ -1,10 +1,8 @@
 -- A built message is its records. They are laid out as six words each, one behind the other; what a function does to the words is told
 -- by what it does to the list of records, and words that make no whole record stay.
-use Rattle.std.specs.Prelude.{ℕ, zero, suc, ◌+◌, ◌-◌, List, [], ◌∷◌, ◌++◌, length, get_or, take, drop, set, eqb, ltb, leb}
+use Rattle.std.specs.Prelude.{ℕ, zero, suc, ◌+◌, ◌-◌, List, [], ◌∷◌, ◌++◌, length, get_or, take, drop, set, eqb, ltb, leb, Option, Some, None}
 use Rattle.field_rules.specs.Choice.{pick}
 use Rattle.build_records.specs.declared.Record.{Record}
-use Rattle.build_records.specs.declared.Standing.{Standing}
-use Rattle.build_records.specs.declared.Standing.TheVariants.{At, Nowhere}
 
 -- words to a record
 abbrev pub stride : ℕ
@@ -83,14 +81,14 @@ unfoldable pub between : ℕ → ℕ → List Record → List Record
 between from to rs = take (to - from) (drop from rs)
 
 -- the first record of a depth and a tag, where the first of all stands at a place
-unfoldable pub held_from : ℕ → ℕ → ℕ → List Record → Standing
-held_from at depth tag [] = Nowhere
-held_from at depth tag (r ∷ rs) = pick (eqb r.depth depth) (pick (eqb r.tag tag) (At at) (held_from (at + 1) depth tag rs)) (held_from (at + 1) depth tag rs)
+unfoldable pub held_from : ℕ → ℕ → ℕ → List Record → Option ℕ
+held_from at depth tag [] = None
+held_from at depth tag (r ∷ rs) = pick (eqb r.depth depth) (pick (eqb r.tag tag) (Some at) (held_from (at + 1) depth tag rs)) (held_from (at + 1) depth tag rs)
 
 -- a record where one is held already, or put in where none is
-unfoldable pub stored_at : ℕ → ℕ → Record → Standing → List Record → List Record
-stored_at n to r (At i) rs = replaced i r rs
-stored_at n to r Nowhere rs = inserted n to r rs
+unfoldable pub stored_at : ℕ → ℕ → Record → Option ℕ → List Record → List Record
+stored_at n to r (Some i) rs = replaced i r rs
+stored_at n to r None rs = inserted n to r rs
 
 -- a map's records stand from one index to another: a record of a depth and tag that they hold is replaced, a new one comes behind them
 unfoldable pub stored_between : ℕ → ℕ → ℕ → Record → List Record → List Record

@@ -32,12 +32,6 @@ pub struct Record {
     pub length: u32,
 }
 
-#[derive(Clone, Copy)]
-pub enum Standing {
-    At(usize),
-    Nowhere,
-}
-
 // The record at an index; behind the lent words there are only blank ones.
 pub fn record_at(words: &[u32], i: usize) -> Record
     ensures { result ≡ record_at i (records_of words.now) }
@@ -90,12 +84,10 @@ pub fn insert(words: &mut [u32], n: usize, i: usize, stored: Record)
         return;
     }
     let mut carried = stored;
-    let mut at = i;
-    while at < n {
+    for at in i..n {
         let moved = record_at(words, at);
         replace(words, at, carried);
         carried = moved;
-        at += 1;
     }
     replace(words, n, carried);
 }
@@ -110,43 +102,34 @@ pub fn remove(words: &mut [u32], n: usize, i: usize, k: usize)
     if n < k {
         return;
     }
-    let mut at = i;
-    while at < n - k {
+    for at in i..n - k {
         let moved = record_at(words, at + k);
         replace(words, at, moved);
-        at += 1;
     }
 }
 
 // The first of the records from one to another that has this depth and tag.
-pub fn held(words: &[u32], from: usize, to: usize, depth: u32, tag: u32) -> Standing
+pub fn held(words: &[u32], from: usize, to: usize, depth: u32, tag: u32) -> Option<usize>
     ensures { result ≡ held_from from depth tag (between from to (records_of words.now)) }
 {
-    let mut at = from;
-    while at < to {
-        if words.len() / STRIDE <= at {
-            return Standing::Nowhere;
-        }
+    for at in from..to.min(words.len() / STRIDE) {
         let found = record_at(words, at);
-        if found.depth == depth {
-            if found.tag == tag {
-                return Standing::At(at);
-            }
+        if found.depth == depth && found.tag == tag {
+            return Some(at);
         }
-        at += 1;
     }
-    Standing::Nowhere
+    None
 }
 
 // Stores a record in the map whose records stand from one index to another, of n. Where its tag was held it takes that place.
-pub fn store(words: &mut [u32], n: usize, from: usize, to: usize, stored: Record) -> Standing
+pub fn store(words: &mut [u32], n: usize, from: usize, to: usize, stored: Record) -> Option<usize>
     ensures value { result ≡ held_from from stored.depth stored.tag (between from to (records_of words.old)) }
     ensures words_after { words.new ≡ on_records (stored_between n from to stored) words.old }
 {
     let standing = held(words, from, to, stored.depth, stored.tag);
     match standing {
-        Standing::At(i) => replace(words, i, stored),
-        Standing::Nowhere => insert(words, n, to, stored),
+        Some(i) => replace(words, i, stored),
+        None => insert(words, n, to, stored),
     }
     standing
 }

@@ -8,18 +8,14 @@ ghost use Rattle.build_required_rules.specs.Required.{shallow};
 ghost use Rattle.build_required_rules.specs.Checking.{starts_at, count_at, end_from, lack_of_fields, lack_of_entry, lack_of_run};
 
 use build_group_rules::Group;
-use build_records::{Record, Standing};
+use build_records::Record;
 use build_required_rules::Lack;
-use dictionary_tables_rules::{Item, Mark};
 
 // The record opens an entry of the group.
 fn starts(table: &[u16], group: Group, found: Record) -> bool
     ensures { result ≡ starts_at table.now group found }
 {
-    if found.depth != group.depth {
-        return false;
-    }
-    build_groups::opens(table, group.level, found.tag)
+    found.depth == group.depth && build_groups::opens(table, group.level, found.tag)
 }
 
 // Where the level of the run starts that hangs on a record of an entry's own fields, 0 where none does.
@@ -30,8 +26,8 @@ fn count_at(table: &[u16], group: Group, found: Record) -> usize
         return 0;
     }
     match dictionary_tables::item_of(table, group.level, found.tag) {
-        Item::At(_, inner) => inner,
-        Item::Nowhere => 0,
+        Some((_, inner)) => inner,
+        None => 0,
     }
 }
 
@@ -40,14 +36,12 @@ fn entry_end(words: &[u32], table: &[u16], group: Group, from: usize, to: usize)
     requires { to ≤ length words.now / stride }
     ensures { result ≡ end_from (starts_at table.now group) from (between from to (records_of words.now)) }
 {
-    let mut at = from;
-    while at < to {
+    for at in from..to {
         if starts(table, group, build_records::record_at(words, at)) {
             return at;
         }
-        at += 1;
     }
-    at
+    from.max(to)
 }
 
 // Where the records of the run end that hangs on the record before.
@@ -55,15 +49,12 @@ fn run_end(words: &[u32], depth: u32, from: usize, to: usize) -> usize
     requires { to ≤ length words.now / stride }
     ensures { result ≡ end_from (shallow depth) from (between from to (records_of words.now)) }
 {
-    let mut at = from;
-    while at < to {
-        let found = build_records::record_at(words, at);
-        if found.depth <= depth {
+    for at in from..to {
+        if build_records::record_at(words, at).depth <= depth {
             return at;
         }
-        at += 1;
     }
-    at
+    from.max(to)
 }
 
 // "Its required fields in layout order."
@@ -72,11 +63,10 @@ fn check_fields(words: &[u32], table: &[u16], group: Group, from: usize, to: usi
 {
     let mut link: usize = 1;
     loop {
-        let Mark::Required(tag, behind) = dictionary_tables::next_required(table, group.level, link)
-        else {
+        let Some((tag, behind)) = dictionary_tables::next_required(table, group.level, link) else {
             return Lack::Complete;
         };
-        let Standing::At(_) = build_records::held(words, from, to, group.depth, tag) else {
+        let Some(_) = build_records::held(words, from, to, group.depth, tag) else {
             return Lack::Missing(tag, group.tag);
         };
         link = behind;

@@ -1,5 +1,5 @@
 -- The laws of the required check: each way that a look goes at a record, where the records stand from one index to another.
-use Rattle.std.specs.Prelude.{◌≡◌, Bool, drop, eqb}
+use Rattle.std.specs.Prelude.{◌≡◌, Bool, drop, eqb, Some, None}
 use Rattle.std.proofs.Math.Path.{refl}
 use Rattle.std.proofs.Common.{sym, ap, ◌∙◌, subst}
 use Rattle.std.proofs.Math.Bool.{true, false}
@@ -13,35 +13,33 @@ use Rattle.field_rules.specs.Choice.{pick, pick_same}
 use Rattle.build_records.specs.Records.{record_at, between, held_from}
 use Rattle.build_records.proofs.RecordLaws.{between-on, between-end}
 use Rattle.build_records.specs.declared.Record.{Record}
-use Rattle.build_records.specs.declared.Standing.TheVariants.{At, Nowhere}
 use Rattle.build_group_rules.specs.Groups.{Opened, none, opened}
 use Rattle.build_required_rules.specs.Required.{Demands, or_else, has, fields_lack, before, shallow, opens_entry, run_lacks, nested_lack, entries_lack, run_lack}
 use Rattle.build_group_rules.specs.Reading.{opens_at}
 use Rattle.build_group_rules.specs.declared.Group.{Group}
 use Rattle.dictionary_tables_rules.specs.Table.{item_of}
 use Rattle.dictionary_tables_rules.proofs.Tabled.{group_of_item}
-use Rattle.dictionary_tables_rules.specs.declared.Item.TheVariants as item
 use Rattle.build_required_rules.specs.Checking.{table_demands, starts_at, count_at, end_from}
 use Rattle.build_required_rules.specs.declared.Lack.{Lack}
 use Rattle.build_required_rules.specs.declared.Lack.TheVariants.{Missing, Complete}
 
 -- a field stands among records where it is held among them
-pub has-held : (at depth tag i : ℕ) (rs : List Record) → held_from at depth tag rs ≡ At i → has depth tag rs ≡ true
+pub has-held : (at depth tag i : ℕ) (rs : List Record) → held_from at depth tag rs ≡ Some i → has depth tag rs ≡ true
 unfolding held_from has
 has-held at depth tag i [] e = let z : ◌≡◌ {A = ℕ} 0 1 = cc in absurd (omega arith)
 has-held at depth tag i (r ∷ rs) e = go (eqb r.depth depth) (eqb r.tag tag) e (has-held (at + 1) depth tag i rs)
   where
-    go : (d t : Bool) → pick d (pick t (At at) (held_from (at + 1) depth tag rs)) (held_from (at + 1) depth tag rs) ≡ At i → (held_from (at + 1) depth tag rs ≡ At i → has depth tag rs ≡ true) → pick d (pick t true (has depth tag rs)) (has depth tag rs) ≡ true
+    go : (d t : Bool) → pick d (pick t (Some at) (held_from (at + 1) depth tag rs)) (held_from (at + 1) depth tag rs) ≡ Some i → (held_from (at + 1) depth tag rs ≡ Some i → has depth tag rs ≡ true) → pick d (pick t true (has depth tag rs)) (has depth tag rs) ≡ true
     go true true e later = refl
     go true false e later = later e
     go false t e later = later e
 
-pub has_not : (at depth tag : ℕ) (rs : List Record) → held_from at depth tag rs ≡ Nowhere → has depth tag rs ≡ false
+pub has_not : (at depth tag : ℕ) (rs : List Record) → held_from at depth tag rs ≡ None → has depth tag rs ≡ false
 unfolding held_from has
 has_not at depth tag [] e = refl
 has_not at depth tag (r ∷ rs) e = go (eqb r.depth depth) (eqb r.tag tag) e (has_not (at + 1) depth tag rs)
   where
-    go : (d t : Bool) → pick d (pick t (At at) (held_from (at + 1) depth tag rs)) (held_from (at + 1) depth tag rs) ≡ Nowhere → (held_from (at + 1) depth tag rs ≡ Nowhere → has depth tag rs ≡ false) → pick d (pick t true (has depth tag rs)) (has depth tag rs) ≡ false
+    go : (d t : Bool) → pick d (pick t (Some at) (held_from (at + 1) depth tag rs)) (held_from (at + 1) depth tag rs) ≡ None → (held_from (at + 1) depth tag rs ≡ None → has depth tag rs ≡ false) → pick d (pick t true (has depth tag rs)) (has depth tag rs) ≡ false
     go true true e later = let z : ◌≡◌ {A = ℕ} 0 1 = cc in absurd (omega arith)
     go true false e later = later e
     go false t e later = later e
@@ -245,11 +243,11 @@ module _ (table : List ℕ) (group : Group) (r : Record) where
   count_not d = rw (ne_eqb _ _ d)
 
   module _ (d : r.depth ≡ group.depth) where
-    pub count-item : (position inner : ℕ) → item_of table group.level r.tag ≡ item.At position inner → count_at table group r ≡ inner
+    pub count-item : (position inner : ℕ) → item_of table group.level r.tag ≡ Some (position, inner) → count_at table group r ≡ inner
     unfolding count_at group_of_item
     count-item position inner e = rw (eq-eqb _ _ d, e)
 
-    pub count-nowhere : item_of table group.level r.tag ≡ item.Nowhere → count_at table group r ≡ 0
+    pub count-nowhere : item_of table group.level r.tag ≡ None → count_at table group r ≡ 0
     unfolding count_at group_of_item
     count-nowhere e = rw (eq-eqb _ _ d, e)
 

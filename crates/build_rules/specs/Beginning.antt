@@ -1,12 +1,10 @@
 -- From a message's bytes to the end of its header: integrity, the fields that it verified, and the rest of the header.
-use Rattle.std.specs.Prelude.{ℕ, List, [], ◌∷◌, Bool, true, false, take, drop, eqb}
+use Rattle.std.specs.Prelude.{ℕ, List, [], ◌∷◌, Bool, true, false, take, drop, eqb, Result, Ok, Err}
 use Rattle.field_rules.specs.Choice.{pick}
 use Rattle.field_rules.specs.Fields.{Fields, fields_from}
 use Rattle.field_rules.specs.declared.Field.{Field}
 use Rattle.build_config.specs.declared.Config.{Config}
 use Rattle.build_integrity_rules.specs.Integrity.{integrity_of}
-use Rattle.build_integrity_rules.specs.declared.Integrity.{Integrity}
-use Rattle.build_integrity_rules.specs.declared.Integrity.TheVariants.{Sound, Garbled}
 use Rattle.build_integrity_rules.specs.declared.Verified.{Verified}
 use Rattle.build_records.specs.Records.{blank, stored}
 use Rattle.build_records.specs.declared.Record.{Record}
@@ -14,6 +12,7 @@ use Rattle.build_answers.specs.declared.Answer.{Answer}
 use Rattle.build_answers.specs.declared.Answer.TheVariants.{Garbled as garbled}
 use Rattle.build_parts.specs.Parts.{Reading, ended, refused, part_record}
 use Rattle.build_parts.specs.Header.{header_from}
+use Rattle.build_integrity_rules.specs.declared.GarbledReason.{GarbledReason}
 
 -- the fields that were verified, in the order in which they were read
 unfoldable pub verified_records : Verified → List Record
@@ -35,9 +34,9 @@ unfoldable pub with_checksum : Field → Reading → Start
 with_checksum checksum (ended f rest room records) = started f rest room records checksum
 with_checksum checksum (refused answer) = unsound answer
 
-unfoldable pub started_by : List ℕ → Config → List ℕ → Integrity → Start
-started_by tags config message (Sound v) = with_checksum v.checksum (header_of tags config message v)
-started_by tags config message (Garbled reason) = unsound (garbled reason)
+unfoldable pub started_by : List ℕ → Config → List ℕ → Result Verified GarbledReason → Start
+started_by tags config message (Ok v) = with_checksum v.checksum (header_of tags config message v)
+started_by tags config message (Err reason) = unsound (garbled reason)
 
 unfoldable pub start_of : List ℕ → Config → List ℕ → Start
 start_of tags config message = started_by tags config message (integrity_of config.mode message)

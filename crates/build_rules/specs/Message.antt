@@ -1,5 +1,5 @@
 -- From a message's bytes to its answer and its records, by what a dictionary means: integrity, header, body and trailer in turn.
-use Rattle.std.specs.Prelude.{ℕ, suc, List, [], ◌∷◌, ◌++◌, Bool, true, false, leb}
+use Rattle.std.specs.Prelude.{ℕ, suc, List, [], ◌∷◌, ◌++◌, Bool, true, false, leb, Option, Some, None}
 use Rattle.build_records.specs.Records.{value_at}
 use Rattle.build_config.specs.declared.Config.{Config}
 use Rattle.field_rules.specs.Choice.{pick}
@@ -12,8 +12,6 @@ use Rattle.build_group_rules.specs.Reading.{accepted, layout_rules}
 use Rattle.build_required_rules.specs.Checking.{layout_demands}
 use Rattle.build_answers.specs.declared.Answer.{Answer}
 use Rattle.build_answers.specs.declared.Answer.TheVariants.{Valid, InvalidMsgType, TooManyFields}
-use Rattle.build_rules.specs.declared.Stop.{Stop}
-use Rattle.build_rules.specs.declared.Stop.TheVariants.{At, Nowhere}
 use Rattle.build_answers.specs.Answer.{number_of}
 use Rattle.build_parts.specs.Parts.{Reading, ended, refused, part_record}
 use Rattle.build_parts.specs.Trailer.{Trailer, stopped, unstopped, crowded, trailer_from}
@@ -25,19 +23,19 @@ use Rattle.build_body_rules.specs.Kinds.{body_of}
 pub record Outcome : Type 0 where
   pub answer : Answer
   pub records : List Record
-  pub stop : Stop
+  pub stop : Option Field
 
 -- "1 to 4 also header records"; 10 to 14 and 21: "no records"
 unfoldable pub shown_with : Answer → List Record → List Record
 shown_with answer header = pick (leb 1 (number_of answer)) (pick (leb (number_of answer) 4) header []) []
 
 unfoldable pub refusal : Answer → List Record → Outcome
-refusal answer header = record { answer = answer; records = shown_with answer header; stop = Nowhere }
+refusal answer header = record { answer = answer; records = shown_with answer header; stop = None }
 
 -- "Records .. stand in part and map order, each count followed by its entries"
 unfoldable pub after_trailer : List Record → List Record → Trailer → Outcome
-after_trailer header body (stopped f trailer) = record { answer = Valid; records = header ++ (body ++ trailer); stop = At f }
-after_trailer header body (unstopped trailer) = record { answer = Valid; records = header ++ (body ++ trailer); stop = Nowhere }
+after_trailer header body (stopped f trailer) = record { answer = Valid; records = header ++ (body ++ trailer); stop = Some f }
+after_trailer header body (unstopped trailer) = record { answer = Valid; records = header ++ (body ++ trailer); stop = None }
 after_trailer header body crowded = refusal TooManyFields header
 
 -- "The verified CheckSum stands first in the trailer."

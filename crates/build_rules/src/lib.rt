@@ -3,10 +3,3 @@
 #![tactic(auto)]
 
 use field_rules::Field;
-
-// The CheckSum that stopped the trailer, where one did.
-#[derive(Clone, Copy)]
-pub enum Stop {
-    At(Field),
-    Nowhere,
-}

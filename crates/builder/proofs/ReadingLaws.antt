@@ -1,8 +1,8 @@
 -- One law for each way of the functions that read a message whole: where the header was refused, where the body was, where it may not be followed or
 -- may; a dictionary that is refused; and each answer of the build before it reads.
-use Rattle.std.specs.Prelude.{◌≡◌, Bool, List, [], ◌∷◌, ◌++◌, ℕ, suc, ◌+◌, ◌-◌, ◌*◌, ◌≤◌, ◌<◌, length, eqb, leb, ltb}
+use Rattle.std.specs.Prelude.{◌≡◌, Bool, List, [], ◌++◌, ℕ, ◌-◌, ◌*◌, ◌≤◌, ◌<◌, length, eqb, leb, ltb}
 use Rattle.std.proofs.Math.Path.{refl}
-use Rattle.std.proofs.Common.{sym, ap, ◌∙◌, arith, length-take-le}
+use Rattle.std.proofs.Common.{sym, ap, ◌∙◌, arith, length-take-le, Option, None, Result, Ok, Err}
 use Rattle.std.proofs.Math.Bool.{true, false}
 use Rattle.std.proofs.Math.ListN.{take, replicate}
 use Rattle.std.proofs.Math.Seq.{take_at}
@@ -23,15 +23,9 @@ use Rattle.build_answers.specs.declared.Answer.{Answer}
 use Rattle.build_answers.specs.declared.Answer.TheVariants.{Valid, InvalidField, TooLong, InvalidSeparator, TooFewRecords, BadDictionary}
 use Rattle.build_answers.specs.Answer.{number_of}
 use Rattle.build_parts.specs.declared.Progress.{Progress}
-use Rattle.build_parts.specs.declared.PartRead.{PartRead}
-use Rattle.build_parts.specs.declared.PartRead.TheVariants.{At, Refused as Unread}
 use Rattle.build_parts.specs.Parts.{Reading, ended, part_of, part_told}
 use Rattle.build_body_rules.specs.Body.{must_follow}
 use Rattle.builder.specs.declared.Headed.{Headed}
-use Rattle.builder.specs.declared.Begun.{Begun}
-use Rattle.builder.specs.declared.Begun.TheVariants.{Header, Refused}
-use Rattle.build_rules.specs.declared.Stop.{Stop}
-use Rattle.build_rules.specs.declared.Stop.TheVariants.{Nowhere}
 use Rattle.builder.specs.declared.Tags.{Tags}
 use Rattle.build_rules.specs.Beginning.{Start, start_of}
 use Rattle.build_rules.specs.Message.{Outcome, shown_with, refusal, after_body, message_read}
@@ -66,7 +60,7 @@ shown-few answer header n e = rw e (go (leb 1 (number_of answer)) (leb (number_o
 
 -- a refusal, with what is shown of the header
 pub refused-told : (answer : Answer) (header n : ℕ) → n ≡ shown_count answer header → (words : List ℕ) →
-    read_told (record { answer = answer; stop = Nowhere; records = n }) words ≡ refusal answer (part_of 0 header words)
+    read_told (record { answer = answer; stop = None; records = n }) words ≡ refusal answer (part_of 0 header words)
 unfolding read_told refusal
 refused-told answer header n e words = rw (e, shown-part answer header words)
 
@@ -81,38 +75,38 @@ module _ (records index tables : List ℕ) (config : Config) (message : List ℕ
   abbrev from : List ℕ → Start → Outcome
   from = after_start records index tables config message
 
-  module _ (words : List ℕ) (kept : tags ≡ tags_kept tables) (begun : Begun)
+  module _ (words : List ℕ) (kept : tags ≡ tags_kept tables) (begun : Result Headed Answer)
       (told : start_told config.mode message begun words ≡ start_of (headers_by records index tables tags) config message) where
     begins : whole ≡ from trailers (start_told config.mode message begun words)
     unfolding message_by
     begins = through_tags tables tags kept records index config message ∙ rw told
 
     -- integrity or the header was refused
-    pub begun-refused : (answer : Answer) → begun ≡ Refused answer → (after : List ℕ) → refusal answer (part_of 0 0 after) ≡ whole
+    pub begun-refused : (answer : Answer) → begun ≡ Err answer → (after : List ℕ) → refusal answer (part_of 0 0 after) ≡ whole
     begun-refused answer e after = sym (begins ∙ refuses)
       where
         refuses : from trailers (start_told config.mode message begun words) ≡ refusal answer (part_of 0 0 after)
         refuses = unfold start_told after_start in rw (e, part-empty 0 after)
 
-    module _ (h : Headed) (e : begun ≡ Header h) (r : PartRead) (read : List ℕ)
+    module _ (h : Headed) (e : begun ≡ Ok h) (r : Result (Field × Progress) Answer) (read : List ℕ)
         (goes : (following : List ℕ) → body_told config.mode message h r read following
-        ≡ from following (start_told config.mode message (Header h) words)) where
+        ≡ from following (start_told config.mode message (Ok h) words)) where
       goes_on : whole ≡ body_told config.mode message h r read trailers
-      goes_on = begins ∙ ap (λ (b : Begun). from trailers (start_told config.mode message b words)) e ∙ sym (goes trailers)
+      goes_on = begins ∙ ap (λ (b : Result Headed Answer). from trailers (start_told config.mode message b words)) e ∙ sym (goes trailers)
 
       -- the header's records
       abbrev header : List Record
       header = part_of 0 h.progress.records read
 
       -- MsgType or the body was refused
-      pub body_refused : (answer : Answer) → r ≡ Unread answer → refusal answer header ≡ whole
+      pub body_refused : (answer : Answer) → r ≡ Err answer → refusal answer header ≡ whole
       body_refused answer q = sym (goes_on ∙ refuses)
         where
           refuses : body_told config.mode message h r read trailers ≡ refusal answer header
           refuses = unfold body_told part_told must_follow after_body in rw q
 
       -- the field that ended the body may not follow it, or it may
-      module _ (f : Field) (p : Progress) (at : r ≡ At f p) where
+      module _ (f : Field) (p : Progress) (at : r ≡ Ok (f, p)) where
         pub body_unfollowed : holds_tag f.tag trailers ≡ false → refusal (InvalidField f.tag) header ≡ whole
         body_unfollowed q = sym (goes_on ∙ refuses)
           where
@@ -207,7 +201,7 @@ reads-lent message config lent first is z = go (is_refused_separator config.mode
     go false false y e q = ltb-false lent 1024 e
 
 -- the records that were read, and blank ones behind them
-pub shows-read : (lent : ℕ) (answer : Answer) (stop : Stop) (n : ℕ) (words : List ℕ) → length words ≡ record_words → n ≤ record_room → (out : Outcome) → read_told (record { answer = answer; stop = stop; records = n }) words ≡ out → built_told (record { answer = answer; stop = stop; records = n; written = lent }) (take (stride * n) words ++ replicate (record_words - stride * n) 0) ≡ shown lent out
+pub shows-read : (lent : ℕ) (answer : Answer) (stop : Option Field) (n : ℕ) (words : List ℕ) → length words ≡ record_words → n ≤ record_room → (out : Outcome) → read_told (record { answer = answer; stop = stop; records = n }) words ≡ out → built_told (record { answer = answer; stop = stop; records = n; written = lent }) (take (stride * n) words ++ replicate (record_words - stride * n) 0) ≡ shown lent out
 unfolding read_told built_told shown
 shows-read lent answer stop n words size few out e = rw (← e, part_count words n size few, blanked words n size few)
 
@@ -224,7 +218,7 @@ module _ (b : Built) (words : List ℕ) where
   blanks-shown n = rw (ne_eqb b.written 0 n)
 
   -- nothing was read, or what was read is shown
-  pub told-untouched : (answer : Answer) → b ≡ record { answer = answer; stop = Nowhere; records = 0; written = 0 } → built_told b (shown_words b words) ≡ untouched answer words
+  pub told-untouched : (answer : Answer) → b ≡ record { answer = answer; stop = None; records = 0; written = 0 } → built_told b (shown_words b words) ≡ untouched answer words
   unfolding built_told shown_words untouched
   told-untouched answer e = rw e
 

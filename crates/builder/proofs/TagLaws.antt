@@ -1,6 +1,6 @@
 -- The tags that a message is read with: those of the two tables that are kept, or those that are listed, whose tables are laid where they are asked for.
 use Rattle.std.proofs.Math.Path.{◌≡◌, refl}
-use Rattle.std.proofs.Common.{sym, ap, ◌∙◌, length-append, length-drop, take_at, length-take-le}
+use Rattle.std.proofs.Common.{sym, ap, ◌∙◌, length-append, length-drop, take_at, length-take-le, Option, Some, None}
 use Rattle.std.specs.Prelude.{List, ◌++◌, ℕ, ◌+◌, ◌≤◌, length, take, drop}
 use native.Mathlib.Omega.{arith}
 use Rattle.build_config.specs.declared.Config.{Config}
@@ -10,8 +10,6 @@ use Rattle.dictionary_tables_rules.specs.Tags.{fields_of, tags_found}
 use Rattle.dictionary_tables_rules.proofs.TagsLaws.{tags_found_lem}
 use Rattle.dictionary_directory.specs.Directory.{tags_listed, tags_at, tag_words}
 use Rattle.dictionary_directory.proofs.DirectoryLaws.{tags_lie}
-use Rattle.dictionary_directory.specs.declared.Kept.{Kept}
-use Rattle.dictionary_directory.specs.declared.Kept.TheVariants.{Table, Nowhere}
 use Rattle.builder.specs.declared.Tags.{Tags}
 use Rattle.builder.specs.declared.Tags.TheVariants.{Both, Listed}
 use Rattle.builder.specs.Reading.{both_of, tags_kept, headers_by, trailers_by}
@@ -37,16 +35,16 @@ module _ (tags words after : List ℕ) (size : ℕ) (all : length words ≡ tag_
 
 -- both tables are kept, or one of them is not
 module _ (tables : List ℕ) where
-  pub kept-none : Nowhere ≡ tags_at tables 0 → Listed ≡ tags_kept tables
+  pub kept-none : None ≡ tags_at tables 0 → Listed ≡ tags_kept tables
   unfolding tags_kept both_of
   kept-none e = rw (← e)
 
-  module _ (from size : ℕ) (header : Table from size ≡ tags_at tables 0) where
-    pub kept_half : Nowhere ≡ tags_at tables 1 → Listed ≡ tags_kept tables
+  module _ (from size : ℕ) (header : Some (from, size) ≡ tags_at tables 0) where
+    pub kept_half : None ≡ tags_at tables 1 → Listed ≡ tags_kept tables
     unfolding tags_kept both_of
     kept_half e = rw (← header, ← e)
 
-    pub kept-both : (start long : ℕ) → Table start long ≡ tags_at tables 1 → Both from size start long ≡ tags_kept tables
+    pub kept-both : (start long : ℕ) → Some (start, long) ≡ tags_at tables 1 → Both from size start long ≡ tags_kept tables
     unfolding tags_kept both_of
     kept-both start long e = rw (← header, ← e)
 
@@ -60,9 +58,9 @@ module _ (tables : List ℕ) (tags : Tags) (is : tags ≡ tags_kept tables) wher
   unfolding tags_kept
   both_lie from size start long e = go (tags_at tables 0) (tags_at tables 1) refl refl (sym is ∙ e)
     where
-      go : (header trailer : Kept) → tags_at tables 0 ≡ header → tags_at tables 1 ≡ trailer → both_of header trailer ≡ Both from size start long →
+      go : (header trailer : Option (ℕ × ℕ)) → tags_at tables 0 ≡ header → tags_at tables 1 ≡ trailer → both_of header trailer ≡ Both from size start long →
           BothLie tables from size start long
-      go (Table a b) (Table c d) h t q =
+      go (Some (a, b)) (Some (c, d)) h t q =
           unfold both_of in
           let header = tags_lie tables 0 a b h in
           let trailer = tags_lie tables 1 c d t in
@@ -71,8 +69,8 @@ module _ (tables : List ℕ) (tags : Tags) (is : tags ≡ tags_kept tables) wher
           let behind : c ≡ start = cc in
           let also : d ≡ long = cc in
           record { header = omega arith; trailer = omega arith }
-      go (Table a b) Nowhere h t q = unfold both_of in let z : ◌≡◌ {A = ℕ} 0 1 = cc in absurd (omega arith)
-      go Nowhere trailer h t q = unfold both_of in let z : ◌≡◌ {A = ℕ} 0 1 = cc in absurd (omega arith)
+      go (Some (a, b)) None h t q = unfold both_of in let z : ◌≡◌ {A = ℕ} 0 1 = cc in absurd (omega arith)
+      go None trailer h t q = unfold both_of in let z : ◌≡◌ {A = ℕ} 0 1 = cc in absurd (omega arith)
 
   -- a message is read with these tags
   pub through_tags : (records index : List ℕ) (config : Config) (message : List ℕ) → message_through records index tables config message
@@ -80,12 +78,12 @@ module _ (tables : List ℕ) (tags : Tags) (is : tags ≡ tags_kept tables) wher
   unfolding tags_kept message_through
   through_tags records index config message = rw is (go (tags_at tables 0) (tags_at tables 1))
     where
-      go : (header trailer : Kept) → message_kept records index tables config message header trailer
+      go : (header trailer : Option (ℕ × ℕ)) → message_kept records index tables config message header trailer
           ≡ message_by records index tables config message (headers_by records index tables (both_of header trailer))
           (trailers_by records index tables (both_of header trailer))
-      go (Table from size) (Table start long) = unfold message_kept both_of headers_by trailers_by in refl
-      go (Table from size) Nowhere = unfold message_kept both_of headers_by trailers_by in refl
-      go Nowhere trailer = unfold message_kept both_of headers_by trailers_by in refl
+      go (Some (from, size)) (Some (start, long)) = unfold message_kept both_of headers_by trailers_by in refl
+      go (Some (from, size)) None = unfold message_kept both_of headers_by trailers_by in refl
+      go None trailer = unfold message_kept both_of headers_by trailers_by in refl
 
 module _ (records index tables : List ℕ) {tags : Tags} where
   -- of a table that is kept, the words that are cut out

@@ -2,11 +2,10 @@
 -- dictionary means; so a build over memory that `prepare` left is the build with that dictionary.
 use Rattle.std.specs.Prelude.{◌≡◌, Bool, true, false, length, take, drop, replicate}
 use Rattle.std.proofs.Math.Path.{refl}
-use Rattle.std.proofs.Common.{sym, ap, ◌∙◌, arith, take_at}
-use mathlib.Core.List.{List, [], ◌∷◌, ◌++◌}
-use Prim.Native.Nat.{ℕ, zero, suc, ◌≤◌}
+use Rattle.std.proofs.Common.{sym, ap, ◌∙◌, arith, take_at, Option, Some, None, ℕ}
+use mathlib.Core.List.{List, []}
+use Prim.Native.Nat.{ℕ, suc}
 use Rattle.std.proofs.Math.ListN.{length-replicate}
-use Rattle.field_rules.specs.Choice.{pick}
 use Rattle.field_rules.specs.Fields.{Fields, field}
 use Rattle.field_rules.specs.declared.Field.{Field}
 use Rattle.build_config.specs.declared.Config.{Config}
@@ -15,8 +14,6 @@ use Rattle.build_records.specs.declared.Record.{Record}
 use Rattle.dictionary_chains.specs.Chain.{index_words}
 use Rattle.dictionary_rules.specs.Check.{check_of, number_of_check}
 use Rattle.dictionary_rules.specs.Index.{tag_at}
-use Rattle.dictionary_rules.specs.declared.Placed.{Placed}
-use Rattle.dictionary_rules.specs.declared.Placed.TheVariants.{At, Nowhere}
 use Rattle.dictionary_layout_rules.specs.Layout.{Layout, items}
 use Rattle.dictionary_layout_rules.proofs.RowsLayoutLaws.{layout_held}
 use Rattle.dictionary_layout_rules.specs.Tree.{Choice, knows, header_tags_lem, trailer_tags_lem, layout_of}
@@ -26,7 +23,6 @@ use Rattle.dictionary_tables_rules.proofs.TagsLaws.{tags_found_lem}
 use Rattle.dictionary_directory.specs.Directory.{kept_at, listed_tags, tags_listed, tags_at, lay_tables}
 use Rattle.dictionary_directory.proofs.KeptLaws.{kept-short, tags-short}
 use Rattle.dictionary_directory.proofs.DirectoryLaws.{Leads, nowhere, a-table as leads-table, laid_leads, TagsLead, tags-nowhere, a-tags-table, tags-lead}
-use Rattle.dictionary_directory.specs.declared.Kept.{Kept}
 use Rattle.dictionary_prepared.specs.Memory.{head_words, is_prepared, records_in, index_in, tables_in, index_for, preparation, prepared}
 use Rattle.build_answers.specs.declared.Answer.TheVariants.{NotPrepared}
 use Rattle.dictionary_prepared.proofs.MemoryLaws.{ready_passes, ready_stands, ready_records, ready_index, ready_tables}
@@ -34,7 +30,6 @@ use Rattle.dictionary_prepared.specs.declared.Preparing.TheVariants.{Ready}
 use Rattle.dictionary_meaning_rules.specs.Meaning.{dictionary_of}
 use Rattle.dictionary_meaning_rules.proofs.MsgTypeText.{Bytes, take-bytes, drop-bytes}
 use Rattle.dictionary_meaning_rules.specs.MessageTable.{Tabling, place_of, placed_table, message_table}
-use Rattle.dictionary_meaning_rules.specs.PlainTags.{plain_tags}
 use Rattle.dictionary_meaning_rules.proofs.TagsMeant.{header-listed, trailer-listed}
 use Rattle.dictionary_meaning_rules.proofs.Theorem.{TableOf, no_table, a-table, tables_mean_tree}
 use Rattle.dictionary_meaning_rules.proofs.KnownTags.{tags-known}
@@ -57,7 +52,7 @@ pub record Sound (d index tables : List ℕ) : Type 0 where
   pub listed : (number : ℕ) → TagsLead d index tables number (tags_at tables number)
 
 -- then the tags that are kept are those that are listed
-kept-listed : (d index tables : List ℕ) (config : Config) (message : List ℕ) {header trailer : Kept} → TagsLead d index tables 0 header → TagsLead d index tables 1 trailer →
+kept-listed : (d index tables : List ℕ) (config : Config) (message : List ℕ) {header trailer : Option (ℕ × ℕ)} → TagsLead d index tables 0 header → TagsLead d index tables 1 trailer →
     message_kept d index tables config message header trailer ≡ message_listed d index tables config message
 unfolding message_kept
 kept-listed d index tables config message tags-nowhere t = refl
@@ -104,17 +99,17 @@ module _ (d index : List ℕ) (p : Prepared d index) where
         rw (trailer_through, layout_held rows (items layout) layout tabled) (known-after (trailer_tags_lem (dictionary_of d)) layout)
 
     -- and so by the table that is kept, where that is the one that would be laid
-    kept-after : (trailers tables : List ℕ) (place : ℕ) {kept : Kept} → Leads d index tables place kept →
-        after_kept trailers f rest room header checksum d index config tables place kept ≡ after_table trailers f rest room header checksum d index config (placed_table d index (At place) (replicate 4096 0))
+    kept-after : (trailers tables : List ℕ) (place : ℕ) {kept : Option (ℕ × ℕ)} → Leads d index tables place kept →
+        after_kept trailers f rest room header checksum d index config tables place kept ≡ after_table trailers f rest room header checksum d index config (placed_table d index (Some place) (replicate 4096 0))
     unfolding after_kept
     kept-after trailers tables place nowhere = refl
     kept-after trailers tables place (leads-table {count} {rows} laid table lies) = layout_after trailers f rest room header checksum d index config _ count rows laid table
 
-    placed-after : (trailers tables : List ℕ) → ((place : ℕ) → Leads d index tables place (kept_at tables place)) → (placed : Placed) →
+    placed-after : (trailers tables : List ℕ) → ((place : ℕ) → Leads d index tables place (kept_at tables place)) → (placed : Option ℕ) →
         after_placed trailers f rest room header checksum d index config tables placed ≡ after_table trailers f rest room header checksum d index config (placed_table d index placed (replicate 4096 0))
     unfolding after_placed
-    placed-after trailers tables leads Nowhere = unfold placed_table after_table in refl
-    placed-after trailers tables leads (At place) = kept-after trailers tables place (leads place)
+    placed-after trailers tables leads None = unfold placed_table after_table in refl
+    placed-after trailers tables leads (Some place) = kept-after trailers tables place (leads place)
 
   -- with the tags that are listed
   listed_means : Bytes d → (tables : List ℕ) → Sound d index tables → (message : List ℕ) → Bytes message → (config : Config) → message_listed d index tables config message ≡ message_read (dictionary_of d) config message

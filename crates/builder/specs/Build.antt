@@ -1,6 +1,6 @@
 -- The build: "22, 23, 20, 30 to 37 of its dictionary (no records), then reads". For every message, dictionary, separator, setting and
 -- number of lent records: the answer, the records that are shown, and what is written over the lent ones.
-use Rattle.std.specs.Prelude.{ℕ, ◌-◌, ◌*◌, List, [], ◌++◌, length, take, replicate, eqb, ltb}
+use Rattle.std.specs.Prelude.{ℕ, ◌-◌, ◌*◌, List, [], ◌++◌, length, take, replicate, eqb, ltb, Option, None}
 use Rattle.field_rules.specs.Choice.{pick}
 use Rattle.field_rules.specs.Separator.{is_refused_separator}
 use Rattle.build_config.specs.declared.Config.{Config}
@@ -11,15 +11,14 @@ use Rattle.build_records.specs.Records.{laid, record_words, stride}
 use Rattle.build_records.specs.declared.Record.{Record}
 use Rattle.build_answers.specs.declared.Answer.{Answer}
 use Rattle.build_answers.specs.declared.Answer.TheVariants.{Valid, TooLong as MessageTooLong, InvalidSeparator, TooFewRecords, BadDictionary}
-use Rattle.build_rules.specs.declared.Stop.{Stop}
-use Rattle.build_rules.specs.declared.Stop.TheVariants.{Nowhere}
 use Rattle.builder.specs.declared.Built.{Built}
 use Rattle.build_rules.specs.Message.{Outcome, refusal, message_read}
+use Rattle.field_rules.specs.declared.Field.{Field}
 
 -- the answer, what stopped the trailer, how many records are shown, over how many of the lent ones is written, and the core's words
 pub record BuildOutcome : Type 0 where
   pub answer : Answer
-  pub stop : Stop
+  pub stop : Option Field
   pub records : ℕ
   pub written : ℕ
   pub words : List ℕ
@@ -30,7 +29,7 @@ words_with records = laid records ++ replicate (record_words - length (laid reco
 
 -- 20, 22 and 23 leave the records as they were
 unfoldable pub untouched : Answer → List ℕ → BuildOutcome
-untouched answer words = record { answer = answer; stop = Nowhere; records = 0; written = 0; words = words }
+untouched answer words = record { answer = answer; stop = None; records = 0; written = 0; words = words }
 
 -- an answer with its records, and over all that are lent is written
 unfoldable pub shown : ℕ → Outcome → BuildOutcome

@@ -1,9 +1,9 @@
 -- The records of header, body and trailer stand one behind the other, so what is left of a message after its body is what the code leaves.
-use Rattle.std.specs.Prelude.{◌≡◌, refl, length}
+use Rattle.std.specs.Prelude.{◌≡◌, Some, None}
 use Rattle.std.proofs.Math.Path.{sym, ap}
 use Rattle.std.proofs.Common.{◌∙◌}
 use mathlib.Core.List.{List, [], ◌∷◌, ◌++◌, append_assoc}
-use Prim.Native.Nat.{ℕ, suc, ◌+◌, ◌-◌, ◌/◌, ◌≤◌, ◌<◌}
+use Prim.Native.Nat.{ℕ, suc, ◌+◌, ◌≤◌}
 use native.Mathlib.Omega.{arith}
 use Rattle.field_rules.specs.declared.Mode.{Mode}
 use Rattle.field_rules.specs.Fields.{field, fields_from}
@@ -15,7 +15,6 @@ use Rattle.build_answers.specs.declared.Answer.TheVariants.{Valid, TooManyFields
 use Rattle.build_parts.specs.declared.Progress.{Progress}
 use Rattle.build_parts.specs.declared.TrailerRead.{TrailerRead}
 use Rattle.build_parts.specs.declared.TrailerRead.TheVariants.{Stopped, Unstopped, TooManyFields as Crowded}
-use Rattle.build_rules.specs.declared.Stop.TheVariants.{At as stops, Nowhere}
 use Rattle.build_parts.specs.Parts.{ended, part_record, part_of, Kept}
 use Rattle.build_body_rules.proofs.RunLaws.{between_split}
 use Rattle.build_body_rules.proofs.GroupReading.{front_is, front-parts}
@@ -69,12 +68,12 @@ module _ (mode : Mode) (message : List ℕ) (header : ℕ) (checksum : Field) (e
       (sym (front_is p.records (records_of exit)) ∙ front ∙ keeps.before ∙ front_is p.records (records_of entry))
 
   pub close-stopped : (stop : Field) (all : ℕ) → trailer ≡ Stopped stop all → p.records ≤ all →
-      read_told (record { answer = Valid; stop = stops stop; records = all }) exit ≡ whole
+      read_told (record { answer = Valid; stop = Some stop; records = all }) exit ≡ whole
   unfolding read_told after_trailer trailer_told
   close-stopped stop all t h = sym (left ∙ rw (t, parts all h))
 
   pub close-unstopped : (all : ℕ) → trailer ≡ Unstopped all → p.records ≤ all →
-      read_told (record { answer = Valid; stop = Nowhere; records = all }) exit ≡ whole
+      read_told (record { answer = Valid; stop = None; records = all }) exit ≡ whole
   unfolding read_told after_trailer trailer_told
   close-unstopped all t h = sym (left ∙ rw (t, parts all h))
 

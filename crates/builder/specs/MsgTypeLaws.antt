@@ -1,10 +1,10 @@
 -- Where the header ended, the record that MsgType is taken from lies in the message, so that its value can be cut out.
 -- Every field that was read lies in it, those that were verified too; storing keeps this of every record of the header.
 use Rattle.std.proofs.Math.Path.{◌≡◌}
-use Rattle.std.specs.Prelude.{refl, Bool, eqb, length}
+use Rattle.std.specs.Prelude.{Bool, eqb, length, Ok}
 use Rattle.std.proofs.Math.Bool.{true, false}
 use mathlib.Core.List.{List, [], ◌∷◌}
-use Prim.Native.Nat.{ℕ, zero, suc, ◌+◌, ◌-◌, ◌≤◌}
+use Prim.Native.Nat.{ℕ, zero, suc, ◌+◌, ◌≤◌}
 use native.Mathlib.Omega.{arith}
 use Rattle.field_rules.proofs.FieldsLaws.{step-inside, all-inside}
 use Rattle.field_rules.specs.declared.Mode.{Mode}
@@ -13,7 +13,6 @@ use Rattle.field_rules.specs.Choice.{pick}
 use Rattle.field_rules.specs.Fields.{Fields, unreadable, field, Each, each_end, each_field, Inside}
 use Rattle.field_rules.specs.declared.Field.{Field}
 use Rattle.build_integrity_rules.specs.Integrity.{integrity_of}
-use Rattle.build_integrity_rules.specs.declared.Integrity.TheVariants.{Sound}
 use Rattle.build_integrity_rules.specs.declared.Verified.{Verified}
 use Rattle.dictionary_layout_rules.specs.Tree.{holds_tag}
 use Rattle.build_records.specs.Records.{stored}
@@ -78,7 +77,7 @@ module _ (message : List ℕ) where
 
 -- the record that MsgType is taken from lies in the message
 pub msg_type-inside : (tags : List ℕ) (config : Config) (message : List ℕ) (v : Verified) (f : Field) (rest : Fields) (room : ℕ) (records : List Record) →
-    integrity_of config.mode message ≡ Sound v → header_of tags config message v ≡ ended f rest room records →
+    integrity_of config.mode message ≡ Ok v → header_of tags config message v ≡ ended f rest room records →
     (msg_type_record records).place + (msg_type_record records).length ≤ length message
 unfolding header_of
 msg_type-inside tags config message v f rest room records sound ends =

@@ -1,5 +1,5 @@
 -- How the code's answers on its way are told, and what holds where it calls the next function.
-use Rattle.std.specs.Prelude.{ℕ, zero, suc, ◌+◌, ◌≤◌, ◌<◌, ◌/◌, ◌^◌, ◌≡◌, List, Bool, true, false, length, take, drop, eqb, leb}
+use Rattle.std.specs.Prelude.{ℕ, ◌+◌, ◌≤◌, ◌<◌, ◌/◌, ◌^◌, ◌≡◌, List, length, take, drop, leb, Option, Some, None, Result, Ok, Err}
 use Rattle.dictionary_chains.specs.Chain.{index_words}
 use Rattle.build_records.specs.Records.{stride}
 use Rattle.field_rules.specs.Choice.{pick}
@@ -8,23 +8,20 @@ use Rattle.field_rules.specs.declared.Mode.{Mode}
 use Rattle.build_integrity_rules.specs.declared.Verified.{Verified}
 use Rattle.dictionary_tables_rules.specs.Tags.{tags_found}
 use Rattle.dictionary_directory.specs.Directory.{tags_listed, tags_at}
-use Rattle.dictionary_directory.specs.declared.Kept.{Kept}
-use Rattle.dictionary_directory.specs.declared.Kept.TheVariants.{Table, Nowhere}
 use Rattle.dictionary_rules.specs.Check.{check_of, store_of, prepared_of}
 use Rattle.dictionary_rules.specs.declared.Checked.TheVariants.{Passes}
 use Rattle.build_answers.specs.declared.Answer.{Answer}
 use Rattle.build_answers.specs.Answer.{number_of}
-use Rattle.build_parts.specs.declared.PartRead.{PartRead}
 use Rattle.build_parts.specs.Parts.{part_of, part_told}
 use Rattle.build_body_rules.specs.Body.{must_follow}
 use Rattle.builder.specs.declared.Headed.{Headed}
-use Rattle.builder.specs.declared.Begun.{Begun}
-use Rattle.builder.specs.declared.Begun.TheVariants.{Header, Refused}
 use Rattle.builder.specs.declared.Tags.{Tags}
 use Rattle.builder.specs.declared.Tags.TheVariants.{Both, Listed}
 use Rattle.builder.specs.declared.Read.{Read}
 use Rattle.build_rules.specs.Beginning.{Start, started, unsound, msg_type_record}
 use Rattle.build_rules.specs.Message.{Outcome, after_body}
+use Rattle.build_parts.specs.declared.Progress.{Progress}
+use Rattle.field_rules.specs.declared.Field.{Field}
 
 -- a record can hold the places of the fields that were verified
 pub record VerifiedInside (v : Verified) : Type 0 where
@@ -33,21 +30,21 @@ pub record VerifiedInside (v : Verified) : Type 0 where
   pub types : (v.msg_type.place < 2 ^ 32) × (v.msg_type.length < 2 ^ 32)
 
 -- what the code answers at the end of the header, with the words that it leaves
-unfoldable pub start_told : Mode → List ℕ → Begun → List ℕ → Start
-start_told mode message (Header h) words =
+unfoldable pub start_told : Mode → List ℕ → Result Headed Answer → List ℕ → Start
+start_told mode message (Ok h) words =
     started h.stop (fields_from mode message h.stop.next) h.progress.room (part_of 0 h.progress.records words) h.checksum
-start_told mode message (Refused answer) words = unsound answer
+start_told mode message (Err answer) words = unsound answer
 
 -- what the code answers behind a header, with the words that it leaves: the body, judged by the tags that may follow it, and its trailer
-unfoldable pub body_told : Mode → List ℕ → Headed → PartRead → List ℕ → List ℕ → Outcome
+unfoldable pub body_told : Mode → List ℕ → Headed → Result (Field × Progress) Answer → List ℕ → List ℕ → Outcome
 body_told mode message h r words trailers =
     after_body (part_of 0 h.progress.records words) h.checksum (must_follow trailers (part_told mode message h.progress.records r words))
 
 -- two tables of tags that are kept, both or none
-unfoldable pub both_of : Kept → Kept → Tags
-both_of (Table from size) (Table start long) = Both from size start long
-both_of (Table from size) Nowhere = Listed
-both_of Nowhere trailers = Listed
+unfoldable pub both_of : Option (ℕ × ℕ) → Option (ℕ × ℕ) → Tags
+both_of (Some (from, size)) (Some (start, long)) = Both from size start long
+both_of (Some (from, size)) None = Listed
+both_of None trailers = Listed
 
 unfoldable pub tags_kept : List ℕ → Tags
 tags_kept tables = both_of (tags_at tables 0) (tags_at tables 1)
@@ -69,8 +66,8 @@ pub record HeaderEnds (message words : List ℕ) (h : Headed) : Type 0 where
   pub fits : h.progress.records + h.progress.room < length words / stride
   pub types : (msg_type_record (part_of 0 h.progress.records words)).place + (msg_type_record (part_of 0 h.progress.records words)).length ≤ length message
 
-pub record Begins (message words : List ℕ) (r : Begun) : Type 0 where
-  pub ends : (h : Headed) → r ≡ Header h → HeaderEnds message words h
+pub record Begins (message words : List ℕ) (r : Result Headed Answer) : Type 0 where
+  pub ends : (h : Headed) → r ≡ Ok h → HeaderEnds message words h
 
 -- a dictionary that passed its check, and the index that the check left
 pub record Prepared (dictionary index : List ℕ) : Type 0 where

@@ -2,7 +2,7 @@
 -- records; MsgType chooses the table that is kept for it or laid from the records, and where none can be laid the dictionary has no such message. Where
 -- the records are a dictionary that passed its check, the index is what the check left, and the tables are none or those that were laid, this is what
 -- the dictionary means (ThroughLaws).
-use Rattle.std.specs.Prelude.{ℕ, suc, List, [], Bool, take, drop, replicate}
+use Rattle.std.specs.Prelude.{ℕ, suc, List, [], take, drop, replicate, Option, Some, None}
 use Rattle.field_rules.specs.Choice.{pick}
 use Rattle.field_rules.specs.Fields.{Fields, field}
 use Rattle.field_rules.specs.declared.Field.{Field}
@@ -10,13 +10,9 @@ use Rattle.build_config.specs.declared.Config.{Config}
 use Rattle.build_records.specs.Records.{value_at}
 use Rattle.build_records.specs.declared.Record.{Record}
 use Rattle.dictionary_rules.specs.Index.{tag_at}
-use Rattle.dictionary_rules.specs.declared.Placed.{Placed}
-use Rattle.dictionary_rules.specs.declared.Placed.TheVariants as placed
 use Rattle.dictionary_layout_rules.specs.RowsLayout.{layout_in}
 use Rattle.dictionary_tables_rules.specs.Tags.{tags_found}
 use Rattle.dictionary_directory.specs.Directory.{kept_at, tags_listed, tags_at}
-use Rattle.dictionary_directory.specs.declared.Kept.{Kept}
-use Rattle.dictionary_directory.specs.declared.Kept.TheVariants.{Table, Nowhere}
 use Rattle.dictionary_prepared.specs.Memory.{is_prepared, records_in, index_in, tables_in}
 use Rattle.dictionary_meaning_rules.specs.MessageTable.{Tabling, tabling, place_of, placed_table}
 use Rattle.dictionary_meaning_rules.specs.declared.MessageTable.TheVariants.{Rows, NoMessage, Unprepared}
@@ -48,13 +44,13 @@ module _ (trailers : List ℕ) (f : Field) (rest : Fields) (room : ℕ) (header 
     after_table (tabling Unprepared rows) = unknown_type header
 
     -- by the table that is kept for the message whose record stands at a place, whatever its words are
-    unfoldable pub after_kept : List ℕ → ℕ → Kept → Outcome
-    after_kept tables place (Table from size) = after_level (table_rules config (take size (drop from tables)) (tag_at index)) (table_demands (take size (drop from tables))) 0
-    after_kept tables place Nowhere = after_table (placed_table records index (placed.At place) (replicate 4096 0))
+    unfoldable pub after_kept : List ℕ → ℕ → Option (ℕ × ℕ) → Outcome
+    after_kept tables place (Some (from, size)) = after_level (table_rules config (take size (drop from tables)) (tag_at index)) (table_demands (take size (drop from tables))) 0
+    after_kept tables place None = after_table (placed_table records index (Some place) (replicate 4096 0))
 
-    unfoldable pub after_placed : List ℕ → Placed → Outcome
-    after_placed tables placed.Nowhere = unknown_type header
-    after_placed tables (placed.At place) = after_kept tables place (kept_at tables place)
+    unfoldable pub after_placed : List ℕ → Option ℕ → Outcome
+    after_placed tables None = unknown_type header
+    after_placed tables (Some place) = after_kept tables place (kept_at tables place)
 
 module _ (records index tables : List ℕ) (config : Config) (message : List ℕ) where
   unfoldable pub after_start : List ℕ → Start → Outcome
@@ -72,11 +68,11 @@ module _ (records index tables : List ℕ) (config : Config) (message : List ℕ
   message_listed = message_by records index tables config message (tags_listed records index 0) (tags_listed records index 1)
 
   -- by the tables that are kept for the header's tags and for the trailer's, whatever their words are; where not both are kept, the tags are listed
-  unfoldable pub message_kept : Kept → Kept → Outcome
-  message_kept (Table from size) (Table start long) =
+  unfoldable pub message_kept : Option (ℕ × ℕ) → Option (ℕ × ℕ) → Outcome
+  message_kept (Some (from, size)) (Some (start, long)) =
       message_by records index tables config message (tags_found (take size (drop from tables))) (tags_found (take long (drop start tables)))
-  message_kept (Table from size) Nowhere = message_listed
-  message_kept Nowhere trailers = message_listed
+  message_kept (Some (from, size)) None = message_listed
+  message_kept None trailers = message_listed
 
   unfoldable pub message_through : Outcome
   message_through = message_kept (tags_at tables 0) (tags_at tables 1)

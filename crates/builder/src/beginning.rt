@@ -8,11 +8,11 @@ ghost use Rattle.build_parts.specs.Parts.{part_of};
 ghost use Rattle.build_rules.specs.Beginning.{verified_records, start_of};
 ghost use Rattle.builder.specs.Reading.{VerifiedInside, start_told, Begins, tags_kept, headers_by};
 
-use crate::{Begun, Headed, Tags};
+use crate::{Headed, Tags};
 use build_answers::Answer;
 use build_config::Config;
-use build_integrity_rules::{Integrity, Verified};
-use build_parts::{PartRead, Progress};
+use build_integrity_rules::Verified;
+use build_parts::Progress;
 
 // How many fields may be read behind the three that are verified: a 1,025th is too many.
 const ROOM: usize = 1021;
@@ -31,14 +31,19 @@ fn keep_verified(words: &mut [u32], verified: Verified) -> usize
 }
 
 // Integrity, and the header behind the fields that it verified.
-fn begin(message: &[u8], config: Config, header_tags: &[u16], words: &mut [u32]) -> Begun
+fn begin(
+    message: &[u8],
+    config: Config,
+    header_tags: &[u16],
+    words: &mut [u32],
+) -> Result<Headed, Answer>
     requires { (length message.now < 2 ^ 32) × (length words.old ≡ record_words) }
     ensures words_after { start_told config.mode message.now result words.new ≡ start_of (tags_found header_tags.now) config message.now }
     ensures begins { Begins message.now words.new result }
 {
     match build_integrity::verify(message, config.mode) {
-        Integrity::Garbled(reason) => Begun::Refused(Answer::Garbled(reason)),
-        Integrity::Sound(verified) => {
+        Err(reason) => Err(Answer::Garbled(reason)),
+        Ok(verified) => {
             let msg_type = verified.msg_type;
             let behind = msg_type.next;
             let checksum = verified.checksum;
@@ -47,8 +52,8 @@ fn begin(message: &[u8], config: Config, header_tags: &[u16], words: &mut [u32])
                 records: keep_verified(words, verified),
             };
             match build_parts::read_header(message, config, header_tags, behind, words, kept) {
-                PartRead::Refused(answer) => Begun::Refused(answer),
-                PartRead::At(stop, progress) => Begun::Header(Headed {
+                Err(answer) => Err(answer),
+                Ok((stop, progress)) => Ok(Headed {
                     stop,
                     progress,
                     checksum,
@@ -65,7 +70,7 @@ fn begin_listed(
     dictionary: &[u8],
     index: &[u16],
     words: &mut [u32],
-) -> Begun
+) -> Result<Headed, Answer>
     requires { (length message.now < 2 ^ 32) × (length words.old ≡ record_words) × (length index.now ≡ index_words) }
     ensures words_after { start_told config.mode message.now result words.new ≡ start_of (tags_listed dictionary.now index.now 0) config message.now }
     ensures begins { Begins message.now words.new result }
@@ -84,7 +89,7 @@ pub fn begin_by(
     tables: &[u16],
     tags: Tags,
     words: &mut [u32],
-) -> Begun
+) -> Result<Headed, Answer>
     requires { (length message.now < 2 ^ 32) × (length words.old ≡ record_words) × (length index.now ≡ index_words) × (tags ≡ tags_kept tables.now) }
     ensures words_after { start_told config.mode message.now result words.new ≡ start_of (headers_by dictionary.now index.now tables.now tags) config message.now }
     ensures begins { Begins message.now words.new result }

@@ -1,9 +1,8 @@
 // Body and trailer behind a header. The body is read by the table of its MsgType, the one that is kept or else the one that is laid from the records;
 // then the trailer's tags are asked for, once, and the trailer is read.
-ghost use Rattle.std.specs.Prelude.{◌≡◌, List, ℕ, suc, ◌≤◌, ◌<◌, ◌/◌, ◌^◌, length, replicate};
+ghost use Rattle.std.specs.Prelude.{◌≡◌, List, ℕ, suc, ◌≤◌, ◌<◌, ◌/◌, ◌^◌, length, replicate, Some, Ok};
 ghost use Rattle.build_records.specs.Records.{record_words, record_room, stride};
 ghost use Rattle.dictionary_rules.specs.Index.{tag_at};
-ghost use Rattle.dictionary_rules.specs.declared.Placed.TheVariants.{At};
 ghost use Rattle.dictionary_layout_rules.specs.Tree.{holds_tag};
 ghost use Rattle.dictionary_directory.specs.Directory.{tags_listed};
 ghost use Rattle.field_rules.specs.Fields.{fields_from, Inside};
@@ -14,18 +13,14 @@ ghost use Rattle.dictionary_chains.specs.Chain.{index_words};
 ghost use Rattle.build_parts.specs.Parts.{ended, part_of, Ends, Stays};
 ghost use Rattle.build_rules.specs.Beginning.{msg_type_record};
 ghost use Rattle.build_rules.specs.Message.{after_body};
-ghost use Rattle.builder.specs.declared.Begun.TheVariants.{Header};
 ghost use Rattle.builder.specs.Reading.{start_told, HeaderEnds, body_told, tags_kept, trailers_by, read_told};
 ghost use Rattle.builder.specs.Through.{after_level, after_table, after_start};
 
 use crate::{Headed, Read, Tags, showing};
 use build_answers::Answer;
 use build_config::Config;
-use build_parts::{PartRead, Progress, TrailerRead};
+use build_parts::{Progress, TrailerRead};
 use build_records::Record;
-use build_rules::Stop;
-use dictionary_directory::Kept;
-use dictionary_rules::Placed;
 use field_rules::Field;
 
 const MSG_TYPE: u32 = 35;
@@ -38,7 +33,7 @@ fn read_by_table(
     index: &[u16],
     headed: Headed,
     words: &mut [u32],
-) -> PartRead
+) -> Result<(Field, Progress), Answer>
     requires { (length message.now < 2 ^ 32) × (length words.old ≡ record_words) × HeaderEnds message.now words.old headed × (length index.now ≡ index_words) }
     ensures by_index { (trailers : List ℕ) → body_told config.mode message.now headed result words.new trailers
         ≡ after_level trailers headed.stop (fields_from config.mode message.now headed.stop.next) headed.progress.room
@@ -66,13 +61,11 @@ fn msg_type_of(words: &[u32], count: usize) -> Record
     requires { count ≤ length words.now / stride }
     ensures { result ≡ msg_type_record (part_of 0 count words.now) }
 {
-    let mut i: usize = 0;
-    while i < count {
+    for i in 0..count {
         let found = build_records::record_at(words, i);
         if found.tag == MSG_TYPE {
             return found;
         }
-        i += 1;
     }
     build_records::record_at(words, words.len())
 }
@@ -88,28 +81,18 @@ fn read_laid(
     msg_type: Record,
     headed: Headed,
     words: &mut [u32],
-) -> PartRead
+) -> Result<(Field, Progress), Answer>
     requires { (length message.now < 2 ^ 32) × (length words.old ≡ record_words) × HeaderEnds message.now words.old headed × (length index.now ≡ index_words) × (msg_type ≡ msg_type_record (part_of 0 headed.progress.records words.old)) }
     ensures by_index { (trailers : List ℕ) → body_told config.mode message.now headed result words.new trailers
         ≡ after_table trailers headed.stop (fields_from config.mode message.now headed.stop.next) headed.progress.room
         (part_of 0 headed.progress.records words.old) headed.checksum dictionary.now index.now config
-        (placed_table dictionary.now index.now (At opening) (replicate 4096 0)) }
+        (placed_table dictionary.now index.now (Some opening) (replicate 4096 0)) }
     ensures stays { Stays message.now words.old words.new headed.progress.records (suc headed.progress.room) result }
 {
     let mut table = [0u16; dictionary_directory::TABLE_WORDS];
     match dictionary_directory::lay_table(dictionary, index, opening, &mut table) {
-        Kept::Table(_, size) => read_by_table(
-            message,
-            config,
-            &table[..size],
-            index,
-            headed,
-            words,
-        ),
-        Kept::Nowhere => PartRead::Refused(Answer::InvalidMsgType(
-            msg_type.place as usize,
-            msg_type.length as usize,
-        )),
+        Some((_, size)) => read_by_table(message, config, &table[..size], index, headed, words),
+        None => Err(Answer::InvalidMsgType(msg_type.place as usize, msg_type.length as usize)),
     }
 }
 
@@ -122,9 +105,9 @@ pub fn read_headed(
     tables: &[u16],
     headed: Headed,
     words: &mut [u32],
-) -> PartRead
+) -> Result<(Field, Progress), Answer>
     requires { (length message.now < 2 ^ 32) × (length words.old ≡ record_words) × HeaderEnds message.now words.old headed × (length index.now ≡ index_words) }
-    ensures by_index { (trailers : List ℕ) → body_told config.mode message.now headed result words.new trailers ≡ after_start dictionary.now index.now tables.now config message.now trailers (start_told config.mode message.now (Header headed) words.old) }
+    ensures by_index { (trailers : List ℕ) → body_told config.mode message.now headed result words.new trailers ≡ after_start dictionary.now index.now tables.now config message.now trailers (start_told config.mode message.now (Ok headed) words.old) }
     ensures stays { Stays message.now words.old words.new headed.progress.records (suc headed.progress.room) result }
 {
     let progress = headed.progress;
@@ -132,11 +115,11 @@ pub fn read_headed(
     let place = msg_type.place as usize;
     let length = msg_type.length as usize;
     let placed = dictionary_flattening::place_of(index, &message[place..place + length]);
-    let Placed::At(opening) = placed else {
-        return PartRead::Refused(Answer::InvalidMsgType(place, length));
+    let Some(opening) = placed else {
+        return Err(Answer::InvalidMsgType(place, length));
     };
-    let kept = dictionary_directory::table_at(tables, dictionary_chains::wide(opening) as usize);
-    let Kept::Table(from, size) = kept else {
+    let kept = dictionary_directory::table_at(tables, usize::from(opening));
+    let Some((from, size)) = kept else {
         return read_laid(
             message, config, dictionary, index, opening, msg_type, headed, words,
         );
@@ -195,12 +178,12 @@ pub fn close(
     match build_parts::read_trailer(message, config, first, words, from, progress) {
         TrailerRead::Stopped(stop, count) => Read {
             answer: Answer::Valid,
-            stop: Stop::At(stop),
+            stop: Some(stop),
             records: count,
         },
         TrailerRead::Unstopped(count) => Read {
             answer: Answer::Valid,
-            stop: Stop::Nowhere,
+            stop: None,
             records: count,
         },
         TrailerRead::TooManyFields => showing::refused(Answer::TooManyFields, header.records),

@@ -7,7 +7,7 @@ mod beginning;
 mod finishing;
 mod showing;
 
-ghost use Rattle.std.specs.Prelude.{◌≡◌, ◌≤◌, ◌<◌, ◌^◌, length};
+ghost use Rattle.std.specs.Prelude.{◌≡◌, ◌≤◌, ◌<◌, ◌^◌, length, None};
 ghost use Rattle.build_records.specs.Records.{record_words, record_room};
 ghost use Rattle.dictionary_chains.specs.Chain.{index_words};
 ghost use Rattle.builder.specs.Reading.{tags_kept, read_told};
@@ -17,9 +17,7 @@ ghost use Rattle.dictionary_rules.specs.Check.{check_of};
 
 use build_answers::Answer;
 use build_config::Config;
-use build_parts::{PartRead, Progress};
-use build_rules::Stop;
-use dictionary_directory::Kept;
+use build_parts::Progress;
 use field_rules::Field;
 
 // A header that was read: the field that ended it, how far reading has come, and the verified CheckSum.
@@ -37,18 +35,11 @@ pub enum Tags {
     Listed,
 }
 
-// A header was read, or reading was refused before its end.
-#[derive(Clone, Copy)]
-pub enum Begun {
-    Header(Headed),
-    Refused(Answer),
-}
-
 // What was read: the answer, the CheckSum that stopped the trailer, and how many records are shown.
 #[derive(Clone, Copy)]
 pub struct Read {
     pub answer: Answer,
-    pub stop: Stop,
+    pub stop: Option<Field>,
     pub records: usize,
 }
 
@@ -56,7 +47,7 @@ pub struct Read {
 #[derive(Clone, Copy)]
 pub struct Built {
     pub answer: Answer,
-    pub stop: Stop,
+    pub stop: Option<Field>,
     pub records: usize,
     pub written: usize,
 }
@@ -65,10 +56,10 @@ pub struct Built {
 fn tags_of(tables: &[u16]) -> Tags
     ensures { result ≡ tags_kept tables.now }
 {
-    let Kept::Table(header, headers) = dictionary_directory::tags_at(tables, 0) else {
+    let Some((header, headers)) = dictionary_directory::tags_at(tables, 0) else {
         return Tags::Listed;
     };
-    let Kept::Table(trailer, trailers) = dictionary_directory::tags_at(tables, 1) else {
+    let Some((trailer, trailers)) = dictionary_directory::tags_at(tables, 1) else {
         return Tags::Listed;
     };
     Tags::Both(header, headers, trailer, trailers)
@@ -90,14 +81,14 @@ fn read_message(
 {
     let tags = tags_of(tables);
     match beginning::begin_by(message, config, dictionary, index, tables, tags, words) {
-        Begun::Refused(answer) => showing::refused(answer, 0),
-        Begun::Header(headed) => {
+        Err(answer) => showing::refused(answer, 0),
+        Ok(headed) => {
             let header = headed.progress;
             match finishing::read_headed(
                 message, config, dictionary, index, tables, headed, words,
             ) {
-                PartRead::Refused(answer) => showing::refused(answer, header.records),
-                PartRead::At(first, reached) => {
+                Err(answer) => showing::refused(answer, header.records),
+                Ok((first, reached)) => {
                     if finishing::follows(dictionary, index, tables, tags, first.tag) {
                         return finishing::close(message, config, headed, first, reached, words);
                     }
@@ -126,11 +117,11 @@ fn read_checked(message: &[u8], config: Config, dictionary: &[u8], words: &mut [
 
 // Nothing was written over the lent records.
 fn untouched(answer: Answer) -> Built
-    ensures { result ≡ record { answer = answer; stop = Stop.Nowhere; records = 0; written = 0 } }
+    ensures { result ≡ record { answer = answer; stop = None; records = 0; written = 0 } }
 {
     Built {
         answer,
-        stop: Stop::Nowhere,
+        stop: None,
         records: 0,
         written: 0,
     }
@@ -216,7 +207,7 @@ pub fn build_unblanked(
     if build_answers::number_of(first) != 0 {
         return untouched(first);
     }
-    let size = dictionary_chains::wide(memory[2]) as usize;
+    let size = usize::from(memory[2]);
     let index = &memory[dictionary_prepared::FRONT..dictionary_prepared::HEAD];
     let tables = &memory[dictionary_prepared::HEAD..];
     let read = read_message(message, config, &copy[..size], index, tables, records);

@@ -7,20 +7,15 @@ ghost use Rattle.builder.specs.Reading.{shown_count, read_told};
 
 use crate::Read;
 use build_answers::Answer;
-use build_rules::Stop;
 
 // "1 to 4 also header records": how many of them are shown with a refusal.
 fn shown_with(answer: Answer, header: usize) -> usize
     ensures { result ≡ shown_count answer header }
 {
-    let number = build_answers::number_of(answer);
-    if number < 1 {
-        return 0;
+    match build_answers::number_of(answer) {
+        1..=4 => header,
+        _ => 0,
     }
-    if 4 < number {
-        return 0;
-    }
-    header
 }
 
 // A refusal behind so many records of the header.
@@ -29,7 +24,7 @@ pub fn refused(answer: Answer, header: usize) -> Read
 {
     Read {
         answer,
-        stop: Stop::Nowhere,
+        stop: None,
         records: shown_with(answer, header),
     }
 }
@@ -39,9 +34,5 @@ pub fn blank(words: &mut [u32], records: usize)
     requires { (length words.old ≡ record_words) × (records ≤ record_room) }
     ensures { words.new ≡ take (stride * records) words.old ++ replicate (record_words - stride * records) 0 }
 {
-    let mut i = build_records::STRIDE * records;
-    while i < words.len() {
-        words[i] = 0;
-        i += 1;
-    }
+    words[build_records::STRIDE * records..].fill(0);
 }

@@ -1,9 +1,9 @@
 -- What a look-up costs at most: it looks at one entry more than its table's keys have turns, whatever the words hold. In trees no way
 -- needs more, however the keys that were entered were chosen, and in forged memory a way that would go on has strayed.
-use Rattle.std.specs.Prelude.{◌≡◌, true, false, List, ℕ, zero, suc, ◌+◌, ◌/◌, ◌<◌, get_or}
+use Rattle.std.specs.Prelude.{◌≡◌, false, List, ℕ, zero, suc, ◌+◌, ◌/◌, ◌<◌, get_or}
 use Rattle.std.proofs.Math.Path.{sym}
 use Rattle.std.proofs.Common.{◌∙◌, arith}
-use Rattle.dictionary_chains.specs.Chain.{entry_start, entry_room, key_room, most_turns, key_of, head_of, word_at, entry_at, link_at, branch_of, strayed, climbed, way_of}
+use Rattle.dictionary_chains.specs.Chain.{entry_start, key_room, most_turns, key_of, head_of, word_at, entry_at, link_at, branch_of, strayed, climbed, way_of}
 use Rattle.dictionary_chains.proofs.WordLaws.{key_small}
 use Rattle.dictionary_chains.proofs.WayLaws.{strayed-late, Meets, nothing, itself, stranger, another, meets, climb_none, climb_hit, climb_stray, climb_on, rest_after, way_from, from-none, from_hit, from_stray, from_on}
 use Rattle.dictionary_chains.specs.declared.Table.{Table}

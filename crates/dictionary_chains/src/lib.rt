@@ -40,22 +40,16 @@ struct Way {
     number: usize,
 }
 
-pub fn wide(word: u16) -> u64
-    ensures { result ≡ word }
-{
-    word as u64
-}
-
 pub fn key_of(table: Table, entry: Entry) -> u64
     ensures { result ≡ key_of table entry }
 {
-    let low = wide(entry.first);
+    let low = u64::from(entry.first);
     match table {
         Table::Components => low,
-        Table::Tags => low + 65536 * wide(entry.second),
+        Table::Tags => low + 65536 * u64::from(entry.second),
         Table::MsgTypes => {
-            let high = wide(entry.third) + 65536 * wide(entry.fourth);
-            low + 65536 * wide(entry.second) + 4294967296 * high
+            let high = u64::from(entry.third) + 65536 * u64::from(entry.fourth);
+            low + 65536 * u64::from(entry.second) + 4294967296 * high
         }
     }
 }
@@ -88,9 +82,8 @@ pub fn entry_at(index: &[u16], number: usize) -> Entry
     ensures { result ≡ entry_at index.now number }
 {
     let at = HEAD_WORDS + number + number / 2;
-    let place = if number < 4 { 0 } else { number - 4 };
     Entry {
-        place: place as u16,
+        place: number.saturating_sub(4) as u16,
         first: index[at + 2],
         second: index[at + 3],
         third: index[at + 4],
@@ -103,7 +96,7 @@ fn link_at(index: &[u16], low: usize, cell: usize) -> usize
     requires { (length index.now ≡ index_words) × (cell < index_words) }
     ensures { result ≡ link_at index.now low cell }
 {
-    let link = wide(index[cell]) as usize;
+    let link = usize::from(index[cell]);
     if link <= low {
         return ENTRY_ROOM;
     }
@@ -140,8 +133,7 @@ pub fn find(index: &[u16], table: Table, key: u64) -> usize
     requires { (length index.now ≡ index_words) × (key < key_room table) }
     ensures { result ≡ found table index.now key }
 {
-    let way = way_of(index, table, key);
-    way.number
+    way_of(index, table, key).number
 }
 
 // Writes the four words of an entry that are its table's. Its branches stay.
@@ -161,7 +153,7 @@ pub fn enter(index: &mut [u16], table: Table, entry: Entry)
     requires { length index.old ≡ index_words }
     ensures { index.new ≡ entered table index.old entry }
 {
-    let place = wide(entry.place) as usize;
+    let place = usize::from(entry.place);
     if 60000 <= place {
         return;
     }
@@ -183,9 +175,5 @@ pub fn clear(index: &mut [u16])
     requires { length index.old ≡ index_words }
     ensures { index.new ≡ replicate head_words 0 ++ drop head_words index.old }
 {
-    let mut i: usize = 0;
-    while i < HEAD_WORDS {
-        index[i] = 0;
-        i += 1;
-    }
+    index[..HEAD_WORDS].fill(0);
 }

@@ -2,15 +2,15 @@
 // It knows nothing of messages, and of a dictionary's meaning only what the check needs: what is named, how often and how deep.
 #![tactic(auto)]
 
-ghost use Rattle.std.specs.Prelude.{◌≡◌, true, ◌+◌, ◌≤◌, ◌<◌, length, get_or, eqb};
-ghost use Rattle.dictionary_rules.specs.Record.{record_at};
+ghost use Rattle.std.specs.Prelude.{◌≡◌, ◌≢◌, true, ◌+◌, ◌≤◌, ◌<◌, length, get_or, take, drop, eqb, IfSome};
+ghost use Rattle.dictionary_rules.specs.Record.{low_first, record_at};
 ghost use Rattle.dictionary_rules.specs.Records.{records_from};
 ghost use Rattle.dictionary_rules.specs.Index.{looks_at, noted};
 ghost use Rattle.dictionary_rules.specs.Check.{outcome, walked, check_of, prepared_of, number_of_check, values_of_check};
 ghost use Rattle.dictionary_rules.specs.Passing.{Passed, with_field};
 ghost use Rattle.dictionary_chains.specs.Chain.{index_words};
 
-use dictionary_rules::{Checked, Open, Record, RecordRead, State, Step};
+use dictionary_rules::{Checked, Open, Record, RecordRead, State};
 
 // The number that an answer returns.
 pub fn number_of(checked: Checked) -> u32
@@ -36,46 +36,58 @@ pub fn value_of(checked: Checked) -> u32
     match checked {
         Checked::Passes => 0,
         Checked::TooLong => 60000,
-        Checked::BadRecord(place) => place as u32,
-        Checked::NoComponent(number) => number as u32,
+        Checked::BadRecord(place) => u32::from(place),
+        Checked::NoComponent(number) => u32::from(number),
         Checked::UnknownTag(tag) => tag,
         Checked::EmptyGroup(tag) => tag,
-        Checked::TooDeep(place) => place as u32,
-        Checked::Twice(place) => place as u32,
-        Checked::TooManyItems(place) => place as u32,
+        Checked::TooDeep(place) => u32::from(place),
+        Checked::Twice(place) => u32::from(place),
+        Checked::TooManyItems(place) => u32::from(place),
     }
 }
 
-// The tag that a record at a place makes known. 0 says nothing of the record: it is then left to a step of its own.
-fn known_tag_at(dictionary: &[u8], place: usize) -> u32
+// The tag behind the kind of a record, if it is one: 0 is none.
+fn tag_behind(dictionary: &[u8], place: usize) -> Option<u32>
+    requires { place + 5 ≤ length dictionary.now }
+    ensures { IfSome result (λ tag. (tag ≡ low_first (take 4 (drop (place + 1) dictionary.now))) × (tag ≢ 0)) }
+{
+    let tag = dictionary_records::four(dictionary, place + 1);
+    if tag == 0 {
+        return None;
+    }
+    Some(tag)
+}
+
+// The tag that a record at a place makes known. None says nothing of the record: it is then left to a step of its own.
+fn known_tag_at(dictionary: &[u8], place: usize) -> Option<u32>
     requires { place ≤ length dictionary.now }
-    ensures { (result ≡ 0 → ⊥) → record_at dictionary.now place ≡ RecordRead.Whole (Record.KnownTag result) (place + 5) }
+    ensures { IfSome result (λ tag. record_at dictionary.now place ≡ RecordRead.Whole (Record.KnownTag tag) (place + 5)) }
 {
     if dictionary.len() - place < 5 {
-        return 0;
+        return None;
     }
     if dictionary[place] != 1 {
-        return 0;
+        return None;
     }
-    dictionary_records::four(dictionary, place + 1)
+    tag_behind(dictionary, place)
 }
 
-// The tag of the field item at a place. 0 says nothing of the record, here too.
-fn field_item_at(dictionary: &[u8], place: usize) -> u32
+// The tag of the field item at a place. None says nothing of the record, here too.
+fn field_item_at(dictionary: &[u8], place: usize) -> Option<u32>
     requires { place ≤ length dictionary.now }
-    ensures { (result ≡ 0 → ⊥)
-        → record_at dictionary.now place ≡ RecordRead.Whole (Record.FieldItem result (eqb (get_or dictionary.now (place + 5) 0) 1)) (place + 6) }
+    ensures { IfSome result (λ tag.
+        record_at dictionary.now place ≡ RecordRead.Whole (Record.FieldItem tag (eqb (get_or dictionary.now (place + 5) 0) 1)) (place + 6)) }
 {
     if dictionary.len() - place < 6 {
-        return 0;
+        return None;
     }
     if dictionary[place] != 4 {
-        return 0;
+        return None;
     }
     if 1 < dictionary[place + 5] {
-        return 0;
+        return None;
     }
-    dictionary_records::four(dictionary, place + 1)
+    tag_behind(dictionary, place)
 }
 
 // Where a walk has come: a place of the dictionary, and what the records before it left open.
@@ -91,11 +103,9 @@ fn pass_tags(dictionary: &[u8], index: &mut [u16], from: usize) -> usize
     ensures { Passed dictionary.now from State.TopLevel index.old result State.TopLevel index.new }
 {
     let mut at = from;
-    let mut tag = known_tag_at(dictionary, at);
-    while tag != 0 {
+    while let Some(tag) = known_tag_at(dictionary, at) {
         dictionary_names::know_tag(index, at as u16, tag);
         at += 5;
-        tag = known_tag_at(dictionary, at);
     }
     at
 }
@@ -109,11 +119,10 @@ fn field_counts(dictionary: &[u8], index: &[u16], at: usize, thing: Open) -> boo
     if 1024 <= thing.items {
         return false;
     }
-    let tag = field_item_at(dictionary, at);
-    if tag == 0 {
-        return false;
+    match field_item_at(dictionary, at) {
+        Some(tag) => dictionary_names::tag_known(index, tag),
+        None => false,
     }
-    dictionary_names::tag_known(index, tag)
 }
 
 // Passes the field items that stand in a row, up to one that is refused.
@@ -168,10 +177,10 @@ fn walk(dictionary: &[u8], index: &mut [u16]) -> Checked
             RecordRead::Whole(read, behind) => match dictionary_steps::step_of(
                 index, here, at as u16, read,
             ) {
-                Step::Refuses(checked) => {
+                Err(checked) => {
                     return checked;
                 }
-                Step::Goes(after, note) => {
+                Ok((after, note)) => {
                     dictionary_names::take_note(index, note);
                     state = after;
                     next = behind;

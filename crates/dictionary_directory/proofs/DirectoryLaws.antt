@@ -2,7 +2,7 @@
 -- header's tags or the trailer's, whatever the words held before; and they stay as many.
 use Rattle.std.specs.Prelude.{◌≡◌, ◌⊎◌, Bool, ℕ, ◌+◌, ◌*◌, ◌/◌, ◌≤◌, ◌<◌, length, get_or, take, drop, replicate, ltb}
 use Rattle.std.proofs.Math.Path.{refl}
-use Rattle.std.proofs.Common.{sym, ap, ◌∙◌, subst, arith, length-append, length-drop, leb-false, ltb-true, ltb-false}
+use Rattle.std.proofs.Common.{sym, ap, ◌∙◌, subst, arith, length-append, length-drop, leb-false, ltb-true, ltb-false, Option, Some, None}
 use Rattle.std.proofs.Math.Logic.{inl, inr, ⊎_elim}
 use Rattle.std.proofs.Math.Bool.{true, false}
 use mathlib.Core.List.{List, [], ◌∷◌}
@@ -13,7 +13,6 @@ use Rattle.dictionary_layout_rules.specs.Layout.{Layout}
 use Rattle.dictionary_layout_rules.specs.RowsLayout.{layout_in}
 use Rattle.dictionary_tables_rules.specs.Laid.{table_size, table_of}
 use Rattle.dictionary_tables_rules.specs.Tags.{fields_of}
-use Rattle.dictionary_rules.specs.declared.Placed.TheVariants.{At}
 use Rattle.dictionary_meaning_rules.specs.MessageTable.{Tabling, tabling, placed_table}
 use Rattle.dictionary_meaning_rules.specs.declared.MessageTable.TheVariants.{Rows, NoMessage, Unprepared}
 use Rattle.dictionary_directory.specs.Directory.{longest, directory_words, block_stride, tags_slot, tags_place, block_at, kept_at, tags_at, Filling, filling, next_block, with_block, room_for, put_block, tags_listed, lay_listed, put_rows, lay_message, messages_from, lay_messages, clear_directory, lay_tables}
@@ -22,14 +21,12 @@ use Rattle.dictionary_directory.proofs.BlockLaws.{with-length}
 use Rattle.dictionary_directory.proofs.FillingLaws.{LaidFor, for_message, for_tags, BlockStands, Fills, clear_fills, block_fills}
 use Rattle.dictionary_directory.proofs.LayingFacts.{lay_short, lay_all}
 use Rattle.dictionary_directory.proofs.LayingFacts.{room-here}
-use Rattle.dictionary_directory.specs.declared.Kept.{Kept}
-use Rattle.dictionary_directory.specs.declared.Kept.TheVariants.{Table, Nowhere}
 
 -- a table that is found lies in the words, whatever they hold
-pub table-lies : (tables : List ℕ) (place from size : ℕ) → kept_at tables place ≡ Table from size → from + size ≤ length tables
+pub table-lies : (tables : List ℕ) (place from size : ℕ) → kept_at tables place ≡ Some (from, size) → from + size ≤ length tables
 table-lies tables place from size e = (kept-found tables place from size e).1.lies
 
-pub tags_lie : (tables : List ℕ) (number from size : ℕ) → tags_at tables number ≡ Table from size → from + size ≤ length tables
+pub tags_lie : (tables : List ℕ) (number from size : ℕ) → tags_at tables number ≡ Some (from, size) → from + size ≤ length tables
 tags_lie tables number from size e = (found-tags tables number from size e).1.lies
 
 -- what holds of the words so far, of which there are as many as were lent
@@ -53,7 +50,7 @@ module _ (d index : List ℕ) (lent : ℕ) where
   unfolding lay_listed
   listed-holds number (filling tables free) h (holds n f) = block_holds (tags_slot number) (tags_place number) _ tables free (omega arith) (for_tags number) n f
 
-  rows_hold : (place : ℕ) (t : Tabling) (tables : List ℕ) (free : ℕ) → place < longest → placed_table d index (At place) (replicate 4096 0) ≡ t →
+  rows_hold : (place : ℕ) (t : Tabling) (tables : List ℕ) (free : ℕ) → place < longest → placed_table d index (Some place) (replicate 4096 0) ≡ t →
       length tables ≡ lent → Fills d index tables free → Holds d index lent (put_rows place t tables free)
   unfolding put_rows
   rows_hold place (tabling (Rows count) rows) tables free near e n f =
@@ -66,9 +63,9 @@ module _ (d index : List ℕ) (lent : ℕ) where
   message-holds place (filling tables free) (holds n f) = go (leb longest place) refl
     where
       go : (b : Bool) → leb longest place ≡ b →
-          Holds d index lent (pick b (filling tables free) (put_rows place (placed_table d index (At place) (replicate 4096 0)) tables free))
+          Holds d index lent (pick b (filling tables free) (put_rows place (placed_table d index (Some place) (replicate 4096 0)) tables free))
       go true q = holds n f
-      go false q = rows_hold place (placed_table d index (At place) (replicate 4096 0)) tables free (leb-false _ _ q) refl n f
+      go false q = rows_hold place (placed_table d index (Some place) (replicate 4096 0)) tables free (leb-false _ _ q) refl n f
 
   messages_hold : (places : List ℕ) (sofar : Filling) → Holds d index lent sofar → Holds d index lent (lay_messages d index places sofar)
   unfolding lay_messages
@@ -112,16 +109,16 @@ outcome d index tables = by_length (ltb (length tables) directory_words) refl
         by_filling long _ _ refl refl (messages_hold d index lent (messages_from d 0) _ start)
 
 -- what the directory leads to is the table of the message whose record stands there
-pub data Leads (d index tables : List ℕ) (place : ℕ) : Kept → Type 0 where
-  nowhere : Leads d index tables place Nowhere
-  a-table : {count : ℕ} {rows : List ℕ} {from size : ℕ} → placed_table d index (At place) (replicate 4096 0) ≡ tabling (Rows count) rows →
-      take size (drop from tables) ≡ table_of (layout_in rows count) → from + size ≤ length tables → Leads d index tables place (Table from size)
+pub data Leads (d index tables : List ℕ) (place : ℕ) : Option (ℕ × ℕ) → Type 0 where
+  nowhere : Leads d index tables place None
+  a-table : {count : ℕ} {rows : List ℕ} {from size : ℕ} → placed_table d index (Some place) (replicate 4096 0) ≡ tabling (Rows count) rows →
+      take size (drop from tables) ≡ table_of (layout_in rows count) → from + size ≤ length tables → Leads d index tables place (Some (from, size))
 
 -- and what it leads to for the header (0) or the trailer (1) is the table of its tags
-pub data TagsLead (d index tables : List ℕ) (number : ℕ) : Kept → Type 0 where
-  tags-nowhere : TagsLead d index tables number Nowhere
+pub data TagsLead (d index tables : List ℕ) (number : ℕ) : Option (ℕ × ℕ) → Type 0 where
+  tags-nowhere : TagsLead d index tables number None
   a-tags-table : {from size : ℕ} → take size (drop from tables) ≡ table_of (fields_of (tags_listed d index number)) → from + size ≤ length tables →
-      TagsLead d index tables number (Table from size)
+      TagsLead d index tables number (Some (from, size))
 
 module _ (d index tables : List ℕ) (from size : ℕ) (lies : from + size ≤ length tables) where
   -- what was found holds the table that is laid for its place
@@ -130,19 +127,19 @@ module _ (d index tables : List ℕ) (from size : ℕ) (lies : from + size ≤ l
     laid : LaidFor d index place layout
     table : take size (drop from tables) ≡ table_of layout
 
-  message_leads : (place : ℕ) → place < longest → Holding place → Leads d index tables place (Table from size)
+  message_leads : (place : ℕ) → place < longest → Holding place → Leads d index tables place (Some (from, size))
   message_leads place near h = go h.laid near h.table
     where
       go : {p : ℕ} {layout : Layout} → LaidFor d index p layout → p < longest → take size (drop from tables) ≡ table_of layout →
-          Leads d index tables p (Table from size)
+          Leads d index tables p (Some (from, size))
       go (for_message n e) k t = a-table e t lies
       go (for_tags number) k t = absurd (omega arith)
 
-  listed_leads : (number : ℕ) → Holding (tags_place number) → TagsLead d index tables number (Table from size)
+  listed_leads : (number : ℕ) → Holding (tags_place number) → TagsLead d index tables number (Some (from, size))
   listed_leads number h = go h.laid refl h.table
     where
       go : {p : ℕ} {layout : Layout} → LaidFor d index p layout → p ≡ tags_place number → take size (drop from tables) ≡ table_of layout →
-          TagsLead d index tables number (Table from size)
+          TagsLead d index tables number (Some (from, size))
       go (for_message n e) same t = absurd (omega arith)
       go (for_tags k) same t =
           let is : k ≡ number = omega arith in
@@ -169,9 +166,9 @@ module _ (d index tables : List ℕ) (free : ℕ) (f : Fills d index tables free
   fills_lead : (place : ℕ) → Leads d index tables place (kept_at tables place)
   fills_lead place = go (kept_at tables place) refl
     where
-      go : (kept : Kept) → kept_at tables place ≡ kept → Leads d index tables place kept
-      go Nowhere e = nowhere
-      go (Table from size) e =
+      go : (kept : Option (ℕ × ℕ)) → kept_at tables place ≡ kept → Leads d index tables place kept
+      go None e = nowhere
+      go (Some (from, size)) e =
           let k = kept-found tables place from size e in
           let near = k.0 in
           message_leads d index tables from size k.1.lies place near (found-holds (place / 4) place from size (omega arith) k.1)
@@ -179,9 +176,9 @@ module _ (d index tables : List ℕ) (free : ℕ) (f : Fills d index tables free
   tags_fill : (number : ℕ) → TagsLead d index tables number (tags_at tables number)
   tags_fill number = go (tags_at tables number) refl
     where
-      go : (kept : Kept) → tags_at tables number ≡ kept → TagsLead d index tables number kept
-      go Nowhere e = tags-nowhere
-      go (Table from size) e =
+      go : (kept : Option (ℕ × ℕ)) → tags_at tables number ≡ kept → TagsLead d index tables number kept
+      go None e = tags-nowhere
+      go (Some (from, size)) e =
           let k = found-tags tables number from size e in
           let near = k.0 in
           listed_leads d index tables from size k.1.lies number
@@ -192,14 +189,14 @@ module _ (d index tables : List ℕ) where
   laid_leads place = go (outcome d index tables)
     where
       go : {words : List ℕ} → Outcome d index tables words → Leads d index words place (kept_at words place)
-      go (too_few h) = subst (λ (k : Kept). Leads d index tables place k) (sym (kept-short tables place h)) nowhere
+      go (too_few h) = subst (λ (k : Option (ℕ × ℕ)). Leads d index tables place k) (sym (kept-short tables place h)) nowhere
       go (filled {words} {free} n f) = fills_lead d index words free f place
 
   pub tags-lead : (number : ℕ) → TagsLead d index (lay_tables d index tables) number (tags_at (lay_tables d index tables) number)
   tags-lead number = go (outcome d index tables)
     where
       go : {words : List ℕ} → Outcome d index tables words → TagsLead d index words number (tags_at words number)
-      go (too_few h) = subst (λ (k : Kept). TagsLead d index tables number k) (sym (tags-short tables number h)) tags-nowhere
+      go (too_few h) = subst (λ (k : Option (ℕ × ℕ)). TagsLead d index tables number k) (sym (tags-short tables number h)) tags-nowhere
       go (filled {words} {free} n f) = tags_fill d index words free f number
 
   -- and as many words as were lent

@@ -15,8 +15,7 @@ use Rattle.dictionary_meaning_rules.specs.Laying.{put_row, on_record, on_read, i
 use Rattle.dictionary_meaning_rules.specs.MessageTable.{as_table, placed_table}
 use Rattle.dictionary_meaning_rules.specs.PlainTags.{tag_on, tag_read, tags_within, tags_from, component_tags, plain_tags}
 use Rattle.dictionary_directory.specs.Directory.{block_of, block_at, kept_in, kept_at, tags_at, table_in, filling, words_of, next_block, with_block, room_for, put_block, listed_tags, tags_listed, lay_listed, put_rows, lay_message, is_message, messages_among, messages_from, lay_messages, clear_directory, lay_tables}
-use Rattle.dictionary_directory.specs.declared.Kept.{Kept}
-use Rattle.dictionary_directory.specs.declared.Kept.TheVariants.{Table, Nowhere}
+use Rattle.std.proofs.Common.{Option, Some, None}
 
 -- a layout of one required field, and its table
 abbrev single : Layout
@@ -41,9 +40,9 @@ starts = refl
 abbrev lent : ℕ → List ℕ
 lent size = replicate 8 0 ++ (size ∷ 4 ∷ 7 ∷ 8 ∷ 9 ∷ [])
 
-blocks : map {B = Kept} (λ (look : List ℕ × ℕ × ℕ). kept_in look.0 look.1 look.2)
+blocks : map {B = Option (ℕ × ℕ)} (λ (look : List ℕ × ℕ × ℕ). kept_in look.0 look.1 look.2)
     ((lent 3, 4, 8) ∷ (lent 3, 5, 8) ∷ (lent 4, 4, 8) ∷ (take 9 (lent 3), 4, 8) ∷ (lent 3, 0, 0) ∷ []) ≡
-    Table 10 3 ∷ Nowhere ∷ Nowhere ∷ Nowhere ∷ Nowhere ∷ []
+    Some (10, 3) ∷ None ∷ None ∷ None ∷ None ∷ []
 unfolding kept_in
 blocks = refl
 

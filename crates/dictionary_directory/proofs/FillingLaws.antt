@@ -1,7 +1,7 @@
 -- What holds of the words while tables are laid: each word of the directory leads nowhere, or to a block behind the directory that holds the
 -- table of the place it says. A later block is written behind all of them, so it changes none.
 use Rattle.std.specs.Prelude.{◌≡◌, refl, ◌⊎◌, Bool, true, false, List, ℕ, ◌+◌, ◌*◌, ◌/◌, ◌≤◌, ◌<◌, length, get_or, take, drop, replicate, eqb}
-use Rattle.std.proofs.Common.{sym, ap, ◌∙◌, subst, inl, inr, ⊎_elim, eqb-true}
+use Rattle.std.proofs.Common.{sym, ap, ◌∙◌, subst, inl, inr, ⊎_elim, eqb-true, Some}
 use native.Mathlib.Omega.{arith}
 use Rattle.std.proofs.lemmas.List.{length-replicate, get_or-replicate}
 use Rattle.std.proofs.Math.ListN.{get_or-append}
@@ -10,7 +10,6 @@ use Rattle.dictionary_layout_rules.specs.Layout.{Layout}
 use Rattle.dictionary_layout_rules.specs.RowsLayout.{layout_in}
 use Rattle.dictionary_tables_rules.specs.Laid.{table_size, table_of}
 use Rattle.dictionary_tables_rules.specs.Tags.{fields_of}
-use Rattle.dictionary_rules.specs.declared.Placed.TheVariants.{At}
 use Rattle.dictionary_meaning_rules.specs.MessageTable.{tabling, placed_table}
 use Rattle.dictionary_meaning_rules.specs.declared.MessageTable.TheVariants.{Rows}
 use Rattle.dictionary_directory.specs.Directory.{longest, directory_words, block_stride, tags_place, next_block, with_block, tags_listed, clear_directory}
@@ -18,7 +17,7 @@ use Rattle.dictionary_directory.proofs.BlockLaws.{slot_now, word_kept, part-kept
 
 -- the layout whose table is laid for a place: that of the message whose record stands there, or the tags of the header or of the trailer
 pub data LaidFor (d index : List ℕ) : ℕ → Layout → Type 0 where
-  for_message : {place count : ℕ} {rows : List ℕ} → place < longest → placed_table d index (At place) (replicate 4096 0) ≡ tabling (Rows count) rows →
+  for_message : {place count : ℕ} {rows : List ℕ} → place < longest → placed_table d index (Some place) (replicate 4096 0) ≡ tabling (Rows count) rows →
       LaidFor d index place (layout_in rows count)
   for_tags : (number : ℕ) → LaidFor d index (tags_place number) (fields_of (tags_listed d index number))
 

@@ -1,7 +1,7 @@
 -- Laws of what specs/LayingLaws.antt defines.
 -- The laws of laying tables: one for each way that it goes at a block, at a list of tags, at a message and at a record.
 use Rattle.std.specs.Prelude.{◌≡◌, refl, Bool, true, false, List, [], ◌∷◌, ◌++◌, ℕ, suc, ◌+◌, ◌-◌, ◌/◌, ◌≤◌, ◌<◌, length, get_or, take, drop, set, replicate, leb, ltb}
-use Rattle.std.proofs.Common.{sym, ◌∙◌, subst, append_assoc, arith, length-append, length-take-le, take-suc, leb-true, ltb-true, ltb-false, le-leb, lt-ltb, le-ltb}
+use Rattle.std.proofs.Common.{sym, ◌∙◌, subst, append_assoc, arith, length-append, length-take-le, take-suc, leb-true, ltb-true, ltb-false, le-leb, lt-ltb, le-ltb, Option, Some, None}
 use Rattle.std.proofs.Math.Path.{ap}
 use Rattle.std.proofs.Math.ListN.{length-replicate}
 use Rattle.std.proofs.Math.Seq.{take-length}
@@ -21,15 +21,11 @@ use Rattle.dictionary_rules.specs.Record.{record_at}
 use Rattle.dictionary_rules.specs.RecordsLaws.{records_end, records_bad, records_whole}
 use Rattle.dictionary_rules.specs.declared.Record.{Record}
 use Rattle.dictionary_rules.specs.declared.RecordRead.TheVariants.{Whole, Bad, End}
-use Rattle.dictionary_rules.specs.declared.Placed.TheVariants.{At}
 use Rattle.dictionary_meaning_rules.specs.MessageTable.{Tabling, tabling, placed_table}
 use Rattle.dictionary_meaning_rules.specs.LaidLayout.{LaidAs}
 use Rattle.dictionary_meaning_rules.specs.PlainTags.{listing, plain_tags}
 use Rattle.dictionary_meaning_rules.proofs.Kept.{tags_kept}
 use Rattle.dictionary_meaning_rules.specs.declared.MessageTable.TheVariants.{Rows, NoMessage, Unprepared}
-use Rattle.dictionary_meaning_rules.specs.declared.TagList.{TagList}
-use Rattle.dictionary_meaning_rules.specs.declared.TagList.TheVariants.{Listed, Unlisted}
-use Rattle.dictionary_directory.specs.declared.Kept.TheVariants.{Table}
 use Rattle.dictionary_directory.specs.Directory.{longest, directory_words, block_stride, tags_slot, tags_place, block_of, Filling, filling, words_of, next_block, with_block, room_for, put_block, listed_tags, tags_listed, lay_listed, put_rows, lay_message, is_message, messages_among, messages_from, lay_messages, clear_directory, lay_tables, table_words, laid_alone, laid_over}
 use Rattle.dictionary_directory.specs.LayingLaws.{headed}
 
@@ -123,16 +119,16 @@ module _ (slot place : ℕ) (layout : Layout) (tables : List ℕ) (free size : �
 
 -- the tags that are listed
 module _ (d index : List ℕ) (number : ℕ) (exit : List ℕ) where
-  pub tags-taken : (r : TagList) → listing r exit ≡ plain_tags d index number (replicate 1024 0) → (count : ℕ) → r ≡ Listed count →
+  pub tags-taken : (r : Option ℕ) → listing r exit ≡ plain_tags d index number (replicate 1024 0) → (count : ℕ) → r ≡ Some count →
       (take count exit ≡ tags_listed d index number) × (count ≤ length exit)
   unfolding tags_listed listed_tags
   tags-taken r e count is =
-      let told : listing (Listed count) exit ≡ plain_tags d index number (replicate 1024 0) = ap (λ (t : TagList). listing t exit) (sym is) ∙ e in
+      let told : listing (Some count) exit ≡ plain_tags d index number (replicate 1024 0) = ap (λ (t : Option ℕ). listing t exit) (sym is) ∙ e in
       (ap listed_tags told, tags_kept d index number (replicate 1024 0) (omega (arith, length-replicate {A = ℕ} 1024 0)) count exit told)
 
-  pub tags-none : (r : TagList) → listing r exit ≡ plain_tags d index number (replicate 1024 0) → r ≡ Unlisted → take 0 exit ≡ tags_listed d index number
+  pub tags-none : (r : Option ℕ) → listing r exit ≡ plain_tags d index number (replicate 1024 0) → r ≡ None → take 0 exit ≡ tags_listed d index number
   unfolding tags_listed listed_tags
-  tags-none r e is = ap listed_tags (ap (λ (t : TagList). listing t exit) (sym is) ∙ e)
+  tags-none r e is = ap listed_tags (ap (λ (t : Option ℕ). listing t exit) (sym is) ∙ e)
 
 pub listed-put : (d index : List ℕ) (number : ℕ) (tables : List ℕ) (free : ℕ) (tags : List ℕ) → tags ≡ tags_listed d index number → {after : Filling} →
     after ≡ put_block (tags_slot number) (tags_place number) (fields_of tags) tables free → after ≡ lay_listed d index number (filling tables free)
@@ -146,17 +142,17 @@ module _ (d index : List ℕ) (place : ℕ) (tables : List ℕ) (free : ℕ) whe
   message-beyond h = rw (le-leb _ _ h)
 
   module _ (near : place < longest) where
-    pub message_rows : (count : ℕ) (rows : List ℕ) → tabling (Rows count) rows ≡ placed_table d index (At place) (replicate 4096 0) →
+    pub message_rows : (count : ℕ) (rows : List ℕ) → tabling (Rows count) rows ≡ placed_table d index (Some place) (replicate 4096 0) →
         {after : Filling} → after ≡ put_block (place / 4) place (layout_in rows count) tables free → after ≡ lay_message d index place (filling tables free)
     unfolding lay_message put_rows
     message_rows count rows e put = rw (lt-leb _ _ near) (put ∙ ap (λ (t : Tabling). put_rows place t tables free) e)
 
-    pub message-none : (rows : List ℕ) → tabling NoMessage rows ≡ placed_table d index (At place) (replicate 4096 0) →
+    pub message-none : (rows : List ℕ) → tabling NoMessage rows ≡ placed_table d index (Some place) (replicate 4096 0) →
         lay_message d index place (filling tables free) ≡ filling tables free
     unfolding lay_message put_rows
     message-none rows e = rw (lt-leb _ _ near) (ap (λ (t : Tabling). put_rows place t tables free) (sym e))
 
-    pub message_unprepared : (rows : List ℕ) → tabling Unprepared rows ≡ placed_table d index (At place) (replicate 4096 0) →
+    pub message_unprepared : (rows : List ℕ) → tabling Unprepared rows ≡ placed_table d index (Some place) (replicate 4096 0) →
         lay_message d index place (filling tables free) ≡ filling tables free
     unfolding lay_message put_rows
     message_unprepared rows e = rw (lt-leb _ _ near) (ap (λ (t : Tabling). put_rows place t tables free) (sym e))
@@ -195,7 +191,7 @@ module _ (d index tables : List ℕ) where
 
 -- a table by itself
 module _ {told : Tabling} (count : ℕ) (rows : List ℕ) (is : tabling (Rows count) rows ≡ told) where
-  pub alone_rows : (size : ℕ) → size ≡ table_size (layout_in rows count) → Table 0 size ≡ laid_alone told
+  pub alone_rows : (size : ℕ) → size ≡ table_size (layout_in rows count) → Some (0, size) ≡ laid_alone told
   unfolding laid_alone
   alone_rows size e = rw (← is, e)
 

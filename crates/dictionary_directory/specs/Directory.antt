@@ -1,6 +1,6 @@
 -- The tables of a dictionary's messages and of the tags of its header and trailer, laid one behind the other with a directory in front, so that one
 -- look leads from the place of a message's record to its table. What stands in the words is not trusted: a block is taken for the place that it says.
-use Rattle.std.specs.Prelude.{◌≡◌, ℕ, ◌+◌, ◌*◌, ◌/◌, List, [], ◌∷◌, ◌++◌, Bool, true, false, length, get_or, take, drop, set, replicate, eqb, leb, ltb}
+use Rattle.std.specs.Prelude.{◌≡◌, ℕ, ◌+◌, ◌*◌, ◌/◌, List, [], ◌∷◌, ◌++◌, Bool, true, false, length, get_or, take, drop, set, replicate, eqb, leb, ltb, Option, Some, None}
 use Rattle.field_rules.specs.Choice.{pick}
 use Rattle.dictionary_layout_rules.specs.Layout.{Layout}
 use Rattle.dictionary_layout_rules.specs.RowsLayout.{layout_in}
@@ -9,13 +9,9 @@ use Rattle.dictionary_tables_rules.specs.Tags.{fields_of}
 use Rattle.dictionary_rules.specs.Records.{Records, ends, bad, whole, records_from}
 use Rattle.dictionary_rules.specs.declared.Record.{Record}
 use Rattle.dictionary_rules.specs.declared.Record.TheVariants.{KnownTag, OpensComponent, OpensMessage, FieldItem, ComponentItem, OpensGroup, Closes}
-use Rattle.dictionary_rules.specs.declared.Placed.TheVariants.{At}
 use Rattle.dictionary_meaning_rules.specs.MessageTable.{Tabling, tabling, placed_table}
 use Rattle.dictionary_meaning_rules.specs.PlainTags.{Listing, listing, plain_tags}
 use Rattle.dictionary_meaning_rules.specs.declared.MessageTable.TheVariants.{Rows, NoMessage, Unprepared}
-use Rattle.dictionary_meaning_rules.specs.declared.TagList.TheVariants.{Listed, Unlisted}
-use Rattle.dictionary_directory.specs.declared.Kept.{Kept}
-use Rattle.dictionary_directory.specs.declared.Kept.TheVariants.{Table, Nowhere}
 
 -- bytes of the longest dictionary
 abbrev pub longest : ℕ
@@ -47,32 +43,32 @@ unfoldable pub block_at : List ℕ → ℕ → ℕ
 block_at tables slot = block_stride * get_or tables slot 0
 
 -- the table of the block at a word, if the block says the place and lies in the words; the first word is the directory's and starts none
-unfoldable pub kept_in : List ℕ → ℕ → ℕ → Kept
+unfoldable pub kept_in : List ℕ → ℕ → ℕ → Option (ℕ × ℕ)
 kept_in tables place block =
-    pick (eqb block 0) Nowhere
-    (pick (ltb (length tables) (block + 2)) Nowhere
+    pick (eqb block 0) None
+    (pick (ltb (length tables) (block + 2)) None
     (pick (eqb (get_or tables (block + 1) 0) place)
-    (pick (ltb (length tables) (block + 2 + get_or tables block 0)) Nowhere (Table (block + 2) (get_or tables block 0)))
-    Nowhere))
+    (pick (ltb (length tables) (block + 2 + get_or tables block 0)) None (Some ((block + 2), (get_or tables block 0))))
+    None))
 
 -- the table of the message whose record stands at a place
-unfoldable pub kept_at : List ℕ → ℕ → Kept
+unfoldable pub kept_at : List ℕ → ℕ → Option (ℕ × ℕ)
 kept_at tables place =
-    pick (ltb (length tables) directory_words) Nowhere
-    (pick (leb longest place) Nowhere
+    pick (ltb (length tables) directory_words) None
+    (pick (leb longest place) None
     (kept_in tables place (block_at tables (place / 4))))
 
 -- the table of the header's tags or of the trailer's
-unfoldable pub tags_at : List ℕ → ℕ → Kept
+unfoldable pub tags_at : List ℕ → ℕ → Option (ℕ × ℕ)
 tags_at tables number =
-    pick (ltb (length tables) directory_words) Nowhere
-    (pick (ltb 1 number) Nowhere
+    pick (ltb (length tables) directory_words) None
+    (pick (ltb 1 number) None
     (kept_in tables (tags_place number) (block_at tables (tags_slot number))))
 
 -- the words of a table
-unfoldable pub table_in : List ℕ → Kept → List ℕ
-table_in tables (Table from size) = take size (drop from tables)
-table_in tables Nowhere = []
+unfoldable pub table_in : List ℕ → Option (ℕ × ℕ) → List ℕ
+table_in tables (Some (from, size)) = take size (drop from tables)
+table_in tables None = []
 
 -- the words so far, and the first free one
 pub data Filling : Type 0 where
@@ -103,8 +99,8 @@ put_block slot place layout tables free =
 
 -- the tags that were listed, or none
 unfoldable pub listed_tags : Listing → List ℕ
-listed_tags (listing (Listed count) tags) = take count tags
-listed_tags (listing Unlisted tags) = []
+listed_tags (listing (Some count) tags) = take count tags
+listed_tags (listing None tags) = []
 
 -- "the plain field items directly in components 0 and 1"
 unfoldable pub tags_listed : List ℕ → List ℕ → ℕ → List ℕ
@@ -124,7 +120,7 @@ put_rows place (tabling Unprepared rows) tables free = filling tables free
 -- the message whose record stands at a place
 unfoldable pub lay_message : List ℕ → List ℕ → ℕ → Filling → Filling
 lay_message d index place (filling tables free) =
-    pick (leb longest place) (filling tables free) (put_rows place (placed_table d index (At place) (replicate 4096 0)) tables free)
+    pick (leb longest place) (filling tables free) (put_rows place (placed_table d index (Some place) (replicate 4096 0)) tables free)
 
 unfoldable pub is_message : Record → Bool
 is_message (OpensMessage msg_type) = true
@@ -171,10 +167,10 @@ abbrev pub tag_words : ℕ
 tag_words = 5249
 
 -- how many words the table has that is laid by itself
-unfoldable pub laid_alone : Tabling → Kept
-laid_alone (tabling (Rows count) rows) = Table 0 (table_size (layout_in rows count))
-laid_alone (tabling NoMessage rows) = Nowhere
-laid_alone (tabling Unprepared rows) = Nowhere
+unfoldable pub laid_alone : Tabling → Option (ℕ × ℕ)
+laid_alone (tabling (Rows count) rows) = Some (0, (table_size (layout_in rows count)))
+laid_alone (tabling NoMessage rows) = None
+laid_alone (tabling Unprepared rows) = None
 
 -- and what it leaves of the words that it is laid over
 unfoldable pub laid_over : Tabling → List ℕ → List ℕ

@@ -2,27 +2,19 @@
 // that leads to them. What stands in the words is never trusted: whatever they hold, what the directory leads to lies in them and says whose table it is.
 #![tactic(auto)]
 
-ghost use Rattle.std.specs.Prelude.{◌≡◌, ◌++◌, ◌+◌, ◌/◌, ◌≤◌, ◌<◌, length, take, drop, replicate};
+ghost use Rattle.std.specs.Prelude.{◌≡◌, ◌++◌, ◌+◌, ◌/◌, ◌≤◌, ◌<◌, length, take, drop, replicate, Some};
 ghost use Rattle.dictionary_chains.specs.Chain.{index_words};
 ghost use Rattle.dictionary_layout_rules.specs.RowsLayout.{layout_in};
 ghost use Rattle.dictionary_tables_rules.specs.Laid.{part_size, table_size, table_of};
 ghost use Rattle.dictionary_tables_rules.specs.Tags.{fields_of};
 ghost use Rattle.dictionary_meaning_rules.specs.LaidLayout.{LaidAs};
 ghost use Rattle.dictionary_meaning_rules.specs.MessageTable.{placed_table};
-ghost use Rattle.dictionary_rules.specs.declared.Placed.TheVariants.{At};
 ghost use Rattle.dictionary_directory.specs.Directory.{longest, directory_words, block_stride, tags_slot, tags_place, block_at, kept_in, kept_at, tags_at, filling, next_block, room_for, put_block, tags_listed, lay_listed, lay_message, clear_directory, lay_tables, tag_words, table_words, laid_alone, LaidFirst};
 ghost use Rattle.dictionary_directory.specs.LayingLaws.{headed};
 
 use dictionary_flattening::{empty, tags};
-use dictionary_meaning_rules::{MessageTable, TagList};
+use dictionary_meaning_rules::MessageTable;
 use dictionary_rules::{Record, RecordRead};
-
-// From which word on a table stands, and how many words it has.
-#[derive(Clone, Copy)]
-pub enum Kept {
-    Table(usize, usize),
-    Nowhere,
-}
 
 // Words of the directory: one to each four bytes of a dictionary, and behind them those that lead to tags.
 const DIRECTORY: usize = 15008;
@@ -42,56 +34,50 @@ pub const TAG_WORDS: usize = 5249;
 // Blocks start at each so many words.
 const STRIDE: usize = 8;
 
-fn word(w: u16) -> usize
-    ensures { result ≡ w }
-{
-    w as usize
-}
-
 // The table of the block that a word of the directory leads to, if the block says the place and lies in the words.
-fn kept_in(tables: &[u16], place: usize, slot: usize) -> Kept
+fn kept_in(tables: &[u16], place: usize, slot: usize) -> Option<(usize, usize)>
     requires { slot < length tables.now }
     ensures { result ≡ kept_in tables.now place (block_at tables.now slot) }
 {
-    let block = STRIDE * word(tables[slot]);
+    let block = STRIDE * usize::from(tables[slot]);
     if block == 0 {
-        return Kept::Nowhere;
+        return None;
     }
     if tables.len() < block + 2 {
-        return Kept::Nowhere;
+        return None;
     }
-    if word(tables[block + 1]) != place {
-        return Kept::Nowhere;
+    if usize::from(tables[block + 1]) != place {
+        return None;
     }
-    let size = word(tables[block]);
+    let size = usize::from(tables[block]);
     if tables.len() < block + 2 + size {
-        return Kept::Nowhere;
+        return None;
     }
-    Kept::Table(block + 2, size)
+    Some((block + 2, size))
 }
 
 // The table of the message whose record stands at a place.
-pub fn table_at(tables: &[u16], place: usize) -> Kept
+pub fn table_at(tables: &[u16], place: usize) -> Option<(usize, usize)>
     ensures { result ≡ kept_at tables.now place }
 {
     if tables.len() < DIRECTORY {
-        return Kept::Nowhere;
+        return None;
     }
     if LONGEST <= place {
-        return Kept::Nowhere;
+        return None;
     }
     kept_in(tables, place, place / 4)
 }
 
 // The table of the header's tags (0) or of the trailer's (1).
-pub fn tags_at(tables: &[u16], number: usize) -> Kept
+pub fn tags_at(tables: &[u16], number: usize) -> Option<(usize, usize)>
     ensures { result ≡ tags_at tables.now number }
 {
     if tables.len() < DIRECTORY {
-        return Kept::Nowhere;
+        return None;
     }
     if 1 < number {
-        return Kept::Nowhere;
+        return None;
     }
     kept_in(tables, LONGEST + number, TAGS + number)
 }
@@ -101,11 +87,7 @@ fn clear_directory(tables: &mut [u16])
     requires { directory_words ≤ length tables.old }
     ensures { tables.new ≡ clear_directory tables.old }
 {
-    let mut i: usize = 0;
-    while i < DIRECTORY {
-        tables[i] = 0;
-        i += 1;
-    }
+    tables[..DIRECTORY].fill(0);
 }
 
 // Whether a table of so many words has room behind the others, and a word of the directory can lead to its block.
@@ -113,10 +95,7 @@ fn has_room(words: usize, free: usize, size: usize) -> bool
     requires { size < 65536 }
     ensures { result ≡ room_for words free size }
 {
-    if 65536 <= free / STRIDE {
-        return false;
-    }
-    free + 2 + size <= words
+    free / STRIDE < 65536 && free + 2 + size <= words
 }
 
 // The two words of a block in front of its table, and the one of the directory that leads to it. The next block starts where the answer says.
@@ -185,8 +164,8 @@ fn tags_of(dictionary: &[u8], index: &[u16], number: u16, list: &mut [u32; 1024]
     ensures { (take result list.new ≡ tags_listed dictionary.now index.now number) × (result ≤ length list.new) }
 {
     match tags::plain_tags(dictionary, index, number, list) {
-        TagList::Listed(count) => count,
-        TagList::Unlisted => 0,
+        Some(count) => count,
+        None => 0,
     }
 }
 
@@ -224,7 +203,7 @@ fn lay_listed(
 {
     let mut list = [0u32; 1024];
     let count = tags_of(dictionary, index, number, &mut list);
-    put_tags(tables, &list, count, word(number), free)
+    put_tags(tables, &list, count, usize::from(number), free)
 }
 
 // Lays the tables of the header's tags, of the trailer's, and of all messages of a dictionary in the order of their records, as many as have room.
@@ -243,11 +222,8 @@ pub fn lay_tables(dictionary: &[u8], index: &[u16], tables: &mut [u16])
         let RecordRead::Whole(read, next) = dictionary_records::record_at(dictionary, at) else {
             return;
         };
-        match read {
-            Record::OpensMessage(_) => {
-                free = lay_message(dictionary, index, tables, at, free);
-            }
-            _ => {}
+        if let Record::OpensMessage(_) = read {
+            free = lay_message(dictionary, index, tables, at, free);
         }
         at = next;
     }
@@ -259,10 +235,10 @@ pub fn lay_table(
     index: &[u16],
     opening: u16,
     table: &mut [u16; TABLE_WORDS],
-) -> Kept
+) -> Option<(usize, usize)>
     requires { (length index.now ≡ index_words) × (table.old ≡ replicate table_words 0) }
-    ensures value { result ≡ laid_alone (placed_table dictionary.now index.now (At opening) (replicate 4096 0)) }
-    ensures laid_first { LaidFirst (placed_table dictionary.now index.now (At opening) (replicate 4096 0)) table.new }
+    ensures value { result ≡ laid_alone (placed_table dictionary.now index.now (Some opening) (replicate 4096 0)) }
+    ensures laid_first { LaidFirst (placed_table dictionary.now index.now (Some opening) (replicate 4096 0)) table.new }
 {
     let words = &mut table[..];
     let mut made = [0u16; 4096];
@@ -273,11 +249,11 @@ pub fn lay_table(
         &mut made,
         &mut words[..empty::LEAPS],
     ) else {
-        return Kept::Nowhere;
+        return None;
     };
     let rows = &made[..];
     dictionary_pressing::press(rows, count, words);
-    Kept::Table(0, dictionary_pressing::table_size(rows, count))
+    Some((0, dictionary_pressing::table_size(rows, count)))
 }
 
 // Writes the table of the tags that stand first in a list over the first words, and answers how many it has.

@@ -1,6 +1,6 @@
 -- Laws of what specs/Leaps.antt defines.
 use Rattle.std.proofs.Math.Path.{◌≡◌, refl, sym}
-use Rattle.std.proofs.Common.{◌∙◌}
+use Rattle.std.proofs.Common.{◌∙◌, Option, None}
 use Rattle.std.specs.Prelude.{Bool, List, ℕ, ◌-◌, ◌%◌, ◌≤◌, ◌<◌, length, set, replicate}
 use Rattle.std.proofs.Math.Bool.{true, false}
 use native.Mathlib.Omega.{arith}
@@ -13,13 +13,12 @@ use Rattle.dictionary_rules.specs.Record.{record_at}
 use Rattle.dictionary_rules.specs.RecordsLaws.{record_falls}
 use Rattle.dictionary_rules.specs.declared.Record.TheVariants.{ComponentItem}
 use Rattle.dictionary_rules.specs.declared.RecordRead.TheVariants.{Whole}
-use Rattle.dictionary_rules.specs.declared.Looked.{Looked}
 use Rattle.dictionary_meaning_rules.specs.Laying.{stands_at, lay_items}
 use Rattle.dictionary_meaning_rules.proofs.LayingLaws.{lay_advances, lay_empty, lay_down}
-use Rattle.dictionary_meaning_rules.specs.declared.Expansion.TheVariants.{NoItems}
 use Rattle.dictionary_flattening.specs.Leaps.{Leads, Leaps, leap_from, leap_kept, leap_word, leap_words, leaping_since, reached_leaps, reached_since, slot}
+use Rattle.dictionary_rules.specs.declared.Component.{Component}
 
-module _ {bytes : List ℕ} {components : ℕ → Looked} where
+module _ {bytes : List ℕ} {components : ℕ → Option Component} where
   pub leads_nowhere : {at : ℕ} → Leads bytes components at at
   leads_nowhere = record { onward = omega arith; within = λ h. absurd (omega arith); same = λ inner rises row table. refl }
 
@@ -38,7 +37,7 @@ module _ {bytes : List ℕ} {components : ℕ → Looked} where
           let b : at ≤ length bytes = p.within (omega arith) in omega arith
 
   pub leads_past : {at next number : ℕ} {required : Bool} → record_at bytes at ≡ Whole (ComponentItem required number) next
-      → stands_at components number ≡ NoItems → Leads bytes components at next
+      → stands_at components number ≡ None → Leads bytes components at next
   leads_past {at} {next} {number} {required} e s =
       let f = record_falls bytes at _ next e in
       record {
@@ -62,7 +61,7 @@ word_once a b = go (ltb a 65536) (ltb (a % 64) 4) (ltb b 65536) (ltb (b % 64) 4)
     go true true true true p q r w h e =
         omega (arith, ltb-true a 65536 p, ltb-true (a % 64) 4 q, ltb-true b 65536 r, ltb-true (b % 64) 4 w)
 
-module _ {bytes : List ℕ} {components : ℕ → Looked} where
+module _ {bytes : List ℕ} {components : ℕ → Option Component} where
   -- nothing is told at first
   pub leaps_none : Leaps bytes components (replicate leap_words 0)
   unfolding leap_from

@@ -1,16 +1,16 @@
 -- Rows of items that stand for nothing. A component may hold thousands of them and be used a thousand times, so what was passed once is
 -- kept in words: from a place on, laying comes to the same as from a later one. Answers know nothing of it.
 use Rattle.std.proofs.Math.Path.{◌≡◌}
-use Rattle.std.specs.Prelude.{List, ℕ, ◌+◌, ◌*◌, ◌/◌, ◌%◌, ◌≤◌, ◌<◌, length, set}
+use Rattle.std.specs.Prelude.{List, ℕ, ◌+◌, ◌*◌, ◌/◌, ◌%◌, ◌≤◌, ◌<◌, length, set, Option}
 use Rattle.std.proofs.Math.ListN.{get_or}
 use Rattle.std.proofs.Math.Dec.{ltb}
 use Rattle.field_rules.specs.Choice.{pick}
-use Rattle.dictionary_rules.specs.declared.Looked.{Looked}
 use Rattle.dictionary_meaning_rules.specs.Laying.{Step, items_from}
 use Rattle.dictionary_meaning_rules.proofs.LayingLaws.{Advancing}
+use Rattle.dictionary_rules.specs.declared.Component.{Component}
 
 -- only items that stand for nothing lie between: whatever lays what lies within, laying from the one place on is laying from the other on
-pub record Leads (bytes : List ℕ) (components : ℕ → Looked) (from to : ℕ) : Type 0 where
+pub record Leads (bytes : List ℕ) (components : ℕ → Option Component) (from to : ℕ) : Type 0 where
   pub onward : from ≤ to
   pub within : from < to → to ≤ length bytes
   pub same : (inner : Step) → Advancing (length bytes) inner → (row : ℕ) (table : List ℕ) → items_from inner bytes components from row table ≡
@@ -33,7 +33,7 @@ unfoldable pub leap_from : List ℕ → ℕ → ℕ
 leap_from leaps at = get_or leaps (leap_word at) 0
 
 -- what they say is so
-pub record Leaps (bytes : List ℕ) (components : ℕ → Looked) (leaps : List ℕ) : Type 0 where
+pub record Leaps (bytes : List ℕ) (components : ℕ → Option Component) (leaps : List ℕ) : Type 0 where
   pub size : length leaps ≡ leap_words
   pub told : (at : ℕ) → at < leap_from leaps at → Leads bytes components at (leap_from leaps at)
 

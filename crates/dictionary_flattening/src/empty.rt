@@ -6,26 +6,16 @@ ghost use Rattle.dictionary_chains.specs.Chain.{index_words};
 ghost use Rattle.dictionary_flattening.specs.Leaps.{Leads, Leaps, leap_words, leap_word, leap_from, leap_kept, reached_leaps, reached_since, leaping_since};
 
 use crate::stands_at;
-use dictionary_meaning_rules::Expansion;
 use dictionary_rules::{Record, RecordRead};
 
 // Words of leaps: for each of four ways in which items of four bytes can follow each other, one to every sixteenth place.
 pub const LEAPS: usize = 4096;
 
-fn place(word: u16) -> usize
-    ensures { result ≡ word }
-{
-    word as usize
-}
-
 // The word of a place, and none of them where the place has none.
 fn word_of(at: usize) -> usize
     ensures { result ≡ leap_word at }
 {
-    if 65536 <= at {
-        return LEAPS;
-    }
-    if 4 <= at % 64 {
+    if 65536 <= at || 4 <= at % 64 {
         return LEAPS;
     }
     1024 * (at % 64) + at / 64
@@ -40,7 +30,7 @@ fn known_from(leaps: &[u16], at: usize) -> usize
     if LEAPS <= word {
         return 0;
     }
-    place(leaps[word])
+    usize::from(leaps[word])
 }
 
 // From one place one may go to another.
@@ -92,8 +82,8 @@ fn past_item(bytes: &[u8], index: &[u16], at: usize) -> usize
         return at;
     };
     match stands_at(index, number) {
-        Expansion::NoItems => next,
-        Expansion::ItemsAt(_) => at,
+        None => next,
+        Some(_) => at,
     }
 }
 

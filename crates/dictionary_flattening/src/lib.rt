@@ -5,36 +5,35 @@
 pub mod empty;
 pub mod tags;
 
-ghost use Rattle.std.specs.Prelude.{◌≡◌, ◌≤◌, ◌<◌, length, replicate};
+ghost use Rattle.std.specs.Prelude.{◌≡◌, ◌≤◌, ◌<◌, length, replicate, Some};
 ghost use Rattle.dictionary_rules.specs.Index.{component_at};
-ghost use Rattle.dictionary_rules.specs.declared.Placed.TheVariants.{At};
 ghost use Rattle.dictionary_meaning_rules.specs.Laying.{laying, put_row, lay_items, stands_at};
 ghost use Rattle.dictionary_meaning_rules.specs.MsgType.{name_of};
 ghost use Rattle.dictionary_meaning_rules.specs.MessageTable.{tabling, place_of, placed_table};
 ghost use Rattle.dictionary_chains.specs.Chain.{index_words};
 ghost use Rattle.dictionary_flattening.specs.Leaps.{Leaps, leap_words};
 
-use dictionary_meaning_rules::{Expansion, Laid, MessageTable, MsgTypeName};
-use dictionary_rules::{Looked, Placed, Record, RecordRead};
+use dictionary_meaning_rules::MessageTable;
+use dictionary_rules::{Record, RecordRead};
 
 // Laying goes down at most once for each of 1,024 items and for each of four groups that nest, below a message that holds a component only.
 const MOST_CALLS: usize = 1030;
 
 // An empty component is skipped, and one that only stands for another is passed through, so that each step down adds an item.
-fn stands_at(index: &[u16], number: u16) -> Expansion
+fn stands_at(index: &[u16], number: u16) -> Option<usize>
     requires { length index.now ≡ index_words }
     ensures { result ≡ stands_at (component_at index.now) number }
 {
-    let Looked::Closed(component) = dictionary_names::component_of(index, number) else {
-        return Expansion::NoItems;
+    let Some(component) = dictionary_names::component_of(index, number) else {
+        return None;
     };
     if component.items == 0 {
-        return Expansion::NoItems;
+        return None;
     }
-    let Looked::Closed(standing) = dictionary_names::component_of(index, component.stands) else {
-        return Expansion::NoItems;
+    let Some(standing) = dictionary_names::component_of(index, component.stands) else {
+        return None;
     };
-    Expansion::ItemsAt(dictionary_chains::wide(standing.place) as usize + 3)
+    Some(usize::from(standing.place) + 3)
 }
 
 // One row of the table: the low and the high half of the tag, the marks, and the row where what belongs to it ends.
@@ -69,24 +68,24 @@ fn lay_items(
     from: usize,
     first: usize,
     depth: usize,
-) -> Laid
+) -> Option<(usize, usize)>
     requires { (length index.now ≡ index_words) × (first ≤ 1024) × Leaps bytes.now (component_at index.now) leaps.old }
     ensures table_after { laying result table.new ≡ lay_items depth bytes.now (component_at index.now) from first table.old }
     ensures leaps { Leaps bytes.now (component_at index.now) leaps.new }
 {
     if depth == 0 {
-        return Laid::Broken;
+        return None;
     }
     let mut at = from;
     let mut row = first;
     loop {
         let RecordRead::Whole(record, next) = dictionary_records::record_at(bytes, at) else {
-            return Laid::Broken;
+            return None;
         };
         match record {
             Record::FieldItem(tag, required) => {
                 if 1024 <= row {
-                    return Laid::Broken;
+                    return None;
                 }
                 put_row(table, row, tag, required, false, row + 1);
                 at = next;
@@ -94,9 +93,9 @@ fn lay_items(
             }
             Record::OpensGroup(tag, required) => {
                 if 1024 <= row {
-                    return Laid::Broken;
+                    return None;
                 }
-                let Laid::Upto(after, end) = lay_items(
+                let Some((after, end)) = lay_items(
                     bytes,
                     index,
                     table,
@@ -105,11 +104,11 @@ fn lay_items(
                     row + 1,
                     depth - 1,
                 ) else {
-                    return Laid::Broken;
+                    return None;
                 };
                 // "group closes empty after flattening" is refused by the check, so only forged content has such a group.
                 if end <= row + 1 {
-                    return Laid::Broken;
+                    return None;
                 }
                 put_row(table, row, tag, required, true, end);
                 at = after;
@@ -117,8 +116,8 @@ fn lay_items(
             }
             Record::ComponentItem(_, number) => {
                 match stands_at(index, number) {
-                    Expansion::ItemsAt(place) => {
-                        let Laid::Upto(_, end) = lay_items(
+                    Some(place) => {
+                        let Some((_, end)) = lay_items(
                             bytes,
                             index,
                             table,
@@ -127,64 +126,52 @@ fn lay_items(
                             row,
                             depth - 1,
                         ) else {
-                            return Laid::Broken;
+                            return None;
                         };
                         if end <= row {
-                            return Laid::Broken;
+                            return None;
                         }
                         at = next;
                         row = end;
                     }
-                    Expansion::NoItems => {
+                    None => {
                         at = empty::pass(bytes, index, leaps, next);
                     }
                 }
             }
             Record::Closes => {
-                return Laid::Upto(next, row);
+                return Some((next, row));
             }
             _ => {
-                return Laid::Broken;
+                return None;
             }
         }
     }
 }
 
-fn wide(byte: u8) -> u64
-    ensures { result ≡ byte }
-{
-    byte as u64
-}
-
-pub fn name_of(msgtype: &[u8]) -> MsgTypeName
+pub fn name_of(msgtype: &[u8]) -> Option<u64>
     ensures { result ≡ name_of msgtype.now }
 {
-    if msgtype.len() == 0 {
-        return MsgTypeName::Unnamed;
-    }
-    if 8 < msgtype.len() {
-        return MsgTypeName::Unnamed;
+    if msgtype.is_empty() || 8 < msgtype.len() {
+        return None;
     }
     let mut number: u64 = 0;
-    let mut i = msgtype.len();
-    while 0 < i {
-        i -= 1;
-        let byte = msgtype[i];
+    for &byte in msgtype.iter().rev() {
         if byte == 0 {
-            return MsgTypeName::Unnamed;
+            return None;
         }
-        number = number * 256 + wide(byte);
+        number = number * 256 + u64::from(byte);
     }
-    MsgTypeName::Named(number)
+    Some(number)
 }
 
 // Where the record stands that opens the message of a MsgType.
-pub fn place_of(index: &[u16], msgtype: &[u8]) -> Placed
+pub fn place_of(index: &[u16], msgtype: &[u8]) -> Option<u16>
     requires { length index.now ≡ index_words }
     ensures { result ≡ place_of index.now msgtype.now }
 {
-    let MsgTypeName::Named(number) = name_of(msgtype) else {
-        return Placed::Nowhere;
+    let Some(number) = name_of(msgtype) else {
+        return None;
     };
     dictionary_names::message_of(index, number)
 }
@@ -199,17 +186,11 @@ pub fn placed_table(
     leaps: &mut [u16],
 ) -> MessageTable
     requires { (length index.now ≡ index_words) × (leaps.old ≡ replicate leap_words 0) }
-    ensures { tabling result table.new ≡ placed_table dictionary.now index.now (At opening) table.old }
+    ensures { tabling result table.new ≡ placed_table dictionary.now index.now (Some opening) table.old }
 {
     // Called here too, it stays a function by itself, and its locals out of the recursion's frames.
-    let items = empty::pass(
-        dictionary,
-        index,
-        leaps,
-        dictionary_chains::wide(opening) as usize + 9,
-    );
-    let Laid::Upto(_, count) = lay_items(dictionary, index, table, leaps, items, 0, MOST_CALLS)
-    else {
+    let items = empty::pass(dictionary, index, leaps, usize::from(opening) + 9);
+    let Some((_, count)) = lay_items(dictionary, index, table, leaps, items, 0, MOST_CALLS) else {
         return MessageTable::Unprepared;
     };
     MessageTable::Rows(count)

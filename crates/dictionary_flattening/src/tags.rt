@@ -3,11 +3,10 @@ ghost use Rattle.std.specs.Prelude.{◌≡◌, ◌≤◌, length};
 ghost use Rattle.dictionary_meaning_rules.specs.PlainTags.{listing, tags_from, plain_tags};
 ghost use Rattle.dictionary_chains.specs.Chain.{index_words};
 
-use dictionary_meaning_rules::TagList;
-use dictionary_rules::{Looked, Record, RecordRead};
+use dictionary_rules::{Record, RecordRead};
 
 // Lists from a place on, up to the close. What lies in a group is passed over, up to its own close.
-fn list_tags(dictionary: &[u8], from: usize, tags: &mut [u32]) -> TagList
+fn list_tags(dictionary: &[u8], from: usize, tags: &mut [u32]) -> Option<usize>
     requires { 1024 ≤ length tags.old }
     ensures { listing result tags.new ≡ tags_from dictionary.now from 0 0 tags.old }
 {
@@ -16,14 +15,14 @@ fn list_tags(dictionary: &[u8], from: usize, tags: &mut [u32]) -> TagList
     let mut count: usize = 0;
     loop {
         let RecordRead::Whole(record, next) = dictionary_records::record_at(dictionary, at) else {
-            return TagList::Unlisted;
+            return None;
         };
         match record {
             Record::FieldItem(tag, _) => {
                 at = next;
                 if groups == 0 {
                     if 1024 <= count {
-                        return TagList::Unlisted;
+                        return None;
                     }
                     tags[count] = tag;
                     count += 1;
@@ -39,29 +38,30 @@ fn list_tags(dictionary: &[u8], from: usize, tags: &mut [u32]) -> TagList
             Record::Closes => {
                 at = next;
                 if groups == 0 {
-                    return TagList::Listed(count);
+                    return Some(count);
                 }
                 groups -= 1;
             }
             _ => {
-                return TagList::Unlisted;
+                return None;
             }
         }
     }
 }
 
 // The tags of a component, from a dictionary that passed its check and the index that the check left: 0 is the header, 1 the trailer.
-pub fn plain_tags(dictionary: &[u8], index: &[u16], number: u16, tags: &mut [u32; 1024]) -> TagList
+pub fn plain_tags(
+    dictionary: &[u8],
+    index: &[u16],
+    number: u16,
+    tags: &mut [u32; 1024],
+) -> Option<usize>
     requires { length index.now ≡ index_words }
     ensures { listing result tags.new ≡ plain_tags dictionary.now index.now number tags.old }
 {
     let list = &mut tags[..];
-    let Looked::Closed(component) = dictionary_names::component_of(index, number) else {
-        return TagList::Unlisted;
+    let Some(component) = dictionary_names::component_of(index, number) else {
+        return None;
     };
-    list_tags(
-        dictionary,
-        dictionary_chains::wide(component.place) as usize + 3,
-        list,
-    )
+    list_tags(dictionary, usize::from(component.place) + 3, list)
 }

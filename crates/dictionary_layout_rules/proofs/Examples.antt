@@ -1,7 +1,7 @@
 -- Worked examples of this crate's definitions, one table to a definition, each under one statement that antt computes.
 -- A wrong definition is refused here, whatever code is proved against it.
 use Rattle.std.specs.Prelude.{◌≡◌, refl, List, [], ◌∷◌, map, true, false, ℕ, zero, suc}
-use Rattle.std.proofs.Common.{arith}
+use Rattle.std.proofs.Common.{arith, Some, None}
 use Rattle.field_rules.specs.Text.{bytes}
 use Rattle.dictionary_layout_rules.specs.Layout.{Layout, end, field, group, followed_by, first_of, position_from, position_in, none, entries, group_since}
 use Rattle.dictionary_layout_rules.specs.Layout.{group_of, delimiter_of_lem, required_tags, items, larger, depth}
@@ -9,8 +9,6 @@ use Rattle.dictionary_layout_rules.specs.Tree.{Nodes, nothing, field_item_lem, c
 use Rattle.dictionary_layout_rules.specs.Tree.{same_bytes, no_message, laid_out, message_of, layout_of}
 use Rattle.dictionary_layout_rules.specs.Table.{mark, marks, rows_from}
 use Rattle.dictionary_layout_rules.specs.Measures.{NoEmptyGroup, none-at_end, none-after-field, none_in_group, Bounded}
-use Rattle.dictionary_layout_rules.specs.declared.Position.TheVariants.{At, Nowhere}
-use Rattle.dictionary_layout_rules.specs.declared.FirstTag.TheVariants.{First, NoTag}
 
 abbrev plain : List ℕ → Nodes
 plain [] = nothing
@@ -65,7 +63,7 @@ flattening : map flattened (component_item_lem true (plain (1 ∷ 2 ∷ [])) (fi
 unfolding flattened followed_by
 flattening = refl
 
-positions : map (λ (tag : ℕ). position_in tag order) (38 ∷ 78 ∷ 58 ∷ 79 ∷ 5001 ∷ []) ≡ At 0 ∷ At 1 ∷ At 2 ∷ Nowhere ∷ Nowhere ∷ []
+positions : map (λ (tag : ℕ). position_in tag order) (38 ∷ 78 ∷ 58 ∷ 79 ∷ 5001 ∷ []) ≡ Some 0 ∷ Some 1 ∷ Some 2 ∷ None ∷ None ∷ []
 unfolding position_in position_from first_of
 positions = refl
 
@@ -74,7 +72,7 @@ abbrev twice : Layout
 twice = field 58 false (group 78 false (field 79 false end) (field 78 true (field 58 true (group 78 true (field 80 false end) (field 78 false end)))))
 
 -- "its position is the first, its group the last, and each required mark counts at its own place"
-twice_positions : map (λ (tag : ℕ). position_in tag twice) (58 ∷ 78 ∷ 79 ∷ []) ≡ At 0 ∷ At 1 ∷ Nowhere ∷ []
+twice_positions : map (λ (tag : ℕ). position_in tag twice) (58 ∷ 78 ∷ 79 ∷ []) ≡ Some 0 ∷ Some 1 ∷ None ∷ []
 unfolding position_in position_from first_of
 twice_positions = refl
 
@@ -86,7 +84,7 @@ required : map required_tags (twice ∷ order ∷ entries_of ∷ end ∷ []) ≡
 unfolding required_tags
 required = refl
 
-delimiters : map delimiter_of_lem (entries_of ∷ twice ∷ group 78 false entries_of end ∷ end ∷ []) ≡ First 79 ∷ First 58 ∷ First 78 ∷ NoTag ∷ []
+delimiters : map delimiter_of_lem (entries_of ∷ twice ∷ group 78 false entries_of end ∷ end ∷ []) ≡ Some 79 ∷ Some 58 ∷ Some 78 ∷ None ∷ []
 unfolding delimiter_of_lem
 delimiters = refl
 

@@ -1,12 +1,8 @@
 -- Flattened layouts: fields and groups, each with its required mark, and no components. A level is a layout's own items; each group has
 -- a level of its own within. "If a tag stands twice in a layout, its position is the first, its group the last, and each required mark
 -- counts at its own place."
-use Rattle.std.specs.Prelude.{ℕ, ◌+◌, List, [], ◌∷◌, Bool, true, false, eqb, leb}
+use Rattle.std.specs.Prelude.{ℕ, ◌+◌, List, [], ◌∷◌, Bool, true, false, eqb, leb, Option, Some, None}
 use Rattle.field_rules.specs.Choice.{pick}
-use Rattle.dictionary_layout_rules.specs.declared.Position.{Position}
-use Rattle.dictionary_layout_rules.specs.declared.Position.TheVariants.{At, Nowhere}
-use Rattle.dictionary_layout_rules.specs.declared.FirstTag.{FirstTag}
-use Rattle.dictionary_layout_rules.specs.declared.FirstTag.TheVariants.{First, NoTag}
 
 -- a field has tag and required mark, a group also the layout of its entries; then comes what follows
 pub data Layout : Type 0 where
@@ -21,21 +17,21 @@ followed_by (field tag required rest) after = field tag required (followed_by re
 followed_by (group tag required inner rest) after = group tag required inner (followed_by rest after)
 
 -- "its position is the first"
-unfoldable pub first_of : Position → Position → Position
-first_of (At position) other = At position
-first_of Nowhere other = other
+unfoldable pub first_of : Option ℕ → Option ℕ → Option ℕ
+first_of (Some position) other = Some position
+first_of None other = other
 
 -- where an item of a tag stands that has the position `at`
-abbrev pub item_at : ℕ → ℕ → ℕ → Position
-item_at tag at t = pick (eqb t tag) (At at) Nowhere
+abbrev pub item_at : ℕ → ℕ → ℕ → Option ℕ
+item_at tag at t = pick (eqb t tag) (Some at) None
 
 -- counted among the level's own items, the first of which has the position `at`
-unfoldable pub position_from : ℕ → ℕ → Layout → Position
-position_from tag at end = Nowhere
+unfoldable pub position_from : ℕ → ℕ → Layout → Option ℕ
+position_from tag at end = None
 position_from tag at (field t required rest) = first_of (item_at tag at t) (position_from tag (at + 1) rest)
 position_from tag at (group t required inner rest) = first_of (item_at tag at t) (position_from tag (at + 1) rest)
 
-unfoldable pub position_in : ℕ → Layout → Position
+unfoldable pub position_in : ℕ → Layout → Option ℕ
 position_in tag layout = position_from tag 0 layout
 
 -- what a tag counts the entries of
@@ -53,10 +49,10 @@ unfoldable pub group_of : ℕ → Layout → Group
 group_of tag layout = group_since none tag layout
 
 -- "the delimiter (the layout's first tag)"
-unfoldable pub delimiter_of_lem : Layout → FirstTag
-delimiter_of_lem end = NoTag
-delimiter_of_lem (field tag required rest) = First tag
-delimiter_of_lem (group tag required inner rest) = First tag
+unfoldable pub delimiter_of_lem : Layout → Option ℕ
+delimiter_of_lem end = None
+delimiter_of_lem (field tag required rest) = Some tag
+delimiter_of_lem (group tag required inner rest) = Some tag
 
 -- "its required fields in layout order": "each required mark counts at its own place"
 unfoldable pub required_tags : Layout → List ℕ

@@ -9,15 +9,3 @@ pub struct Level {
     pub first: usize,
     pub end: usize,
 }
-
-#[derive(Clone, Copy)]
-pub enum Position {
-    At(usize),
-    Nowhere,
-}
-
-#[derive(Clone, Copy)]
-pub enum FirstTag {
-    First(u32),
-    NoTag,
-}

@@ -12,7 +12,6 @@ use Rattle.dictionary_layout_rules.specs.Tree.{flattened}
 use Rattle.dictionary_layout_rules.specs.Measures.{NoEmptyGroup, none-at_end, none-after-field, none_in_group, filled, BoundedSoFar, InnermostOpen}
 use Rattle.dictionary_layout_rules.proofs.MeasuresLaws.{larger-first, larger-second, larger-least, filled-followed}
 use Rattle.dictionary_layout_rules.specs.Measures.{innermost as innermost-here}
-use Rattle.dictionary_rules.specs.Records.{whole}
 use Rattle.dictionary_rules.specs.Step.{depth_of, opened, deeper, opens, grown}
 use Rattle.dictionary_rules.specs.StepLaws.{first_no_deeper, second_no_deeper, deeper_either}
 use Rattle.dictionary_rules.specs.declared.Group.{Group}

@@ -1,7 +1,7 @@
 -- Each record that the check takes leaves the tree beside it, within bounds; each that it refuses with 34, 35 or 37 breaks that bound.
 use Rattle.std.specs.Prelude.{◌≡◌, Bool, true, eqb, ltb, length}
 use Rattle.std.proofs.Math.Path.{refl, sym, ap, subst}
-use Rattle.std.proofs.Common.{◌∙◌, arith}
+use Rattle.std.proofs.Common.{◌∙◌, arith, Option, Some, None, Result, Ok, Err, ℕ}
 use Rattle.std.proofs.Math.Bool.{false}
 use mathlib.Core.List.{List, [], ◌∷◌}
 use Prim.Native.Nat.{ℕ, suc, ◌+◌, ◌-◌, ◌≤◌}
@@ -15,10 +15,6 @@ use Rattle.dictionary_rules.specs.Step.{depth_of, opened, deeper, opens, grown, 
 use Rattle.dictionary_rules.specs.Names.{Names, is_known, component_in, message_in, looks_in, named}
 use Rattle.dictionary_rules.specs.declared.Checked.{Checked}
 use Rattle.dictionary_rules.specs.declared.Checked.TheVariants.{BadRecord, NoComponent, UnknownTag, EmptyGroup, TooDeep, Twice, TooManyItems}
-use Rattle.dictionary_rules.specs.declared.Looked.{Looked}
-use Rattle.dictionary_rules.specs.declared.Looked.TheVariants.{Closed, Missing}
-use Rattle.dictionary_rules.specs.declared.Placed.{Placed}
-use Rattle.dictionary_rules.specs.declared.Placed.TheVariants.{At, Nowhere}
 use Rattle.dictionary_rules.specs.declared.Group.{Group}
 use Rattle.dictionary_rules.specs.declared.Groups.{Groups}
 use Rattle.dictionary_rules.specs.declared.Groups.TheVariants.{NoGroup, OneGroup, TwoGroups, ThreeGroups, FourGroups}
@@ -32,8 +28,6 @@ use Rattle.dictionary_rules.specs.declared.Note.{Note}
 use Rattle.dictionary_rules.specs.declared.Note.TheVariants.{Unchanged, KnowsTag, NamesMessage}
 use Rattle.dictionary_rules.specs.declared.Record.{Record}
 use Rattle.dictionary_rules.specs.declared.Record.TheVariants.{KnownTag, OpensComponent, OpensMessage, FieldItem, ComponentItem, OpensGroup, Closes}
-use Rattle.dictionary_rules.specs.declared.Step.{Step}
-use Rattle.dictionary_rules.specs.declared.Step.TheVariants.{Refuses, Goes}
 use Rattle.dictionary_meaning_rules.specs.Meaning.{Items, closed, component_then_lem, group_then_lem, msg_type_bytes, Declaration, component, message, declarations_of, Defined, defined_by}
 use Rattle.dictionary_meaning_rules.proofs.Layable.{flat}
 use Rattle.dictionary_meaning_rules.specs.ClosedOff.{open_after, closes, layouts_by, layouts_after, Latest, FiveDeep, OverThousand}
@@ -41,6 +35,7 @@ use Rattle.dictionary_meaning_rules.proofs.Bodies.{Holds, HoldsAll, holds-none, 
 use Rattle.dictionary_meaning_rules.proofs.SoFar.{OpenGroup, innermost, continued, joined, wrapped}
 use Rattle.dictionary_meaning_rules.proofs.TreeSoFar.{AllMeasured, measured-more, Declares, declares_component, declares_message, Tree, OpenTree, tree_field, tree_component, tree_group, tree_close, tree_owner, latest_off}
 use Rattle.dictionary_meaning_rules.proofs.Beside.{listed, listed-opened, Counted, count-whole, counted-opens, field-whole, field-shallow, counted-field, component-whole, component-deep, component-shallow, counted-component, group-whole, group-deep, group-shallow, counted-group, closes-empty, counted-close}
+use Rattle.dictionary_rules.specs.declared.Component.{Component}
 
 -- the state of the check, with the names so far, beside the tree that was read
 pub data Beside : State → Names → (Records → List Layout) → Type 0 where
@@ -64,9 +59,9 @@ pub data Breaks (layouts : Records → List Layout) (things place : ℕ) (r : Re
   unknown_tag : {tag : ℕ} → Breaks layouts things place r (UnknownTag tag)
   twice : Breaks layouts things place r (Twice place)
 
-pub data Stepped (state : State) (names : Names) (layouts : Records → List Layout) (place : ℕ) (r : Record) : Step → Type 0 where
-  goes : {later : State} {note : Note} → Beside later (named names note) (λ (q : Records). layouts (whole place r q)) → things_of later ≡ open_after r (things_of state) → Stepped state names layouts place r (Goes later note)
-  refuses : {checked : Checked} → Breaks layouts (things_of state) place r checked → Stepped state names layouts place r (Refuses checked)
+pub data Stepped (state : State) (names : Names) (layouts : Records → List Layout) (place : ℕ) (r : Record) : Result (State × Note) Checked → Type 0 where
+  goes : {later : State} {note : Note} → Beside later (named names note) (λ (q : Records). layouts (whole place r q)) → things_of later ≡ open_after r (things_of state) → Stepped state names layouts place r (Ok (later, note))
+  refuses : {checked : Checked} → Breaks layouts (things_of state) place r checked → Stepped state names layouts place r (Err checked)
 
 -- what opens declares the one level that it holds
 opening_declares : {later behind : Records} {levels : List Items} (rs : Records) (declares : Items → Declaration) →
@@ -78,7 +73,7 @@ opening_declares rs declares declared n (holds_more h (holds_more g hs)) = absur
 opening_declares rs declares declared n (holds_more h holds-none) = declared _ _ h
 
 module _ (names : Names) (layouts : Records → List Layout) (place : ℕ) where
-  picked : (state : State) (r : Record) (b : Bool) (then other : Step) → (b ≡ true → Stepped state names layouts place r then) → (b ≡ false → Stepped state names layouts place r other) → Stepped state names layouts place r (pick b then other)
+  picked : (state : State) (r : Record) (b : Bool) (then other : Result (State × Note) Checked) → (b ≡ true → Stepped state names layouts place r then) → (b ≡ false → Stepped state names layouts place r other) → Stepped state names layouts place r (pick b then other)
   picked state r true then other t f = t refl
   picked state r false then other t f = f refl
 
@@ -113,9 +108,9 @@ module _ (names : Names) (layouts : Records → List Layout) (place : ℕ) where
                   ∙ ap (layouts_after t.defined t.read) (opening_declares (whole place (OpensComponent number) later) (component number) (λ items after g. declared-component place later number g) n h);
             }
 
-        go : (l : Looked) → Stepped TopLevel names layouts place (OpensComponent number) (once_component l place (Goes (Inside (opens (OfComponent number) place)) Unchanged))
-        go Missing = unfold once_component in goes (within t.measured t.bounded begun (counted-opens t.defined (OfComponent number) place)) (unfold things_of open_after opens depth_of in refl)
-        go (Closed c) = unfold once_component in refuses twice
+        go : (l : Option Component) → Stepped TopLevel names layouts place (OpensComponent number) (once_component l place (Ok ((Inside (opens (OfComponent number) place)), Unchanged)))
+        go None = unfold once_component in goes (within t.measured t.bounded begun (counted-opens t.defined (OfComponent number) place)) (unfold things_of open_after opens depth_of in refl)
+        go (Some c) = unfold once_component in refuses twice
 
     top_message : (msg_type : ℕ) → Stepped TopLevel names layouts place (OpensMessage msg_type) (step_of (looks_in names) TopLevel place (OpensMessage msg_type))
     unfolding step_of on_message at_top_lem looks_in named
@@ -132,9 +127,9 @@ module _ (names : Names) (layouts : Records → List Layout) (place : ℕ) where
                   ∙ ap (layouts_after t.defined t.read) (opening_declares (whole place (OpensMessage msg_type) later) (message (msg_type_bytes msg_type)) (λ items after g. declared-message place later msg_type g) n h);
             }
 
-        go : (p : Placed) → Stepped TopLevel names layouts place (OpensMessage msg_type) (once_message p place (Goes (Inside (opens OfMessage place)) (NamesMessage place msg_type)))
-        go Nowhere = unfold once_message in goes (within t.measured t.bounded begun (counted-opens t.defined OfMessage place)) (unfold things_of open_after opens depth_of in refl)
-        go (At earlier) = unfold once_message in refuses twice
+        go : (p : Option ℕ) → Stepped TopLevel names layouts place (OpensMessage msg_type) (once_message p place (Ok ((Inside (opens OfMessage place)), (NamesMessage place msg_type))))
+        go None = unfold once_message in goes (within t.measured t.bounded begun (counted-opens t.defined OfMessage place)) (unfold things_of open_after opens depth_of in refl)
+        go (Some earlier) = unfold once_message in refuses twice
 
   -- inside something open
   module _ (o : Open) (defined : List Defined) (read : List Layout) (level : Items) (groups : List OpenGroup) (measured : AllMeasured names defined) (bounded : Each Bounded read) (t : OpenTree o.owner layouts defined read level groups) (c : Counted o defined level groups) where
@@ -162,12 +157,15 @@ module _ (names : Names) (layouts : Records → List Layout) (place : ℕ) where
         over : (P : Layout → Type 0) → P (flat defined (wrapped groups (continued level (component_then_lem number required closed)))) → Latest P (layouts (whole place (ComponentItem required number) (closes (open_after (ComponentItem required number) (things_of (Inside o))) (ends 0))))
         over P p = latest_off o.owner _ defined read _ P groups _ next (unfold open_after in as_open) p
 
-        go : (l : Looked) → component_in names.components number ≡ l →
+        go : (l : Option Component) → component_in names.components number ≡ l →
             Stepped (Inside o) names layouts place (ComponentItem required number) (closed_before l number (λ d. not_too_deep (depth_of
-            o.groups + d.depth) place (not_too_many (o.items + d.items) place (Goes (Inside (grown o (o.items + d.items) (deeper o.depth (depth_of
-            o.groups + d.depth)) (held_with o.held d) o.groups)) Unchanged))))
-        go Missing e = unfold closed_before in refuses no_component
-        go (Closed d) e =
+            o.groups + d.depth) place (not_too_many (o.items + d.items) place (Ok (
+              Inside (grown o (o.items + d.items) (deeper o.depth (depth_of
+                  o.groups + d.depth)) (held_with o.held d) o.groups),
+              Unchanged,
+            )))))
+        go None e = unfold closed_before in refuses no_component
+        go (Some d) e =
             let m = measured number d e in
             unfold closed_before not_too_deep not_too_many in
             picked (Inside o) (ComponentItem required number) (ltb 4 (depth_of o.groups + d.depth)) _ _
@@ -292,7 +290,7 @@ module _ (names : Names) (layouts : Records → List Layout) (place : ℕ) (o : 
           no_depth : depth_of NoGroup ≡ 0
           no_depth = unfold depth_of in refl
       go (a-group counted others s l d) [] t c = absurd (omega (arith, c.nests, d))
-      go (a-group counted others s l d) (g ∷ groups) t c = subst (λ (step : Step). Stepped (Inside o) names layouts place Closes step) (sym s) (group-closes g groups counted others l d t c)
+      go (a-group counted others s l d) (g ∷ groups) t c = subst (λ (step : Result (State × Note) Checked). Stepped (Inside o) names layouts place Closes step) (sym s) (group-closes g groups counted others l d t c)
 
 -- every record
 pub step_beside : (state : State) (names : Names) (layouts : Records → List Layout) (place : ℕ) (r : Record) → Beside state names layouts → Stepped state names layouts place r (step_of (looks_in names) state place r)

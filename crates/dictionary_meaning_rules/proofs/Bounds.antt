@@ -1,7 +1,7 @@
 -- 34, 35 and 37 are true of the flattened tree. A dictionary that passes keeps the bounds in every component and message, and one that is
 -- refused for them is so at the first record that breaks one.
 use Rattle.std.specs.Prelude.{◌≡◌, refl, List, ◌∷◌, ℕ, zero, suc, ◌-◌, ◌≤◌, length}
-use Rattle.std.proofs.Common.{sym, ◌∙◌, arith}
+use Rattle.std.proofs.Common.{sym, ◌∙◌, arith, Option, Some, None, Result}
 use Rattle.std.proofs.Math.Path.{ap, subst}
 use Rattle.dictionary_layout_rules.specs.Layout.{Layout}
 use Rattle.dictionary_layout_rules.specs.Measures.{Bounded, Each, each_none, each_more}
@@ -12,14 +12,10 @@ use Rattle.dictionary_rules.specs.Check.{on_step, walked, answer_of}
 use Rattle.dictionary_rules.specs.Names.{Names, looks_in, named}
 use Rattle.dictionary_rules.specs.declared.Checked.{Checked}
 use Rattle.dictionary_rules.specs.declared.Checked.TheVariants.{Passes, BadRecord, NoComponent, UnknownTag, EmptyGroup, TooDeep, Twice, TooManyItems}
-use Rattle.dictionary_rules.specs.declared.Looked.{Looked}
-use Rattle.dictionary_rules.specs.declared.Looked.TheVariants.{Closed, Missing}
 use Rattle.dictionary_rules.specs.declared.Record.{Record}
 use Rattle.dictionary_rules.specs.declared.State.{State}
 use Rattle.dictionary_rules.specs.declared.State.TheVariants.{TopLevel, Inside}
 use Rattle.dictionary_rules.specs.declared.Note.{Note}
-use Rattle.dictionary_rules.specs.declared.Step.{Step}
-use Rattle.dictionary_meaning_rules.specs.Meaning.{component}
 use Rattle.dictionary_meaning_rules.proofs.Bodies.{declared-end}
 use Rattle.dictionary_meaning_rules.proofs.Layable.{flat}
 use Rattle.dictionary_meaning_rules.specs.ClosedOff.{open_after, closes, closed_off, open_of, records_after, layouts_after, goes_on, taken_from, AllBounded, nothing_read, latest_bounded, KeepsBounds, FirstWith, FirstEmpty, FiveDeep, OverThousand}
@@ -27,6 +23,7 @@ use Rattle.dictionary_meaning_rules.proofs.SoFar.{wrapped}
 use Rattle.dictionary_meaning_rules.proofs.TreeSoFar.{Tree, tree_off}
 use Rattle.dictionary_meaning_rules.proofs.Beside.{bounded_so_far}
 use Rattle.dictionary_meaning_rules.proofs.BesideSteps.{Beside, at_top, within, things_of, Breaks, nests_too_deep, holds_too_many, closes_an_empty, bad_record, no_component, unknown_tag, twice, Stepped, goes, refuses, step_beside}
+use Rattle.dictionary_rules.specs.declared.Component.{Component}
 
 all_bounded : {layouts : List Layout} → Each Bounded layouts → AllBounded 0 layouts
 all_bounded each_none = nothing_read
@@ -58,7 +55,7 @@ taken_bounded (suc first) (whole place r rest) state names layouts b h =
     go (step_of (looks_in names) state place r) (step_beside state names layouts place r b) h
     (λ later note b h. taken_bounded first rest later (named names note) (λ (q : Records). layouts (whole place r q)) b h)
   where
-    go : (step : Step) → Stepped state names layouts place r step → suc first ≤ goes_on step (λ later note. taken_from rest later (named names note)) →
+    go : (step : Result (State × Note) Checked) → Stepped state names layouts place r step → suc first ≤ goes_on step (λ later note. taken_from rest later (named names note)) →
         ((later : State) (note : Note) → Beside later (named names note) (λ (q : Records). layouts (whole place r q)) →
         first ≤ taken_from rest later (named names note) → KeepsBounds (things_of later) rest (λ (q : Records). layouts (whole place r q)) first) →
         AllBounded (open_of first (open_after r (things_of state)) rest - 1) (layouts (whole place r (closed_off first (open_after r (things_of state)) rest)))
@@ -106,10 +103,10 @@ unfolding at_end
 verdict-end size (Inside o) names layouts b = of_record
 verdict-end size TopLevel names layouts (at_top t) = go ((looks_in names).component 0) ((looks_in names).component 1)
   where
-    go : (header trailer : Looked) → Verdict (things_of TopLevel) (ends size) layouts 0 (present header 0 (present trailer 1 Passes))
-    go Missing trailer = unfold present in of-component
-    go (Closed c) Missing = unfold present in of-component
-    go (Closed c) (Closed d) = unfold present in it_passes (rw (top_read t size) t.bounded)
+    go : (header trailer : Option Component) → Verdict (things_of TopLevel) (ends size) layouts 0 (present header 0 (present trailer 1 Passes))
+    go None trailer = unfold present in of-component
+    go (Some c) None = unfold present in of-component
+    go (Some c) (Some d) = unfold present in it_passes (rw (top_read t size) t.bounded)
 
 pub verdict : (records : Records) (state : State) (names : Names) (layouts : Records → List Layout) → Beside state names layouts → Verdict (things_of state) records layouts (taken_from records state names) (answer_of (walked looks_in named records state names))
 unfolding taken_from walked answer_of
@@ -119,7 +116,7 @@ verdict (whole place r rest) state names layouts b =
     go (step_of (looks_in names) state place r) (step_beside state names layouts place r b)
     (λ later note b. verdict rest later (named names note) (λ (q : Records). layouts (whole place r q)) b)
   where
-    go : (step : Step) → Stepped state names layouts place r step → ((later : State) (note : Note) →
+    go : (step : Result (State × Note) Checked) → Stepped state names layouts place r step → ((later : State) (note : Note) →
         Beside later (named names note) (λ (q : Records). layouts (whole place r q)) →
         Verdict (things_of later) rest (λ (q : Records). layouts (whole place r q)) (taken_from rest later (named names note)) (answer_of
         (walked looks_in named rest later (named names note)))) →

@@ -1,8 +1,8 @@
 -- What the check counts of a level, and what it holds: the items of each component that it names, and whether it holds one component
 -- and else only empty ones. Where the counts of the components are right, so is that of the level.
-use Rattle.std.specs.Prelude.{◌≡◌, Bool, ◌⊎◌, List, [], ◌∷◌, ℕ, zero, suc, ◌+◌, ◌-◌, ◌*◌, ◌≤◌, ◌<◌, eqb}
+use Rattle.std.specs.Prelude.{◌≡◌, Bool, ◌⊎◌, List, ℕ, zero, suc, ◌+◌, ◌≤◌, ◌<◌, eqb}
 use Rattle.std.proofs.Math.Path.{refl, ap}
-use Rattle.std.proofs.Common.{sym, ◌∙◌, inl, inr, eqb-true}
+use Rattle.std.proofs.Common.{sym, ◌∙◌, inl, inr, eqb-true, Option, Some, None}
 use Rattle.std.proofs.Math.Bool.{true, false}
 use Rattle.std.proofs.Math.Logic.{⊎_elim}
 use native.Mathlib.Omega.{arith}
@@ -12,23 +12,21 @@ use Rattle.dictionary_layout_rules.specs.Layout.{Layout, end, field, group, foll
 use Rattle.dictionary_layout_rules.specs.Tree.{flattened}
 use Rattle.dictionary_rules.specs.Step.{held_also, held_with}
 use Rattle.dictionary_rules.specs.declared.Component.{Component}
-use Rattle.dictionary_rules.specs.declared.Looked.{Looked}
-use Rattle.dictionary_rules.specs.declared.Looked.TheVariants.{Closed, Missing}
 use Rattle.dictionary_rules.specs.declared.Held.{Held}
 use Rattle.dictionary_rules.specs.declared.Held.TheVariants.{Empty, Only, Several}
-use Rattle.dictionary_meaning_rules.specs.Meaning.{Items, closed, field_then_lem, component_then_lem, group_then_lem, Defined, nodes_of, expanded}
+use Rattle.dictionary_meaning_rules.specs.Meaning.{Items, closed, field_then_lem, component_then_lem, group_then_lem, Defined, expanded}
 use Rattle.dictionary_meaning_rules.proofs.Written.{followed-end}
 use Rattle.dictionary_meaning_rules.proofs.Layable.{layout_of, flat, calls_for, Room, room-close, room-field, room-component, room-group, count-field, count-component, count-group, nest_field, nest_component, nest_group}
 
-unfoldable pub items_in : Looked → ℕ
-items_in Missing = 0
-items_in (Closed c) = c.items
+unfoldable pub items_in : Option Component → ℕ
+items_in None = 0
+items_in (Some c) = c.items
 
-unfoldable pub held_by : Held → Looked → Held
-held_by held Missing = held
-held_by held (Closed c) = held_with held c
+unfoldable pub held_by : Held → Option Component → Held
+held_by held None = held
+held_by held (Some c) = held_with held c
 
-module _ (look : ℕ → Looked) where
+module _ (look : ℕ → Option Component) where
   unfoldable pub count_of : Items → ℕ
   count_of closed = 0
   count_of (field_then_lem tag required rest) = 1 + count_of rest
@@ -42,13 +40,13 @@ module _ (look : ℕ → Looked) where
   held_from held (group_then_lem tag required inner rest) = held_from (held_from Several inner) rest
 
 -- each component that a level names is closed, and its count is that of its layout
-pub data Agrees (look : ℕ → Looked) (defined : List Defined) : Items → Type 0 where
+pub data Agrees (look : ℕ → Option Component) (defined : List Defined) : Items → Type 0 where
   agrees_close : Agrees look defined closed
   agrees_field : {tag : ℕ} {required : Bool} {rest : Items} → Agrees look defined rest → Agrees look defined (field_then_lem tag required rest)
-  agrees_component : {number : ℕ} {required : Bool} {rest : Items} (c : Component) → look number ≡ Closed c → c.items ≡ items (layout_of defined number) → Agrees look defined rest → Agrees look defined (component_then_lem number required rest)
+  agrees_component : {number : ℕ} {required : Bool} {rest : Items} (c : Component) → look number ≡ Some c → c.items ≡ items (layout_of defined number) → Agrees look defined rest → Agrees look defined (component_then_lem number required rest)
   agrees_group : {tag : ℕ} {required : Bool} {inner rest : Items} → Agrees look defined inner → Agrees look defined rest → Agrees look defined (group_then_lem tag required inner rest)
 
-module _ (look : ℕ → Looked) (defined : List Defined) where
+module _ (look : ℕ → Option Component) (defined : List Defined) where
   pub count_agrees : {level : Items} → Agrees look defined level → count_of look level ≡ items (flat defined level)
   unfolding count_of items_in
   count_agrees agrees_close = unfold expanded flattened items in refl
@@ -83,7 +81,7 @@ never_several e = let z : ◌≡◌ {A = ℕ} 0 1 = cc in absurd (omega arith)
 only_several : {A : Type 0} {s : ℕ} → Only s ≡ Several → A
 only_several e = let z : ◌≡◌ {A = ℕ} 0 1 = cc in absurd (omega arith)
 
-module _ (look : ℕ → Looked) (defined : List Defined) where
+module _ (look : ℕ → Option Component) (defined : List Defined) where
   -- several things stay several
   several_stays : (level : Items) → held_from look Several level ≡ Several
   unfolding held_from
@@ -91,9 +89,9 @@ module _ (look : ℕ → Looked) (defined : List Defined) where
   several_stays (field_then_lem tag required rest) = several_stays rest
   several_stays (component_then_lem number required rest) = ap (λ (h : Held). held_from look h rest) (still (look number)) ∙ several_stays rest
     where
-      still : (l : Looked) → held_by Several l ≡ Several
-      still Missing = unfold held_by in refl
-      still (Closed c) = unfold held_by held_with held_also in pick_still (eqb c.items 0)
+      still : (l : Option Component) → held_by Several l ≡ Several
+      still None = unfold held_by in refl
+      still (Some c) = unfold held_by held_with held_also in pick_still (eqb c.items 0)
         where
           pick_still : (t : Bool) → pick t Several Several ≡ Several
           pick_still true = refl
@@ -133,16 +131,16 @@ unfolding expanded flattened
 flat-closed defined = refl
 
 -- the one component that a level holds, all else being empty
-pub record Single (look : ℕ → Looked) (defined : List Defined) (level : Items) (stands : ℕ) : Type 0 where
+pub record Single (look : ℕ → Option Component) (defined : List Defined) (level : Items) (stands : ℕ) : Type 0 where
   pub number : ℕ
   pub component : Component
-  pub looked : look number ≡ Closed component
+  pub looked : look number ≡ Some component
   pub standing : component.stands ≡ stands
   pub some : 1 ≤ component.items
   pub same : flat defined level ≡ layout_of defined number
 
-module _ (look : ℕ → Looked) (defined : List Defined) where
-  held-component : (held : Held) (number : ℕ) (required : Bool) (rest : Items) (c : Component) → look number ≡ Closed c → held_from look held (component_then_lem number required rest) ≡ held_from look (held_with held c) rest
+module _ (look : ℕ → Option Component) (defined : List Defined) where
+  held-component : (held : Held) (number : ℕ) (required : Bool) (rest : Items) (c : Component) → look number ≡ Some c → held_from look held (component_then_lem number required rest) ≡ held_from look (held_with held c) rest
   unfolding held_from held_by
   held-component held number required rest c e = rw e
 
@@ -157,7 +155,7 @@ module _ (look : ℕ → Looked) (defined : List Defined) where
   group_several tag required inner rest held = ap (λ (h : Held). held_from look h rest) (several_stays look defined inner)
 
   -- a component that a level names first is empty, or changes what is held
-  meets : (held result : Held) (number : ℕ) (required : Bool) (rest : Items) (c : Component) → look number ≡ Closed c → held_from look held (component_then_lem number required rest) ≡ result →
+  meets : (held result : Held) (number : ℕ) (required : Bool) (rest : Items) (c : Component) → look number ≡ Some c → held_from look held (component_then_lem number required rest) ≡ result →
       ((c.items ≡ 0) × (held_from look held rest ≡ result)) ⊎ ((1 ≤ c.items) × (held_from look (held_also held c.stands) rest ≡ result))
   meets held result number required rest c l e = go _ (met held c) (sym (held-component held number required rest c l) ∙ e)
     where
@@ -223,7 +221,7 @@ data Weighs : Held → ℕ → Type 0 where
   weighs_only : {s k : ℕ} → 1 ≤ k → Weighs (Only s) k
   weighs_several : {k : ℕ} → 1 ≤ k → Weighs Several k
 
-module _ (look : ℕ → Looked) (defined : List Defined) where
+module _ (look : ℕ → Option Component) (defined : List Defined) where
   weighs_more : (held : Held) (s k n : ℕ) → Weighs held k → 1 ≤ n → Weighs (held_also held s) (k + n)
   unfolding held_also
   weighs_more Empty s k n weighs_empty h = let more : 1 ≤ 0 + n = omega arith in weighs_only more

@@ -1,8 +1,8 @@
 -- Something open in a dictionary that passes: its records up to its close are items of as many levels as are open, the count and what
 -- is held at the close are those of the items, and the records after the close pass too.
-use Rattle.std.specs.Prelude.{◌≡◌, Bool, true, false, ◌⊎◌, ℕ, zero, suc, ◌+◌, ◌-◌, ◌*◌, ◌≤◌, ◌<◌}
+use Rattle.std.specs.Prelude.{◌≡◌, Bool, ℕ, ◌+◌, ◌≤◌, ◌<◌}
 use Rattle.std.proofs.Math.Path.{refl, ap}
-use Rattle.std.proofs.Common.{sym, ◌∙◌, inl, inr, ⊎_elim, arith}
+use Rattle.std.proofs.Common.{◌∙◌, ⊎_elim, arith, Option, Some}
 use mathlib.Core.List.{List, [], ◌∷◌}
 use Rattle.std.proofs.Math.ListN.{length}
 use Rattle.dictionary_rules.specs.Record.{record_at}
@@ -12,16 +12,14 @@ use Rattle.dictionary_rules.specs.declared.Record.{Record}
 use Rattle.dictionary_rules.specs.declared.Record.TheVariants.{KnownTag, OpensComponent, OpensMessage, FieldItem, ComponentItem, OpensGroup, Closes}
 use Rattle.dictionary_rules.specs.declared.RecordRead.{RecordRead}
 use Rattle.dictionary_rules.specs.declared.RecordRead.TheVariants.{Whole, Bad, End}
-use Rattle.dictionary_rules.specs.Step.{depth_of, opened, deeper, grown, held_with}
+use Rattle.dictionary_rules.specs.Step.{depth_of, opened, grown, held_with}
 use Rattle.dictionary_rules.specs.Names.{Names, component_in, named}
 use Rattle.dictionary_rules.specs.declared.Component.{Component}
-use Rattle.dictionary_rules.specs.declared.Looked.{Looked}
-use Rattle.dictionary_rules.specs.declared.Looked.TheVariants.{Closed, Missing}
 use Rattle.dictionary_rules.specs.declared.Group.{Group}
 use Rattle.dictionary_rules.specs.declared.Groups.{Groups}
 use Rattle.dictionary_rules.specs.declared.Groups.TheVariants.{NoGroup, OneGroup, TwoGroups, ThreeGroups, FourGroups}
 use Rattle.dictionary_rules.specs.declared.Held.{Held}
-use Rattle.dictionary_rules.specs.declared.Held.TheVariants.{Empty, Only, Several}
+use Rattle.dictionary_rules.specs.declared.Held.TheVariants.{Several}
 use Rattle.dictionary_rules.specs.declared.Open.{Open}
 use Rattle.dictionary_rules.specs.declared.State.TheVariants.{TopLevel, Inside}
 use Rattle.dictionary_meaning_rules.specs.Meaning.{Items, closed, field_then_lem, component_then_lem, group_then_lem, size_of}
@@ -55,25 +53,25 @@ pub data ReadsAll (bytes : List ℕ) : ℕ → List Items → ℕ → Type 0 whe
   one_level : {at upto after : ℕ} {level : Items} {levels : List Items} → Reads bytes at level upto → ReadsAll bytes upto levels after → ReadsAll bytes at (level ∷ levels) after
 
 -- every component that items name is closed
-pub data Resolved (look : ℕ → Looked) : Items → Type 0 where
+pub data Resolved (look : ℕ → Option Component) : Items → Type 0 where
   resolved_close : Resolved look closed
   resolved_field : {tag : ℕ} {required : Bool} {rest : Items} → Resolved look rest → Resolved look (field_then_lem tag required rest)
-  resolved_component : {number : ℕ} {required : Bool} {rest : Items} (c : Component) → look number ≡ Closed c → Resolved look rest → Resolved look (component_then_lem number required rest)
+  resolved_component : {number : ℕ} {required : Bool} {rest : Items} (c : Component) → look number ≡ Some c → Resolved look rest → Resolved look (component_then_lem number required rest)
   resolved_group : {tag : ℕ} {required : Bool} {inner rest : Items} → Resolved look inner → Resolved look rest → Resolved look (group_then_lem tag required inner rest)
 
-pub data AllResolved (look : ℕ → Looked) : List Items → Type 0 where
+pub data AllResolved (look : ℕ → Option Component) : List Items → Type 0 where
   none_resolved : AllResolved look []
   one_resolved : {level : Items} {levels : List Items} → Resolved look level → AllResolved look levels → AllResolved look (level ∷ levels)
 
-unfoldable pub count_all : (ℕ → Looked) → List Items → ℕ
+unfoldable pub count_all : (ℕ → Option Component) → List Items → ℕ
 count_all look [] = 0
 count_all look (level ∷ levels) = count_of look level + count_all look levels
 
-unfoldable pub held_all : (ℕ → Looked) → Held → List Items → Held
+unfoldable pub held_all : (ℕ → Option Component) → Held → List Items → Held
 held_all look held [] = held
 held_all look held (level ∷ levels) = held_all look (held_from look held level) levels
 
-abbrev pub look_in : Names → ℕ → Looked
+abbrev pub look_in : Names → ℕ → Option Component
 look_in names = component_in names.components
 
 -- how something open closes
@@ -95,7 +93,7 @@ pub record Closing (bytes : List ℕ) (final names : Names) (at : ℕ) (rs : Rec
   pub fewer : size_of rest < size_of rs
 
 module _ (bytes : List ℕ) (final names : Names) where
-  abbrev Look : ℕ → Looked
+  abbrev Look : ℕ → Option Component
   Look = look_in names
 
   -- one item before what is known of the rest
@@ -132,7 +130,7 @@ module _ (bytes : List ℕ) (final names : Names) where
           }
 
   component-before : (at place : ℕ) (number : ℕ) (required : Bool) (rest : Records) (o : Open) (depth : ℕ) (component : Component) →
-      (n : Next bytes at (ComponentItem required number) rest place) → Look number ≡ Closed component → o.items + component.items ≤ 1024 →
+      (n : Next bytes at (ComponentItem required number) rest place) → Look number ≡ Some component → o.items + component.items ≤ 1024 →
       Closing bytes final names n.next rest (grown o (o.items + component.items) depth (held_with o.held component) o.groups) →
       Closing bytes final names at (whole place (ComponentItem required number) rest) o
   unfolding grown count_all count_of items_in held_all held_from held_by size_of

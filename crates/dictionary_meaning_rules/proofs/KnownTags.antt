@@ -1,5 +1,5 @@
 -- The known tags of a dictionary that passes: the index knows a tag exactly if the tree does.
-use Rattle.std.specs.Prelude.{◌≡◌, refl, Bool, true, false, ℕ, zero, suc, ◌+◌, ◌≤◌, ◌<◌, eqb, length}
+use Rattle.std.specs.Prelude.{◌≡◌, refl, Bool, true, false, ℕ, zero, suc, ◌<◌, eqb, length}
 use Rattle.std.proofs.Common.{sym, ◌∙◌, arith, eq-eqb, ne_eqb, eqb-true}
 use Rattle.std.proofs.Math.Path.{ap}
 use mathlib.Core.List.{List, [], ◌∷◌}
@@ -18,12 +18,12 @@ use Rattle.dictionary_rules.specs.declared.Checked.TheVariants.{Passes}
 use Rattle.dictionary_rules.specs.declared.Owner.{Owner}
 use Rattle.dictionary_rules.specs.declared.Owner.TheVariants.{OfComponent, OfMessage}
 use Rattle.dictionary_rules.specs.declared.Open.{Open}
-use Rattle.dictionary_rules.specs.declared.State.TheVariants.{TopLevel, Inside}
+use Rattle.dictionary_rules.specs.declared.State.TheVariants.{TopLevel}
 use Rattle.dictionary_rules.specs.declared.Note.TheVariants.{NamesMessage}
 use Rattle.dictionary_meaning_rules.specs.Meaning.{Declaration, known_tag, tag_in, tags_from, meaning_of, dictionary_of, size_of, declarations_of}
-use Rattle.dictionary_meaning_rules.specs.Steps.{Passing, note_of, TagGoes, tag-goes, component-opens, message-opens, field-stops, item-stops, group-stops, close-stops, bad-stops, end_passes}
+use Rattle.dictionary_meaning_rules.specs.Steps.{Passing, note_of, tag-goes, component-opens, message-opens, field-stops, item-stops, group-stops, close-stops, bad-stops, end_passes}
 use Rattle.dictionary_meaning_rules.proofs.Bodies.{declared-end, declared-tag, declared-component, declared-message}
-use Rattle.dictionary_meaning_rules.proofs.Inside.{Next, next_of, Closing, closes-inside}
+use Rattle.dictionary_meaning_rules.proofs.Inside.{next_of, closes-inside}
 use Rattle.dictionary_meaning_rules.proofs.Passing.{one_level_of}
 use Rattle.dictionary_meaning_rules.proofs.Prepared.{reads_passing, agreeing}
 

@@ -1,7 +1,7 @@
 -- Laws of what specs/LaidLayout.antt defines.
 use Rattle.std.specs.Prelude.{◌≡◌, Bool, List, ℕ, zero, suc, ◌+◌, ◌-◌, ◌≤◌, ◌<◌, length}
 use Rattle.std.proofs.Math.Path.{refl, ap}
-use Rattle.std.proofs.Common.{sym, ◌∙◌, subst, arith, leb-false}
+use Rattle.std.proofs.Common.{sym, ◌∙◌, subst, arith, leb-false, Option, Some, None}
 use Rattle.std.proofs.Math.Bool.{true, false}
 use Rattle.std.proofs.Math.Dec.{leb}
 use Rattle.field_rules.specs.Choice.{pick}
@@ -11,8 +11,6 @@ use Rattle.dictionary_layout_rules.proofs.MeasuresLaws.{filled-followed}
 use Rattle.dictionary_layout_rules.specs.Tabled.{RowsStand}
 use Rattle.dictionary_rules.specs.Index.{component_at}
 use Rattle.dictionary_rules.specs.Record.{record_at}
-use Rattle.dictionary_rules.specs.declared.Looked.{Looked}
-use Rattle.dictionary_rules.specs.declared.Placed.TheVariants.{At}
 use Rattle.dictionary_rules.specs.declared.Record.{Record}
 use Rattle.dictionary_rules.specs.declared.Record.TheVariants.{KnownTag, OpensComponent, OpensMessage, FieldItem, ComponentItem, OpensGroup, Closes}
 use Rattle.dictionary_rules.specs.declared.RecordRead.{RecordRead}
@@ -21,24 +19,22 @@ use Rattle.dictionary_meaning_rules.specs.Laying.{Laying, laying, Step, stands_a
 use Rattle.dictionary_meaning_rules.proofs.LayingLaws.{Advances, reaches, lay_advances}
 use Rattle.dictionary_meaning_rules.proofs.Written.{written, items-followed, written-followed, written_stands}
 use Rattle.dictionary_meaning_rules.specs.MessageTable.{most_calls, tabling, as_table, placed_table}
-use Rattle.dictionary_meaning_rules.specs.declared.Laid.TheVariants.{Upto, Broken}
-use Rattle.dictionary_meaning_rules.specs.declared.Expansion.{Expansion}
-use Rattle.dictionary_meaning_rules.specs.declared.Expansion.TheVariants.{ItemsAt, NoItems}
 use Rattle.dictionary_meaning_rules.specs.declared.MessageTable.TheVariants.{Rows}
 use Rattle.dictionary_meaning_rules.specs.LaidLayout.{LaidAs}
+use Rattle.dictionary_rules.specs.declared.Component.{Component}
 
 -- laying broke off, or a layout with no empty group was written from a row on
 pub data Writes (row : ℕ) (table : List ℕ) : Laying → Type 0 where
-  breaks_off : {within : List ℕ} → Writes row table (laying Broken within)
+  breaks_off : {within : List ℕ} → Writes row table (laying None within)
   writes : {after upto : ℕ} {within : List ℕ} (layout : Layout) → NoEmptyGroup layout → upto ≡ row + items layout → within ≡ written row layout table →
-      Writes row table (laying (Upto after upto) within)
+      Writes row table (laying (Some (after, upto)) within)
 
 abbrev pub Writing : Step → Type 0
 Writing step = (at row : ℕ) (table : List ℕ) → Writes row table (step at row table)
 
 -- what is written after an item, or after a layout, is written with it
 module _ (row : ℕ) (table : List ℕ) where
-  close-writes : (after : ℕ) → Writes row table (laying (Upto after row) table)
+  close-writes : (after : ℕ) → Writes row table (laying (Some (after, row)) table)
   unfolding written items
   close-writes after = writes {upto = row} end none-at_end (omega arith) refl
 
@@ -68,39 +64,39 @@ module _ (inner rest : Step) (within : Writing inner) (goes : Writing rest) wher
   after_group_lem : (row tag : ℕ) (required : Bool) (table : List ℕ) (outcome : Laying) →
       Writes (row + 1) table outcome → Writes row table (after_group rest row tag required outcome)
   unfolding after_group
-  after_group_lem row tag required table (laying Broken laid) breaks_off = breaks_off
-  after_group_lem row tag required table (laying (Upto after upto) laid) (writes layout f e w) = go (leb upto (row + 1)) refl
+  after_group_lem row tag required table (laying None laid) breaks_off = breaks_off
+  after_group_lem row tag required table (laying (Some (after, upto)) laid) (writes layout f e w) = go (leb upto (row + 1)) refl
     where
       go : (empty : Bool) → leb upto (row + 1) ≡ empty →
-          Writes row table (pick empty (laying Broken laid) (rest after upto (put_row laid row tag required true upto)))
+          Writes row table (pick empty (laying None laid) (rest after upto (put_row laid row tag required true upto)))
       go true q = breaks_off
       go false q =
           group-writes row table tag required layout laid upto (leb-false upto (row + 1) q) f e w (goes after upto (put_row laid row tag required true upto))
 
   after_component_lem : (next row : ℕ) (table : List ℕ) (outcome : Laying) → Writes row table outcome → Writes row table (after_component rest next row outcome)
   unfolding after_component
-  after_component_lem next row table (laying Broken laid) breaks_off = breaks_off
-  after_component_lem next row table (laying (Upto after upto) laid) (writes layout f e w) = go (leb upto row)
+  after_component_lem next row table (laying None laid) breaks_off = breaks_off
+  after_component_lem next row table (laying (Some (after, upto)) laid) (writes layout f e w) = go (leb upto row)
     where
-      go : (still : Bool) → Writes row table (pick still (laying Broken laid) (rest next upto laid))
+      go : (still : Bool) → Writes row table (pick still (laying None laid) (rest next upto laid))
       go true = breaks_off
       go false = both_write row table layout laid upto f e w (goes next upto laid)
 
-  component-writes : (next row : ℕ) (table : List ℕ) (stands : Expansion) → Writes row table (on_component inner rest next row table stands)
+  component-writes : (next row : ℕ) (table : List ℕ) (stands : Option ℕ) → Writes row table (on_component inner rest next row table stands)
   unfolding on_component
-  component-writes next row table NoItems = goes next row table
-  component-writes next row table (ItemsAt place) = after_component_lem next row table (inner place row table) (within place row table)
+  component-writes next row table None = goes next row table
+  component-writes next row table (Some place) = after_component_lem next row table (inner place row table) (within place row table)
 
-  record_writes : (components : ℕ → Looked) (row next : ℕ) (table : List ℕ) (r : Record) → Writes row table (on_record inner rest components row table r next)
+  record_writes : (components : ℕ → Option Component) (row next : ℕ) (table : List ℕ) (r : Record) → Writes row table (on_record inner rest components row table r next)
   unfolding on_record
   record_writes components row next table (FieldItem tag required) = go (leb 1024 row)
     where
-      go : (full : Bool) → Writes row table (pick full (laying Broken table) (rest next (row + 1) (put_row table row tag required false (row + 1))))
+      go : (full : Bool) → Writes row table (pick full (laying None table) (rest next (row + 1) (put_row table row tag required false (row + 1))))
       go true = breaks_off
       go false = field-writes row table tag required (goes next (row + 1) (put_row table row tag required false (row + 1)))
   record_writes components row next table (OpensGroup tag required) = go (leb 1024 row)
     where
-      go : (full : Bool) → Writes row table (pick full (laying Broken table) (after_group rest row tag required (inner next (row + 1) table)))
+      go : (full : Bool) → Writes row table (pick full (laying None table) (after_group rest row tag required (inner next (row + 1) table)))
       go true = breaks_off
       go false = after_group_lem row tag required table (inner next (row + 1) table) (within next (row + 1) table)
   record_writes components row next table (ComponentItem required number) = component-writes next row table (stands_at components number)
@@ -109,19 +105,19 @@ module _ (inner rest : Step) (within : Writing inner) (goes : Writing rest) wher
   record_writes components row next table (OpensComponent number) = breaks_off
   record_writes components row next table (OpensMessage msg_type) = breaks_off
 
-  read-writes : (components : ℕ → Looked) (row : ℕ) (table : List ℕ) (read : RecordRead) → Writes row table (on_read inner rest components row table read)
+  read-writes : (components : ℕ → Option Component) (row : ℕ) (table : List ℕ) (read : RecordRead) → Writes row table (on_read inner rest components row table read)
   unfolding on_read
   read-writes components row table (Whole r next) = record_writes components row next table r
   read-writes components row table Bad = breaks_off
   read-writes components row table End = breaks_off
 
-items_write : (fuel : ℕ) (inner : Step) (bytes : List ℕ) (components : ℕ → Looked) → Writing inner → Writing (items_within fuel inner bytes components)
+items_write : (fuel : ℕ) (inner : Step) (bytes : List ℕ) (components : ℕ → Option Component) → Writing inner → Writing (items_within fuel inner bytes components)
 unfolding items_within
 items_write zero inner bytes components within at row table = breaks_off
 items_write (suc fuel) inner bytes components within at row table =
     read-writes inner (items_within fuel inner bytes components) within (items_write fuel inner bytes components within) components row table (record_at bytes at)
 
-pub lay_writes : (depth : ℕ) (bytes : List ℕ) (components : ℕ → Looked) → Writing (lay_items depth bytes components)
+pub lay_writes : (depth : ℕ) (bytes : List ℕ) (components : ℕ → Option Component) → Writing (lay_items depth bytes components)
 unfolding lay_items items_from
 lay_writes zero bytes components at row table = breaks_off
 lay_writes (suc depth) bytes components at row table =
@@ -131,8 +127,8 @@ lay_writes (suc depth) bytes components at row table =
 outcome_layout : (limit at : ℕ) (table rows : List ℕ) (count : ℕ) (outcome : Laying) → 4096 ≤ length table →
     Writes 0 table outcome → Advances limit at 0 outcome → tabling (Rows count) rows ≡ as_table outcome → LaidAs rows count
 unfolding as_table
-outcome_layout limit at table rows count (laying Broken laid) room w a told = let z : ◌≡◌ {A = ℕ} 0 1 = cc in absurd (omega arith)
-outcome_layout limit at table rows count (laying (Upto after upto) laid) room (writes layout f e w) (reaches x y l m) told =
+outcome_layout limit at table rows count (laying None laid) room w a told = let z : ◌≡◌ {A = ℕ} 0 1 = cc in absurd (omega arith)
+outcome_layout limit at table rows count (laying (Some (after, upto)) laid) room (writes layout f e w) (reaches x y l m) told =
     let counted : count ≡ upto = cc in
     let same : written 0 layout table ≡ rows = cc in
     record {
@@ -143,7 +139,7 @@ outcome_layout limit at table rows count (laying (Upto after upto) laid) room (w
     }
 
 pub placed_layout : (d index : List ℕ) (place : ℕ) (table rows : List ℕ) (count : ℕ) → 4096 ≤ length table →
-    tabling (Rows count) rows ≡ placed_table d index (At place) table → LaidAs rows count
+    tabling (Rows count) rows ≡ placed_table d index (Some place) table → LaidAs rows count
 unfolding placed_table
 placed_layout d index place table rows count room told =
     outcome_layout (length d) (place + 9) table rows count (lay_items most_calls d (component_at index) (place + 9) 0 table) room

@@ -1,23 +1,21 @@
 -- Items that stand in the bytes are laid as the rows of what they mean, if each component that they name is, and the depth suffices.
 -- Laying what lies within takes one of the depth: one for each item is enough, and one for each group that nests, where a level may hold a
 -- component only.
-use Rattle.std.specs.Prelude.{◌≡◌, Bool, List, [], ◌∷◌, ℕ, zero, suc, ◌+◌, ◌-◌, ◌*◌, ◌≤◌, ◌<◌, length}
+use Rattle.std.specs.Prelude.{◌≡◌, Bool, List, ℕ, suc, ◌+◌, ◌-◌, ◌≤◌, ◌<◌}
 use Rattle.std.proofs.Math.Path.{refl, ap}
-use Rattle.std.proofs.Common.{sym, ◌∙◌, arith}
+use Rattle.std.proofs.Common.{sym, ◌∙◌, arith, Option, Some, None}
 use Rattle.std.proofs.Math.Bool.{true, false}
-use Rattle.dictionary_layout_rules.specs.Layout.{Layout, end, field, group, followed_by, items, depth as nesting}
+use Rattle.dictionary_layout_rules.specs.Layout.{Layout, end, followed_by, items, depth as nesting}
 use Rattle.dictionary_layout_rules.proofs.MeasuresLaws.{larger-first, larger-second, depth-followed}
-use Rattle.dictionary_layout_rules.specs.Tree.{Nodes, flattened}
+use Rattle.dictionary_layout_rules.specs.Tree.{flattened}
 use Rattle.dictionary_rules.specs.Record.{record_at}
 use Rattle.dictionary_rules.specs.declared.Record.TheVariants.{FieldItem, ComponentItem, OpensGroup, Closes}
 use Rattle.dictionary_rules.specs.declared.RecordRead.TheVariants.{Whole}
-use Rattle.dictionary_rules.specs.declared.Looked.{Looked}
 use Rattle.dictionary_meaning_rules.specs.Laying.{Laying, laying, stands_at, put_row, items_from, lay_items}
 use Rattle.dictionary_meaning_rules.proofs.LayingLaws.{lay_advances, lay_field, lay_group, lay_empty, lay_component, lay_close, lay_down}
 use Rattle.dictionary_meaning_rules.specs.Meaning.{Items, closed, field_then_lem, component_then_lem, group_then_lem, Defined, nodes_of, expanded}
 use Rattle.dictionary_meaning_rules.proofs.Written.{written, items-followed, written-followed}
-use Rattle.dictionary_meaning_rules.specs.declared.Laid.TheVariants.{Upto, Broken}
-use Rattle.dictionary_meaning_rules.specs.declared.Expansion.TheVariants.{ItemsAt, NoItems}
+use Rattle.dictionary_rules.specs.declared.Component.{Component}
 
 -- the records from a place on are these items, and the next place is right after their close
 pub data Reads (bytes : List ℕ) : ℕ → Items → ℕ → Type 0 where
@@ -31,24 +29,24 @@ abbrev pub calls_for : Layout → ℕ
 calls_for layout = items layout + nesting layout
 
 -- laying from a place on writes this layout, wherever there is room and depth for it
-abbrev pub Layable : List ℕ → (ℕ → Looked) → ℕ → Layout → Type 0
-Layable bytes components place layout = (depth row : ℕ) (table : List ℕ) → calls_for layout < depth → row + items layout ≤ 1024 → (after : ℕ) × (lay_items depth bytes components place row table ≡ laying (Upto after (row + items layout)) (written row layout table))
+abbrev pub Layable : List ℕ → (ℕ → Option Component) → ℕ → Layout → Type 0
+Layable bytes components place layout = (depth row : ℕ) (table : List ℕ) → calls_for layout < depth → row + items layout ≤ 1024 → (after : ℕ) × (lay_items depth bytes components place row table ≡ laying (Some (after, (row + items layout))) (written row layout table))
 
 -- what a component means, flattened
 abbrev pub layout_of : List Defined → ℕ → Layout
 layout_of defined number = flattened (nodes_of defined number)
 
 -- a component's layout is empty and is skipped, or it has items and is laid from where the component stands
-pub data Lays (bytes : List ℕ) (components : ℕ → Looked) (number : ℕ) (layout : Layout) : Type 0 where
-  lays_nothing : stands_at components number ≡ NoItems → layout ≡ end → Lays bytes components number layout
-  lays_items : {place : ℕ} → stands_at components number ≡ ItemsAt place → 1 ≤ items layout → Layable bytes components place layout → Lays bytes components number layout
+pub data Lays (bytes : List ℕ) (components : ℕ → Option Component) (number : ℕ) (layout : Layout) : Type 0 where
+  lays_nothing : stands_at components number ≡ None → layout ≡ end → Lays bytes components number layout
+  lays_items : {place : ℕ} → stands_at components number ≡ Some place → 1 ≤ items layout → Layable bytes components place layout → Lays bytes components number layout
 
 -- what items mean, flattened
 abbrev pub flat : List Defined → Items → Layout
 flat defined written = flattened (expanded defined written)
 
 -- every component that items name is laid, and no group is empty
-pub data AllLay (bytes : List ℕ) (components : ℕ → Looked) (defined : List Defined) : Items → Type 0 where
+pub data AllLay (bytes : List ℕ) (components : ℕ → Option Component) (defined : List Defined) : Items → Type 0 where
   all-close : AllLay bytes components defined closed
   all-field : {tag : ℕ} {required : Bool} {rest : Items} → AllLay bytes components defined rest → AllLay bytes components defined (field_then_lem tag required rest)
   all-component : {number : ℕ} {required : Bool} {rest : Items} → Lays bytes components number (layout_of defined number) → AllLay bytes components defined rest → AllLay bytes components defined (component_then_lem number required rest)
@@ -114,16 +112,16 @@ module _ (defined : List Defined) where
 
 -- how far a layout is laid from a row on, and what the table holds then
 abbrev pub laid_from : ℕ → ℕ → Layout → List ℕ → Laying
-laid_from after row layout table = laying (Upto after (row + items layout)) (written row layout table)
+laid_from after row layout table = laying (Some (after, (row + items layout))) (written row layout table)
 
 module _ (defined : List Defined) (after row : ℕ) (table : List ℕ) where
-  laid-close : laid_from after row (flat defined closed) table ≡ laying (Upto after row) table
+  laid-close : laid_from after row (flat defined closed) table ≡ laying (Some (after, row)) table
   unfolding expanded flattened items written
-  laid-close = ap (λ (n : ℕ). laying (Upto after n) table) (omega arith)
+  laid-close = ap (λ (n : ℕ). laying (Some (after, n)) table) (omega arith)
 
   laid-field : (tag : ℕ) (required : Bool) (rest : Items) → laid_from after (row + 1) (flat defined rest) (put_row table row tag required false (row + 1)) ≡ laid_from after row (flat defined (field_then_lem tag required rest)) table
   unfolding expanded flattened items written
-  laid-field tag required rest = ap (λ (n : ℕ). laying (Upto after n) (written (row + 1) (flat defined rest) (put_row table row tag required false (row + 1)))) (omega arith)
+  laid-field tag required rest = ap (λ (n : ℕ). laying (Some (after, n)) (written (row + 1) (flat defined rest) (put_row table row tag required false (row + 1)))) (omega arith)
 
   laid-component : (number : ℕ) (required : Bool) (rest : Items) → laid_from after (row + items (layout_of defined number)) (flat defined rest) (written row (layout_of defined number) table) ≡ laid_from after row (flat defined (component_then_lem number required rest)) table
   unfolding expanded flattened
@@ -138,9 +136,9 @@ module _ (defined : List Defined) (after row : ℕ) (table : List ℕ) where
   laid-group : (tag : ℕ) (required : Bool) (inner rest : Items) → laid_from after (row + 1 + items (flat defined inner)) (flat defined rest) (put_row (written (row + 1) (flat defined inner) table) row tag required true (row + 1 + items (flat defined inner))) ≡ laid_from after row (flat defined (group_then_lem tag required inner rest)) table
   unfolding expanded flattened items written
   laid-group tag required inner rest =
-      ap (λ (n : ℕ). laying (Upto after n) (written (row + 1 + items (flat defined inner)) (flat defined rest) (put_row (written (row + 1) (flat defined inner) table) row tag required true (row + 1 + items (flat defined inner))))) (omega arith)
+      ap (λ (n : ℕ). laying (Some (after, n)) (written (row + 1 + items (flat defined inner)) (flat defined rest) (put_row (written (row + 1) (flat defined inner) table) row tag required true (row + 1 + items (flat defined inner))))) (omega arith)
 
-module _ (bytes : List ℕ) (components : ℕ → Looked) (defined : List Defined) where
+module _ (bytes : List ℕ) (components : ℕ → Option Component) (defined : List Defined) where
   abbrev Laying_ok : ℕ → ℕ → Items → ℕ → Type 0
   Laying_ok at after level depth = (row : ℕ) (table : List ℕ) → row + items (flat defined level) ≤ 1024 → items_from (lay_items depth bytes components) bytes components at row table ≡ laid_from after row (flat defined level) table
 

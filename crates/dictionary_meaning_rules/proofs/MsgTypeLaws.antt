@@ -1,13 +1,12 @@
 -- The laws of MsgType names: each way that reading one goes, from its last byte to its first, and that its number fits.
-use Rattle.std.specs.Prelude.{◌≡◌, refl, Bool, true, false, List, [], ◌∷◌, get_or, drop, eqb, ltb}
-use Rattle.std.proofs.Common.{sym, ap, ◌∙◌, arith, drop_of_length-le, drop-cons}
+use Rattle.std.specs.Prelude.{◌≡◌, true, false, List, [], ◌∷◌, get_or, drop, eqb}
+use Rattle.std.proofs.Common.{sym, ap, ◌∙◌, arith, drop_of_length-le, drop-cons, Some, None}
 use Prim.Native.Nat.{ℕ, zero, suc, ◌+◌, ◌-◌, ◌*◌, ◌≤◌, ◌<◌}
 use Rattle.std.proofs.Math.ListN.{length}
 use borrow.Author.Tests.{eq-eqb, ne_eqb, lt-ltb, le-ltb}
-use Rattle.field_rules.specs.Choice.{pick, pick_same}
+use Rattle.field_rules.specs.Choice.{pick_same}
 use Rattle.dictionary_rules.specs.Record.{low_first}
 use Rattle.dictionary_meaning_rules.specs.MsgType.{no_zero, name_of}
-use Rattle.dictionary_meaning_rules.specs.declared.MsgTypeName.TheVariants.{Named, Unnamed}
 
 -- one more than the largest number of so many bytes
 unfoldable pub room : ℕ → ℕ
@@ -67,22 +66,22 @@ zero_in (b ∷ s) zero h z = rw (eq-eqb b 0 z)
 zero_in (b ∷ s) (suc i) h z = rw (zero_in s i (omega arith) z) (pick_same (eqb b 0) false)
 
 module _ (value : List ℕ) where
-  pub name_empty : length value ≡ 0 → name_of value ≡ Unnamed
+  pub name_empty : length value ≡ 0 → name_of value ≡ None
   unfolding name_of
   name_empty h = rw (eq-eqb _ _ h)
 
-  pub name_long : 8 < length value → name_of value ≡ Unnamed
+  pub name_long : 8 < length value → name_of value ≡ None
   unfolding name_of
   name_long h = rw (lt-ltb _ _ h, pick_same)
 
-  pub name_zero : (i : ℕ) → i < length value → get_or value i 0 ≡ 0 → name_of value ≡ Unnamed
+  pub name_zero : (i : ℕ) → i < length value → get_or value i 0 ≡ 0 → name_of value ≡ None
   unfolding name_of
   name_zero i h z = rw (zero_in value i h z, pick_same, pick_same)
 
-  name_whole : (number : ℕ) → (length value ≡ 0 → ⊥) → length value ≤ 8 → number ≡ low_first value → no_zero value ≡ true → name_of value ≡ Named number
+  name_whole : (number : ℕ) → (length value ≡ 0 → ⊥) → length value ≤ 8 → number ≡ low_first value → no_zero value ≡ true → name_of value ≡ Some number
   unfolding name_of
   name_whole number some short worth text = rw (ne_eqb _ _ some, le-ltb 8 (length value) short, text, worth)
 
-  pub name_good : (number i : ℕ) → i ≡ 0 → (length value ≡ 0 → ⊥) → ReadBack value number i → name_of value ≡ Named number
+  pub name_good : (number i : ℕ) → i ≡ 0 → (length value ≡ 0 → ⊥) → ReadBack value number i → name_of value ≡ Some number
   name_good number i z some back =
       name_whole number some back.short (back.worth ∙ ap (λ (k : ℕ). low_first (drop k value)) z) (sym (ap (λ (k : ℕ). no_zero (drop k value)) z) ∙ back.text)

@@ -2,21 +2,20 @@
 -- same bytes. So looking a value up by its number is looking it up by its bytes, with its length.
 use Rattle.std.specs.Prelude.{◌≡◌, Bool, get_or, take, drop, ltb}
 use Rattle.std.proofs.Math.Path.{refl, ap}
-use Rattle.std.proofs.Common.{sym, ◌∙◌}
+use Rattle.std.proofs.Common.{sym, ◌∙◌, Some, None}
 use Rattle.std.proofs.Math.Bool.{true, false}
 use mathlib.Core.List.{List, [], ◌∷◌}
-use Prim.Native.Nat.{ℕ, zero, suc, ◌+◌, ◌-◌, ◌*◌, ◌/◌, ◌%◌, ◌≤◌, ◌<◌}
+use Prim.Native.Nat.{ℕ, zero, suc, ◌+◌, ◌*◌, ◌/◌, ◌%◌, ◌≤◌, ◌<◌}
 use native.Mathlib.Omega.{arith}
 use Rattle.std.proofs.Math.ListN.{length}
 use Rattle.std.proofs.Math.Dec.{eqb}
 use borrow.Author.Tests.{eq-eqb, ne_eqb, eqb-true, eqb-false, le-ltb, ltb-false}
-use Rattle.field_rules.specs.Choice.{pick, pick_same}
+use Rattle.field_rules.specs.Choice.{pick}
 use Rattle.dictionary_layout_rules.specs.Tree.{same_bytes}
 use Rattle.dictionary_rules.specs.Record.{low_first, zero_filled}
 use Rattle.dictionary_meaning_rules.specs.Meaning.{bytes_within, msg_type_bytes}
 use Rattle.dictionary_meaning_rules.specs.MsgType.{no_zero, name_of}
 use Rattle.dictionary_meaning_rules.proofs.MsgTypeLaws.{room}
-use Rattle.dictionary_meaning_rules.specs.declared.MsgTypeName.TheVariants.{Named, Unnamed}
 
 -- numbers that are bytes
 pub data Bytes : List ℕ → Type 0 where
@@ -108,34 +107,34 @@ pub record NameNumber (m : ℕ) : Type 0 where
   pub text : no_zero (msg_type_bytes m) ≡ true
   pub some : m ≡ 0 → ⊥
 
-name_text : (value : List ℕ) → (length value ≡ 0 → ⊥) → length value ≤ 8 → no_zero value ≡ true → name_of value ≡ Named (low_first value)
+name_text : (value : List ℕ) → (length value ≡ 0 → ⊥) → length value ≤ 8 → no_zero value ≡ true → name_of value ≡ Some (low_first value)
 unfolding name_of
 name_text value z l e = rw (ne_eqb _ _ z, le-ltb 8 (length value) l, e)
 
 -- a name tells its bytes
-name_tells : (value : List ℕ) (n : ℕ) → name_of value ≡ Named n → (length value ≤ 8) × (no_zero value ≡ true) × (low_first value ≡ n)
+name_tells : (value : List ℕ) (n : ℕ) → name_of value ≡ Some n → (length value ≤ 8) × (no_zero value ≡ true) × (low_first value ≡ n)
 unfolding name_of
 name_tells value n e = go (eqb (length value) 0) (ltb 8 (length value)) refl (no_zero value) refl e
   where
-    go : (a b : Bool) → ltb 8 (length value) ≡ b → (c : Bool) → no_zero value ≡ c → pick a Unnamed (pick b Unnamed (pick c (Named (low_first value)) Unnamed)) ≡ Named n → (length value ≤ 8) × (no_zero value ≡ true) × (low_first value ≡ n)
+    go : (a b : Bool) → ltb 8 (length value) ≡ b → (c : Bool) → no_zero value ≡ c → pick a None (pick b None (pick c (Some (low_first value)) None)) ≡ Some n → (length value ≤ 8) × (no_zero value ≡ true) × (low_first value ≡ n)
     go true b p c q w = let z : ◌≡◌ {A = ℕ} 0 1 = cc in absurd (omega arith)
     go false true p c q w = let z : ◌≡◌ {A = ℕ} 0 1 = cc in absurd (omega arith)
     go false false p false q w = let z : ◌≡◌ {A = ℕ} 0 1 = cc in absurd (omega arith)
     go false false p true q w = let same : low_first value ≡ n = cc in (ltb-false _ _ p, q, same)
 
 module _ (m : ℕ) (v : NameNumber m) where
-  name_back : name_of (msg_type_bytes m) ≡ Named m
+  name_back : name_of (msg_type_bytes m) ≡ Some m
   unfolding msg_type_bytes
   name_back =
       let length_some : length (bytes_within 8 m) ≡ suc (length (bytes_within 7 (m / 256))) = ap length (bytes-some 7 m v.some) in
-      name_text (bytes_within 8 m) (λ z. absurd (omega arith)) (bytes-short 8 m) v.text ∙ ap Named (number-back 8 m v.fits)
+      name_text (bytes_within 8 m) (λ z. absurd (omega arith)) (bytes-short 8 m) v.text ∙ ap Some (number-back 8 m v.fits)
 
   -- the same bytes have its name
-  pub same-named : (value : List ℕ) → same_bytes (msg_type_bytes m) value ≡ true → name_of value ≡ Named m
+  pub same-named : (value : List ℕ) → same_bytes (msg_type_bytes m) value ≡ true → name_of value ≡ Some m
   same-named value e = ap name_of (sym (same-equal (msg_type_bytes m) value e)) ∙ name_back
 
 -- and what has the name is the same bytes
-pub named-same : (m : ℕ) (value : List ℕ) → Bytes value → name_of value ≡ Named m → same_bytes (msg_type_bytes m) value ≡ true
+pub named-same : (m : ℕ) (value : List ℕ) → Bytes value → name_of value ≡ Some m → same_bytes (msg_type_bytes m) value ≡ true
 unfolding msg_type_bytes
 named-same m value bytes e =
     let t = name_tells value m e in

@@ -1,35 +1,28 @@
 -- The names that a passing check collects only grow: a component or a message, once named, is found again in the end.
 use Rattle.std.proofs.Math.Path.{◌≡◌, refl}
-use Rattle.std.proofs.Common.{sym, ap, ◌∙◌, eq-eqb, ne_eqb, eqb-true}
-use Rattle.std.specs.Prelude.{Bool, true, false, List, [], ◌∷◌, ◌++◌, ℕ, zero, suc, ◌+◌, ◌-◌, ◌*◌, ◌≤◌, ◌<◌, eqb, length}
+use Rattle.std.proofs.Common.{sym, ap, ◌∙◌, eq-eqb, ne_eqb, Option, Some, None}
+use Rattle.std.specs.Prelude.{List, ℕ, zero, suc, ◌<◌}
 use native.Mathlib.Omega.{arith}
-use Rattle.std.proofs.lemmas.Bool.{eqb-false}
-use Rattle.field_rules.specs.Choice.{pick}
 use Rattle.dictionary_rules.specs.Records.{Records, ends, bad, whole, records_from}
 use Rattle.dictionary_rules.specs.declared.Record.TheVariants.{KnownTag, OpensComponent, OpensMessage, FieldItem, ComponentItem, OpensGroup, Closes}
-use Rattle.dictionary_rules.specs.Step.{opens, stands_for}
-use Rattle.dictionary_rules.specs.Names.{Message, Names, component_in, message_in, named}
+use Rattle.dictionary_rules.specs.Step.{opens}
+use Rattle.dictionary_rules.specs.Names.{Names, component_in, message_in, named}
 use Rattle.dictionary_rules.specs.declared.Component.{Component}
-use Rattle.dictionary_rules.specs.declared.Looked.{Looked}
-use Rattle.dictionary_rules.specs.declared.Looked.TheVariants.{Closed, Missing}
-use Rattle.dictionary_rules.specs.declared.Placed.{Placed}
-use Rattle.dictionary_rules.specs.declared.Placed.TheVariants.{At, Nowhere}
-use Rattle.dictionary_rules.specs.declared.Owner.{Owner}
 use Rattle.dictionary_rules.specs.declared.Owner.TheVariants.{OfComponent, OfMessage}
 use Rattle.dictionary_rules.specs.declared.Open.{Open}
-use Rattle.dictionary_rules.specs.declared.State.TheVariants.{TopLevel, Inside}
-use Rattle.dictionary_rules.specs.declared.Note.TheVariants.{Unchanged, ClosesComponent, KnowsTag, NamesMessage}
+use Rattle.dictionary_rules.specs.declared.State.TheVariants.{TopLevel}
+use Rattle.dictionary_rules.specs.declared.Note.TheVariants.{ClosesComponent, NamesMessage}
 use Rattle.dictionary_meaning_rules.specs.Steps.{Passing, note_of, tag-goes, component-opens, message-opens, field-stops, item-stops, group-stops, close-stops, bad-stops, end_passes}
 use Rattle.dictionary_meaning_rules.specs.Meaning.{size_of}
-use Rattle.dictionary_meaning_rules.proofs.Inside.{Next, next_of, look_in, Closing, closes-inside}
+use Rattle.dictionary_meaning_rules.proofs.Inside.{next_of, look_in, closes-inside}
 
-abbrev pub place_in : Names → ℕ → Placed
+abbrev pub place_in : Names → ℕ → Option ℕ
 place_in names = message_in names.messages
 
 -- what is named stays named
 pub record Kept (names later : Names) : Type 0 where
-  pub components : (number : ℕ) (c : Component) → look_in names number ≡ Closed c → look_in later number ≡ Closed c
-  pub messages : (msg_type place : ℕ) → place_in names msg_type ≡ At place → place_in later msg_type ≡ At place
+  pub components : (number : ℕ) (c : Component) → look_in names number ≡ Some c → look_in later number ≡ Some c
+  pub messages : (msg_type place : ℕ) → place_in names msg_type ≡ Some place → place_in later msg_type ≡ Some place
 
 kept_then : {a b c : Names} → Kept a b → Kept b c → Kept a c
 kept_then p q = record { components = λ n d e. q.components n d (p.components n d e); messages = λ m l e. q.messages m l (p.messages m l e) }
@@ -39,7 +32,7 @@ kept_same c m = record { components = λ n d e. rw c e; messages = λ k l e. rw 
 
 -- a component that was missing, and a message that was nowhere, hide none
 module _ (names : Names) where
-  pub component-new : (c : Component) (number : ℕ) → number ≡ c.number → look_in (named names (ClosesComponent c)) number ≡ Closed c
+  pub component-new : (c : Component) (number : ℕ) → number ≡ c.number → look_in (named names (ClosesComponent c)) number ≡ Some c
   unfolding named component_in
   component-new c number e = rw (eq-eqb _ _ e)
 
@@ -47,7 +40,7 @@ module _ (names : Names) where
   unfolding named component_in
   component_old c number e = rw (ne_eqb _ _ e)
 
-  pub message-new : (place msg_type : ℕ) → place_in (named names (NamesMessage place msg_type)) msg_type ≡ At place
+  pub message-new : (place msg_type : ℕ) → place_in (named names (NamesMessage place msg_type)) msg_type ≡ Some place
   unfolding named message_in
   message-new place msg_type = rw (eq-eqb msg_type msg_type refl)
 
@@ -55,28 +48,28 @@ module _ (names : Names) where
   unfolding named message_in
   message_old place msg_type other e = rw (ne_eqb _ _ e)
 
-  kept-component : (c : Component) → look_in names c.number ≡ Missing → Kept names (named names (ClosesComponent c))
+  kept-component : (c : Component) → look_in names c.number ≡ None → Kept names (named names (ClosesComponent c))
   kept-component c m =
       record {
         components = λ n d e. component_old c n (λ same. absurd (clash n d e same)) ∙ e;
         messages = λ k l e. unfold named in e;
       }
     where
-      clash : (n : ℕ) (d : Component) → look_in names n ≡ Closed d → n ≡ c.number → ⊥
-      clash n d e same = let q : look_in names n ≡ Missing = rw same m in let z : ◌≡◌ {A = ℕ} 0 1 = cc in omega arith
+      clash : (n : ℕ) (d : Component) → look_in names n ≡ Some d → n ≡ c.number → ⊥
+      clash n d e same = let q : look_in names n ≡ None = rw same m in let z : ◌≡◌ {A = ℕ} 0 1 = cc in omega arith
 
-  kept-message : (place msg_type : ℕ) → place_in names msg_type ≡ Nowhere → Kept names (named names (NamesMessage place msg_type))
+  kept-message : (place msg_type : ℕ) → place_in names msg_type ≡ None → Kept names (named names (NamesMessage place msg_type))
   kept-message place msg_type m =
       record {
         components = λ n d e. unfold named in e;
         messages = λ k l e. message_old place msg_type k (λ same. absurd (clash k l e same)) ∙ e;
       }
     where
-      clash : (k l : ℕ) → place_in names k ≡ At l → k ≡ msg_type → ⊥
-      clash k l e same = let q : place_in names k ≡ Nowhere = rw same m in let z : ◌≡◌ {A = ℕ} 0 1 = cc in omega arith
+      clash : (k l : ℕ) → place_in names k ≡ Some l → k ≡ msg_type → ⊥
+      clash k l e same = let q : place_in names k ≡ None = rw same m in let z : ◌≡◌ {A = ℕ} 0 1 = cc in omega arith
 
   -- what closes is kept: a component under a number that was missing, or a message
-  kept_closing : (o : Open) (number : ℕ) → o.owner ≡ OfComponent number → look_in names number ≡ Missing → Kept names (named names (note_of o o.owner))
+  kept_closing : (o : Open) (number : ℕ) → o.owner ≡ OfComponent number → look_in names number ≡ None → Kept names (named names (note_of o o.owner))
   unfolding note_of
   kept_closing o number e m = rw e (kept-component _ m)
 
@@ -119,8 +112,8 @@ kept bytes final rs at names e p = kept-within bytes final (suc (size_of rs)) rs
 
 -- at the end components 0 and 1 are among the names
 pub record Standard (final : Names) : Type 0 where
-  pub header : (c : Component) × (look_in final 0 ≡ Closed c)
-  pub trailer : (c : Component) × (look_in final 1 ≡ Closed c)
+  pub header : (c : Component) × (look_in final 0 ≡ Some c)
+  pub trailer : (c : Component) × (look_in final 1 ≡ Some c)
 
 standard_step : (bytes : List ℕ) (final : Names) (rs : Records) (at : ℕ) (names : Names) → ((fewer : Records) (there : ℕ) (later : Names) → size_of fewer < size_of rs → records_from bytes there ≡ fewer → Passing final fewer TopLevel later → Standard final) → records_from bytes at ≡ rs → Passing final rs TopLevel names → Standard final
 unfolding size_of

@@ -1,36 +1,28 @@
 -- A dictionary that passes the check: every component is laid as what it means, and so is every message. Components are taken in the
 -- order in which they close, so what a component names is known before it.
-use Rattle.std.specs.Prelude.{◌≡◌, refl, Bool, true, false, ◌⊎◌, List, [], ◌∷◌, ℕ, ◌+◌, ◌≤◌, eqb, length}
-use Rattle.std.proofs.Common.{sym, ◌∙◌, inl, inr, ⊎_elim, arith, eq-eqb, ne_eqb, eqb-true}
+use Rattle.std.specs.Prelude.{◌≡◌, refl, Bool, true, false, List, [], ◌∷◌, ℕ, ◌+◌, ◌≤◌, eqb, length}
+use Rattle.std.proofs.Common.{sym, ◌∙◌, arith, eqb-true, Option, Some}
 use Rattle.std.proofs.Math.Path.{ap}
 use Rattle.std.proofs.lemmas.Bool.{eqb-false}
-use Rattle.field_rules.specs.Choice.{pick}
-use Rattle.dictionary_layout_rules.specs.Layout.{Layout, end, items}
+use Rattle.dictionary_layout_rules.specs.Layout.{end, items}
 use Rattle.dictionary_layout_rules.specs.Tree.{Nodes, flattened}
 use Rattle.dictionary_layout_rules.specs.Measures.{NoEmptyGroup, none-after-field, none_in_group}
 use Rattle.dictionary_layout_rules.proofs.MeasuresLaws.{filled-after}
-use Rattle.dictionary_rules.specs.Records.{Records, ends, bad, whole, records_from}
+use Rattle.dictionary_rules.specs.Records.{Records, records_from}
 use Rattle.dictionary_rules.specs.Step.{opens, stands_for, depth_of}
-use Rattle.dictionary_rules.specs.Names.{Names, named}
+use Rattle.dictionary_rules.specs.Names.{Names}
 use Rattle.dictionary_rules.specs.declared.Component.{Component}
-use Rattle.dictionary_rules.specs.declared.Looked.{Looked}
-use Rattle.dictionary_rules.specs.declared.Looked.TheVariants.{Closed, Missing}
 use Rattle.dictionary_rules.specs.declared.Held.{Held}
 use Rattle.dictionary_rules.specs.declared.Held.TheVariants.{Empty, Only, Several}
 use Rattle.dictionary_rules.specs.declared.Owner.{Owner}
-use Rattle.dictionary_rules.specs.declared.Owner.TheVariants.{OfComponent, OfMessage}
 use Rattle.dictionary_rules.specs.declared.Open.{Open}
-use Rattle.dictionary_rules.specs.declared.Note.TheVariants.{Unchanged, ClosesComponent}
 use Rattle.dictionary_meaning_rules.specs.Laying.{behind_opening, stands_at}
 use Rattle.dictionary_meaning_rules.proofs.LayingLaws.{stands-empty, stands-behind, stands_somewhere}
-use Rattle.dictionary_meaning_rules.specs.Meaning.{Items, closed, field_then_lem, component_then_lem, group_then_lem, Defined, nodes_of, expanded}
-use Rattle.dictionary_meaning_rules.proofs.Layable.{Reads, Layable, layout_of, flat, Lays, lays_nothing, lays_items, AllLay, all-close, all-field, all-component, all-group, Room, level_layable, room-any}
+use Rattle.dictionary_meaning_rules.specs.Meaning.{Items, Defined, nodes_of, expanded}
+use Rattle.dictionary_meaning_rules.proofs.Layable.{Reads, layout_of, flat, Lays, lays_nothing, lays_items, AllLay, all-close, all-field, all-component, all-group, level_layable}
 use Rattle.dictionary_meaning_rules.proofs.Bodies.{Holds, reads_hold}
-use Rattle.dictionary_meaning_rules.proofs.Counted.{Agrees, agrees_close, agrees_field, agrees_component, agrees_group, count_of, held_from, count_agrees, items-none, items-some, Single, empty-none, only_one, room_proper}
-use Rattle.dictionary_meaning_rules.specs.Steps.{note_of}
-use Rattle.dictionary_meaning_rules.specs.declared.Expansion.TheVariants.{ItemsAt, NoItems}
+use Rattle.dictionary_meaning_rules.proofs.Counted.{Agrees, agrees_close, agrees_field, agrees_component, agrees_group, count_of, held_from, items-none, items-some, Single, empty-none, only_one, room_proper}
 use Rattle.dictionary_meaning_rules.proofs.Inside.{look_in, Resolved, resolved_close, resolved_field, resolved_component, resolved_group, AllResolved, none_resolved, one_resolved, ReadsAll, no_level, one_level, count_all, held_all, Closing}
-use Rattle.dictionary_meaning_rules.proofs.Named.{component-new, component_old}
 
 -- what nodes mean stands at a place
 pub record OwnItems (bytes : List ℕ) (at : ℕ) (nodes : Nodes) : Type 0 where
@@ -41,17 +33,17 @@ pub record OwnItems (bytes : List ℕ) (at : ℕ) (nodes : Nodes) : Type 0 where
   pub same : nodes ≡ expanded before level
 
 -- what is known of a closed component: its count is that of what it means, and it is laid as that
-pub record KnownAs (bytes : List ℕ) (components : ℕ → Looked) (number : ℕ) (c : Component) (nodes : Nodes) : Type 0 where
+pub record KnownAs (bytes : List ℕ) (components : ℕ → Option Component) (number : ℕ) (c : Component) (nodes : Nodes) : Type 0 where
   pub count : c.items ≡ items (flattened nodes)
   pub lays : Lays bytes components number (flattened nodes)
   pub limit : c.items ≤ 1024
-  pub looked : components number ≡ Closed c
+  pub looked : components number ≡ Some c
   pub own : OwnItems bytes (c.place + 3) nodes
 
-abbrev pub Known : List ℕ → (ℕ → Looked) → Names → List Defined → Type 0
-Known bytes components names defined = (number : ℕ) (c : Component) → look_in names number ≡ Closed c → KnownAs bytes components number c (nodes_of defined number)
+abbrev pub Known : List ℕ → (ℕ → Option Component) → Names → List Defined → Type 0
+Known bytes components names defined = (number : ℕ) (c : Component) → look_in names number ≡ Some c → KnownAs bytes components number c (nodes_of defined number)
 
-module _ (bytes : List ℕ) (components : ℕ → Looked) (names : Names) (defined : List Defined) (known : Known bytes components names defined) where
+module _ (bytes : List ℕ) (components : ℕ → Option Component) (names : Names) (defined : List Defined) (known : Known bytes components names defined) where
   pub agrees_known : {level : Items} → Resolved (look_in names) level → Agrees (look_in names) defined level
   agrees_known resolved_close = agrees_close
   agrees_known (resolved_field r) = agrees_field (agrees_known r)
@@ -93,12 +85,12 @@ unfolding items
 items-end = refl
 
 -- two components that stand for the same one stand at the same place
-stands_alike : (components : ℕ → Looked) (a b : ℕ) (c d : Component) → components a ≡ Closed c → components b ≡ Closed d → (c.items ≡ 0 → ⊥) → (d.items ≡ 0 → ⊥) → c.stands ≡ d.stands → stands_at components a ≡ stands_at components b
+stands_alike : (components : ℕ → Option Component) (a b : ℕ) (c d : Component) → components a ≡ Some c → components b ≡ Some d → (c.items ≡ 0 → ⊥) → (d.items ≡ 0 → ⊥) → c.stands ≡ d.stands → stands_at components a ≡ stands_at components b
 stands_alike components a b c d p q x y s =
     stands-behind components a c p x ∙ ap (λ (number : ℕ). behind_opening (components number)) s ∙ sym (stands-behind components b d q y)
 
 -- a component that has just closed
-module _ (bytes : List ℕ) (components : ℕ → Looked) (names : Names) (defined : List Defined) (known : Known bytes components names defined) (number : ℕ) (c : Component) (looked : components number ≡ Closed c) (at after : ℕ) (level : Items) (reads : Reads bytes at level after) (resolved : Resolved (look_in names) level)
+module _ (bytes : List ℕ) (components : ℕ → Option Component) (names : Names) (defined : List Defined) (known : Known bytes components names defined) (number : ℕ) (c : Component) (looked : components number ≡ Some c) (at after : ℕ) (level : Items) (reads : Reads bytes at level after) (resolved : Resolved (look_in names) level)
     (filled : NoEmptyGroup (flat defined level)) where
   abbrev agreeing : Agrees (look_in names) defined level
   agreeing = agrees_known bytes components names defined known resolved
@@ -106,8 +98,8 @@ module _ (bytes : List ℕ) (components : ℕ → Looked) (names : Names) (defin
   -- one that holds several things is laid from its own items
   several_lays : held_from (look_in names) Empty level ≡ Several → c.stands ≡ number → c.place + 3 ≡ at → (c.items ≡ 0 → ⊥) → c.items ≡ items (flat defined level) → Lays bytes components number (flat defined level)
   several_lays e s p z n =
-      let here : components c.stands ≡ Closed c = ap components s ∙ looked in
-      let stands : stands_at components number ≡ ItemsAt at = stands_somewhere components number c c looked z here ∙ ap ItemsAt p in
+      let here : components c.stands ≡ Some c = ap components s ∙ looked in
+      let stands : stands_at components number ≡ Some at = stands_somewhere components number c c looked z here ∙ ap Some p in
       lays_items stands (items-some (flat defined level) (λ q. z (n ∙ ap items q ∙ items-end)))
       (level_layable bytes components defined reads (lay_known bytes components names defined known resolved filled)
       (λ depth h. room_proper (look_in names) defined depth agreeing e (omega arith) (omega arith)))

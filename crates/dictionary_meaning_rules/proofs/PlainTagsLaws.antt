@@ -1,14 +1,12 @@
 -- The laws of listing tags: each way that it goes at a record, and that items that stand there are listed as the plain fields of what
 -- they mean.
-use Rattle.std.specs.Prelude.{◌≡◌, Bool, true, false, set, eqb, leb}
+use Rattle.std.specs.Prelude.{◌≡◌, Bool, set}
 use Rattle.std.proofs.Math.Path.{refl, sym}
-use Rattle.std.proofs.Common.{ap, ◌∙◌, arith}
-use mathlib.Core.List.{List, [], ◌∷◌}
-use Prim.Native.Nat.{ℕ, zero, suc, ◌+◌, ◌-◌, ◌*◌, ◌≤◌, ◌<◌}
+use Rattle.std.proofs.Common.{◌∙◌, arith, Some, None}
+use mathlib.Core.List.{List}
+use Prim.Native.Nat.{ℕ, zero, suc, ◌+◌, ◌-◌, ◌≤◌, ◌<◌}
 use Rattle.std.proofs.Math.ListN.{length}
 use borrow.Author.Tests.{eq-eqb, ne_eqb, le-leb, lt-leb}
-use Rattle.field_rules.specs.Choice.{pick}
-use Rattle.dictionary_layout_rules.specs.Tree.{Nodes, plain_fields}
 use Rattle.dictionary_rules.specs.Record.{record_at}
 use Rattle.dictionary_rules.specs.RecordsLaws.{record_falls}
 use Rattle.dictionary_rules.specs.declared.Record.{Record}
@@ -17,9 +15,7 @@ use Rattle.dictionary_rules.specs.declared.RecordRead.{RecordRead}
 use Rattle.dictionary_rules.specs.declared.RecordRead.TheVariants.{Whole, Bad, End}
 use Rattle.dictionary_rules.specs.Index.{component_at}
 use Rattle.dictionary_rules.specs.declared.Component.{Component}
-use Rattle.dictionary_rules.specs.declared.Looked.TheVariants.{Closed, Missing}
 use Rattle.dictionary_meaning_rules.specs.PlainTags.{Listing, listing, TagStep, tag_on, tag_read, tags_within, tags_from, component_tags, plain_tags}
-use Rattle.dictionary_meaning_rules.specs.declared.TagList.TheVariants.{Listed, Unlisted}
 
 -- two ways to go on that agree from a place on make the same of a record before it
 tag_agrees : (rest other : TagStep) (next : ℕ) → ((at groups count : ℕ) (tags : List ℕ) → next ≤ at → rest at groups count tags ≡ other at groups count tags) → (groups count : ℕ) (tags : List ℕ) (r : Record) → tag_on rest groups count tags r next ≡ tag_on other groups count tags r next
@@ -33,10 +29,10 @@ tag_agrees rest other next a groups count tags (OpensComponent number) = refl
 tag_agrees rest other next a groups count tags (OpensMessage msg_type) = refl
 
 module _ (d : List ℕ) where
-  read_past : (rest : TagStep) (at groups count : ℕ) (tags : List ℕ) → length d ≤ at → tag_read rest groups count tags (record_at d at) ≡ listing Unlisted tags
+  read_past : (rest : TagStep) (at groups count : ℕ) (tags : List ℕ) → length d ≤ at → tag_read rest groups count tags (record_at d at) ≡ listing None tags
   read_past rest at groups count tags h = go (record_at d at) (record_falls d at)
     where
-      go : (read : RecordRead) → ((r : Record) (next : ℕ) → read ≡ Whole r next → (at < next) × (next ≤ length d)) → tag_read rest groups count tags read ≡ listing Unlisted tags
+      go : (read : RecordRead) → ((r : Record) (next : ℕ) → read ≡ Whole r next → (at < next) × (next ≤ length d)) → tag_read rest groups count tags read ≡ listing None tags
       go (Whole r next) n = let w = n r next refl in absurd (omega arith)
       go Bad n = unfold tag_read in refl
       go End n = unfold tag_read in refl
@@ -70,11 +66,11 @@ module _ (d : List ℕ) where
         first : tag_read (tags_within (length d) d) groups count tags (record_at d at) ≡ tag_on (tags_within (length d) d) groups count tags r next
         first = unfold tag_read in rw e
 
-    pub tags-bad : record_at d at ≡ Bad → here ≡ listing Unlisted tags
+    pub tags-bad : record_at d at ≡ Bad → here ≡ listing None tags
     unfolding tag_read
     tags-bad e = tags-read ∙ rw e
 
-    pub tags-end : record_at d at ≡ End → here ≡ listing Unlisted tags
+    pub tags-end : record_at d at ≡ End → here ≡ listing None tags
     unfolding tag_read
     tags-end e = tags-read ∙ rw e
 
@@ -84,7 +80,7 @@ module _ (d : List ℕ) where
         unfolding tag_on
         tags-field o h = tags-step _ _ e ∙ rw (eq-eqb _ _ o, lt-leb _ _ h)
 
-        pub tags_full : groups ≡ 0 → 1024 ≤ count → here ≡ listing Unlisted tags
+        pub tags_full : groups ≡ 0 → 1024 ≤ count → here ≡ listing None tags
         unfolding tag_on
         tags_full o h = tags-step _ _ e ∙ rw (eq-eqb _ _ o, le-leb _ _ h)
 
@@ -100,7 +96,7 @@ module _ (d : List ℕ) where
       unfolding tag_on
       tags-group tag required e = tags-step _ _ e
 
-      pub tags-closed : record_at d at ≡ Whole Closes next → groups ≡ 0 → here ≡ listing (Listed count) tags
+      pub tags-closed : record_at d at ≡ Whole Closes next → groups ≡ 0 → here ≡ listing (Some count) tags
       unfolding tag_on
       tags-closed e o = tags-step _ _ e ∙ rw (eq-eqb _ _ o)
 
@@ -108,23 +104,23 @@ module _ (d : List ℕ) where
       unfolding tag_on
       tags-closes e o = tags-step _ _ e ∙ rw (ne_eqb _ _ o)
 
-      pub tags-known : (tag : ℕ) → record_at d at ≡ Whole (KnownTag tag) next → here ≡ listing Unlisted tags
+      pub tags-known : (tag : ℕ) → record_at d at ≡ Whole (KnownTag tag) next → here ≡ listing None tags
       unfolding tag_on
       tags-known tag e = tags-step _ _ e
 
-      pub tags-opens : (number : ℕ) → record_at d at ≡ Whole (OpensComponent number) next → here ≡ listing Unlisted tags
+      pub tags-opens : (number : ℕ) → record_at d at ≡ Whole (OpensComponent number) next → here ≡ listing None tags
       unfolding tag_on
       tags-opens number e = tags-step _ _ e
 
-      pub tags-message : (msg_type : ℕ) → record_at d at ≡ Whole (OpensMessage msg_type) next → here ≡ listing Unlisted tags
+      pub tags-message : (msg_type : ℕ) → record_at d at ≡ Whole (OpensMessage msg_type) next → here ≡ listing None tags
       unfolding tag_on
       tags-message msg_type e = tags-step _ _ e
 
 module _ (d index : List ℕ) (number : ℕ) (tags : List ℕ) where
-  pub plain_missing : component_at index number ≡ Missing → plain_tags d index number tags ≡ listing Unlisted tags
+  pub plain_missing : component_at index number ≡ None → plain_tags d index number tags ≡ listing None tags
   unfolding plain_tags component_tags
   plain_missing e = rw e
 
-  pub plain_closed : (c : Component) → component_at index number ≡ Closed c → plain_tags d index number tags ≡ tags_from d (c.place + 3) 0 0 tags
+  pub plain_closed : (c : Component) → component_at index number ≡ Some c → plain_tags d index number tags ≡ tags_from d (c.place + 3) 0 0 tags
   unfolding plain_tags component_tags
   plain_closed c e = rw e

@@ -1,62 +1,54 @@
 -- A dictionary that passes the check has tables for each of its messages, and they mean the layouts of its tree.
 use Rattle.std.proofs.Math.Path.{◌≡◌, refl, ap, subst}
-use Rattle.std.proofs.Common.{sym, ◌∙◌, eq-eqb, ne_eqb, eqb-true}
-use Rattle.std.specs.Prelude.{Bool, true, false, List, [], ◌∷◌, ℕ, zero, suc, ◌+◌, ◌-◌, ◌*◌, ◌≤◌, ◌<◌, eqb, length}
+use Rattle.std.proofs.Common.{sym, ◌∙◌, eq-eqb, ne_eqb, eqb-true, Option, Some, None}
+use Rattle.std.specs.Prelude.{Bool, true, false, List, [], ◌∷◌, ℕ, zero, suc, ◌+◌, ◌-◌, ◌≤◌, ◌<◌, eqb}
 use native.Mathlib.Omega.{arith}
 use Rattle.std.proofs.lemmas.Bool.{eqb-false}
 use Rattle.field_rules.specs.Choice.{pick}
-use Rattle.dictionary_layout_rules.specs.Layout.{Layout, end, items}
+use Rattle.dictionary_layout_rules.specs.Layout.{Layout, items}
 use Rattle.dictionary_layout_rules.specs.Tree.{no_message, laid_out, message_of, same_bytes}
 use Rattle.dictionary_layout_rules.specs.Measures.{NoEmptyGroup, Bounded}
-use Rattle.dictionary_rules.specs.Record.{record_at}
 use Rattle.dictionary_rules.specs.Records.{Records, ends, bad, whole, records_from}
 use Rattle.dictionary_rules.specs.RecordsLaws.{record_lies}
 use Rattle.dictionary_rules.specs.RecordsLaws.{size_of as bytes_of}
 use Rattle.dictionary_rules.specs.declared.Record.TheVariants.{KnownTag, OpensComponent, OpensMessage, FieldItem, ComponentItem, OpensGroup, Closes}
-use Rattle.dictionary_rules.specs.declared.RecordRead.TheVariants.{Whole}
 use Rattle.dictionary_rules.specs.Step.{opens, stands_for}
 use Rattle.dictionary_rules.specs.Names.{Names, component_in, named, no_names}
 use Rattle.dictionary_rules.specs.declared.Component.{Component}
-use Rattle.dictionary_rules.specs.declared.Looked.{Looked}
-use Rattle.dictionary_rules.specs.declared.Looked.TheVariants.{Closed, Missing}
-use Rattle.dictionary_rules.specs.declared.Placed.{Placed}
-use Rattle.dictionary_rules.specs.declared.Placed.TheVariants.{At, Nowhere}
 use Rattle.dictionary_rules.specs.declared.Owner.{Owner}
 use Rattle.dictionary_rules.specs.declared.Owner.TheVariants.{OfComponent, OfMessage}
 use Rattle.dictionary_rules.specs.declared.Open.{Open}
-use Rattle.dictionary_rules.specs.declared.State.TheVariants.{TopLevel, Inside}
-use Rattle.dictionary_rules.specs.declared.Note.TheVariants.{Unchanged, ClosesComponent, NamesMessage}
+use Rattle.dictionary_rules.specs.declared.State.TheVariants.{TopLevel}
+use Rattle.dictionary_rules.specs.declared.Note.TheVariants.{ClosesComponent, NamesMessage}
 use Rattle.dictionary_meaning_rules.specs.Laying.{laying, lay_items}
 use Rattle.dictionary_meaning_rules.specs.MessageTable.{most_calls}
 use Rattle.dictionary_meaning_rules.proofs.LayingLaws.{lay_down}
 use Rattle.dictionary_meaning_rules.specs.Meaning.{Items, Declaration, known_tag, component, message, Defined, nodes_of, expanded, defined_by, defined_after, msg_type_bytes, message_in, messages_from, size_of, declarations_of}
 use Rattle.dictionary_meaning_rules.proofs.Written.{written}
-use Rattle.dictionary_meaning_rules.proofs.Layable.{Reads, layout_of, flat, Lays, lay_level, room-any}
+use Rattle.dictionary_meaning_rules.proofs.Layable.{Reads, flat, lay_level, room-any}
 use Rattle.dictionary_meaning_rules.proofs.Bodies.{declared-end, declared-tag, declared-component, declared-message}
-use Rattle.dictionary_meaning_rules.proofs.Counted.{count_of, held_from, count_agrees}
+use Rattle.dictionary_meaning_rules.proofs.Counted.{count_agrees}
 use Rattle.dictionary_meaning_rules.specs.Steps.{Passing, note_of, tag-goes, component-opens, message-opens, field-stops, item-stops, group-stops, close-stops, bad-stops, end_passes}
-use Rattle.dictionary_meaning_rules.proofs.Inside.{Next, next_of, look_in, Closing, closes-inside}
+use Rattle.dictionary_meaning_rules.proofs.Inside.{next_of, look_in, Closing, closes-inside}
 use Rattle.dictionary_meaning_rules.proofs.Named.{place_in, Kept, kept, component-new, component_old, message-new, message_old}
 use Rattle.dictionary_meaning_rules.proofs.Passing.{KnownAs, Known, agrees_known, lay_known, OneLevel, one_level_of, closed_lays}
 use Rattle.dictionary_meaning_rules.proofs.TreeBounds.{KeptFrom, kept-tag, kept-component, kept-message}
 use Rattle.dictionary_meaning_rules.specs.MsgType.{name_of}
 use Rattle.dictionary_meaning_rules.proofs.MsgTypeText.{Bytes, NameNumber, same-named, named-same}
 use Rattle.dictionary_meaning_rules.proofs.MsgTypeRecords.{message-number}
-use Rattle.dictionary_meaning_rules.specs.declared.MsgTypeName.TheVariants.{Named}
-use Rattle.dictionary_meaning_rules.specs.declared.Laid.TheVariants.{Upto, Broken}
 
 -- a message that opens at a place is laid as a layout, from the first row on, whatever the table holds
-pub record MessageAs (bytes : List ℕ) (components : ℕ → Looked) (place : ℕ) (layout : Layout) : Type 0 where
+pub record MessageAs (bytes : List ℕ) (components : ℕ → Option Component) (place : ℕ) (layout : Layout) : Type 0 where
   pub limit : items layout ≤ 1024
-  pub laid : (table : List ℕ) → (after : ℕ) × (lay_items most_calls bytes components (place + 9) 0 table ≡ laying (Upto after (items layout)) (written 0 layout table))
+  pub laid : (table : List ℕ) → (after : ℕ) × (lay_items most_calls bytes components (place + 9) 0 table ≡ laying (Some (after, (items layout))) (written 0 layout table))
 
 -- what declarations mean, after those that made the names so far
-pub record Meant (bytes : List ℕ) (components : ℕ → Looked) (final names : Names) (defined : List Defined) (declarations : List Declaration) : Type 0 where
+pub record Meant (bytes : List ℕ) (components : ℕ → Option Component) (final names : Names) (defined : List Defined) (declarations : List Declaration) : Type 0 where
   pub known : Known bytes components final (defined_after defined declarations)
-  pub messages : Bytes bytes → (value : List ℕ) → Bytes value → (msg_type place : ℕ) → name_of value ≡ Named msg_type → place_in final msg_type ≡ At place →
-      place_in names msg_type ≡ Nowhere →
+  pub messages : Bytes bytes → (value : List ℕ) → Bytes value → (msg_type place : ℕ) → name_of value ≡ Some msg_type → place_in final msg_type ≡ Some place →
+      place_in names msg_type ≡ None →
       (layout : Layout) × (message_of value (messages_from defined declarations) ≡ laid_out layout) × MessageAs bytes components place layout
-  pub others : Bytes bytes → (value : List ℕ) → ((msg_type : ℕ) → name_of value ≡ Named msg_type → place_in final msg_type ≡ Nowhere) →
+  pub others : Bytes bytes → (value : List ℕ) → ((msg_type : ℕ) → name_of value ≡ Some msg_type → place_in final msg_type ≡ None) →
       message_of value (messages_from defined declarations) ≡ no_message
 
 module _ (defined : List Defined) (d : Defined) where
@@ -69,7 +61,7 @@ module _ (defined : List Defined) (d : Defined) where
   defined_old number e = rw (ne_eqb _ _ e)
 
 -- one more component is known
-known_more : (bytes : List ℕ) (components : ℕ → Looked) (names : Names) (defined : List Defined) (c : Component) (level : Items) → Known bytes components names defined → KnownAs bytes components c.number c (expanded defined level) → Known bytes components (named names (ClosesComponent c)) (defined_by defined (component c.number level))
+known_more : (bytes : List ℕ) (components : ℕ → Option Component) (names : Names) (defined : List Defined) (c : Component) (level : Items) → Known bytes components names defined → KnownAs bytes components c.number c (expanded defined level) → Known bytes components (named names (ClosesComponent c)) (defined_by defined (component c.number level))
 unfolding defined_by
 known_more bytes components names defined c level known new number d e = go (eqb number c.number) refl
   where
@@ -83,10 +75,10 @@ known_more bytes components names defined c level known new number d e = go (eqb
         let other = eqb-false _ _ q in
         rw (defined_old defined (record { number = c.number; nodes = expanded defined level }) number other) (known number d (sym (component_old names c number other) ∙ e))
 
-module _ (bytes : List ℕ) (components : ℕ → Looked) (final : Names) (sure : (number : ℕ) (c : Component) → look_in final number ≡ Closed c → components number ≡ Closed c) where
+module _ (bytes : List ℕ) (components : ℕ → Option Component) (final : Names) (sure : (number : ℕ) (c : Component) → look_in final number ≡ Some c → components number ≡ Some c) where
   -- a component that opens at a place and closes
   component-known : (names : Names) (defined : List Defined) (number place at : ℕ) (rs : Records) → Known bytes components names defined →
-      look_in names number ≡ Missing → at ≡ place + 3 → (c : Closing bytes final names at rs (opens (OfComponent number) place)) →
+      look_in names number ≡ None → at ≡ place + 3 → (c : Closing bytes final names at rs (opens (OfComponent number) place)) →
       (o : OneLevel bytes names at rs c.after c.rest c.last) → NoEmptyGroup (flat defined o.level) →
       Kept (named names (note_of c.last c.last.owner)) final →
       Known bytes components (named names (note_of c.last c.last.owner)) (defined_by defined (component number o.level))
@@ -95,7 +87,7 @@ module _ (bytes : List ℕ) (components : ℕ → Looked) (final : Names) (sure 
       let closing : Component = record { number = number; place = c.last.place; items = c.last.items; depth = c.last.depth; stands = stands_for number c.last.held } in
       let note : note_of c.last c.last.owner ≡ ClosesComponent closing = ap (note_of c.last) c.owner in
       let keeps : Kept (named names (ClosesComponent closing)) final = rw note at keeps in
-      let looked : components number ≡ Closed closing = sure number closing (keeps.components number closing (component-new names closing number refl)) in
+      let looked : components number ≡ Some closing = sure number closing (keeps.components number closing (component-new names closing number refl)) in
       let count : c.last.items ≡ items (flat defined o.level) = o.count ∙ count_agrees (look_in names) defined (agrees_known bytes components names defined known o.resolved) in
       let stands : c.last.place + 3 ≡ at = omega (arith, c.place) in
       rw note (known_more bytes components names defined closing o.level known (record {
@@ -120,7 +112,7 @@ module _ (bytes : List ℕ) (components : ℕ → Looked) (final : Names) (sure 
           c.after,
           lay_down bytes components (place + 9) 0 table most_calls (λ z. absurd (omega arith))
               ∙ lay_level bytes components defined reads all (most_calls - 1) room 0 table (omega (arith, b.few))
-              ∙ ap (λ (n : ℕ). laying (Upto c.after n) (written 0 (flat defined o.level) table)) (omega arith),
+              ∙ ap (λ (n : ℕ). laying (Some (c.after, n)) (written 0 (flat defined o.level) table)) (omega arith),
         );
       }
 
@@ -151,26 +143,26 @@ module _ (bytes : List ℕ) (components : ℕ → Looked) (final : Names) (sure 
         others = λ b value q. missing b value q (same_bytes (msg_type_bytes msg_type) value) refl;
       }
     where
-      here : place_in final msg_type ≡ At place
+      here : place_in final msg_type ≡ Some place
       here = keeps.messages msg_type place (rw e (message-new names place msg_type))
 
-      found : (b : Bytes bytes) (value : List ℕ) → Bytes value → (wanted there : ℕ) → name_of value ≡ Named wanted → place_in final wanted ≡ At there →
-          place_in names wanted ≡ Nowhere → (t : Bool) → same_bytes (msg_type_bytes msg_type) value ≡ t →
+      found : (b : Bytes bytes) (value : List ℕ) → Bytes value → (wanted there : ℕ) → name_of value ≡ Some wanted → place_in final wanted ≡ Some there →
+          place_in names wanted ≡ None → (t : Bool) → same_bytes (msg_type_bytes msg_type) value ≡ t →
           (layout : Layout) × (pick t (laid_out (flat defined level)) (message_of value (messages_from defined declarations)) ≡ laid_out layout)
           × MessageAs bytes components there layout
       found b value text wanted there w q n true t =
           let name = same-named msg_type (number b) value t in
           let same : msg_type ≡ wanted = cc in
-          let found : place_in final wanted ≡ At place = rw same at here in
+          let found : place_in final wanted ≡ Some place = rw same at here in
           let at_place : place ≡ there = cc in
           (flat defined level, refl, rw at_place at laid)
       found b value text wanted there w q n false t =
           m.messages b value text wanted there w q (rw e (message_old names place msg_type wanted other ∙ n))
         where
           other : wanted ≡ msg_type → ⊥
-          other z = let same = named-same msg_type value text (w ∙ ap Named z) in let clash : ◌≡◌ {A = ℕ} 0 1 = cc in omega arith
+          other z = let same = named-same msg_type value text (w ∙ ap Some z) in let clash : ◌≡◌ {A = ℕ} 0 1 = cc in omega arith
 
-      missing : (b : Bytes bytes) (value : List ℕ) → ((wanted : ℕ) → name_of value ≡ Named wanted → place_in final wanted ≡ Nowhere) → (t : Bool) →
+      missing : (b : Bytes bytes) (value : List ℕ) → ((wanted : ℕ) → name_of value ≡ Some wanted → place_in final wanted ≡ None) → (t : Bool) →
           same_bytes (msg_type_bytes msg_type) value ≡ t → pick t (laid_out (flat defined level)) (message_of value (messages_from defined declarations)) ≡ no_message
       missing b value q true t =
           let nowhere = q msg_type (same-named msg_type (number b) value t) in
@@ -183,11 +175,11 @@ module _ (bytes : List ℕ) (components : ℕ → Looked) (final : Names) (sure 
   end-meant names defined same known =
       record {
         known = subst (λ (n : Names). Known bytes components n defined) same known;
-        messages = λ b value text wanted there w q n. absurd (clash wanted there q (subst (λ (x : Names). place_in x wanted ≡ Nowhere) same n));
+        messages = λ b value text wanted there w q n. absurd (clash wanted there q (subst (λ (x : Names). place_in x wanted ≡ None) same n));
         others = λ b value q. refl;
       }
     where
-      clash : (wanted there : ℕ) → place_in final wanted ≡ At there → place_in final wanted ≡ Nowhere → ⊥
+      clash : (wanted there : ℕ) → place_in final wanted ≡ Some there → place_in final wanted ≡ None → ⊥
       clash wanted there q n = let z : ◌≡◌ {A = ℕ} 0 1 = cc in omega arith
 
   -- the same components are known under names that hold them
@@ -265,5 +257,5 @@ module _ (bytes : List ℕ) (components : ℕ → Looked) (final : Names) (sure 
   meant rs at e p bounds =
       meant-within (suc (size_of rs)) rs at no_names [] (omega arith) e p (λ number c q. nothing_yet number c q) bounds
     where
-      nothing_yet : (number : ℕ) (c : Component) → look_in no_names number ≡ Closed c → KnownAs bytes components number c (nodes_of [] number)
-      nothing_yet number c q = let none : look_in no_names number ≡ Missing = (unfold no_names component_in in refl) in let z : ◌≡◌ {A = ℕ} 0 1 = cc in absurd (omega arith)
+      nothing_yet : (number : ℕ) (c : Component) → look_in no_names number ≡ Some c → KnownAs bytes components number c (nodes_of [] number)
+      nothing_yet number c q = let none : look_in no_names number ≡ None = (unfold no_names component_in in refl) in let z : ◌≡◌ {A = ℕ} 0 1 = cc in absurd (omega arith)

@@ -1,29 +1,27 @@
 -- The header and trailer tags of a dictionary that passes: what is listed of component 0 or 1 is what the tree has.
-use Rattle.std.specs.Prelude.{◌≡◌, Bool, true, false, List, [], ◌∷◌, ◌++◌, set, take, drop}
+use Rattle.std.specs.Prelude.{◌≡◌, List, [], ◌∷◌, ◌++◌, set, take, drop}
 use Rattle.std.proofs.Math.Path.{refl}
-use Rattle.std.proofs.Common.{sym, ap, ◌∙◌, subst, append_assoc, length-append, take-append-drop, length-take-le}
-use Prim.Native.Nat.{ℕ, zero, suc, ◌+◌, ◌-◌, ◌*◌, ◌≤◌, ◌<◌}
+use Rattle.std.proofs.Common.{sym, ap, ◌∙◌, append_assoc, length-append, take-append-drop, length-take-le, Some}
+use Prim.Native.Nat.{ℕ, suc, ◌+◌, ◌-◌, ◌≤◌}
 use native.Mathlib.Omega.{arith}
 use Rattle.std.proofs.Math.ListN.{length}
 use Rattle.std.proofs.lemmas.List.{set_at}
 use Rattle.dictionary_chains.specs.Chain.{index_words}
-use Rattle.dictionary_layout_rules.specs.Layout.{Layout, items, followed_by}
+use Rattle.dictionary_layout_rules.specs.Layout.{items}
 use Rattle.dictionary_layout_rules.specs.Tree.{Nodes, nothing, field_item_lem, component_item_lem, group_item_lem, plain_fields, header_tags_lem, trailer_tags_lem, flattened}
 use Rattle.dictionary_rules.specs.Records.{records_from}
-use Rattle.dictionary_rules.specs.Check.{store_of, read_of, check_of}
+use Rattle.dictionary_rules.specs.Check.{store_of, check_of}
 use Rattle.dictionary_rules.specs.Index.{component_at}
 use Rattle.dictionary_rules.specs.Check.{prepared_of}
 use Rattle.dictionary_rules.specs.declared.Checked.TheVariants.{Passes}
 use Rattle.dictionary_rules.specs.declared.Component.{Component}
-use Rattle.dictionary_rules.specs.declared.Looked.TheVariants.{Closed}
-use Rattle.dictionary_meaning_rules.specs.Meaning.{Items, closed, field_then_lem, component_then_lem, group_then_lem, declarations_of, Defined, nodes_of, expanded, defined_after, meaning_of, dictionary_of}
+use Rattle.dictionary_meaning_rules.specs.Meaning.{Items, declarations_of, Defined, nodes_of, expanded, defined_after, meaning_of, dictionary_of}
 use Rattle.dictionary_meaning_rules.proofs.Written.{items-followed}
 use Rattle.dictionary_meaning_rules.proofs.Layable.{Reads, reads-close, reads-field, reads-component, reads-group}
-use Rattle.dictionary_meaning_rules.proofs.Passing.{OwnItems, KnownAs}
+use Rattle.dictionary_meaning_rules.proofs.Passing.{OwnItems}
 use Rattle.dictionary_meaning_rules.proofs.Prepared.{component-laid, standard_there}
-use Rattle.dictionary_meaning_rules.specs.PlainTags.{Listing, listing, tags_from, plain_tags}
+use Rattle.dictionary_meaning_rules.specs.PlainTags.{listing, tags_from, plain_tags}
 use Rattle.dictionary_meaning_rules.proofs.PlainTagsLaws.{tags-field, tags_within_lem, tags-component, tags-group, tags-closed, tags-closes, plain_closed}
-use Rattle.dictionary_meaning_rules.specs.declared.TagList.TheVariants.{Listed, Unlisted}
 
 -- tags written one after the other
 unfoldable pub listed : List ℕ → ℕ → List ℕ → List ℕ
@@ -69,7 +67,7 @@ module _ (d : List ℕ) where
       tags-group d at (suc groups) count tags next tag required e ∙ rw n (passes_over i (suc groups) count tags) ∙ passes_over r groups count tags
 
   -- the plain fields of a level are listed
-  fields-listed : {at after : ℕ} {level : Items} → Reads d at level after → (defined : List Defined) (count : ℕ) (tags : List ℕ) → count + length (plain_fields (expanded defined level)) ≤ 1024 → tags_from d at 0 count tags ≡ listing (Listed (count + length (plain_fields (expanded defined level)))) (listed tags count (plain_fields (expanded defined level)))
+  fields-listed : {at after : ℕ} {level : Items} → Reads d at level after → (defined : List Defined) (count : ℕ) (tags : List ℕ) → count + length (plain_fields (expanded defined level)) ≤ 1024 → tags_from d at 0 count tags ≡ listing (Some (count + length (plain_fields (expanded defined level)))) (listed tags count (plain_fields (expanded defined level)))
   unfolding plain_fields expanded listed
   fields-listed {at} {after} (reads-close e) defined count tags h =
       let n : count + 0 ≡ count = omega arith in
@@ -83,7 +81,7 @@ module _ (d : List ℕ) where
       tags-group d at 0 count tags next tag required e ∙ passes_over i 0 count tags ∙ fields-listed r defined count tags h
 
 -- the tags of a component that stands at its place
-own-listed : (d index : List ℕ) (number : ℕ) (c : Component) (nodes : Nodes) (tags : List ℕ) → component_at index number ≡ Closed c → OwnItems d (c.place + 3) nodes → length (plain_fields nodes) ≤ 1024 → plain_tags d index number tags ≡ listing (Listed (length (plain_fields nodes))) (listed tags 0 (plain_fields nodes))
+own-listed : (d index : List ℕ) (number : ℕ) (c : Component) (nodes : Nodes) (tags : List ℕ) → component_at index number ≡ Some c → OwnItems d (c.place + 3) nodes → length (plain_fields nodes) ≤ 1024 → plain_tags d index number tags ≡ listing (Some (length (plain_fields nodes))) (listed tags 0 (plain_fields nodes))
 own-listed d index number c nodes tags e own h =
     let few : 0 + length (plain_fields (expanded own.before own.level)) ≤ 1024 = omega (arith, ap (λ (n : Nodes). length (plain_fields n)) own.same) in
     let n : 0 + length (plain_fields (expanded own.before own.level)) ≡ length (plain_fields (expanded own.before own.level)) = omega arith in
@@ -93,18 +91,18 @@ module _ (d : List ℕ) (passes : check_of d ≡ Passes) (index : List ℕ) (siz
   abbrev made : List ℕ
   made = store_of (prepared_of d index)
 
-  component-listed : (number : ℕ) (c : Component) → component_at made number ≡ Closed c → let tags : List ℕ = plain_fields (nodes_of (defined_after [] (declarations_of (records_from d 0))) number) in plain_tags d made number list ≡ listing (Listed (length tags)) (tags ++ drop (length tags) list)
+  component-listed : (number : ℕ) (c : Component) → component_at made number ≡ Some c → let tags : List ℕ = plain_fields (nodes_of (defined_after [] (declarations_of (records_from d 0))) number) in plain_tags d made number list ≡ listing (Some (length tags)) (tags ++ drop (length tags) list)
   component-listed number c e =
       let k = component-laid d passes index size number c e in
       let few : length (plain_fields (nodes_of (defined_after [] (declarations_of (records_from d 0))) number)) ≤ 1024 = omega (arith, fields-few (nodes_of (defined_after [] (declarations_of (records_from d 0))) number), k.count, k.limit) in
       own-listed d made number c _ list e k.own few
-      ∙ ap (λ (l : List ℕ). listing (Listed (length (plain_fields (nodes_of (defined_after [] (declarations_of (records_from d 0))) number)))) l) (listed-first list _ (omega arith))
+      ∙ ap (λ (l : List ℕ). listing (Some (length (plain_fields (nodes_of (defined_after [] (declarations_of (records_from d 0))) number)))) l) (listed-first list _ (omega arith))
 
   -- "Header and trailer tags are the plain field items directly in components 0 and 1."
-  pub header-listed : let tags : List ℕ = header_tags_lem (dictionary_of d) in plain_tags d made 0 list ≡ listing (Listed (length tags)) (tags ++ drop (length tags) list)
+  pub header-listed : let tags : List ℕ = header_tags_lem (dictionary_of d) in plain_tags d made 0 list ≡ listing (Some (length tags)) (tags ++ drop (length tags) list)
   unfolding header_tags_lem dictionary_of meaning_of
   header-listed = component-listed 0 (standard_there d passes index size).0.0 (standard_there d passes index size).0.1
 
-  pub trailer-listed : let tags : List ℕ = trailer_tags_lem (dictionary_of d) in plain_tags d made 1 list ≡ listing (Listed (length tags)) (tags ++ drop (length tags) list)
+  pub trailer-listed : let tags : List ℕ = trailer_tags_lem (dictionary_of d) in plain_tags d made 1 list ≡ listing (Some (length tags)) (tags ++ drop (length tags) list)
   unfolding trailer_tags_lem dictionary_of meaning_of
   trailer-listed = component-listed 1 (standard_there d passes index size).1.0 (standard_there d passes index size).1.1

@@ -1,7 +1,7 @@
 -- "A dictionary that passes has tables for each of its messages, and the tables mean the tree's layout": what `message_table` answers and
 -- writes, for any value of MsgType and whatever the table held before.
-use Rattle.std.specs.Prelude.{◌≡◌, refl, List, ℕ, ◌+◌, ◌*◌, ◌≤◌, length}
-use Rattle.std.proofs.Common.{sym, ap, ◌∙◌, arith}
+use Rattle.std.specs.Prelude.{◌≡◌, refl, List, ℕ, ◌≤◌, length}
+use Rattle.std.proofs.Common.{◌∙◌, arith, Option, Some, None}
 use Rattle.dictionary_chains.specs.Chain.{index_words}
 use Rattle.dictionary_layout_rules.specs.Layout.{Layout, items}
 use Rattle.dictionary_layout_rules.specs.Tree.{Choice, no_message, laid_out}
@@ -11,8 +11,6 @@ use Rattle.dictionary_rules.specs.Check.{store_of, check_of}
 use Rattle.dictionary_rules.specs.Index.{component_at, message_at}
 use Rattle.dictionary_rules.specs.Check.{prepared_of}
 use Rattle.dictionary_rules.specs.declared.Checked.TheVariants.{Passes}
-use Rattle.dictionary_rules.specs.declared.Placed.{Placed}
-use Rattle.dictionary_rules.specs.declared.Placed.TheVariants.{At, Nowhere}
 use Rattle.dictionary_meaning_rules.specs.Meaning.{dictionary_of}
 use Rattle.dictionary_meaning_rules.proofs.Written.{written, written-length, written_stands}
 use Rattle.dictionary_meaning_rules.specs.MsgType.{name_of}
@@ -21,9 +19,7 @@ use Rattle.dictionary_meaning_rules.specs.MessageTable.{Tabling, tabling, place_
 use Rattle.dictionary_meaning_rules.specs.MessageTableLaws.{place_unnamed, place_named_lem, table-nowhere, table_rows}
 use Rattle.dictionary_meaning_rules.proofs.Tables.{MessageAs}
 use Rattle.dictionary_meaning_rules.proofs.Prepared.{message-laid, message-none}
-use Rattle.dictionary_meaning_rules.specs.declared.MsgTypeName.{MsgTypeName}
-use Rattle.dictionary_meaning_rules.specs.declared.MsgTypeName.TheVariants.{Named, Unnamed}
-use Rattle.dictionary_meaning_rules.specs.declared.MessageTable.TheVariants.{Rows, NoMessage, Unprepared}
+use Rattle.dictionary_meaning_rules.specs.declared.MessageTable.TheVariants.{Rows, NoMessage}
 
 -- what the tree says of a MsgType, and what was answered and written
 pub data TableOf (table : List ℕ) : Choice → Tabling → Type 0 where
@@ -35,7 +31,7 @@ module _ (d : List ℕ) (bytes : Bytes d) (passes : check_of d ≡ Passes) (inde
   made = store_of (prepared_of d index)
 
   -- a layout that is laid is tabled
-  laid_table : (value table : List ℕ) (msg_type place : ℕ) (layout : Layout) → 4096 ≤ length table → name_of value ≡ Named msg_type → message_at made msg_type ≡ At place → MessageAs d (component_at made) place layout → TableOf table (laid_out layout) (message_table d made value table)
+  laid_table : (value table : List ℕ) (msg_type place : ℕ) (layout : Layout) → 4096 ≤ length table → name_of value ≡ Some msg_type → message_at made msg_type ≡ Some place → MessageAs d (component_at made) place layout → TableOf table (laid_out layout) (message_table d made value table)
   laid_table value table msg_type place layout room name placed as-laid =
       let w = as-laid.laid table in
       let limit = as-laid.limit in
@@ -45,18 +41,18 @@ module _ (d : List ℕ) (bytes : Bytes d) (passes : check_of d ≡ Passes) (inde
   pub tables_mean_tree : (value table : List ℕ) → Bytes value → 4096 ≤ length table → TableOf table (layout_in_tree (dictionary_of d) value) (message_table d made value table)
   tables_mean_tree value table text room = by_name (name_of value) refl
     where
-      none : ((msg_type : ℕ) → name_of value ≡ Named msg_type → message_at made msg_type ≡ Nowhere) → place_of made value ≡ Nowhere →
+      none : ((msg_type : ℕ) → name_of value ≡ Some msg_type → message_at made msg_type ≡ None) → place_of made value ≡ None →
           TableOf table (layout_in_tree (dictionary_of d) value) (message_table d made value table)
       none nowhere e = rw (message-none d passes index size bytes value nowhere, table-nowhere d made value table e) no_table
 
-      by_place : (msg_type : ℕ) (placed : Placed) → name_of value ≡ Named msg_type → message_at made msg_type ≡ placed →
+      by_place : (msg_type : ℕ) (placed : Option ℕ) → name_of value ≡ Some msg_type → message_at made msg_type ≡ placed →
           TableOf table (layout_in_tree (dictionary_of d) value) (message_table d made value table)
-      by_place msg_type Nowhere name e =
+      by_place msg_type None name e =
           none (λ wanted other. let same : wanted ≡ msg_type = cc in rw same e) (place_named_lem made value msg_type name ∙ e)
-      by_place msg_type (At place) name e =
+      by_place msg_type (Some place) name e =
           let l = message-laid d passes index size bytes value text msg_type place name e in
           rw l.1 (laid_table value table msg_type place l.0 room name e l.2)
 
-      by_name : (name : MsgTypeName) → name_of value ≡ name → TableOf table (layout_in_tree (dictionary_of d) value) (message_table d made value table)
-      by_name Unnamed e = none (λ wanted other. let z : ◌≡◌ {A = ℕ} 0 1 = cc in absurd (omega arith)) (place_unnamed made value e)
-      by_name (Named msg_type) e = by_place msg_type (message_at made msg_type) e refl
+      by_name : (name : Option ℕ) → name_of value ≡ name → TableOf table (layout_in_tree (dictionary_of d) value) (message_table d made value table)
+      by_name None e = none (λ wanted other. let z : ◌≡◌ {A = ℕ} 0 1 = cc in absurd (omega arith)) (place_unnamed made value e)
+      by_name (Some msg_type) e = by_place msg_type (message_at made msg_type) e refl

@@ -3,7 +3,7 @@
 -- at the first record that breaks this, and at no other.
 use Rattle.std.proofs.Math.Path.{◌≡◌, subst}
 use Rattle.std.specs.Prelude.{refl, Bool, leb}
-use Rattle.std.proofs.Common.{sym, ap, leb-true, leb-false}
+use Rattle.std.proofs.Common.{sym, ap, leb-true, leb-false, Some, None}
 use Rattle.std.proofs.Math.Bool.{true, false}
 use mathlib.Core.List.{List, [], ◌∷◌, map}
 use Prim.Native.Nat.{ℕ, zero, suc, ◌-◌, ◌≤◌, ◌<◌}
@@ -23,7 +23,6 @@ use Rattle.dictionary_rules.specs.Names.{component_in, looks_in, named, no_names
 use Rattle.dictionary_rules.specs.declared.Checked.{Checked}
 use Rattle.dictionary_rules.specs.declared.Checked.TheVariants.{Passes, TooLong, EmptyGroup, TooDeep, TooManyItems}
 use Rattle.dictionary_rules.specs.declared.Component.{Component}
-use Rattle.dictionary_rules.specs.declared.Looked.TheVariants.{Closed, Missing}
 use Rattle.dictionary_rules.specs.declared.State.TheVariants.{TopLevel}
 use Rattle.dictionary_meaning_rules.specs.Meaning.{Items, Declaration, known_tag, component, message, declarations_of, Defined, defined_by, defined_after, message_in, messages_from, meaning_of, dictionary_of}
 use Rattle.dictionary_meaning_rules.proofs.Layable.{layout_of, flat}
@@ -104,8 +103,8 @@ nothing_yet : Beside TopLevel no_names layouts_of
 unfolding layouts_of
 nothing_yet = at_top (record { defined = []; read = []; measured = none; bounded = each_none; means = λ later. refl })
   where
-    none : (number : ℕ) (c : Component) → look_in no_names number ≡ Closed c → Measured c (layout_of [] number)
-    none number c e = let missing : look_in no_names number ≡ Missing = (unfold no_names component_in in refl) in let z : ◌≡◌ {A = ℕ} 0 1 = cc in absurd (omega arith)
+    none : (number : ℕ) (c : Component) → look_in no_names number ≡ Some c → Measured c (layout_of [] number)
+    none number c e = let missing : look_in no_names number ≡ None = (unfold no_names component_in in refl) in let z : ◌≡◌ {A = ℕ} 0 1 = cc in absurd (omega arith)
 
 -- one record more
 open_after_lem : (first things : ℕ) (records : Records) (place : ℕ) (r : Record) (rest : Records) → records_after first records ≡ whole place r rest → open_of (suc first) things records ≡ open_after r (open_of first things records)

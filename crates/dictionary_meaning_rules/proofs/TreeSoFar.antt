@@ -2,7 +2,7 @@
 -- open, and each close, leaves such a tree; closed off, it is the latest layout, before those that have closed.
 use Rattle.std.specs.Prelude.{◌≡◌, Bool, true, false, ℕ, zero, suc, eqb, length, replicate}
 use Rattle.std.proofs.Math.Path.{refl, ap}
-use Rattle.std.proofs.Common.{sym, ◌∙◌, subst, arith}
+use Rattle.std.proofs.Common.{sym, ◌∙◌, subst, arith, Some}
 use mathlib.Core.List.{List, [], ◌∷◌}
 use Rattle.std.proofs.lemmas.List.{length-replicate}
 use Rattle.field_rules.specs.Choice.{pick}
@@ -12,7 +12,6 @@ use Rattle.dictionary_layout_rules.specs.Measures.{NoEmptyGroup, Bounded, Each}
 use Rattle.dictionary_rules.specs.Records.{Records, ends, whole}
 use Rattle.dictionary_rules.specs.Names.{Names, component_in, named}
 use Rattle.dictionary_rules.specs.declared.Component.{Component}
-use Rattle.dictionary_rules.specs.declared.Looked.TheVariants.{Closed}
 use Rattle.dictionary_rules.specs.declared.Note.TheVariants.{ClosesComponent}
 use Rattle.dictionary_rules.specs.declared.Owner.{Owner}
 use Rattle.dictionary_rules.specs.declared.Owner.TheVariants.{OfComponent, OfMessage}
@@ -32,13 +31,13 @@ pub record Measured (c : Component) (layout : Layout) : Type 0 where
   pub filled : NoEmptyGroup layout
 
 abbrev pub AllMeasured : Names → List Defined → Type 0
-AllMeasured names defined = (number : ℕ) (c : Component) → look_in names number ≡ Closed c → Measured c (layout_of defined number)
+AllMeasured names defined = (number : ℕ) (c : Component) → look_in names number ≡ Some c → Measured c (layout_of defined number)
 
 pub measured-more : (names : Names) (defined : List Defined) (c : Component) (level : Items) → AllMeasured names defined → Measured c (flat defined level) → AllMeasured (named names (ClosesComponent c)) (defined_by defined (component c.number level))
 unfolding named component_in defined_by nodes_of
 measured-more names defined c level known new number d e = go (eqb number c.number) refl e
   where
-    go : (t : Bool) → eqb number c.number ≡ t → pick t (Closed c) (component_in names.components number) ≡ Closed d → Measured d (flattened (pick (eqb number c.number) (expanded defined level) (nodes_of defined number)))
+    go : (t : Bool) → eqb number c.number ≡ t → pick t (Some c) (component_in names.components number) ≡ Some d → Measured d (flattened (pick (eqb number c.number) (expanded defined level) (nodes_of defined number)))
     go true t q = let same : c ≡ d = cc in rw (t, ← same) new
     go false t q = rw t (known number d q)
 

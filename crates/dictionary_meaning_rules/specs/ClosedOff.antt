@@ -1,6 +1,6 @@
 -- A dictionary as far as it has been read: its first records, and a close for each thing that they leave open, are records that mean
 -- something. Of that tree 34, 35 and 37 are said: the first record is refused with which it has an empty group, is too deep or too large.
-use Rattle.std.specs.Prelude.{◌≡◌, List, [], ◌∷◌, ℕ, zero, suc, ◌+◌, ◌-◌, ◌≤◌, ◌<◌}
+use Rattle.std.specs.Prelude.{◌≡◌, List, [], ◌∷◌, ℕ, zero, suc, ◌+◌, ◌-◌, ◌≤◌, ◌<◌, Result, Ok, Err}
 use Rattle.dictionary_layout_rules.specs.Layout.{Layout, end, items, depth}
 use Rattle.dictionary_layout_rules.specs.Tree.{flattened}
 use Rattle.dictionary_layout_rules.specs.Measures.{most_depth, most_items, Bounded, BoundedSoFar, InnermostOpen, Each}
@@ -12,9 +12,8 @@ use Rattle.dictionary_rules.specs.declared.Record.TheVariants.{KnownTag, OpensCo
 use Rattle.dictionary_rules.specs.declared.Note.{Note}
 use Rattle.dictionary_rules.specs.declared.State.{State}
 use Rattle.dictionary_rules.specs.declared.State.TheVariants.{TopLevel}
-use Rattle.dictionary_rules.specs.declared.Step.{Step}
-use Rattle.dictionary_rules.specs.declared.Step.TheVariants.{Refuses, Goes}
 use Rattle.dictionary_meaning_rules.specs.Meaning.{Declaration, known_tag, component, message, declarations_of, Defined, expanded, defined_by}
+use Rattle.dictionary_rules.specs.declared.Checked.{Checked}
 
 -- how many things are open after a record: a component or a message, and the groups in it
 unfoldable pub open_after : Record → ℕ → ℕ
@@ -66,9 +65,9 @@ unfoldable pub layouts_of : Records → List Layout
 layouts_of records = layouts_after [] [] (declarations_of records)
 
 -- how many records the check takes before it refuses one or is at the end
-unfoldable pub goes_on : Step → (State → Note → ℕ) → ℕ
-goes_on (Refuses checked) later = 0
-goes_on (Goes state note) later = suc (later state note)
+unfoldable pub goes_on : Result (State × Note) Checked → (State → Note → ℕ) → ℕ
+goes_on (Err checked) later = 0
+goes_on (Ok (state, note)) later = suc (later state note)
 
 unfoldable pub taken_from : Records → State → Names → ℕ
 taken_from (ends size) state names = 0

@@ -1,6 +1,6 @@
 -- Worked examples of this crate's definitions, one table to a definition, each under one statement that antt computes.
 -- A wrong definition is refused here, whatever code is proved against it.
-use Rattle.std.specs.Prelude.{◌≡◌, refl, List, [], ◌∷◌, ◌++◌, map, Bool, true, false, ℕ, ◌+◌, ◌/◌, ◌%◌, eqb, replicate}
+use Rattle.std.specs.Prelude.{◌≡◌, refl, List, [], ◌∷◌, ◌++◌, map, Bool, true, false, ℕ, ◌+◌, ◌/◌, ◌%◌, eqb, replicate, Some, None}
 use Rattle.field_rules.specs.Choice.{pick}
 use Rattle.field_rules.specs.Text.{bytes}
 use Rattle.dictionary_layout_rules.specs.Layout.{Layout, end, group}
@@ -16,9 +16,6 @@ use Rattle.dictionary_meaning_rules.specs.Meaning.{item_before, no_items, body_o
 use Rattle.dictionary_meaning_rules.specs.ClosedOff.{open_after, closes, closed_off, open_of, layouts_by, layouts_after, layouts_of}
 use Rattle.dictionary_meaning_rules.specs.Laying.{Laying, laying, behind_opening, expanding, stands_at, put_row, after_group, after_component, on_component, on_record, on_read, items_within, items_from, lay_items}
 use Rattle.dictionary_meaning_rules.specs.MsgType.{no_zero, name_of}
-use Rattle.dictionary_meaning_rules.specs.declared.Laid.TheVariants.{Upto, Broken}
-use Rattle.dictionary_meaning_rules.specs.declared.MsgTypeName.{MsgTypeName}
-use Rattle.dictionary_meaning_rules.specs.declared.MsgTypeName.TheVariants.{Named, Unnamed}
 
 abbrev tag : ℕ → List ℕ
 tag t = t % 256 ∷ t / 256 ∷ 0 ∷ 0 ∷ []
@@ -119,7 +116,7 @@ components =
 
 -- the message's items, from behind its record, in a table that has room for one row more; and what no items are, or too few of depth
 rows : map (λ (depth : ℕ). lay_items depth dictionary (component_in components) 100 0 (replicate 32 9)) (3 ∷ 2 ∷ []) ≡
-    laying (Upto 128 7) (
+    laying (Some (128, 7)) (
     38 ∷ 0 ∷ 0 ∷ 1 ∷
     78 ∷ 0 ∷ 3 ∷ 4 ∷
     79 ∷ 0 ∷ 1 ∷ 3 ∷
@@ -127,7 +124,7 @@ rows : map (λ (depth : ℕ). lay_items depth dictionary (component_in component
     79 ∷ 0 ∷ 1 ∷ 5 ∷
     80 ∷ 0 ∷ 0 ∷ 6 ∷
     58 ∷ 0 ∷ 0 ∷ 7 ∷ 9 ∷ 9 ∷ 9 ∷ 9 ∷ [])
-    ∷ laying Broken (38 ∷ 0 ∷ 0 ∷ 1 ∷ replicate 28 9)
+    ∷ laying None (38 ∷ 0 ∷ 0 ∷ 1 ∷ replicate 28 9)
     ∷ []
 unfolding lay_items items_from items_within on_read on_record on_component after_component after_group put_row stands_at expanding behind_opening component_in marks
     mark record_at record_from with_kind with_body record_body record_body_length known_tag opens_component opens_message field_body component_body group_body with_tag
@@ -135,18 +132,18 @@ unfolding lay_items items_from items_within on_read on_record on_component after
 rows = refl
 
 -- an index that claims items for component 4 and leads to the empty one: no row is added, so the laying breaks off
-forged : lay_items 3 dictionary (component_in (record { number = 4; place = 35; items = 2; depth = 0; stands = 4 } ∷ [])) 117 4 (replicate 32 9) ≡ laying Broken (replicate 32 9)
+forged : lay_items 3 dictionary (component_in (record { number = 4; place = 35; items = 2; depth = 0; stands = 4 } ∷ [])) 117 4 (replicate 32 9) ≡ laying None (replicate 32 9)
 unfolding lay_items items_from items_within on_read on_record on_component after_component stands_at expanding behind_opening component_in record_at record_from with_kind with_body record_body record_body_length component_body with_mark zero_filled low_first
 forged = refl
 
 -- a group that holds nothing, or an empty component only, breaks the laying off too; one that holds 79 is laid
 grouped : map (λ (inner : List (List ℕ)). lay_items 3 (joined (opening 78 1 ∷ joined inner ∷ [])) (component_in components) 0 0 (replicate 8 9))
     ([] ∷ (item 3 1 ∷ []) ∷ (field 79 1 ∷ []) ∷ []) ≡
-    laying Broken (replicate 8 9) ∷ laying Broken (replicate 8 9) ∷ laying (Upto 14 2) (78 ∷ 0 ∷ 3 ∷ 2 ∷ 79 ∷ 0 ∷ 1 ∷ 2 ∷ []) ∷ []
+    laying None (replicate 8 9) ∷ laying None (replicate 8 9) ∷ laying (Some (14, 2)) (78 ∷ 0 ∷ 3 ∷ 2 ∷ 79 ∷ 0 ∷ 1 ∷ 2 ∷ []) ∷ []
 unfolding lay_items items_from items_within on_read on_record on_component after_group put_row stands_at expanding component_in marks mark record_at record_from with_kind with_body record_body record_body_length field_body component_body group_body with_tag with_mark zero_filled low_first
 grouped = refl
 
 -- a MsgType is compared with its length
-names : map name_of (bytes "D" ∷ bytes "AE" ∷ (68 ∷ 0 ∷ []) ∷ (0 ∷ 68 ∷ []) ∷ [] ∷ bytes "12345678" ∷ bytes "123456789" ∷ []) ≡ Named 68 ∷ Named 17729 ∷ Unnamed ∷ Unnamed ∷ Unnamed ∷ Named 4050765991979987505 ∷ Unnamed ∷ []
+names : map name_of (bytes "D" ∷ bytes "AE" ∷ (68 ∷ 0 ∷ []) ∷ (0 ∷ 68 ∷ []) ∷ [] ∷ bytes "12345678" ∷ bytes "123456789" ∷ []) ≡ Some 68 ∷ Some 17729 ∷ None ∷ None ∷ None ∷ Some 4050765991979987505 ∷ None ∷ []
 unfolding name_of no_zero low_first
 names = refl

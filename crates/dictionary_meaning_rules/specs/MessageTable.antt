@@ -1,14 +1,8 @@
 -- The table of a message: its MsgType is looked up in the index, and its items are laid from the first row on.
-use Rattle.std.specs.Prelude.{ℕ, ◌+◌, List}
+use Rattle.std.specs.Prelude.{ℕ, ◌+◌, List, Option, Some, None}
 use Rattle.dictionary_rules.specs.Index.{component_at, message_at}
-use Rattle.dictionary_rules.specs.declared.Placed.{Placed}
-use Rattle.dictionary_rules.specs.declared.Placed.TheVariants.{At, Nowhere}
 use Rattle.dictionary_meaning_rules.specs.Laying.{Laying, laying, lay_items}
 use Rattle.dictionary_meaning_rules.specs.MsgType.{name_of}
-use Rattle.dictionary_meaning_rules.specs.declared.Laid.{Laid}
-use Rattle.dictionary_meaning_rules.specs.declared.Laid.TheVariants.{Upto, Broken}
-use Rattle.dictionary_meaning_rules.specs.declared.MsgTypeName.{MsgTypeName}
-use Rattle.dictionary_meaning_rules.specs.declared.MsgTypeName.TheVariants.{Named, Unnamed}
 use Rattle.dictionary_meaning_rules.specs.declared.MessageTable.{MessageTable}
 use Rattle.dictionary_meaning_rules.specs.declared.MessageTable.TheVariants.{Rows, NoMessage, Unprepared}
 
@@ -17,8 +11,8 @@ pub data Tabling : Type 0 where
   tabling : MessageTable → List ℕ → Tabling
 
 unfoldable pub as_table : Laying → Tabling
-as_table (laying Broken table) = tabling Unprepared table
-as_table (laying (Upto after rows) table) = tabling (Rows rows) table
+as_table (laying None table) = tabling Unprepared table
+as_table (laying (Some (after, rows)) table) = tabling (Rows rows) table
 
 -- laying goes down at most once for each of 1,024 items and for each of four groups that nest, which is what passes the check, below a message
 -- that holds a component only
@@ -26,17 +20,17 @@ abbrev pub most_calls : ℕ
 most_calls = 1030
 
 -- a message's items stand behind the record of nine bytes that opens it
-unfoldable pub placed_table : List ℕ → List ℕ → Placed → List ℕ → Tabling
-placed_table dictionary index Nowhere table = tabling NoMessage table
-placed_table dictionary index (At place) table = as_table (lay_items most_calls dictionary (component_at index) (place + 9) 0 table)
+unfoldable pub placed_table : List ℕ → List ℕ → Option ℕ → List ℕ → Tabling
+placed_table dictionary index None table = tabling NoMessage table
+placed_table dictionary index (Some place) table = as_table (lay_items most_calls dictionary (component_at index) (place + 9) 0 table)
 
 -- where the record stands that opens the message of a name
-unfoldable pub place_named : List ℕ → MsgTypeName → Placed
-place_named index Unnamed = Nowhere
-place_named index (Named msg_type) = message_at index msg_type
+unfoldable pub place_named : List ℕ → Option ℕ → Option ℕ
+place_named index None = None
+place_named index (Some msg_type) = message_at index msg_type
 
 -- and that of a MsgType's value
-unfoldable pub place_of : List ℕ → List ℕ → Placed
+unfoldable pub place_of : List ℕ → List ℕ → Option ℕ
 place_of index value = place_named index (name_of value)
 
 unfoldable pub message_table : List ℕ → List ℕ → List ℕ → List ℕ → Tabling

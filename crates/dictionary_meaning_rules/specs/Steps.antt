@@ -1,7 +1,7 @@
 -- A check that passes, one record at a time: what each record of something open did, since it wasn't refused.
 use Rattle.std.proofs.Math.Path.{◌≡◌, refl, ap}
 use Rattle.std.proofs.Common.{sym, ◌∙◌, ⊎_elim, arith}
-use Rattle.std.specs.Prelude.{Bool, ◌⊎◌, List, [], ◌∷◌, ℕ, zero, suc, ◌+◌, ◌-◌, ◌*◌, ◌≤◌, ◌<◌, ltb}
+use Rattle.std.specs.Prelude.{Bool, ◌⊎◌, List, [], ◌∷◌, ℕ, zero, suc, ◌+◌, ◌-◌, ◌*◌, ◌≤◌, ◌<◌, ltb, Option, Some, None, Result, Ok, Err}
 use Rattle.std.proofs.Math.Bool.{true, false}
 use Rattle.std.proofs.Math.Logic.{inl, inr}
 use Rattle.std.proofs.Math.Dec.{eqb}
@@ -17,10 +17,6 @@ use Rattle.dictionary_rules.specs.Names.{Names, is_known, component_in, message_
 use Rattle.dictionary_rules.specs.declared.Checked.{Checked}
 use Rattle.dictionary_rules.specs.declared.Checked.TheVariants.{Passes, BadRecord, NoComponent, UnknownTag, EmptyGroup, TooDeep, Twice, TooManyItems}
 use Rattle.dictionary_rules.specs.declared.Component.{Component}
-use Rattle.dictionary_rules.specs.declared.Looked.{Looked}
-use Rattle.dictionary_rules.specs.declared.Looked.TheVariants.{Closed, Missing}
-use Rattle.dictionary_rules.specs.declared.Placed.{Placed}
-use Rattle.dictionary_rules.specs.declared.Placed.TheVariants.{At, Nowhere}
 use Rattle.dictionary_rules.specs.declared.Group.{Group}
 use Rattle.dictionary_rules.specs.declared.Groups.{Groups}
 use Rattle.dictionary_rules.specs.declared.Groups.TheVariants.{NoGroup, OneGroup, TwoGroups, ThreeGroups, FourGroups}
@@ -33,8 +29,6 @@ use Rattle.dictionary_rules.specs.declared.State.{State}
 use Rattle.dictionary_rules.specs.declared.State.TheVariants.{TopLevel, Inside}
 use Rattle.dictionary_rules.specs.declared.Note.{Note}
 use Rattle.dictionary_rules.specs.declared.Note.TheVariants.{Unchanged, ClosesComponent, KnowsTag, NamesMessage}
-use Rattle.dictionary_rules.specs.declared.Step.{Step}
-use Rattle.dictionary_rules.specs.declared.Step.TheVariants.{Refuses, Goes}
 
 -- the records from here on pass, and in the end these are the names
 abbrev pub Passing : Names → Records → State → Names → Type 0
@@ -61,19 +55,19 @@ module _ (final : Names) (place : ℕ) (rest : Records) (names : Names) where
   abbrev goes_on : State → Note → CheckOutcome Names
   goes_on state note = walked looks_in named rest state (named names note)
 
-  abbrev after : Step → Type 0
+  abbrev after : Result (State × Note) Checked → Type 0
   after step = on_step names step goes_on ≡ outcome Passes final
 
-  unless : {A : Type 0} (b : Bool) (then other : Step) → (b ≡ true → after then → A) → (b ≡ false → after other → A) → after (pick b then other) → A
+  unless : {A : Type 0} (b : Bool) (then other : Result (State × Note) Checked) → (b ≡ true → after then → A) → (b ≡ false → after other → A) → after (pick b then other) → A
   unless true then other t f e = t refl e
   unless false then other t f e = f refl e
 
-  never : {A : Type 0} (checked : Checked) → (checked ≡ Passes → ⊥) → after (Refuses checked) → A
+  never : {A : Type 0} (checked : Checked) → (checked ≡ Passes → ⊥) → after (Err checked) → A
   unfolding on_step
   never checked n e = refused checked n e
 
   -- a record that goes on with nothing to note
-  went : (state : State) → after (Goes state Unchanged) → Passing final rest state names
+  went : (state : State) → after (Ok (state, Unchanged)) → Passing final rest state names
   unfolding on_step named
   went state e = e
 
@@ -100,14 +94,14 @@ module _ (final : Names) (place : ℕ) (rest : Records) (names : Names) where
 
     -- "component item"
     pub item-goes : (number : ℕ) (required : Bool) → Passing final (whole place (ComponentItem required number) rest) (Inside o) names →
-        (c : Component) × (component_in names.components number ≡ Closed c) × (o.items + c.items ≤ 1024) × Passing final rest (Inside (grown o (o.items + c.items) (deeper o.depth (depth_of o.groups + c.depth)) (held_with o.held c) o.groups)) names
+        (c : Component) × (component_in names.components number ≡ Some c) × (o.items + c.items ≤ 1024) × Passing final rest (Inside (grown o (o.items + c.items) (deeper o.depth (depth_of o.groups + c.depth)) (held_with o.held c) o.groups)) names
     unfolding walked step_of on_item inside closed_before not_too_deep not_too_many looks_in
     item-goes number required e = go (component_in names.components number) refl e
       where
-        go : (l : Looked) → component_in names.components number ≡ l → after (closed_before l number (λ c. not_too_deep (depth_of o.groups + c.depth) place (not_too_many (o.items + c.items) place (Goes (Inside (grown o (o.items + c.items) (deeper o.depth (depth_of o.groups + c.depth)) (held_with o.held c) o.groups)) Unchanged)))) →
-            (c : Component) × (component_in names.components number ≡ Closed c) × (o.items + c.items ≤ 1024) × Passing final rest (Inside (grown o (o.items + c.items) (deeper o.depth (depth_of o.groups + c.depth)) (held_with o.held c) o.groups)) names
-        go Missing l q = never (NoComponent number) (λ z. let w : ◌≡◌ {A = ℕ} 0 1 = cc in absurd (omega arith)) q
-        go (Closed c) l q =
+        go : (l : Option Component) → component_in names.components number ≡ l → after (closed_before l number (λ c. not_too_deep (depth_of o.groups + c.depth) place (not_too_many (o.items + c.items) place (Ok ((Inside (grown o (o.items + c.items) (deeper o.depth (depth_of o.groups + c.depth)) (held_with o.held c) o.groups)), Unchanged))))) →
+            (c : Component) × (component_in names.components number ≡ Some c) × (o.items + c.items ≤ 1024) × Passing final rest (Inside (grown o (o.items + c.items) (deeper o.depth (depth_of o.groups + c.depth)) (held_with o.held c) o.groups)) names
+        go None l q = never (NoComponent number) (λ z. let w : ◌≡◌ {A = ℕ} 0 1 = cc in absurd (omega arith)) q
+        go (Some c) l q =
             unless (ltb 4 (depth_of o.groups + c.depth)) _ _ (λ d. never (TooDeep place) (λ z. let w : ◌≡◌ {A = ℕ} 0 1 = cc in absurd (omega arith))) (λ d. unless (ltb 1024 (o.items + c.items)) _ _ (λ m. never (TooManyItems place) (λ z. let w : ◌≡◌ {A = ℕ} 0 1 = cc in absurd (omega arith))) (λ m w. (c, l, ltb-false _ _ m, went _ w))) q
 
     -- what stands at top level isn't inside anything
@@ -152,7 +146,7 @@ module _ (final : Names) (place : ℕ) (rest : Records) (names : Names) where
   unfolding walked step_of on_tag at_top_lem looks_in on_step named is_known
   tag-goes tag e = go (is_known names.tags tag) refl e
     where
-      go : (k : Bool) → is_known names.tags tag ≡ k → on_step names (Goes TopLevel (pick k Unchanged (KnowsTag place tag))) goes_on ≡ outcome Passes final → TagGoes final rest names tag
+      go : (k : Bool) → is_known names.tags tag ≡ k → on_step names (Ok (TopLevel, (pick k Unchanged (KnowsTag place tag)))) goes_on ≡ outcome Passes final → TagGoes final rest names tag
       go true k q = record { later = names; components = refl; messages = refl; tags = λ t. again t (eqb t tag) refl; passes = q }
         where
           again : (t : ℕ) (b : Bool) → eqb t tag ≡ b → is_known names.tags t ≡ pick b true (is_known names.tags t)
@@ -160,21 +154,21 @@ module _ (final : Names) (place : ℕ) (rest : Records) (names : Names) where
           again t false e = refl
       go false k q = record { later = record { tags = tag ∷ names.tags; components = names.components; messages = names.messages }; components = refl; messages = refl; tags = λ t. refl; passes = q }
 
-  pub component-opens : (number : ℕ) → Passing final (whole place (OpensComponent number) rest) TopLevel names → (component_in names.components number ≡ Missing) × Passing final rest (Inside (opens (OfComponent number) place)) names
+  pub component-opens : (number : ℕ) → Passing final (whole place (OpensComponent number) rest) TopLevel names → (component_in names.components number ≡ None) × Passing final rest (Inside (opens (OfComponent number) place)) names
   unfolding walked step_of on_component at_top_lem looks_in
   component-opens number e = go (component_in names.components number) refl e
     where
-      go : (l : Looked) → component_in names.components number ≡ l → after (once_component l place (Goes (Inside (opens (OfComponent number) place)) Unchanged)) → (component_in names.components number ≡ Missing) × Passing final rest (Inside (opens (OfComponent number) place)) names
-      go Missing l q = (l, went _ (unfold once_component in q))
-      go (Closed c) l q = never (Twice place) (λ z. let w : ◌≡◌ {A = ℕ} 0 1 = cc in absurd (omega arith)) (unfold once_component in q)
+      go : (l : Option Component) → component_in names.components number ≡ l → after (once_component l place (Ok ((Inside (opens (OfComponent number) place)), Unchanged))) → (component_in names.components number ≡ None) × Passing final rest (Inside (opens (OfComponent number) place)) names
+      go None l q = (l, went _ (unfold once_component in q))
+      go (Some c) l q = never (Twice place) (λ z. let w : ◌≡◌ {A = ℕ} 0 1 = cc in absurd (omega arith)) (unfold once_component in q)
 
-  pub message-opens : (msg_type : ℕ) → Passing final (whole place (OpensMessage msg_type) rest) TopLevel names → (message_in names.messages msg_type ≡ Nowhere) × Passing final rest (Inside (opens OfMessage place)) (named names (NamesMessage place msg_type))
+  pub message-opens : (msg_type : ℕ) → Passing final (whole place (OpensMessage msg_type) rest) TopLevel names → (message_in names.messages msg_type ≡ None) × Passing final rest (Inside (opens OfMessage place)) (named names (NamesMessage place msg_type))
   unfolding walked step_of on_message at_top_lem looks_in
   message-opens msg_type e = go (message_in names.messages msg_type) refl e
     where
-      go : (l : Placed) → message_in names.messages msg_type ≡ l → after (once_message l place (Goes (Inside (opens OfMessage place)) (NamesMessage place msg_type))) → (message_in names.messages msg_type ≡ Nowhere) × Passing final rest (Inside (opens OfMessage place)) (named names (NamesMessage place msg_type))
-      go Nowhere l q = (l, unfold once_message on_step in q)
-      go (At earlier) l q = never (Twice place) (λ z. let w : ◌≡◌ {A = ℕ} 0 1 = cc in absurd (omega arith)) (unfold once_message in q)
+      go : (l : Option ℕ) → message_in names.messages msg_type ≡ l → after (once_message l place (Ok ((Inside (opens OfMessage place)), (NamesMessage place msg_type)))) → (message_in names.messages msg_type ≡ None) × Passing final rest (Inside (opens OfMessage place)) (named names (NamesMessage place msg_type))
+      go None l q = (l, unfold once_message on_step in q)
+      go (Some earlier) l q = never (Twice place) (λ z. let w : ◌≡◌ {A = ℕ} 0 1 = cc in absurd (omega arith)) (unfold once_message in q)
 
   pub field-stops : {A : Type 0} (tag : ℕ) (required : Bool) → Passing final (whole place (FieldItem tag required) rest) TopLevel names → A
   unfolding walked step_of on_field inside
@@ -202,11 +196,11 @@ module _ (final names : Names) where
   end-stops size o e = refused (BadRecord size) (λ z. let w : ◌≡◌ {A = ℕ} 0 1 = cc in absurd (omega arith)) e
 
   -- at the end the names are the last ones, and components 0 and 1 are among them
-  pub end_passes : (size : ℕ) → Passing final (ends size) TopLevel names → (names ≡ final) × ((c : Component) × (component_in names.components 0 ≡ Closed c)) × ((c : Component) × (component_in names.components 1 ≡ Closed c))
+  pub end_passes : (size : ℕ) → Passing final (ends size) TopLevel names → (names ≡ final) × ((c : Component) × (component_in names.components 0 ≡ Some c)) × ((c : Component) × (component_in names.components 1 ≡ Some c))
   unfolding walked at_end looks_in
   end_passes size e = go (component_in names.components 0) (component_in names.components 1) refl refl e
     where
-      go : (a b : Looked) → component_in names.components 0 ≡ a → component_in names.components 1 ≡ b → outcome (present a 0 (present b 1 Passes)) names ≡ outcome Passes final → (names ≡ final) × ((c : Component) × (component_in names.components 0 ≡ Closed c)) × ((c : Component) × (component_in names.components 1 ≡ Closed c))
-      go Missing b p q r = unfold present in refused (NoComponent 0) (λ z. let w : ◌≡◌ {A = ℕ} 0 1 = cc in absurd (omega arith)) r
-      go (Closed a) Missing p q r = unfold present in refused (NoComponent 1) (λ z. let w : ◌≡◌ {A = ℕ} 0 1 = cc in absurd (omega arith)) r
-      go (Closed a) (Closed b) p q r = let same : names ≡ final = (unfold present in cc) in (same, (a, p), (b, q))
+      go : (a b : Option Component) → component_in names.components 0 ≡ a → component_in names.components 1 ≡ b → outcome (present a 0 (present b 1 Passes)) names ≡ outcome Passes final → (names ≡ final) × ((c : Component) × (component_in names.components 0 ≡ Some c)) × ((c : Component) × (component_in names.components 1 ≡ Some c))
+      go None b p q r = unfold present in refused (NoComponent 0) (λ z. let w : ◌≡◌ {A = ℕ} 0 1 = cc in absurd (omega arith)) r
+      go (Some a) None p q r = unfold present in refused (NoComponent 1) (λ z. let w : ◌≡◌ {A = ℕ} 0 1 = cc in absurd (omega arith)) r
+      go (Some a) (Some b) p q r = let same : names ≡ final = (unfold present in cc) in (same, (a, p), (b, q))

@@ -7,30 +7,27 @@ ghost use Rattle.dictionary_rules.specs.Index.{tag_at, component_at, message_at,
 ghost use Rattle.dictionary_chains.specs.Chain.{index_words};
 
 use dictionary_chains::{Entry, Table};
-use dictionary_rules::{Component, Looked, Note, Placed};
+use dictionary_rules::{Component, Note};
 
 // Whether a tag is known. It needs no byte of the dictionary.
 pub fn tag_known(index: &[u16], tag: u32) -> bool
     requires { length index.now ≡ index_words }
     ensures { result ≡ tag_at index.now tag }
 {
-    if dictionary_chains::find(index, Table::Tags, tag as u64) == 0 {
-        return false;
-    }
-    true
+    dictionary_chains::find(index, Table::Tags, u64::from(tag)) != 0
 }
 
 // The closed component of a number.
-pub fn component_of(index: &[u16], number: u16) -> Looked
+pub fn component_of(index: &[u16], number: u16) -> Option<Component>
     requires { length index.now ≡ index_words }
     ensures { result ≡ component_at index.now number }
 {
-    let at = dictionary_chains::find(index, Table::Components, dictionary_chains::wide(number));
+    let at = dictionary_chains::find(index, Table::Components, u64::from(number));
     if at == 0 {
-        return Looked::Missing;
+        return None;
     }
     let entry = dictionary_chains::entry_at(index, at);
-    Looked::Closed(Component {
+    Some(Component {
         number: entry.first,
         place: entry.place,
         items: entry.second,
@@ -40,16 +37,16 @@ pub fn component_of(index: &[u16], number: u16) -> Looked
 }
 
 // The place of the record that opens the message of a MsgType.
-pub fn message_of(index: &[u16], msgtype: u64) -> Placed
+pub fn message_of(index: &[u16], msgtype: u64) -> Option<u16>
     requires { length index.now ≡ index_words }
     ensures { result ≡ message_at index.now msgtype }
 {
     let at = dictionary_chains::find(index, Table::MsgTypes, msgtype);
     if at == 0 {
-        return Placed::Nowhere;
+        return None;
     }
     let entry = dictionary_chains::entry_at(index, at);
-    Placed::At(entry.place)
+    Some(entry.place)
 }
 
 fn tag_entry(place: u16, tag: u32) -> Entry

@@ -1,6 +1,6 @@
 -- Worked examples of prepared memory, one table to a definition, each under one statement that antt computes. A wrong definition is refused
 -- here, whatever code is proved against it.
-use Rattle.std.specs.Prelude.{◌≡◌, refl, Bool, true, false, List, [], ◌∷◌, ◌++◌, map, ℕ, ◌/◌, ◌%◌, take, replicate}
+use Rattle.std.specs.Prelude.{◌≡◌, refl, true, false, List, [], ◌∷◌, ◌++◌, map, ℕ, ◌/◌, ◌%◌, take, replicate}
 use Rattle.field_rules.specs.Text.{bytes}
 use Rattle.dictionary_rules.specs.Records.{records_from, records_within}
 use Rattle.dictionary_rules.specs.Step.{present, at_end}

@@ -54,16 +54,10 @@ pub fn value_of(preparing: Preparing) -> u32
 pub fn is_prepared(copy: &[u8], memory: &[u16]) -> bool
     ensures { result ≡ is_prepared copy.now memory.now }
 {
-    if memory.len() < HEAD {
-        return false;
-    }
-    if memory[0] != FIRST_STAMP {
-        return false;
-    }
-    if memory[1] != SECOND_STAMP {
-        return false;
-    }
-    dictionary_chains::wide(memory[2]) as usize <= copy.len()
+    memory.len() >= HEAD
+        && memory[0] == FIRST_STAMP
+        && memory[1] == SECOND_STAMP
+        && usize::from(memory[2]) <= copy.len()
 }
 
 // The head of prepared memory: the stamp, the dictionary's length, and the index that its check left.
@@ -74,11 +68,7 @@ fn put_head(size: u16, index: &[u16], memory: &mut [u16])
     memory[0] = FIRST_STAMP;
     memory[1] = SECOND_STAMP;
     memory[2] = size;
-    let mut i: usize = 0;
-    while i < index.len() {
-        memory[FRONT + i] = index[i];
-        i += 1;
-    }
+    memory[FRONT..HEAD].copy_from_slice(index);
 }
 
 // Checks a dictionary and prepares it: its records in the copy, what they name in the memory, and behind that as many tables as have room. On a refusal

@@ -9,10 +9,8 @@ ghost use Rattle.dictionary_layout_rules.specs.Table.{next_sibling, siblings_fro
 ghost use Rattle.dictionary_tables_rules.specs.Table.{heads_for, tag_at};
 ghost use Rattle.dictionary_tables_rules.specs.Laid.{part_size, table_size, last_group, table_of};
 ghost use Rattle.dictionary_tables_rules.specs.Tags.{fields_of};
-ghost use Rattle.field_rules.specs.Choice.{pick};
 ghost use Rattle.dictionary_pressing.specs.Linking.{cleared, linked, links_put, Chain};
 ghost use Rattle.dictionary_pressing.specs.Pressing.{put_item, Pressing, Pressed, Pressable};
-ghost use Rattle.dictionary_pressing.specs.Sizing.{least};
 
 // Words to a row.
 const ROW: usize = 4;
@@ -23,13 +21,7 @@ const TOO_MANY: usize = 65536;
 // Words to an item.
 const STRIDE: usize = 5;
 
-fn word(w: u16) -> usize
-    ensures { result ≡ w }
-{
-    w as usize
-}
-
-// How many heads a level of so many items has.
+// How many heads a level of so many items has. What reads tables counts them too: neither crate stands on the other, and a third would be no plainer.
 fn heads_for(count: usize) -> usize
     ensures { result ≡ heads_for count }
 {
@@ -45,19 +37,16 @@ fn clear_heads(table: &mut [u16], level: usize, count: usize)
     ensures { table.new ≡ cleared table.old level count }
 {
     table[level] = count as u16;
-    let heads = heads_for(count);
-    let mut i: usize = 0;
-    while i < heads {
-        table[level + 1 + i] = 0;
-        i += 1;
-    }
+    let first = level + 1;
+    table[first..first + heads_for(count)].fill(0);
 }
 
+// The tag of an item, as a number to divide by heads: what reads tables compares it as a tag, so that one function for both would be no plainer.
 fn tag_at(table: &[u16], at: usize) -> usize
     requires { at + 5 ≤ length table.now }
     ensures { result ≡ tag_at table.now at }
 {
-    word(table[at]) + 65536 * word(table[at + 1])
+    usize::from(table[at]) + 65536 * usize::from(table[at + 1])
 }
 
 // "Its group the last": that of the first item of the tag among those linked, or else the one so far.
@@ -74,7 +63,7 @@ fn last_group(table: &[u16], start: usize, tag: usize, link: usize, sofar: u16) 
             }
             return table[at + 2];
         }
-        next = word(table[at + 4]);
+        next = usize::from(table[at + 4]);
     }
     sofar
 }
@@ -98,15 +87,6 @@ fn put_links(
     table[head] = item as u16;
 }
 
-fn either(first: bool, one: usize, other: usize) -> usize
-    ensures { result ≡ pick first one other }
-{
-    if first {
-        return one;
-    }
-    other
-}
-
 // Links a level's items, from the last to the first.
 fn link_items(table: &mut [u16], level: usize, count: usize)
     requires { (level + part_size count ≤ length table.old) × (count < 32768) }
@@ -115,16 +95,14 @@ fn link_items(table: &mut [u16], level: usize, count: usize)
     clear_heads(table, level, count);
     let heads = heads_for(count);
     let start = level + 1 + heads;
-    let mut i = count;
     let mut marked: usize = 0;
-    while 0 < i {
-        i -= 1;
+    for i in (0..count).rev() {
         let at = start + STRIDE * i;
         let tag = tag_at(table, at);
         let head = level + 1 + tag % heads;
         let link = table[head];
         let required = table[at + 3] == 1;
-        let group = last_group(table, start, tag, word(link), table[at + 2]);
+        let group = last_group(table, start, tag, usize::from(link), table[at + 2]);
         put_links(
             table,
             at,
@@ -134,7 +112,9 @@ fn link_items(table: &mut [u16], level: usize, count: usize)
             link,
             i + 1,
         );
-        marked = either(required, i + 1, marked);
+        if required {
+            marked = i + 1;
+        }
     }
 }
 
@@ -143,7 +123,7 @@ fn next_sibling(rows: &[u16], at: usize, stop: usize) -> usize
     requires { at < length rows.now / 4 }
     ensures { result ≡ next_sibling rows.now at stop }
 {
-    let link = word(rows[ROW * at + 3]);
+    let link = usize::from(rows[ROW * at + 3]);
     if at < link {
         return link;
     }
@@ -197,7 +177,7 @@ fn press_level(rows: &[u16], first: usize, stop: usize, table: &mut [u16], level
         let low = rows[ROW * at];
         let high = rows[ROW * at + 1];
         let required = rows[ROW * at + 2] % 2 == 1;
-        let next = word(rows[ROW * at + 3]);
+        let next = usize::from(rows[ROW * at + 3]);
         let place = slot;
         slot += STRIDE;
         if rows[ROW * at + 2] / 2 == 1 {
@@ -212,15 +192,6 @@ fn press_level(rows: &[u16], first: usize, stop: usize, table: &mut [u16], level
     free
 }
 
-fn least(one: usize, other: usize) -> usize
-    ensures { result ≡ least one other }
-{
-    if one < other {
-        return one;
-    }
-    other
-}
-
 // How many words the table of the first rows takes, if they hold a layout: the part of its own level, and that of each group.
 pub fn table_size(rows: &[u16], count: usize) -> usize
     ensures { (layout : Layout) → Tabled rows.now (record { first = 0; end = count }) layout → items layout ≤ 1024 → result ≡ table_size layout }
@@ -232,12 +203,9 @@ pub fn table_size(rows: &[u16], count: usize) -> usize
         return TOO_MANY;
     }
     let mut size = part_size(own_count(rows, 0, count));
-    let mut at: usize = 0;
-    while at < count {
-        let row = at;
-        at += 1;
+    for row in 0..count {
         if rows[ROW * row + 2] / 2 == 1 {
-            let stop = least(word(rows[ROW * row + 3]), count);
+            let stop = usize::from(rows[ROW * row + 3]).min(count);
             size += part_size(own_count(rows, row + 1, stop));
         }
     }
@@ -259,9 +227,7 @@ pub fn press_tags(tags: &[u32], table: &mut [u16]) -> usize
 {
     let count = tags.len();
     let mut slot = 1 + heads_for(count);
-    let mut next: usize = 0;
-    while next < count {
-        let tag = tags[next];
+    for &tag in tags {
         put_item(
             table,
             slot,
@@ -271,7 +237,6 @@ pub fn press_tags(tags: &[u32], table: &mut [u16]) -> usize
             false,
         );
         slot += STRIDE;
-        next += 1;
     }
     link_items(table, 0, count);
     part_size(count)

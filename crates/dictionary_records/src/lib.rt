@@ -5,49 +5,29 @@
 ghost use Rattle.std.specs.Prelude.{◌≡◌, true, false, ◌+◌, ◌≤◌, length, take, drop};
 ghost use Rattle.dictionary_rules.specs.Record.{low_first, record_body_length, zero_filled, with_tag, with_mark, opens_message, record_body, record_at};
 
-use dictionary_rules::{Body, Record, RecordRead};
-
-fn wide(byte: u8) -> u16
-    ensures { result ≡ byte }
-{
-    byte as u16
-}
-
-fn wider(half: u16) -> u32
-    ensures { result ≡ half }
-{
-    half as u32
-}
-
-fn widest(half: u32) -> u64
-    ensures { result ≡ half }
-{
-    half as u64
-}
+use dictionary_rules::{Record, RecordRead};
 
 fn two(bytes: &[u8], at: usize) -> u16
     requires { at + 2 ≤ length bytes.now }
     ensures { result ≡ low_first (take 2 (drop at bytes.now)) }
 {
-    wide(bytes[at]) + 256 * wide(bytes[at + 1])
+    u16::from_le_bytes([bytes[at], bytes[at + 1]])
 }
 
 pub fn four(bytes: &[u8], at: usize) -> u32
     requires { at + 4 ≤ length bytes.now }
     ensures { result ≡ low_first (take 4 (drop at bytes.now)) }
 {
-    let low = two(bytes, at);
-    let high = two(bytes, at + 2);
-    wider(low) + 65536 * wider(high)
+    u32::from_le_bytes([bytes[at], bytes[at + 1], bytes[at + 2], bytes[at + 3]])
 }
 
 fn eight(bytes: &[u8]) -> u64
     requires { 8 ≤ length bytes.now }
     ensures { result ≡ low_first (take 8 bytes.now) }
 {
-    let low = four(bytes, 0);
-    let high = four(bytes, 4);
-    widest(low) + 4294967296 * widest(high)
+    u64::from_le_bytes([
+        bytes[0], bytes[1], bytes[2], bytes[3], bytes[4], bytes[5], bytes[6], bytes[7],
+    ])
 }
 
 // No byte but zero comes after a zero.
@@ -55,16 +35,12 @@ fn zero_filled(text: &[u8]) -> bool
     ensures { result ≡ zero_filled false text.now }
 {
     let mut ended = false;
-    let mut i: usize = 0;
-    while i < text.len() {
-        if text[i] == 0 {
+    for &byte in text {
+        if byte == 0 {
             ended = true;
-        } else {
-            if ended {
-                return false;
-            }
+        } else if ended {
+            return false;
         }
-        i += 1;
     }
     true
 }
@@ -83,38 +59,38 @@ fn body_length(kind: u8) -> usize
     }
 }
 
-fn tagged(tag: u32, read: Record) -> Body
+fn tagged(tag: u32, read: Record) -> Option<Record>
     ensures { result ≡ with_tag tag read }
 {
     if tag == 0 {
-        return Body::Wrong;
+        return None;
     }
-    Body::Good(read)
+    Some(read)
 }
 
-fn marked(mark: u8, body: Body) -> Body
+fn marked(mark: u8, body: Option<Record>) -> Option<Record>
     ensures { result ≡ with_mark mark body }
 {
     if 1 < mark {
-        return Body::Wrong;
+        return None;
     }
     body
 }
 
-fn message_of(body: &[u8]) -> Body
+fn message_of(body: &[u8]) -> Option<Record>
     requires { length body.now ≡ 8 }
     ensures { result ≡ opens_message body.now }
 {
     if body[0] == 0 {
-        return Body::Wrong;
+        return None;
     }
     if zero_filled(body) {
-        return Body::Good(Record::OpensMessage(eight(body)));
+        return Some(Record::OpensMessage(eight(body)));
     }
-    Body::Wrong
+    None
 }
 
-fn body_of(kind: u8, body: &[u8]) -> Body
+fn body_of(kind: u8, body: &[u8]) -> Option<Record>
     requires { length body.now ≡ record_body_length kind }
     ensures { result ≡ record_body kind body.now }
 {
@@ -123,7 +99,7 @@ fn body_of(kind: u8, body: &[u8]) -> Body
             let tag = four(body, 0);
             tagged(tag, Record::KnownTag(tag))
         }
-        2 => Body::Good(Record::OpensComponent(two(body, 0))),
+        2 => Some(Record::OpensComponent(two(body, 0))),
         3 => message_of(body),
         4 => {
             let tag = four(body, 0);
@@ -132,18 +108,15 @@ fn body_of(kind: u8, body: &[u8]) -> Body
         }
         5 => {
             let mark = body[2];
-            marked(
-                mark,
-                Body::Good(Record::ComponentItem(mark == 1, two(body, 0))),
-            )
+            marked(mark, Some(Record::ComponentItem(mark == 1, two(body, 0))))
         }
         6 => {
             let tag = four(body, 0);
             let mark = body[4];
             marked(mark, tagged(tag, Record::OpensGroup(tag, mark == 1)))
         }
-        7 => Body::Good(Record::Closes),
-        _ => Body::Wrong,
+        7 => Some(Record::Closes),
+        _ => None,
     }
 }
 
@@ -161,7 +134,7 @@ pub fn record_at(dictionary: &[u8], place: usize) -> RecordRead
         return RecordRead::Bad;
     }
     let next = start + size;
-    let Body::Good(read) = body_of(kind, &dictionary[start..next]) else {
+    let Some(read) = body_of(kind, &dictionary[start..next]) else {
         return RecordRead::Bad;
     };
     RecordRead::Whole(read, next)

@@ -1,7 +1,7 @@
 -- Laws of what specs/Passing.antt defines.
 use Rattle.std.specs.Prelude.{◌≡◌, Bool, true, List, ℕ, ◌≤◌, ◌<◌, length}
 use Rattle.std.proofs.Math.Path.{refl}
-use Rattle.std.proofs.Common.{◌∙◌, arith}
+use Rattle.std.proofs.Common.{◌∙◌, arith, Ok}
 use Rattle.std.proofs.Math.Bool.{false}
 use Rattle.field_rules.specs.Choice.{pick}
 use Rattle.dictionary_rules.specs.Record.{record_at}
@@ -19,7 +19,6 @@ use Rattle.dictionary_rules.specs.declared.State.{State}
 use Rattle.dictionary_rules.specs.declared.State.TheVariants.{TopLevel, Inside}
 use Rattle.dictionary_rules.specs.declared.Note.{Note}
 use Rattle.dictionary_rules.specs.declared.Note.TheVariants.{Unchanged, KnowsTag}
-use Rattle.dictionary_rules.specs.declared.Step.TheVariants.{Goes}
 use Rattle.dictionary_rules.specs.Passing.{Passed, with_field}
 
 pub passed_none : {d : List ℕ} {at : ℕ} {state : State} {index : List ℕ} → at ≤ length d → Passed d at state index at state index
@@ -31,7 +30,7 @@ passed_on p q = record { onward = omega arith; within = q.within; same = p.same 
 
 module _ {d : List ℕ} {at next : ℕ} {index : List ℕ} where
   pub passed-step : {state after : State} {r : Record} {note : Note} → record_at d at ≡ Whole r next
-      → step_of (looks_at index) state at r ≡ Goes after note → Passed d at state index next after (noted index note)
+      → step_of (looks_at index) state at r ≡ Ok (after, note) → Passed d at state index next after (noted index note)
   passed-step h e =
       let f = record_falls d at _ next h in
       record { onward = omega arith; within = f.1; same = walk-goes looks_at noted d at _ index _ next _ _ h e }
@@ -41,7 +40,7 @@ module _ {d : List ℕ} {at next : ℕ} {index : List ℕ} where
       → Passed d at TopLevel index next TopLevel (noted index (KnowsTag at tag))
   passed-tag {tag} h = go (tag_at index tag) refl (passed-step h step)
     where
-      step : step_of (looks_at index) TopLevel at (KnownTag tag) ≡ Goes TopLevel (pick (tag_at index tag) Unchanged (KnowsTag at tag))
+      step : step_of (looks_at index) TopLevel at (KnownTag tag) ≡ Ok (TopLevel, (pick (tag_at index tag) Unchanged (KnowsTag at tag)))
       step = unfold step_of on_tag at_top_lem looks_at in refl
 
       go : (known : Bool) → tag_at index tag ≡ known → Passed d at TopLevel index next TopLevel (noted index (pick known Unchanged (KnowsTag at tag)))

@@ -1,7 +1,7 @@
 -- The check over the lent index answers as the check does, and leaves in the index what the dictionary names.
-use Rattle.std.specs.Prelude.{◌≡◌, Bool, List, ◌++◌, ℕ, ◌+◌, ◌*◌, ◌≤◌, ◌<◌, length, replicate, eqb, ltb}
+use Rattle.std.specs.Prelude.{◌≡◌, Bool, List, ◌++◌, ℕ, ◌+◌, ◌≤◌, ◌<◌, length, replicate, eqb, ltb}
 use Rattle.std.proofs.Math.Path.{refl, ap}
-use Rattle.std.proofs.Common.{sym, subst, lt-ltb, le-ltb, ltb-false}
+use Rattle.std.proofs.Common.{sym, subst, lt-ltb, le-ltb, ltb-false, Option, Some, None, Result, Ok, Err}
 use Rattle.std.proofs.Math.Bool.{true, false}
 use native.Mathlib.Omega.{arith}
 use Rattle.std.proofs.Math.ListN.{drop}
@@ -20,10 +20,6 @@ use Rattle.dictionary_rules.specs.Index.{looks_at, noted}
 use Rattle.dictionary_rules.specs.Agreement.{Agrees, knows-tag, closes-component, names_message, clear_agrees}
 use Rattle.dictionary_rules.specs.declared.Checked.{Checked}
 use Rattle.dictionary_rules.specs.declared.Checked.TheVariants.{Passes, TooLong}
-use Rattle.dictionary_rules.specs.declared.Looked.{Looked}
-use Rattle.dictionary_rules.specs.declared.Looked.TheVariants.{Closed, Missing}
-use Rattle.dictionary_rules.specs.declared.Placed.{Placed}
-use Rattle.dictionary_rules.specs.declared.Placed.TheVariants.{At, Nowhere}
 use Rattle.dictionary_rules.specs.declared.Group.{Group}
 use Rattle.dictionary_rules.specs.declared.Groups.{Groups}
 use Rattle.dictionary_rules.specs.declared.Groups.TheVariants.{NoGroup, OneGroup, TwoGroups, ThreeGroups, FourGroups}
@@ -34,9 +30,8 @@ use Rattle.dictionary_rules.specs.declared.State.{State}
 use Rattle.dictionary_rules.specs.declared.State.TheVariants.{TopLevel, Inside}
 use Rattle.dictionary_rules.specs.declared.Note.{Note}
 use Rattle.dictionary_rules.specs.declared.Note.TheVariants.{Unchanged, KnowsTag, ClosesComponent, NamesMessage}
-use Rattle.dictionary_rules.specs.declared.Step.{Step}
-use Rattle.dictionary_rules.specs.declared.Step.TheVariants.{Refuses, Goes}
 use Rattle.dictionary_rules.specs.Names.{Names, is_known, component_in, message_in, looks_in, named, no_names}
+use Rattle.dictionary_rules.specs.declared.Component.{Component}
 
 -- a step looks up one thing at most, so it is the same where the answers are
 module _ (index : List ℕ) (names : Names) (b : ℕ) (a : Agrees index names b) where
@@ -61,7 +56,7 @@ module _ (index : List ℕ) (names : Names) (b : ℕ) (a : Agrees index names b)
 -- what is open at a place leaves room for its own entry, and a component that is open is not named yet: no entry is newer than b
 abbrev ReadyFor : Names → Owner → ℕ → ℕ → ℕ → Type 0
 ReadyFor names (OfComponent number) opening b place =
-    (opening < 60000) × (b ≤ opening) × (opening + 3 ≤ place) × (component_in names.components number ≡ Missing)
+    (opening < 60000) × (b ≤ opening) × (opening + 3 ≤ place) × (component_in names.components number ≡ None)
 ReadyFor names OfMessage opening b place = b ≤ place
 
 abbrev Ready : Names → State → ℕ → ℕ → Type 0
@@ -75,25 +70,25 @@ After names state (KnowsTag place tag) b next =
     (place < 60000) × (b + 4 ≤ number_at place) × Ready (named names (KnowsTag place tag)) state (number_at place) next
 After names state (ClosesComponent c) b next =
     (c.place < 60000) × (b + 4 ≤ number_at c.place) × Ready (named names (ClosesComponent c)) state (number_at c.place) next
-    × (component_in names.components c.number ≡ Missing)
+    × (component_in names.components c.number ≡ None)
 After names state (NamesMessage place msg_type) b next =
     (place < 60000) × (b + 4 ≤ number_at place) × Ready (named names (NamesMessage place msg_type)) state (number_at place) next
-    × (message_in names.messages msg_type ≡ Nowhere)
+    × (message_in names.messages msg_type ≡ None)
 
-abbrev Fine : Names → ℕ → ℕ → Step → Type 0
-Fine names b next (Refuses checked) = Unit {0}
-Fine names b next (Goes state note) = After names state note b next
+abbrev Fine : Names → ℕ → ℕ → Result (State × Note) Checked → Type 0
+Fine names b next (Err checked) = Unit {0}
+Fine names b next (Ok (state, note)) = After names state note b next
 
 later : (names : Names) (owner : Owner) (opening b place next : ℕ) → place ≤ next → ReadyFor names owner opening b place → ReadyFor names owner opening b next
 later names (OfComponent number) opening b place next h r = (r.0, r.1, omega (arith, r.2), r.3)
 later names OfMessage opening b place next h r = omega (arith, r)
 
 module _ (names : Names) (place b : ℕ) where
-  fine_refuses : (t : Bool) (checked : Checked) (step : Step) (next : ℕ) → Fine names b next step → Fine names b next (pick t (Refuses checked) step)
+  fine_refuses : (t : Bool) (checked : Checked) (step : Result (State × Note) Checked) (next : ℕ) → Fine names b next step → Fine names b next (pick t (Err checked) step)
   fine_refuses true checked step next f = tt
   fine_refuses false checked step next f = f
 
-  fine_known : (t : Bool) (checked : Checked) (step : Step) (next : ℕ) → Fine names b next step → Fine names b next (pick t step (Refuses checked))
+  fine_known : (t : Bool) (checked : Checked) (step : Result (State × Note) Checked) (next : ℕ) → Fine names b next step → Fine names b next (pick t step (Err checked))
   fine_known true checked step next f = f
   fine_known false checked step next f = tt
 
@@ -114,14 +109,14 @@ module _ (names : Names) (place b : ℕ) where
   fine_close o (ThreeGroups x y z) r = fine_group o x _ r
   fine_close o (FourGroups x y z w) r = fine_group o x _ r
 
-  fine_item : (o : Open) (looked : Looked) (number : ℕ) → ReadyFor names o.owner o.place b place
+  fine_item : (o : Open) (looked : Option Component) (number : ℕ) → ReadyFor names o.owner o.place b place
       → Fine names b (place + 4) (closed_before looked number
       (λ c. not_too_deep (depth_of o.groups + c.depth) place
       (not_too_many (o.items + c.items) place
-      (Goes (Inside (grown o (o.items + c.items) (deeper o.depth (depth_of o.groups + c.depth)) (held_with o.held c) o.groups)) Unchanged))))
+      (Ok ((Inside (grown o (o.items + c.items) (deeper o.depth (depth_of o.groups + c.depth)) (held_with o.held c) o.groups)), Unchanged)))))
   unfolding closed_before not_too_deep not_too_many grown
-  fine_item o Missing number r = tt
-  fine_item o (Closed c) number r =
+  fine_item o None number r = tt
+  fine_item o (Some c) number r =
       fine_refuses (ltb 4 (depth_of o.groups + c.depth)) _ _ (place + 4)
       (fine_refuses (ltb 1024 (o.items + c.items)) _ _ (place + 4)
       (later names o.owner o.place b place (place + 4) (omega arith) r))
@@ -131,17 +126,17 @@ module _ (names : Names) (place b : ℕ) where
   fine_tag true tag h r = omega arith
   fine_tag false tag h r = (h, omega arith, omega arith)
 
-  fine_component : (looked : Looked) (number : ℕ) → component_in names.components number ≡ looked → place < 60000 → b ≤ place
-      → Fine names b (place + 3) (once_component looked place (Goes (Inside (opens (OfComponent number) place)) Unchanged))
+  fine_component : (looked : Option Component) (number : ℕ) → component_in names.components number ≡ looked → place < 60000 → b ≤ place
+      → Fine names b (place + 3) (once_component looked place (Ok ((Inside (opens (OfComponent number) place)), Unchanged)))
   unfolding once_component opens
-  fine_component Missing number e h r = (h, r, omega arith, e)
-  fine_component (Closed c) number e h r = tt
+  fine_component None number e h r = (h, r, omega arith, e)
+  fine_component (Some c) number e h r = tt
 
-  fine_message : (placed : Placed) (msg_type : ℕ) → message_in names.messages msg_type ≡ placed → place < 60000 → b ≤ place
-      → Fine names b (place + 9) (once_message placed place (Goes (Inside (opens OfMessage place)) (NamesMessage place msg_type)))
+  fine_message : (placed : Option ℕ) (msg_type : ℕ) → message_in names.messages msg_type ≡ placed → place < 60000 → b ≤ place
+      → Fine names b (place + 9) (once_message placed place (Ok ((Inside (opens OfMessage place)), (NamesMessage place msg_type))))
   unfolding once_message opens number_at
-  fine_message Nowhere msg_type e h r = (h, omega arith, omega arith, e)
-  fine_message (At p) msg_type e h r = tt
+  fine_message None msg_type e h r = (h, omega arith, omega arith, e)
+  fine_message (Some p) msg_type e h r = tt
 
   -- a record's own entry is newer than every entry before it, and names what had no name
   step_fine : (state : State) (r : Record) → place < 60000 → Ready names state b place
@@ -201,13 +196,13 @@ simulate n few (at_next {place = place} {r = r} {rest = rest} here others) state
     (λ state₁ note after. let m = note_agrees index names b a state₁ note (place + size_of r) after in
     simulate n few others state₁ (noted index note) (named names note) m.0 m.2 m.1))
   where
-    go : (step : Step) → Fine names b (place + size_of r) step
+    go : (step : Result (State × Note) Checked) → Fine names b (place + size_of r) step
         → ((state₁ : State) (note : Note) → After names state₁ note b (place + size_of r)
         → Same (walked looks_at noted rest state₁ (noted index note)) (walked looks_in named rest state₁ (named names note)))
         → Same (on_step index step (λ state₁ note. walked looks_at noted rest state₁ (noted index note)))
         (on_step names step (λ state₁ note. walked looks_in named rest state₁ (named names note)))
-    go (Refuses checked) fine follows = unfold on_step in (refl, (b, a))
-    go (Goes state₁ note) fine follows = unfold on_step in follows state₁ note fine
+    go (Err checked) fine follows = unfold on_step in (refl, (b, a))
+    go (Ok (state₁, note)) fine follows = unfold on_step in follows state₁ note fine
 
 module _ (d index : List ℕ) where
   pub prepared_long : 60000 < length d → prepared_of d index ≡ outcome TooLong index

@@ -2,7 +2,7 @@
 -- itself, and has the same items and the same depth. So whoever flattens may go straight to it.
 use Rattle.std.specs.Prelude.{◌≡◌, Bool, List, ◌∷◌, ℕ, ◌+◌, ◌≤◌, ltb}
 use Rattle.std.proofs.Math.Path.{refl, ap, subst}
-use Rattle.std.proofs.Common.{sym, ◌∙◌, arith, eq-eqb, eqb-true, ltb-false, le-ltb}
+use Rattle.std.proofs.Common.{sym, ◌∙◌, arith, eq-eqb, eqb-true, ltb-false, le-ltb, Option, Some, None, Result, Ok, Err}
 use Rattle.std.proofs.Math.Bool.{true, false}
 use Rattle.std.proofs.Math.Dec.{eqb}
 use Rattle.std.proofs.lemmas.Bool.{eqb-false}
@@ -17,10 +17,6 @@ use Rattle.dictionary_rules.specs.Check.{outcome, on_step, walked, too_long, rea
 use Rattle.dictionary_rules.specs.declared.Checked.{Checked}
 use Rattle.dictionary_rules.specs.declared.Checked.TheVariants.{TooLong}
 use Rattle.dictionary_rules.specs.declared.Component.{Component}
-use Rattle.dictionary_rules.specs.declared.Looked.{Looked}
-use Rattle.dictionary_rules.specs.declared.Looked.TheVariants.{Closed, Missing}
-use Rattle.dictionary_rules.specs.declared.Placed.{Placed}
-use Rattle.dictionary_rules.specs.declared.Placed.TheVariants.{At, Nowhere}
 use Rattle.dictionary_rules.specs.declared.Group.{Group}
 use Rattle.dictionary_rules.specs.declared.Groups.{Groups}
 use Rattle.dictionary_rules.specs.declared.Groups.TheVariants.{NoGroup, OneGroup, TwoGroups, ThreeGroups, FourGroups}
@@ -33,14 +29,12 @@ use Rattle.dictionary_rules.specs.declared.State.{State}
 use Rattle.dictionary_rules.specs.declared.State.TheVariants.{TopLevel, Inside}
 use Rattle.dictionary_rules.specs.declared.Note.{Note}
 use Rattle.dictionary_rules.specs.declared.Note.TheVariants.{Unchanged, KnowsTag, NamesMessage}
-use Rattle.dictionary_rules.specs.declared.Step.{Step}
-use Rattle.dictionary_rules.specs.declared.Step.TheVariants.{Refuses, Goes}
 use Rattle.dictionary_rules.specs.Names.{Names, component_in, looks_in, named, no_names}
 
 -- so many items, so deep, and one component that has them
 pub record Stood (components : List Component) (number items depth : ℕ) : Type 0 where
   pub meant : Component
-  pub closed : component_in components number ≡ Closed meant
+  pub closed : component_in components number ≡ Some meant
   pub same-items : meant.items ≡ items
   pub same-depth : meant.depth ≡ depth
   pub itself : meant.stands ≡ number
@@ -51,7 +45,7 @@ pub record Sound (components : List Component) (c : Component) : Type 0 where
   pub stood : (c.items ≡ 0 → ⊥) → Stood components c.stands c.items c.depth
 
 unfoldable pub AllSound : List Component → Type 0
-AllSound components = (number : ℕ) (c : Component) → component_in components number ≡ Closed c → Sound components c
+AllSound components = (number : ℕ) (c : Component) → component_in components number ≡ Some c → Sound components c
 
 -- what is held so far, with the items and the depth counted so far
 abbrev HeldSound : List Component → Held → ℕ → ℕ → ℕ → Type 0
@@ -60,22 +54,22 @@ HeldSound components (Only number) items depth groups = Stood components number 
 HeldSound components Several items depth groups = 1 ≤ items
 
 abbrev OwnerSound : List Component → Owner → Type 0
-OwnerSound components (OfComponent number) = component_in components number ≡ Missing
+OwnerSound components (OfComponent number) = component_in components number ≡ None
 OwnerSound components OfMessage = Unit {0}
 
 abbrev StateSound : List Component → State → Type 0
 StateSound components TopLevel = Unit {0}
 StateSound components (Inside o) = OwnerSound components o.owner × HeldSound components o.held o.items o.depth (depth_of o.groups)
 
-abbrev Keeps : Names → Step → Type 0
-Keeps names (Refuses checked) = Unit {0}
-Keeps names (Goes state note) = AllSound (named names note).components × StateSound (named names note).components state
+abbrev Keeps : Names → Result (State × Note) Checked → Type 0
+Keeps names (Err checked) = Unit {0}
+Keeps names (Ok (state, note)) = AllSound (named names note).components × StateSound (named names note).components state
 
-keeps_refuses : (names : Names) (t : Bool) (checked : Checked) (step : Step) → Keeps names step → Keeps names (pick t (Refuses checked) step)
+keeps_refuses : (names : Names) (t : Bool) (checked : Checked) (step : Result (State × Note) Checked) → Keeps names step → Keeps names (pick t (Err checked) step)
 keeps_refuses names true checked step k = tt
 keeps_refuses names false checked step k = k
 
-keeps_known : (names : Names) (t : Bool) (checked : Checked) (step : Step) → Keeps names step → Keeps names (pick t step (Refuses checked))
+keeps_known : (names : Names) (t : Bool) (checked : Checked) (step : Result (State × Note) Checked) → Keeps names step → Keeps names (pick t step (Err checked))
 keeps_known names true checked step k = k
 keeps_known names false checked step k = tt
 
@@ -126,19 +120,19 @@ regroup components (Only number) items depth n m l (s, g, k) = absurd (omega ari
 regroup components Several items depth n m l k = k
 
 -- a new number hides no component
-older : (c : Component) (components : List Component) → component_in components c.number ≡ Missing → (number : ℕ) (x : Component)
-    → component_in components number ≡ Closed x → component_in (c ∷ components) number ≡ Closed x
+older : (c : Component) (components : List Component) → component_in components c.number ≡ None → (number : ℕ) (x : Component)
+    → component_in components number ≡ Some x → component_in (c ∷ components) number ≡ Some x
 unfolding component_in
 older c components fresh number x h = go (eqb number c.number) refl
   where
-    go : (t : Bool) → eqb number c.number ≡ t → pick t (Closed c) (component_in components number) ≡ Closed x
+    go : (t : Bool) → eqb number c.number ≡ t → pick t (Some c) (component_in components number) ≡ Some x
     go true e =
         let same : number ≡ c.number = eqb-true number c.number e in
-        let none : component_in components number ≡ Missing = ap (component_in components) same ∙ fresh in
+        let none : component_in components number ≡ None = ap (component_in components) same ∙ fresh in
         let z : ◌≡◌ {A = ℕ} 0 1 = cc in absurd (omega arith)
     go false e = h
 
-module _ (c : Component) (components : List Component) (fresh : component_in components c.number ≡ Missing) where
+module _ (c : Component) (components : List Component) (fresh : component_in components c.number ≡ None) where
   stood_older : (number items depth : ℕ) → Stood components number items depth → Stood (c ∷ components) number items depth
   stood_older number items depth s =
       record {
@@ -152,7 +146,7 @@ module _ (c : Component) (components : List Component) (fresh : component_in com
   sound_older : (x : Component) → Sound components x → Sound (c ∷ components) x
   sound_older x s = record { flat = s.flat; stood = λ some. stood_older x.stands x.items x.depth (s.stood some) }
 
-  found-new : component_in (c ∷ components) c.number ≡ Closed c
+  found-new : component_in (c ∷ components) c.number ≡ Some c
   unfolding component_in
   found-new = rw (eq-eqb c.number c.number refl)
 
@@ -175,7 +169,7 @@ module _ (c : Component) (components : List Component) (fresh : component_in com
   unfolding AllSound component_in
   all_sound all new number x h = go (eqb number c.number) refl h
     where
-      go : (t : Bool) → eqb number c.number ≡ t → pick t (Closed c) (component_in components number) ≡ Closed x → Sound (c ∷ components) x
+      go : (t : Bool) → eqb number c.number ≡ t → pick t (Some c) (component_in components number) ≡ Some x → Sound (c ∷ components) x
       go true e q = let same : c ≡ x = cc in subst (λ (y : Component). Sound (c ∷ components) y) same new
       go false e q = sound_older x (all number x q)
 
@@ -204,32 +198,32 @@ module _ (names : Names) (all : AllSound names.components) where
   keeps_close o (ThreeGroups x y z) own h = keeps_group o x (ThreeGroups x y z) (TwoGroups y z) (omega arith) own h
   keeps_close o (FourGroups x y z w) own h = keeps_group o x (FourGroups x y z w) (ThreeGroups y z w) (omega arith) own h
 
-  keeps_tag : (known : Bool) (place tag : ℕ) → Keeps names (Goes TopLevel (pick known Unchanged (KnowsTag place tag)))
+  keeps_tag : (known : Bool) (place tag : ℕ) → Keeps names (Ok (TopLevel, (pick known Unchanged (KnowsTag place tag))))
   unfolding named
   keeps_tag true place tag = (all, tt)
   keeps_tag false place tag = (all, tt)
 
-  keeps_component : (looked : Looked) (number place : ℕ) → component_in names.components number ≡ looked
-      → Keeps names (once_component looked place (Goes (Inside (opens (OfComponent number) place)) Unchanged))
+  keeps_component : (looked : Option Component) (number place : ℕ) → component_in names.components number ≡ looked
+      → Keeps names (once_component looked place (Ok ((Inside (opens (OfComponent number) place)), Unchanged)))
   unfolding once_component opens named depth_of
-  keeps_component Missing number place e = (all, (e, (refl, refl, refl)))
-  keeps_component (Closed c) number place e = tt
+  keeps_component None number place e = (all, (e, (refl, refl, refl)))
+  keeps_component (Some c) number place e = tt
 
-  keeps_message : (placed : Placed) (msg_type place : ℕ)
-      → Keeps names (once_message placed place (Goes (Inside (opens OfMessage place)) (NamesMessage place msg_type)))
+  keeps_message : (placed : Option ℕ) (msg_type place : ℕ)
+      → Keeps names (once_message placed place (Ok ((Inside (opens OfMessage place)), (NamesMessage place msg_type))))
   unfolding once_message opens named depth_of
-  keeps_message Nowhere msg_type place = (all, (tt, (refl, refl, refl)))
-  keeps_message (At p) msg_type place = tt
+  keeps_message None msg_type place = (all, (tt, (refl, refl, refl)))
+  keeps_message (Some p) msg_type place = tt
 
-  keeps_item : (o : Open) (looked : Looked) (number place : ℕ) → component_in names.components number ≡ looked → OwnerSound names.components o.owner
+  keeps_item : (o : Open) (looked : Option Component) (number place : ℕ) → component_in names.components number ≡ looked → OwnerSound names.components o.owner
       → HeldSound names.components o.held o.items o.depth (depth_of o.groups)
       → Keeps names (closed_before looked number
       (λ c. not_too_deep (depth_of o.groups + c.depth) place
       (not_too_many (o.items + c.items) place
-      (Goes (Inside (grown o (o.items + c.items) (deeper o.depth (depth_of o.groups + c.depth)) (held_with o.held c) o.groups)) Unchanged))))
+      (Ok ((Inside (grown o (o.items + c.items) (deeper o.depth (depth_of o.groups + c.depth)) (held_with o.held c) o.groups)), Unchanged)))))
   unfolding closed_before not_too_deep not_too_many grown named AllSound
-  keeps_item o Missing number place e own h = tt
-  keeps_item o (Closed c) number place e own h =
+  keeps_item o None number place e own h = tt
+  keeps_item o (Some c) number place e own h =
       keeps_refuses names (ltb 4 (depth_of o.groups + c.depth)) _ _
       (keeps_refuses names (ltb 1024 (o.items + c.items)) _ _
       (all, (own, held_with_lem names.components o.held c o.items o.depth (depth_of o.groups) (all number c e) h)))
@@ -264,12 +258,12 @@ walk_sound (bad place) state names all s = all
 walk_sound (whole place r rest) state names all s =
     go (step_of (looks_in names) state place r) (step_keeps names all state place r s) (λ state₁ note. walk_sound rest state₁ (named names note))
   where
-    go : (step : Step) → Keeps names step
+    go : (step : Result (State × Note) Checked) → Keeps names step
         → ((state₁ : State) (note : Note) → AllSound (named names note).components → StateSound (named names note).components state₁
         → AllSound (store_of (walked looks_in named rest state₁ (named names note))).components)
         → AllSound (store_of (on_step names step (λ state₁ note. walked looks_in named rest state₁ (named names note)))).components
-    go (Refuses checked) k later = unfold on_step in all
-    go (Goes state₁ note) k later = unfold on_step in later state₁ note k.0 k.1
+    go (Err checked) k later = unfold on_step in all
+    go (Ok (state₁, note)) k later = unfold on_step in later state₁ note k.0 k.1
 
 none_sound : AllSound no_names.components
 unfolding AllSound no_names component_in

@@ -1,6 +1,6 @@
 -- The index and the names of a dictionary agree: every look-up of the one answers as the other does, from the first record to the
 -- last, so the check over the index is the check, and what it leaves in the index is what the dictionary names.
-use Rattle.std.specs.Prelude.{◌≡◌, Bool, List, ◌++◌, ℕ, ◌+◌, ◌≤◌, ◌<◌, length, drop, replicate}
+use Rattle.std.specs.Prelude.{◌≡◌, Bool, List, ◌++◌, ℕ, ◌+◌, ◌≤◌, ◌<◌, length, drop, replicate, Some, None}
 use Rattle.std.proofs.Math.Path.{refl, sym}
 use Rattle.std.proofs.Common.{ap, ◌∙◌, arith, length-append, length-drop}
 use Rattle.std.proofs.Math.Bool.{true, false}
@@ -17,8 +17,6 @@ use Rattle.dictionary_chains.specs.declared.Entry.{Entry}
 use Rattle.dictionary_rules.specs.Index.{tag_entry, component_entry, message_entry, component_of, tag_at, component_at, message_at, noted}
 use Rattle.dictionary_rules.specs.IndexLaws.{tag_unknown, tag-known, component_missing, component-closed, missing_new, message-nowhere, message-placed, nowhere-new}
 use Rattle.dictionary_rules.specs.declared.Component.{Component}
-use Rattle.dictionary_rules.specs.declared.Looked.TheVariants.{Closed, Missing}
-use Rattle.dictionary_rules.specs.declared.Placed.TheVariants.{At, Nowhere}
 use Rattle.dictionary_rules.specs.declared.Note.TheVariants.{KnowsTag, ClosesComponent, NamesMessage}
 use Rattle.dictionary_rules.specs.Names.{Names, is_known, component_in, message_in, named, no_names}
 
@@ -111,7 +109,7 @@ module _ (index : List ℕ) (names : Names) (b : ℕ) (a : Agrees index names b)
       go t false q =
           other_tag Tags index (tag_entry place tag) b a.size a.bound early newer t (λ r k. eqb-false t tag q (k ∙ tag_key place tag)) ∙ a.tags t
 
-  pub closes-component : (c : Component) → c.place < 60000 → b + 4 ≤ number_at c.place → component_in names.components c.number ≡ Missing
+  pub closes-component : (c : Component) → c.place < 60000 → b + 4 ≤ number_at c.place → component_in names.components c.number ≡ None
       → Agrees (noted index (ClosesComponent c)) (named names (ClosesComponent c)) (number_at c.place)
   unfolding noted named component_entry component_in
   closes-component c early newer missing =
@@ -130,17 +128,17 @@ module _ (index : List ℕ) (names : Names) (b : ℕ) (a : Agrees index names b)
       whole : component_of (component_entry c) ≡ c
       whole = whole-component c
 
-      go : (n : ℕ) (s : Bool) → eqb n c.number ≡ s → component_at (entered Components index (component_entry c)) n ≡ pick s (Closed c) (component_in names.components n)
+      go : (n : ℕ) (s : Bool) → eqb n c.number ≡ s → component_at (entered Components index (component_entry c)) n ≡ pick s (Some c) (component_in names.components n)
       go n true q =
           let same = eqb-true n c.number q ∙ sym (component_key c) in
           component-closed _ n _ refl (own-known Components index (component_entry c) b a.size a.bound early newer n same)
-          ∙ ap (λ (x : Entry). Closed (component_of x))
+          ∙ ap (λ (x : Entry). Some (component_of x))
           (own-entry Components index (component_entry c) b a.size a.bound early newer n same (new n (eqb-true n c.number q)))
-          ∙ ap Closed whole
+          ∙ ap Some whole
       go n false q =
           other-component Components index (component_entry c) b a.size a.bound early newer n (λ r k. eqb-false n c.number q (k ∙ component_key c)) ∙ a.components n
 
-  pub names_message : (place msg_type : ℕ) → place < 60000 → b + 4 ≤ number_at place → message_in names.messages msg_type ≡ Nowhere
+  pub names_message : (place msg_type : ℕ) → place < 60000 → b + 4 ≤ number_at place → message_in names.messages msg_type ≡ None
       → Agrees (noted index (NamesMessage place msg_type)) (named names (NamesMessage place msg_type)) (number_at place)
   unfolding noted named message_entry message_in
   names_message place msg_type early newer nowhere =
@@ -156,11 +154,11 @@ module _ (index : List ℕ) (names : Names) (b : ℕ) (a : Agrees index names b)
       new : (m : ℕ) → m ≡ msg_type → found MsgTypes index m ≡ 0
       new m e = rw e (nowhere-new index msg_type (a.messages msg_type ∙ nowhere))
 
-      go : (m : ℕ) (s : Bool) → eqb m msg_type ≡ s → message_at (entered MsgTypes index (message_entry place msg_type)) m ≡ pick s (At place) (message_in names.messages m)
+      go : (m : ℕ) (s : Bool) → eqb m msg_type ≡ s → message_at (entered MsgTypes index (message_entry place msg_type)) m ≡ pick s (Some place) (message_in names.messages m)
       go m true q =
           let same = eqb-true m msg_type q ∙ sym (message_key place msg_type) in
           message-placed _ m _ refl (own-known MsgTypes index (message_entry place msg_type) b a.size a.bound early newer m same)
-          ∙ ap (λ (x : Entry). At x.place)
+          ∙ ap (λ (x : Entry). Some x.place)
           (own-entry MsgTypes index (message_entry place msg_type) b a.size a.bound early newer m same (new m (eqb-true m msg_type q)))
       go m false q =
           other-message MsgTypes index (message_entry place msg_type) b a.size a.bound early newer m (λ r k. eqb-false m msg_type q (k ∙ message_key place msg_type)) ∙ a.messages m

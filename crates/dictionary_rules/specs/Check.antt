@@ -1,5 +1,5 @@
 -- The check of a flat dictionary: "Dictionary: 30, then record by record, checks in number order".
-use Rattle.std.specs.Prelude.{ℕ, Bool, List, [], ◌∷◌, ◌++◌, length, drop, replicate, ltb}
+use Rattle.std.specs.Prelude.{ℕ, Bool, List, [], ◌∷◌, ◌++◌, length, drop, replicate, ltb, Result, Ok, Err}
 use Rattle.dictionary_chains.specs.Chain.{head_words}
 use Rattle.field_rules.specs.Choice.{pick}
 use Rattle.dictionary_rules.specs.Records.{Records, ends, bad, whole, records_from}
@@ -9,8 +9,6 @@ use Rattle.dictionary_rules.specs.declared.Checked.TheVariants.{Passes, TooLong,
 use Rattle.dictionary_rules.specs.declared.State.{State}
 use Rattle.dictionary_rules.specs.declared.State.TheVariants.{TopLevel}
 use Rattle.dictionary_rules.specs.declared.Note.{Note}
-use Rattle.dictionary_rules.specs.declared.Step.{Step}
-use Rattle.dictionary_rules.specs.declared.Step.TheVariants.{Refuses, Goes}
 use Rattle.dictionary_rules.specs.Names.{Looks, Names, looks_in, named, no_names}
 use Rattle.dictionary_rules.specs.Index.{looks_at, noted}
 
@@ -18,9 +16,9 @@ use Rattle.dictionary_rules.specs.Index.{looks_at, noted}
 pub data CheckOutcome (S : Type 0) : Type 0 where
   outcome : Checked → S → CheckOutcome S
 
-unfoldable pub on_step : {S : Type 0} → S → Step → (State → Note → CheckOutcome S) → CheckOutcome S
-on_step store (Refuses checked) goes = outcome checked store
-on_step store (Goes state note) goes = goes state note
+unfoldable pub on_step : {S : Type 0} → S → Result (State × Note) Checked → (State → Note → CheckOutcome S) → CheckOutcome S
+on_step store (Err checked) goes = outcome checked store
+on_step store (Ok (state, note)) goes = goes state note
 
 -- record by record, with a store that takes notes and is looked up in
 unfoldable pub walked : {S : Type 0} → (S → Looks) → (S → Note → S) → Records → State → S → CheckOutcome S

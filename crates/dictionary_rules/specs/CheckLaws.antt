@@ -1,5 +1,5 @@
 -- The laws of the check: one turn of the code's loop is one record, whatever store it takes notes in.
-use Rattle.std.specs.Prelude.{◌≡◌, List, ℕ, length}
+use Rattle.std.specs.Prelude.{◌≡◌, List, ℕ, length, Ok, Err}
 use Rattle.dictionary_rules.specs.Record.{record_at}
 use Rattle.dictionary_rules.specs.Records.{records_from}
 use Rattle.dictionary_rules.specs.RecordsLaws.{records_end, records_bad, records_whole}
@@ -11,7 +11,6 @@ use Rattle.dictionary_rules.specs.declared.Checked.{Checked}
 use Rattle.dictionary_rules.specs.declared.Checked.TheVariants.{BadRecord}
 use Rattle.dictionary_rules.specs.declared.State.{State}
 use Rattle.dictionary_rules.specs.declared.Note.{Note}
-use Rattle.dictionary_rules.specs.declared.Step.TheVariants.{Refuses, Goes}
 use Rattle.dictionary_rules.specs.Names.{Looks}
 
 module _ {S : Type 0} (looks : S → Looks) (noted : S → Note → S) (d : List ℕ) (at : ℕ) (state : State) (store : S) where
@@ -23,10 +22,10 @@ module _ {S : Type 0} (looks : S → Looks) (noted : S → Note → S) (d : List
   unfolding walked
   walk-bad h = rw (records_bad d at h)
 
-  pub walk-refuses : (r : Record) (next : ℕ) (checked : Checked) → record_at d at ≡ Whole r next → step_of (looks store) state at r ≡ Refuses checked → walked looks noted (records_from d at) state store ≡ outcome checked store
+  pub walk-refuses : (r : Record) (next : ℕ) (checked : Checked) → record_at d at ≡ Whole r next → step_of (looks store) state at r ≡ Err checked → walked looks noted (records_from d at) state store ≡ outcome checked store
   unfolding walked on_step
   walk-refuses r next checked h e = rw (records_whole d at r next h, e)
 
-  pub walk-goes : (r : Record) (next : ℕ) (after : State) (note : Note) → record_at d at ≡ Whole r next → step_of (looks store) state at r ≡ Goes after note → walked looks noted (records_from d at) state store ≡ walked looks noted (records_from d next) after (noted store note)
+  pub walk-goes : (r : Record) (next : ℕ) (after : State) (note : Note) → record_at d at ≡ Whole r next → step_of (looks store) state at r ≡ Ok (after, note) → walked looks noted (records_from d at) state store ≡ walked looks noted (records_from d next) after (noted store note)
   unfolding walked on_step
   walk-goes r next after note h e = rw (records_whole d at r next h, e)

@@ -1,14 +1,10 @@
 -- The lent index as a store of names: what is entered for each, word by word, and what a look-up answers.
-use Rattle.std.specs.Prelude.{ℕ, ◌/◌, ◌%◌, Bool, true, false, List, eqb}
+use Rattle.std.specs.Prelude.{ℕ, ◌/◌, ◌%◌, Bool, true, false, List, eqb, Option, Some, None}
 use Rattle.field_rules.specs.Choice.{pick}
 use Rattle.dictionary_chains.specs.Chain.{entry_at, found, entered}
 use Rattle.dictionary_chains.specs.declared.Table.TheVariants.{Tags, Components, MsgTypes}
 use Rattle.dictionary_chains.specs.declared.Entry.{Entry}
 use Rattle.dictionary_rules.specs.declared.Component.{Component}
-use Rattle.dictionary_rules.specs.declared.Looked.{Looked}
-use Rattle.dictionary_rules.specs.declared.Looked.TheVariants.{Closed, Missing}
-use Rattle.dictionary_rules.specs.declared.Placed.{Placed}
-use Rattle.dictionary_rules.specs.declared.Placed.TheVariants.{At, Nowhere}
 use Rattle.dictionary_rules.specs.declared.Note.{Note}
 use Rattle.dictionary_rules.specs.declared.Note.TheVariants.{Unchanged, KnowsTag, ClosesComponent, NamesMessage}
 use Rattle.dictionary_rules.specs.Names.{Looks}
@@ -32,16 +28,16 @@ component_of e = record { number = e.first; place = e.place; items = e.second; d
 unfoldable pub tag_at : List ℕ → ℕ → Bool
 tag_at index tag = pick (eqb (found Tags index tag) 0) false true
 
-unfoldable pub looked_as : ℕ → Component → Looked
-looked_as number c = pick (eqb number 0) Missing (Closed c)
+unfoldable pub looked_as : ℕ → Component → Option Component
+looked_as number c = pick (eqb number 0) None (Some c)
 
-unfoldable pub component_at : List ℕ → ℕ → Looked
+unfoldable pub component_at : List ℕ → ℕ → Option Component
 component_at index number = looked_as (found Components index number) (component_of (entry_at index (found Components index number)))
 
-unfoldable pub placed_as : ℕ → Entry → Placed
-placed_as number e = pick (eqb number 0) Nowhere (At e.place)
+unfoldable pub placed_as : ℕ → Entry → Option ℕ
+placed_as number e = pick (eqb number 0) None (Some e.place)
 
-unfoldable pub message_at : List ℕ → ℕ → Placed
+unfoldable pub message_at : List ℕ → ℕ → Option ℕ
 message_at index msg_type = placed_as (found MsgTypes index msg_type) (entry_at index (found MsgTypes index msg_type))
 
 unfoldable pub looks_at : List ℕ → Looks

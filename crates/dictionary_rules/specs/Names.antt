@@ -1,19 +1,15 @@
 -- What a dictionary names: the known tags, the closed components and the messages, and what is looked up in them.
-use Rattle.std.specs.Prelude.{ℕ, Bool, true, false, List, [], ◌∷◌, eqb}
+use Rattle.std.specs.Prelude.{ℕ, Bool, true, false, List, [], ◌∷◌, eqb, Option, Some, None}
 use Rattle.field_rules.specs.Choice.{pick}
 use Rattle.dictionary_rules.specs.declared.Component.{Component}
-use Rattle.dictionary_rules.specs.declared.Looked.{Looked}
-use Rattle.dictionary_rules.specs.declared.Looked.TheVariants.{Closed, Missing}
-use Rattle.dictionary_rules.specs.declared.Placed.{Placed}
-use Rattle.dictionary_rules.specs.declared.Placed.TheVariants.{At, Nowhere}
 use Rattle.dictionary_rules.specs.declared.Note.{Note}
 use Rattle.dictionary_rules.specs.declared.Note.TheVariants.{Unchanged, KnowsTag, ClosesComponent, NamesMessage}
 
 -- what earlier records made known
 pub record Looks : Type 0 where
   pub known : ℕ → Bool
-  pub component : ℕ → Looked
-  pub message : ℕ → Placed
+  pub component : ℕ → Option Component
+  pub message : ℕ → Option ℕ
 
 -- a message that has opened
 pub record Message : Type 0 where
@@ -30,13 +26,13 @@ unfoldable pub is_known : List ℕ → ℕ → Bool
 is_known [] tag = false
 is_known (t ∷ tags) tag = pick (eqb tag t) true (is_known tags tag)
 
-unfoldable pub component_in : List Component → ℕ → Looked
-component_in [] number = Missing
-component_in (c ∷ components) number = pick (eqb number c.number) (Closed c) (component_in components number)
+unfoldable pub component_in : List Component → ℕ → Option Component
+component_in [] number = None
+component_in (c ∷ components) number = pick (eqb number c.number) (Some c) (component_in components number)
 
-unfoldable pub message_in : List Message → ℕ → Placed
-message_in [] msg_type = Nowhere
-message_in (m ∷ messages) msg_type = pick (eqb msg_type m.msg_type) (At m.place) (message_in messages msg_type)
+unfoldable pub message_in : List Message → ℕ → Option ℕ
+message_in [] msg_type = None
+message_in (m ∷ messages) msg_type = pick (eqb msg_type m.msg_type) (Some m.place) (message_in messages msg_type)
 
 unfoldable pub looks_in : Names → Looks
 looks_in names =

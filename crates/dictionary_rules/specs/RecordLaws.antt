@@ -1,5 +1,5 @@
 -- The laws of reading one record: its numbers, its filling, each way that reading goes, and that a record lies in the dictionary.
-use Rattle.std.specs.Prelude.{◌≡◌, Bool, true, false, List, [], ◌∷◌, length, take, drop, eqb}
+use Rattle.std.specs.Prelude.{◌≡◌, Bool, true, false, List, [], ◌∷◌, length, take, drop, eqb, Some, None}
 use Rattle.std.proofs.Common.{◌∙◌, drop_of_length-le, get_or-take}
 use Prim.Native.Nat.{ℕ, suc, ◌+◌, ◌*◌, ◌≤◌, ◌<◌, ◌-◌}
 use Rattle.std.proofs.Math.Numerals.{add-one}
@@ -11,7 +11,6 @@ use Rattle.dictionary_rules.specs.Record.{low_first, record_body_length, zero_fi
 use Rattle.dictionary_rules.specs.Record.{with_body, with_kind, record_from, record_at}
 use Rattle.dictionary_rules.specs.declared.Record.{Record}
 use Rattle.dictionary_rules.specs.declared.Record.TheVariants.{KnownTag, FieldItem}
-use Rattle.dictionary_rules.specs.declared.Body.TheVariants.{Good, Wrong}
 use Rattle.dictionary_rules.specs.declared.RecordRead.TheVariants.{Whole, Bad, End}
 
 module _ (s : List ℕ) (at : ℕ) where
@@ -90,7 +89,7 @@ pub length-other : (kind : ℕ) → (kind ≡ 1 → ⊥) → (kind ≡ 2 → ⊥
 unfolding record_body_length
 length-other kind a b c d e f = rw (ne_eqb kind 1 a, ne_eqb kind 2 b, ne_eqb kind 3 c, ne_eqb kind 4 d, ne_eqb kind 5 e, ne_eqb kind 6 f)
 
-pub body-other : (kind : ℕ) (body : List ℕ) → (kind ≡ 1 → ⊥) → (kind ≡ 2 → ⊥) → (kind ≡ 3 → ⊥) → (kind ≡ 4 → ⊥) → (kind ≡ 5 → ⊥) → (kind ≡ 6 → ⊥) → (kind ≡ 7 → ⊥) → record_body kind body ≡ Wrong
+pub body-other : (kind : ℕ) (body : List ℕ) → (kind ≡ 1 → ⊥) → (kind ≡ 2 → ⊥) → (kind ≡ 3 → ⊥) → (kind ≡ 4 → ⊥) → (kind ≡ 5 → ⊥) → (kind ≡ 6 → ⊥) → (kind ≡ 7 → ⊥) → record_body kind body ≡ None
 unfolding record_body
 body-other kind body a b c d e f g = rw (ne_eqb kind 1 a, ne_eqb kind 2 b, ne_eqb kind 3 c, ne_eqb kind 4 d, ne_eqb kind 5 e, ne_eqb kind 6 f, ne_eqb kind 7 g)
 
@@ -111,11 +110,11 @@ module _ (d : List ℕ) (place : ℕ) where
   unfolding with_kind
   at_body h l = at_kind h ∙ rw (le-ltb (length (drop (place + 1) d)) (record_body_length (get_or d place 0)) (rw length-drop l))
 
-  pub at-wrong : place < length d → record_body_length (get_or d place 0) ≤ length d - (place + 1) → record_body (get_or d place 0) (take (record_body_length (get_or d place 0)) (drop (place + 1) d)) ≡ Wrong → record_at d place ≡ Bad
+  pub at-wrong : place < length d → record_body_length (get_or d place 0) ≤ length d - (place + 1) → record_body (get_or d place 0) (take (record_body_length (get_or d place 0)) (drop (place + 1) d)) ≡ None → record_at d place ≡ Bad
   unfolding with_body
   at-wrong h l e = at_body h l ∙ rw e
 
-  pub at-whole : (r : Record) → place < length d → record_body_length (get_or d place 0) ≤ length d - (place + 1) → record_body (get_or d place 0) (take (record_body_length (get_or d place 0)) (drop (place + 1) d)) ≡ Good r → record_at d place ≡ Whole r (place + 1 + record_body_length (get_or d place 0))
+  pub at-whole : (r : Record) → place < length d → record_body_length (get_or d place 0) ≤ length d - (place + 1) → record_body (get_or d place 0) (take (record_body_length (get_or d place 0)) (drop (place + 1) d)) ≡ Some r → record_at d place ≡ Whole r (place + 1 + record_body_length (get_or d place 0))
   unfolding with_body
   at-whole r h l e = at_body h l ∙ rw e
 

@@ -1,6 +1,6 @@
 -- The laws of reading records one after the other: one step of the reader is one step of the list, and each record is as long as
 -- its kind says and lies in the dictionary.
-use Rattle.std.specs.Prelude.{◌≡◌, refl, Bool, true, false, List, ℕ, zero, suc, ◌+◌, ◌≤◌, ◌<◌, ◌-◌, length, get_or, take, drop, eqb, ltb}
+use Rattle.std.specs.Prelude.{◌≡◌, refl, Bool, true, false, List, ℕ, zero, suc, ◌+◌, ◌≤◌, ◌<◌, ◌-◌, length, get_or, take, drop, eqb, ltb, Option, Some, None}
 use Rattle.std.proofs.Common.{ap, ◌∙◌, subst, arith, ltb-true, ltb-false}
 use Rattle.field_rules.specs.Choice.{pick}
 use Rattle.dictionary_rules.specs.Record.{low_first, zero_filled, record_body_length, with_tag, with_mark, known_tag, opens_component, opens_message, field_item_lem, component_item_lem, opens_group, record_body, record_at}
@@ -8,8 +8,6 @@ use Rattle.dictionary_rules.specs.RecordLaws.{at_end, at_cut, at-wrong, at-whole
 use Rattle.dictionary_rules.specs.Records.{Records, ends, bad, whole, followed_by, records_within, records_from}
 use Rattle.dictionary_rules.specs.declared.Record.{Record}
 use Rattle.dictionary_rules.specs.declared.Record.TheVariants.{KnownTag, OpensComponent, OpensMessage, FieldItem, ComponentItem, OpensGroup, Closes}
-use Rattle.dictionary_rules.specs.declared.Body.{Body}
-use Rattle.dictionary_rules.specs.declared.Body.TheVariants.{Good, Wrong}
 use Rattle.dictionary_rules.specs.declared.RecordRead.{RecordRead}
 use Rattle.dictionary_rules.specs.declared.RecordRead.TheVariants.{Whole, Bad, End}
 
@@ -23,34 +21,34 @@ size_of (ComponentItem q n) = 4
 size_of (OpensGroup t q) = 6
 size_of Closes = 1
 
-size-tag : (tag k : ℕ) (x r : Record) → size_of x ≡ k → with_tag tag x ≡ Good r → size_of r ≡ k
+size-tag : (tag k : ℕ) (x r : Record) → size_of x ≡ k → with_tag tag x ≡ Some r → size_of r ≡ k
 unfolding with_tag
 size-tag tag k x r e h = go (eqb tag 0) h
   where
-    go : (t : Bool) → pick t Wrong (Good x) ≡ Good r → size_of r ≡ k
+    go : (t : Bool) → pick t None (Some x) ≡ Some r → size_of r ≡ k
     go true q = let z : ◌≡◌ {A = ℕ} 0 1 = cc in absurd (omega arith)
     go false q = let same : x ≡ r = cc in rw same at e
 
-size-mark : (mark : ℕ) (b : Body) (r : Record) → with_mark mark b ≡ Good r → b ≡ Good r
+size-mark : (mark : ℕ) (b : Option Record) (r : Record) → with_mark mark b ≡ Some r → b ≡ Some r
 unfolding with_mark
 size-mark mark b r h = go (ltb 1 mark) h
   where
-    go : (t : Bool) → pick t Wrong b ≡ Good r → b ≡ Good r
+    go : (t : Bool) → pick t None b ≡ Some r → b ≡ Some r
     go true q = let z : ◌≡◌ {A = ℕ} 0 1 = cc in absurd (omega arith)
     go false q = q
 
-size-message : (first filled : Bool) (m : ℕ) (r : Record) → pick first Wrong (pick filled (Good (OpensMessage m)) Wrong) ≡ Good r → size_of r ≡ 9
+size-message : (first filled : Bool) (m : ℕ) (r : Record) → pick first None (pick filled (Some (OpensMessage m)) None) ≡ Some r → size_of r ≡ 9
 unfolding size_of
 size-message true filled m r h = let z : ◌≡◌ {A = ℕ} 0 1 = cc in absurd (omega arith)
 size-message false true m r h = let same : OpensMessage m ≡ r = cc in rw (← same)
 size-message false false m r h = let z : ◌≡◌ {A = ℕ} 0 1 = cc in absurd (omega arith)
 
 -- the record of a good body takes one byte more than its body
-size-body : (kind : ℕ) (body : List ℕ) (r : Record) → record_body kind body ≡ Good r → size_of r ≡ 1 + record_body_length kind
+size-body : (kind : ℕ) (body : List ℕ) (r : Record) → record_body kind body ≡ Some r → size_of r ≡ 1 + record_body_length kind
 unfolding record_body record_body_length known_tag opens_component opens_message field_item_lem component_item_lem opens_group size_of
 size-body kind body r h = go (eqb kind 1) (eqb kind 2) (eqb kind 3) (eqb kind 4) (eqb kind 5) (eqb kind 6) (eqb kind 7) h
   where
-    go : (a b c d e f g : Bool) → pick a (known_tag body) (pick b (opens_component body) (pick c (opens_message body) (pick d (field_item_lem body) (pick e (component_item_lem body) (pick f (opens_group body) (pick g (Good Closes) Wrong)))))) ≡ Good r → size_of r ≡ 1 + pick a 4 (pick b 2 (pick c 8 (pick d 5 (pick e 3 (pick f 5 0)))))
+    go : (a b c d e f g : Bool) → pick a (known_tag body) (pick b (opens_component body) (pick c (opens_message body) (pick d (field_item_lem body) (pick e (component_item_lem body) (pick f (opens_group body) (pick g (Some Closes) None)))))) ≡ Some r → size_of r ≡ 1 + pick a 4 (pick b 2 (pick c 8 (pick d 5 (pick e 3 (pick f 5 0)))))
     go true b c d e f g q = size-tag _ 5 _ r refl q
     go false true c d e f g q = let same : OpensComponent (low_first (take 2 body)) ≡ r = cc in rw (← same)
     go false false true d e f g q = size-message (eqb (get_or body 0 0) 0) (zero_filled false body) _ r q
@@ -68,13 +66,13 @@ pub record Lies (d : List ℕ) (place : ℕ) (r : Record) (next : ℕ) : Type 0 
 pub record_lies : (d : List ℕ) (place : ℕ) (r : Record) (next : ℕ) → record_at d place ≡ Whole r next → Lies d place r next
 record_lies d place r next h = in_bytes (ltb place (length d)) refl
   where
-    body : Body
+    body : Option Record
     body = record_body (get_or d place 0) (take (record_body_length (get_or d place 0)) (drop (place + 1) d))
 
-    by_body : (b : Body) → body ≡ b → place < length d → record_body_length (get_or d place 0) ≤ length d - (place + 1) → Lies d place r next
-    by_body Wrong e l c =
+    by_body : (b : Option Record) → body ≡ b → place < length d → record_body_length (get_or d place 0) ≤ length d - (place + 1) → Lies d place r next
+    by_body None e l c =
         let z : ◌≡◌ {A = ℕ} 0 1 = cc (at-wrong d place l c e) in absurd (omega arith)
-    by_body (Good x) e l c =
+    by_body (Some x) e l c =
         let w = at-whole d place x l c e in
         let same : x ≡ r = cc in
         let after : place + 1 + record_body_length (get_or d place 0) ≡ next = cc in

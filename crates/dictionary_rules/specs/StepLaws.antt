@@ -1,5 +1,5 @@
 -- The laws of a step: one for each way that a record can go inside something open.
-use Rattle.std.specs.Prelude.{◌≡◌, Bool, ◌⊎◌, List, ℕ, ◌+◌, ◌≤◌, ◌<◌}
+use Rattle.std.specs.Prelude.{◌≡◌, Bool, ◌⊎◌, List, ℕ, ◌+◌, ◌≤◌, ◌<◌, Some, None, Ok, Err}
 use Rattle.std.proofs.Math.Path.{refl}
 use Rattle.std.proofs.Common.{ap}
 use Rattle.std.proofs.Math.Bool.{true, false}
@@ -12,7 +12,6 @@ use Rattle.dictionary_rules.specs.Step.{depth_of, opened, deeper, grown, held_wi
 use Rattle.dictionary_rules.specs.Index.{tag_at, component_at, message_at, looks_at}
 use Rattle.dictionary_rules.specs.declared.Checked.TheVariants.{NoComponent, UnknownTag, TooDeep, TooManyItems}
 use Rattle.dictionary_rules.specs.declared.Component.{Component}
-use Rattle.dictionary_rules.specs.declared.Looked.TheVariants.{Closed, Missing}
 use Rattle.dictionary_rules.specs.declared.Group.{Group}
 use Rattle.dictionary_rules.specs.declared.Groups.{Groups}
 use Rattle.dictionary_rules.specs.declared.Groups.TheVariants.{NoGroup, OneGroup, TwoGroups, ThreeGroups, FourGroups}
@@ -21,7 +20,6 @@ use Rattle.dictionary_rules.specs.declared.Open.{Open}
 use Rattle.dictionary_rules.specs.declared.State.{State}
 use Rattle.dictionary_rules.specs.declared.State.TheVariants.{Inside}
 use Rattle.dictionary_rules.specs.declared.Note.TheVariants.{Unchanged}
-use Rattle.dictionary_rules.specs.declared.Step.TheVariants.{Refuses, Goes}
 use Rattle.dictionary_rules.specs.Names.{Looks}
 
 -- no more than four groups are open
@@ -73,48 +71,48 @@ unfolding looks_at
 looks_message index msg_type = refl
 
 module _ (looks : Looks) (state : State) (o : Open) (here : state ≡ Inside o) (place tag : ℕ) where
-  pub field_unknown : looks.known tag ≡ false → on_field looks state place tag ≡ Refuses (UnknownTag tag)
+  pub field_unknown : looks.known tag ≡ false → on_field looks state place tag ≡ Err (UnknownTag tag)
   unfolding on_field inside known_before
   field_unknown k = rw (here, k)
 
-  pub field-many : looks.known tag ≡ true → 1024 < o.items + 1 → on_field looks state place tag ≡ Refuses (TooManyItems place)
+  pub field-many : looks.known tag ≡ true → 1024 < o.items + 1 → on_field looks state place tag ≡ Err (TooManyItems place)
   unfolding on_field inside known_before not_too_many
   field-many k m = rw (here, k, lt-ltb 1024 (o.items + 1) m)
 
-  pub field-goes : looks.known tag ≡ true → o.items + 1 ≤ 1024 → on_field looks state place tag ≡ Goes (Inside (grown o (o.items + 1) o.depth Several o.groups)) Unchanged
+  pub field-goes : looks.known tag ≡ true → o.items + 1 ≤ 1024 → on_field looks state place tag ≡ Ok ((Inside (grown o (o.items + 1) o.depth Several o.groups)), Unchanged)
   unfolding on_field inside known_before not_too_many
   field-goes k m = rw (here, k, le-ltb 1024 (o.items + 1) m)
 
-  pub group_unknown : looks.known tag ≡ false → on_group looks state place tag ≡ Refuses (UnknownTag tag)
+  pub group_unknown : looks.known tag ≡ false → on_group looks state place tag ≡ Err (UnknownTag tag)
   unfolding on_group inside known_before
   group_unknown k = rw (here, k)
 
-  pub group-deep : looks.known tag ≡ true → 4 < depth_of o.groups + 1 → on_group looks state place tag ≡ Refuses (TooDeep place)
+  pub group-deep : looks.known tag ≡ true → 4 < depth_of o.groups + 1 → on_group looks state place tag ≡ Err (TooDeep place)
   unfolding on_group inside known_before not_too_deep
   group-deep k d = rw (here, k, lt-ltb 4 (depth_of o.groups + 1) d)
 
-  pub group-many : looks.known tag ≡ true → depth_of o.groups + 1 ≤ 4 → 1024 < o.items + 1 → on_group looks state place tag ≡ Refuses (TooManyItems place)
+  pub group-many : looks.known tag ≡ true → depth_of o.groups + 1 ≤ 4 → 1024 < o.items + 1 → on_group looks state place tag ≡ Err (TooManyItems place)
   unfolding on_group inside known_before not_too_deep not_too_many
   group-many k d m = rw (here, k, le-ltb 4 (depth_of o.groups + 1) d, lt-ltb 1024 (o.items + 1) m)
 
-  pub group-goes : looks.known tag ≡ true → depth_of o.groups + 1 ≤ 4 → o.items + 1 ≤ 1024 → on_group looks state place tag ≡ Goes (Inside (grown o (o.items + 1) (deeper o.depth (depth_of o.groups + 1)) Several (opened (record { tag = tag; since = o.items + 1 }) o.groups))) Unchanged
+  pub group-goes : looks.known tag ≡ true → depth_of o.groups + 1 ≤ 4 → o.items + 1 ≤ 1024 → on_group looks state place tag ≡ Ok ((Inside (grown o (o.items + 1) (deeper o.depth (depth_of o.groups + 1)) Several (opened (record { tag = tag; since = o.items + 1 }) o.groups))), Unchanged)
   unfolding on_group inside known_before not_too_deep not_too_many
   group-goes k d m = rw (here, k, le-ltb 4 (depth_of o.groups + 1) d, le-ltb 1024 (o.items + 1) m)
 
 module _ (looks : Looks) (state : State) (o : Open) (here : state ≡ Inside o) (place number : ℕ) where
-  pub item_missing : looks.component number ≡ Missing → on_item looks state place number ≡ Refuses (NoComponent number)
+  pub item_missing : looks.component number ≡ None → on_item looks state place number ≡ Err (NoComponent number)
   unfolding on_item inside closed_before
   item_missing k = rw (here, k)
 
-  pub item-deep : (c : Component) → looks.component number ≡ Closed c → 4 < depth_of o.groups + c.depth → on_item looks state place number ≡ Refuses (TooDeep place)
+  pub item-deep : (c : Component) → looks.component number ≡ Some c → 4 < depth_of o.groups + c.depth → on_item looks state place number ≡ Err (TooDeep place)
   unfolding on_item inside closed_before not_too_deep
   item-deep c k d = rw (here, k, lt-ltb 4 (depth_of o.groups + c.depth) d)
 
-  pub item-many : (c : Component) → looks.component number ≡ Closed c → depth_of o.groups + c.depth ≤ 4 → 1024 < o.items + c.items → on_item looks state place number ≡ Refuses (TooManyItems place)
+  pub item-many : (c : Component) → looks.component number ≡ Some c → depth_of o.groups + c.depth ≤ 4 → 1024 < o.items + c.items → on_item looks state place number ≡ Err (TooManyItems place)
   unfolding on_item inside closed_before not_too_deep not_too_many
   item-many c k d m = rw (here, k, le-ltb 4 (depth_of o.groups + c.depth) d, lt-ltb 1024 (o.items + c.items) m)
 
-  pub item-goes : (c : Component) → looks.component number ≡ Closed c → depth_of o.groups + c.depth ≤ 4 → o.items + c.items ≤ 1024 → on_item looks state place number ≡ Goes (Inside (grown o (o.items + c.items) (deeper o.depth (depth_of o.groups + c.depth)) (held_with o.held c) o.groups)) Unchanged
+  pub item-goes : (c : Component) → looks.component number ≡ Some c → depth_of o.groups + c.depth ≤ 4 → o.items + c.items ≤ 1024 → on_item looks state place number ≡ Ok ((Inside (grown o (o.items + c.items) (deeper o.depth (depth_of o.groups + c.depth)) (held_with o.held c) o.groups)), Unchanged)
   unfolding on_item inside closed_before not_too_deep not_too_many
   item-goes c k d m = rw (here, k, le-ltb 4 (depth_of o.groups + c.depth) d, le-ltb 1024 (o.items + c.items) m)
 

@@ -15,13 +15,6 @@ pub enum Record {
     Closes,
 }
 
-// A record's body, as its kind reads it.
-#[derive(Clone, Copy)]
-pub enum Body {
-    Good(Record),
-    Wrong,
-}
-
 // A whole record and the place of the next one; none that can be read; or the end of the dictionary.
 #[derive(Clone, Copy)]
 pub enum RecordRead {
@@ -38,18 +31,6 @@ pub struct Component {
     pub items: u16,
     pub depth: u16,
     pub stands: u16,
-}
-
-#[derive(Clone, Copy)]
-pub enum Looked {
-    Closed(Component),
-    Missing,
-}
-
-#[derive(Clone, Copy)]
-pub enum Placed {
-    At(u16),
-    Nowhere,
 }
 
 // What a record makes known.
@@ -100,6 +81,7 @@ pub enum Held {
     Several,
 }
 
+// No Option: what is open is a component or a message, and None would say nothing of the message.
 #[derive(Clone, Copy)]
 pub enum Owner {
     OfComponent(u16),
@@ -117,14 +99,9 @@ pub struct Open {
     pub groups: Groups,
 }
 
+// No Option: the top level is a place where records stand, and not the want of one.
 #[derive(Clone, Copy)]
 pub enum State {
     TopLevel,
     Inside(Open),
-}
-
-#[derive(Clone, Copy)]
-pub enum Step {
-    Refuses(Checked),
-    Goes(State, Note),
 }

@@ -7,17 +7,8 @@ ghost use Rattle.dictionary_layout_rules.specs.Tree.{holds_tag};
 ghost use Rattle.dictionary_tables_rules.specs.Table.{heads_at, tag_at, item_of, delimiter_at, marked_behind, mark_from};
 ghost use Rattle.dictionary_tables_rules.specs.Tags.{tags_found};
 
-use dictionary_layout_rules::FirstTag;
-use dictionary_tables_rules::{Item, Mark};
-
 // Words to an item.
 const STRIDE: usize = 5;
-
-fn wide(word: u16) -> usize
-    ensures { result ≡ word }
-{
-    word as usize
-}
 
 // How many heads the level has that starts at a word of the table.
 fn heads_at(table: &[u16], level: usize) -> usize
@@ -34,38 +25,38 @@ fn tag_at(table: &[u16], at: usize) -> u32
     requires { at + 5 ≤ length table.now }
     ensures { result ≡ tag_at table.now at }
 {
-    table[at] as u32 + 65536 * (table[at + 1] as u32)
+    u32::from(table[at]) + 65536 * u32::from(table[at + 1])
 }
 
 // What a tag is at the level that starts at a word of the table.
-pub fn item_of(table: &[u16], level: usize, tag: u32) -> Item
+pub fn item_of(table: &[u16], level: usize, tag: u32) -> Option<(usize, usize)>
     ensures { result ≡ item_of table.now level tag }
 {
     if table.len() <= level {
-        return Item::Nowhere;
+        return None;
     }
     let heads = heads_at(table, level);
     let head = level + 1 + tag as usize % heads;
     if table.len() <= head {
-        return Item::Nowhere;
+        return None;
     }
     let from = level + 1 + heads;
-    let mut link = wide(table[head]);
+    let mut link = usize::from(table[head]);
     while 0 < link {
         let at = from + STRIDE * (link - 1);
         if table.len() < at + STRIDE {
-            return Item::Nowhere;
+            return None;
         }
         if tag_at(table, at) == tag {
-            return Item::At(link - 1, wide(table[at + 2]));
+            return Some((link - 1, usize::from(table[at + 2])));
         }
-        let later = wide(table[at + 4]);
+        let later = usize::from(table[at + 4]);
         if later <= link {
-            return Item::Nowhere;
+            return None;
         }
         link = later;
     }
-    Item::Nowhere
+    None
 }
 
 // A tag is among those that a table stands for.
@@ -73,26 +64,26 @@ pub fn holds(table: &[u16], tag: u32) -> bool
     ensures { result ≡ holds_tag tag (tags_found table.now) }
 {
     match item_of(table, 0, tag) {
-        Item::At(_, _) => true,
-        Item::Nowhere => false,
+        Some((_, _)) => true,
+        None => false,
     }
 }
 
 // The tag that opens each entry of a group.
-pub fn delimiter(table: &[u16], level: usize) -> FirstTag
+pub fn delimiter(table: &[u16], level: usize) -> Option<u32>
     ensures { result ≡ delimiter_at table.now level }
 {
     if table.len() <= level {
-        return FirstTag::NoTag;
+        return None;
     }
     if table[level] == 0 {
-        return FirstTag::NoTag;
+        return None;
     }
     let from = level + 1 + heads_at(table, level);
     if table.len() < from + STRIDE {
-        return FirstTag::NoTag;
+        return None;
     }
-    FirstTag::First(tag_at(table, from))
+    Some(tag_at(table, from))
 }
 
 // Where the marks go on behind an item: a link that doesn't rise ends them.
@@ -107,33 +98,33 @@ fn marked_behind(link: usize, word: usize) -> usize
 }
 
 // The first required tag of a level from a link on, and the link behind it.
-pub fn next_required(table: &[u16], level: usize, first: usize) -> Mark
+pub fn next_required(table: &[u16], level: usize, first: usize) -> Option<(u32, usize)>
     ensures { result ≡ mark_from table.now level first }
 {
     if table.len() <= level {
-        return Mark::NoMore;
+        return None;
     }
     if table[level] == 0 {
-        return Mark::NoMore;
+        return None;
     }
     let from = level + 1 + heads_at(table, level);
     if table.len() < from {
-        return Mark::NoMore;
+        return None;
     }
     // A link may be any number: it is multiplied only where the table has room for its item.
     let room = (table.len() - from) / STRIDE;
     let mut link = first;
     while 0 < link {
         if room < link {
-            return Mark::NoMore;
+            return None;
         }
         let at = from + STRIDE * (link - 1);
-        let word = wide(table[at + 3]);
+        let word = usize::from(table[at + 3]);
         let behind = marked_behind(link, word);
         if word % 2 == 1 {
-            return Mark::Required(tag_at(table, at), behind);
+            return Some((tag_at(table, at), behind));
         }
         link = behind;
     }
-    Mark::NoMore
+    None
 }

@@ -1,19 +1,13 @@
 -- Worked examples of this crate's definitions, one table to a definition, each under one statement that antt computes.
 -- A wrong definition is refused here, whatever code is proved against it.
-use Rattle.std.specs.Prelude.{◌≡◌, refl, List, [], ◌∷◌, ◌++◌, map, true, false, ℕ, ◌+◌, take}
+use Rattle.std.specs.Prelude.{◌≡◌, refl, List, [], ◌∷◌, ◌++◌, map, true, false, ℕ, take}
 use Rattle.dictionary_layout_rules.specs.Layout.{Layout, end, field, group, first_of, position_from, position_in}
 use Rattle.dictionary_layout_rules.specs.Table.{mark}
-use Rattle.dictionary_layout_rules.specs.declared.Position.{Position}
-use Rattle.dictionary_layout_rules.specs.declared.FirstTag.{FirstTag}
-use Rattle.dictionary_layout_rules.specs.declared.FirstTag.TheVariants.{First, NoTag}
 use Rattle.dictionary_tables_rules.specs.Table.{heads_for, heads_at, items_at, item_at, lies, tag_at, group_at, mark_at, later_at, chased, followed, item_of, delimiter_at, marked_behind, required_within, required_from, required_of, mark_within, mark_from}
 use Rattle.dictionary_tables_rules.specs.Laid.{own_count, part_size, inner_size, own_items, first_under, last_group, first_marked, item_words, items_words, head_words, part_words, inner_words, table_of}
 use Rattle.dictionary_tables_rules.proofs.Tabled.{place_of, group_of_item}
 use Rattle.dictionary_tables_rules.specs.Tags.{fields_of, item_tags, is_item, found_of, tags_found}
-use Rattle.dictionary_tables_rules.specs.declared.Item.{Item}
-use Rattle.dictionary_tables_rules.specs.declared.Item.TheVariants.{At, Nowhere}
-use Rattle.dictionary_tables_rules.specs.declared.Mark.{Mark}
-use Rattle.dictionary_tables_rules.specs.declared.Mark.TheVariants.{Required, NoMore}
+use Rattle.std.proofs.Common.{Option, Some, None}
 
 -- "group 78 (79 and 80 required)" between 38 and 58
 abbrev order : Layout
@@ -38,19 +32,19 @@ unfolding table_of own_count heads_for part_size inner_size own_items first_unde
 tables = refl
 
 -- the message's own level, the entries of 78, a level that passes the table
-items : map {B = List Item} (λ (level : ℕ). map (item_of order_table level) (38 ∷ 78 ∷ 58 ∷ 79 ∷ 80 ∷ 5001 ∷ [])) (0 ∷ 24 ∷ 43 ∷ 65535 ∷ []) ≡
-    (At 0 0 ∷ At 1 24 ∷ At 2 0 ∷ Nowhere ∷ Nowhere ∷ Nowhere ∷ []) ∷
-    (Nowhere ∷ Nowhere ∷ Nowhere ∷ At 0 0 ∷ At 1 0 ∷ Nowhere ∷ []) ∷
-    (Nowhere ∷ Nowhere ∷ Nowhere ∷ Nowhere ∷ Nowhere ∷ Nowhere ∷ []) ∷
-    (Nowhere ∷ Nowhere ∷ Nowhere ∷ Nowhere ∷ Nowhere ∷ Nowhere ∷ []) ∷ []
+items : map {B = List (Option (ℕ × ℕ))} (λ (level : ℕ). map (item_of order_table level) (38 ∷ 78 ∷ 58 ∷ 79 ∷ 80 ∷ 5001 ∷ [])) (0 ∷ 24 ∷ 43 ∷ 65535 ∷ []) ≡
+    (Some (0, 0) ∷ Some (1, 24) ∷ Some (2, 0) ∷ None ∷ None ∷ None ∷ []) ∷
+    (None ∷ None ∷ None ∷ Some (0, 0) ∷ Some (1, 0) ∷ None ∷ []) ∷
+    (None ∷ None ∷ None ∷ None ∷ None ∷ None ∷ []) ∷
+    (None ∷ None ∷ None ∷ None ∷ None ∷ None ∷ []) ∷ []
 unfolding item_of followed chased heads_at heads_for items_at item_at lies tag_at group_at later_at
 items = refl
 
-delimiters : map (delimiter_at order_table) (0 ∷ 24 ∷ 33 ∷ 43 ∷ 65535 ∷ []) ≡ First 38 ∷ First 79 ∷ NoTag ∷ NoTag ∷ NoTag ∷ []
+delimiters : map (delimiter_at order_table) (0 ∷ 24 ∷ 33 ∷ 43 ∷ 65535 ∷ []) ≡ Some 38 ∷ Some 79 ∷ None ∷ None ∷ None ∷ []
 unfolding delimiter_at heads_at heads_for items_at lies tag_at
 delimiters = refl
 
-marks : map (mark_from order_table 24) (1 ∷ 2 ∷ 0 ∷ 3 ∷ []) ≡ Required 79 2 ∷ Required 80 0 ∷ NoMore ∷ NoMore ∷ []
+marks : map (mark_from order_table 24) (1 ∷ 2 ∷ 0 ∷ 3 ∷ []) ≡ Some (79, 2) ∷ Some (80, 0) ∷ None ∷ None ∷ []
 unfolding mark_from mark_within heads_at heads_for items_at item_at lies tag_at mark_at marked_behind
 marks = refl
 
@@ -85,11 +79,11 @@ unfolding table_of own_count heads_for part_size inner_size own_items first_unde
     head_words part_words inner_words mark
 twice_tables = refl
 
-twice-items : map (item_of twice_table 0) (58 ∷ 78 ∷ 79 ∷ []) ≡ At 0 0 ∷ At 1 53 ∷ Nowhere ∷ []
+twice-items : map (item_of twice_table 0) (58 ∷ 78 ∷ 79 ∷ []) ≡ Some (0, 0) ∷ Some (1, 53) ∷ None ∷ []
 unfolding item_of followed chased heads_at heads_for items_at item_at lies tag_at group_at later_at
 twice-items = refl
 
-twice_places : map {B = Position × ℕ} (λ (tag : ℕ). (place_of (item_of twice_table 0 tag), group_of_item (item_of twice_table 0 tag))) (58 ∷ 78 ∷ 79 ∷ []) ≡
+twice_places : map {B = Option ℕ × ℕ} (λ (tag : ℕ). (place_of (item_of twice_table 0 tag), group_of_item (item_of twice_table 0 tag))) (58 ∷ 78 ∷ 79 ∷ []) ≡
     (position_in 58 twice, 0) ∷ (position_in 78 twice, 53) ∷ (position_in 79 twice, 0) ∷ []
 unfolding item_of followed chased heads_at heads_for items_at item_at lies tag_at group_at later_at place_of group_of_item position_in position_from first_of
 twice_places = refl
@@ -107,7 +101,7 @@ unfolding table_of own_count heads_for part_size inner_size own_items first_unde
     head_words part_words inner_words mark
 long_tags = refl
 
-long_items : map (item_of long_table 0) (70000 ∷ 4464 ∷ []) ≡ At 0 0 ∷ Nowhere ∷ []
+long_items : map (item_of long_table 0) (70000 ∷ 4464 ∷ []) ≡ Some (0, 0) ∷ None ∷ []
 unfolding item_of followed chased heads_at heads_for items_at item_at lies tag_at group_at later_at
 long_items = refl
 
@@ -119,7 +113,7 @@ sizes : map {B = ℕ × ℕ} (λ (count : ℕ). (heads_for count, part_size coun
 unfolding heads_for part_size
 sizes = refl
 
-many-items : map (item_of (table_of (fields_of many)) 0) (5 ∷ 133 ∷ 8 ∷ 120 ∷ 261 ∷ []) ≡ At 0 0 ∷ At 1 0 ∷ At 2 0 ∷ At 16 0 ∷ Nowhere ∷ []
+many-items : map (item_of (table_of (fields_of many)) 0) (5 ∷ 133 ∷ 8 ∷ 120 ∷ 261 ∷ []) ≡ Some (0, 0) ∷ Some (1, 0) ∷ Some (2, 0) ∷ Some (16, 0) ∷ None ∷ []
 unfolding fields_of item_of followed chased heads_at items_at item_at lies tag_at group_at later_at
     table_of own_count heads_for part_size inner_size own_items first_under last_group first_marked item_words items_words
     head_words part_words inner_words mark
@@ -142,10 +136,10 @@ unfolding table_of own_count heads_for part_size inner_size own_items first_unde
 nothing = refl
 
 -- whatever stands behind them
-nothing-found : map {B = Item × FirstTag × Mark × List ℕ}
+nothing-found : map {B = Option (ℕ × ℕ) × Option ℕ × Option (ℕ × ℕ) × List ℕ}
     (λ (table : List ℕ). (item_of table 0 38, delimiter_at table 0, mark_from table 0 1, required_of table 0))
     (empty_table ∷ (empty_table ++ (38 ∷ 0 ∷ 0 ∷ 1 ∷ 0 ∷ [])) ∷ (empty_table ++ order_table) ∷ []) ≡
-    (Nowhere, NoTag, NoMore, []) ∷ (Nowhere, NoTag, NoMore, []) ∷ (Nowhere, NoTag, NoMore, []) ∷ []
+    (None, None, None, []) ∷ (None, None, None, []) ∷ (None, None, None, []) ∷ []
 unfolding item_of followed chased delimiter_at mark_from mark_within required_of required_from required_within
     heads_at heads_for items_at item_at lies tag_at group_at mark_at later_at marked_behind
 nothing-found = refl
@@ -159,11 +153,11 @@ odd head word later =
     8 ∷ 0 ∷ 9 ∷ 1 ∷ 1 ∷ []
 
 -- a link that doesn't rise isn't followed, and one that leads past the table finds nothing; what it leads to is looked at whatever the head is
-odd-items : map {B = Item × Item} (λ (table : List ℕ). (item_of table 0 7, item_of table 0 8))
+odd-items : map {B = Option (ℕ × ℕ) × Option (ℕ × ℕ)} (λ (table : List ℕ). (item_of table 0 7, item_of table 0 8))
     (odd 1 0 2 ∷ odd 1 0 1 ∷ odd 1 0 0 ∷ odd 1 0 3 ∷ odd 2 0 0 ∷ odd 3 0 2 ∷ odd 65535 0 2 ∷
     take 18 (odd 1 0 2) ∷ take 13 (odd 1 0 2) ∷ take 1 (odd 1 0 2) ∷ [] ∷ []) ≡
-    (At 0 0, At 1 9) ∷ (At 0 0, Nowhere) ∷ (At 0 0, Nowhere) ∷ (At 0 0, Nowhere) ∷ (Nowhere, At 1 9) ∷ (Nowhere, Nowhere) ∷ (Nowhere, Nowhere) ∷
-    (At 0 0, Nowhere) ∷ (Nowhere, Nowhere) ∷ (Nowhere, Nowhere) ∷ (Nowhere, Nowhere) ∷ []
+    (Some (0, 0), Some (1, 9)) ∷ (Some (0, 0), None) ∷ (Some (0, 0), None) ∷ (Some (0, 0), None) ∷ (None, Some (1, 9)) ∷ (None, None) ∷ (None, None) ∷
+    (Some (0, 0), None) ∷ (None, None) ∷ (None, None) ∷ (None, None) ∷ []
 unfolding item_of followed chased heads_at heads_for items_at item_at lies tag_at group_at later_at
 odd-items = refl
 
@@ -174,15 +168,15 @@ unfolding tags_found found_of item_tags is_item item_of followed chased heads_at
 odd-tags = refl
 
 odd_delimiters : map (λ (table : List ℕ). delimiter_at table 0) (odd 0 0 0 ∷ take 14 (odd 0 0 0) ∷ take 13 (odd 0 0 0) ∷ (17 ∷ odd 0 0 0) ∷ [] ∷ []) ≡
-    First 7 ∷ First 7 ∷ NoTag ∷ NoTag ∷ NoTag ∷ []
+    Some 7 ∷ Some 7 ∷ None ∷ None ∷ None ∷ []
 unfolding delimiter_at heads_at heads_for items_at lies tag_at
 odd_delimiters = refl
 
 odd-marks : map (λ (word : ℕ). mark_from (odd 1 word 0) 0 1) (0 ∷ 1 ∷ 2 ∷ 3 ∷ 4 ∷ 5 ∷ 6 ∷ 7 ∷ 65535 ∷ []) ≡
-    NoMore ∷ Required 7 0 ∷ NoMore ∷ Required 7 0 ∷ Required 8 0 ∷ Required 7 2 ∷ NoMore ∷ Required 7 3 ∷ Required 7 32767 ∷ []
+    None ∷ Some (7, 0) ∷ None ∷ Some (7, 0) ∷ Some (8, 0) ∷ Some (7, 2) ∷ None ∷ Some (7, 3) ∷ Some (7, 32767) ∷ []
 unfolding mark_from mark_within heads_at heads_for items_at item_at lies tag_at mark_at marked_behind
 odd-marks = refl
 
-odd_links : map (mark_from (odd 1 5 0) 0) (0 ∷ 1 ∷ 2 ∷ 3 ∷ 4 ∷ 65535 ∷ []) ≡ NoMore ∷ Required 7 2 ∷ Required 8 0 ∷ NoMore ∷ NoMore ∷ NoMore ∷ []
+odd_links : map (mark_from (odd 1 5 0) 0) (0 ∷ 1 ∷ 2 ∷ 3 ∷ 4 ∷ 65535 ∷ []) ≡ None ∷ Some (7, 2) ∷ Some (8, 0) ∷ None ∷ None ∷ None ∷ []
 unfolding mark_from mark_within heads_at heads_for items_at item_at lies tag_at mark_at marked_behind
 odd_links = refl

@@ -2,17 +2,15 @@
 -- again and again gives all of them in order, for every content of a table.
 use Rattle.std.specs.Prelude.{◌≡◌, Bool, length, get_or, ltb}
 use Rattle.std.proofs.Math.Path.{refl, sym}
-use Rattle.std.proofs.Common.{ap, ◌∙◌, arith}
+use Rattle.std.proofs.Common.{ap, ◌∙◌, arith, Option, Some, None, ℕ}
 use Rattle.std.proofs.Math.Bool.{true, false}
 use mathlib.Core.List.{List, [], ◌∷◌}
 use Prim.Native.Nat.{ℕ, zero, suc, ◌+◌, ◌-◌, ◌/◌, ◌%◌, ◌≤◌, ◌<◌}
 use Rattle.std.proofs.Math.Dec.{eqb, leb}
 use borrow.Author.Tests.{eq-eqb, ne_eqb, eqb-true, eqb-false, lt-ltb, le-ltb, leb-true, leb-false, ltb-true}
 use Rattle.field_rules.specs.Choice.{pick, pick_same}
-use Rattle.dictionary_tables_rules.specs.Table.{items_at, item_at, lies, tag_at, mark_at, marked_behind, required_within, required_from, mark_within, mark_from}
+use Rattle.dictionary_tables_rules.specs.Table.{items_at, item_at, tag_at, mark_at, marked_behind, required_within, required_from, mark_within, mark_from}
 use Rattle.dictionary_tables_rules.proofs.TableLaws.{item-lies, item_past, link_past}
-use Rattle.dictionary_tables_rules.specs.declared.Mark.{Mark}
-use Rattle.dictionary_tables_rules.specs.declared.Mark.TheVariants.{Required, NoMore}
 
 pub behind-ends : (link word : ℕ) → word / 2 ≤ link → marked_behind link word ≡ 0
 unfolding marked_behind
@@ -43,7 +41,7 @@ links_fall room link word some within =
     (λ behind rises. rw (ne_eqb behind 0 (λ z. omega arith)) (omega arith)))
 
 module _ (table : List ℕ) (from : ℕ) where
-  mark_zero : (k : ℕ) → mark_within k table from 0 ≡ NoMore
+  mark_zero : (k : ℕ) → mark_within k table from 0 ≡ None
   unfolding mark_within
   mark_zero zero = refl
   mark_zero (suc k) = refl
@@ -85,7 +83,7 @@ module _ (table : List ℕ) (level : ℕ) where
   marks_behind link = marked_behind link (mark_at table (place link))
 
   -- a level without items has no marks
-  pub mark-empty : get_or table level 0 ≡ 0 → (link : ℕ) → mark_from table level link ≡ NoMore
+  pub mark-empty : get_or table level 0 ≡ 0 → (link : ℕ) → mark_from table level link ≡ None
   unfolding mark_from
   mark-empty e link = rw (eq-eqb _ _ e)
 
@@ -119,20 +117,20 @@ module _ (table : List ℕ) (level : ℕ) where
         (λ behind rises. all_fuel table (items_at table level) (length table) (suc (length table)) behind (omega arith) (omega arith) ∙ sym (all_more behind))
 
     module _ (link : ℕ) where
-      pub mark-none : link ≡ 0 → mark_from table level link ≡ NoMore
+      pub mark-none : link ≡ 0 → mark_from table level link ≡ None
       mark-none z = mark-more link ∙ unfold mark_within in rw (eq-eqb link 0 z)
 
       pub all_none : link ≡ 0 → required_from table level link ≡ []
       all_none z = all_more link ∙ unfold required_within in rw (eq-eqb link 0 z)
 
-      pub mark_past : length table < place link + 5 → mark_from table level link ≡ NoMore
+      pub mark_past : length table < place link + 5 → mark_from table level link ≡ None
       mark_past h = mark-more link ∙ unfold mark_within in rw (item_past table (items_at table level) link h, pick_same)
 
       pub all_past : length table < place link + 5 → required_from table level link ≡ []
       all_past h = all_more link ∙ unfold required_within in rw (item_past table (items_at table level) link h, pick_same)
 
       module _ (some : link ≡ 0 → ⊥) (within : place link + 5 ≤ length table) where
-        pub mark_hit : mark_at table (place link) % 2 ≡ 1 → mark_from table level link ≡ Required (tag_at table (place link)) (marks_behind link)
+        pub mark_hit : mark_at table (place link) % 2 ≡ 1 → mark_from table level link ≡ Some ((tag_at table (place link)), (marks_behind link))
         mark_hit e = mark-more link ∙ unfold mark_within in rw (ne_eqb link 0 some, item-lies table (items_at table level) link within, eq-eqb _ _ e)
 
         pub all_hit : mark_at table (place link) % 2 ≡ 1 → required_from table level link ≡ tag_at table (place link) ∷ required_from table level (marks_behind link)
@@ -154,16 +152,16 @@ module _ (table : List ℕ) (level : ℕ) where
             (all-behind link)
 
 -- what an answer says of the required tags from a link on
-data Says (table : List ℕ) (level link : ℕ) : Mark → Type 0 where
-  no_more : required_from table level link ≡ [] → Says table level link NoMore
-  one_more : {tag behind : ℕ} → required_from table level link ≡ tag ∷ required_from table level behind → Says table level link (Required tag behind)
+data Says (table : List ℕ) (level link : ℕ) : Option (ℕ × ℕ) → Type 0 where
+  no_more : required_from table level link ≡ [] → Says table level link None
+  one_more : {tag behind : ℕ} → required_from table level link ≡ tag ∷ required_from table level behind → Says table level link (Some (tag, behind))
 
 module _ (table : List ℕ) (level : ℕ) where
   -- an item without the mark is passed over
-  passed : (link behind : ℕ) (answer : Mark) → required_from table level link ≡ required_from table level behind → Says table level behind answer →
+  passed : (link behind : ℕ) (answer : Option (ℕ × ℕ)) → required_from table level link ≡ required_from table level behind → Says table level behind answer →
       Says table level link answer
-  passed link behind NoMore e (no_more q) = no_more (e ∙ q)
-  passed link behind (Required tag later) e (one_more q) = one_more (e ∙ q)
+  passed link behind None e (no_more q) = no_more (e ∙ q)
+  passed link behind (Some (tag, later)) e (one_more q) = one_more (e ∙ q)
 
   module _ (filled : get_or table level 0 ≡ 0 → ⊥) where
     says_none : (link : ℕ) → link ≡ 0 → Says table level link (mark_from table level link)
@@ -200,20 +198,21 @@ module _ (table : List ℕ) (level : ℕ) where
       go true z = let none = eqb-true _ _ z in rw (mark-empty table level none link) (no_more (all-empty table level none link))
       go false z = says (eqb-false _ _ z) (suc (length table)) link (omega arith)
 
-  pub required_none : (link : ℕ) → mark_from table level link ≡ NoMore → required_from table level link ≡ []
+  pub required_none : (link : ℕ) → mark_from table level link ≡ None → required_from table level link ≡ []
   required_none link e = go _ e (says_all link)
     where
-      go : (answer : Mark) → answer ≡ NoMore → Says table level link answer → required_from table level link ≡ []
-      go NoMore e (no_more q) = q
-      go (Required t b) e (one_more q) = let z : ◌≡◌ {A = ℕ} 0 1 = cc in absurd (omega arith)
+      go : (answer : Option (ℕ × ℕ)) → answer ≡ None → Says table level link answer → required_from table level link ≡ []
+      go None e (no_more q) = q
+      go (Some (t, b)) e (one_more q) = let z : ◌≡◌ {A = ℕ} 0 1 = cc in absurd (omega arith)
 
-  pub required_first : (link tag behind : ℕ) → mark_from table level link ≡ Required tag behind →
+  pub required_first : (link tag behind : ℕ) → mark_from table level link ≡ Some (tag, behind) →
       required_from table level link ≡ tag ∷ required_from table level behind
   required_first link tag behind e = go _ e (says_all link)
     where
-      go : (answer : Mark) → answer ≡ Required tag behind → Says table level link answer → required_from table level link ≡ tag ∷ required_from table level behind
-      go NoMore e (no_more q) = let z : ◌≡◌ {A = ℕ} 0 1 = cc in absurd (omega arith)
-      go (Required t b) e (one_more q) =
-          let tags : t ≡ tag = cc in
-          let same : b ≡ behind = cc in
+      go : (answer : Option (ℕ × ℕ)) → answer ≡ Some (tag, behind) → Says table level link answer → required_from table level link ≡ tag ∷ required_from table level behind
+      go None e (no_more q) = let z : ◌≡◌ {A = ℕ} 0 1 = cc in absurd (omega arith)
+      go (Some (t, b)) e (one_more q) =
+          let both : ◌≡◌ {A = ℕ × ℕ} (t, b) (tag, behind) = cc in
+          let tags : t ≡ tag = ap (λ (mark : ℕ × ℕ). mark.0) both in
+          let same : b ≡ behind = ap (λ (mark : ℕ × ℕ). mark.1) both in
           rw (tags, same) at q

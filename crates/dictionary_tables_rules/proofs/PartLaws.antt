@@ -2,7 +2,7 @@
 -- marks are those of the items. What stands in the table before and after the part makes no difference.
 use Rattle.std.specs.Prelude.{◌≡◌, Bool, ◌⊎◌, ℕ, zero, suc, ◌+◌, ◌-◌, ◌*◌, ◌%◌, ◌≤◌, ◌<◌, get_or, eqb}
 use Rattle.std.proofs.Math.Path.{refl, ap}
-use Rattle.std.proofs.Common.{sym, ◌∙◌, inl, inr, mod-lt, length-append, get_or-append-add, eqb-true}
+use Rattle.std.proofs.Common.{sym, ◌∙◌, inl, inr, mod-lt, length-append, get_or-append-add, eqb-true, Option, Some, None}
 use Rattle.std.proofs.Math.Bool.{true, false}
 use mathlib.Core.List.{List, [], ◌∷◌, ◌++◌, append_assoc}
 use native.Mathlib.Omega.{arith}
@@ -10,14 +10,10 @@ use Rattle.std.proofs.Math.ListN.{length, get_or-append}
 use Rattle.std.proofs.lemmas.Bool.{eqb-false}
 use Rattle.field_rules.specs.Choice.{pick}
 use Rattle.dictionary_layout_rules.specs.Table.{mark}
-use Rattle.dictionary_layout_rules.specs.declared.FirstTag.{FirstTag}
-use Rattle.dictionary_layout_rules.specs.declared.FirstTag.TheVariants.{First, NoTag}
 use Rattle.dictionary_tables_rules.specs.Table.{heads_for, heads_at, items_at, item_at, tag_at, group_at, mark_at, later_at, followed, item_of, delimiter_at, marked_behind, required_from, required_of}
 use Rattle.dictionary_tables_rules.proofs.TableLaws.{heads_bounds, follow_none, follow_hit, follow_stop, follow_on, delimiter_empty, delimiter_some}
 use Rattle.dictionary_tables_rules.proofs.MarkLaws.{behind_rises, behind-ends, all-empty, all_none, all_hit, all-on}
 use Rattle.dictionary_tables_rules.specs.Laid.{Own, part_size, first_under, last_group, first_marked, item_words, items_words, head_words, part_words}
-use Rattle.dictionary_tables_rules.specs.declared.Item.{Item}
-use Rattle.dictionary_tables_rules.specs.declared.Item.TheVariants.{At, Nowhere}
 
 -- words stand in a table from a place on
 pub record Stands (table : List ℕ) (at : ℕ) (words : List ℕ) : Type 0 where
@@ -120,9 +116,9 @@ module _ (table : List ℕ) (from heads position : ℕ) (own : Own) (owns : List
 -- ===== chains =====
 
 -- "its position is the first, its group the last": the items from a position on
-unfoldable pub item_among : ℕ → ℕ → List Own → Item
-item_among tag position [] = Nowhere
-item_among tag position (own ∷ owns) = pick (eqb own.tag tag) (At position (last_group 0 tag (own ∷ owns))) (item_among tag (position + 1) owns)
+unfoldable pub item_among : ℕ → ℕ → List Own → Option (ℕ × ℕ)
+item_among tag position [] = None
+item_among tag position (own ∷ owns) = pick (eqb own.tag tag) (Some (position, (last_group 0 tag (own ∷ owns)))) (item_among tag (position + 1) owns)
 
 -- a link leads nowhere, or to one of the items
 first_under_rises : (heads head link : ℕ) (owns : List Own) → (first_under heads head link owns ≡ 0) ⊎ (link ≤ first_under heads head link owns)
@@ -173,7 +169,7 @@ module _ (table : List ℕ) (from heads tag : ℕ) where
       go : (u : Bool) → eqb (own.tag % heads) (tag % heads) ≡ u → (t : Bool) → eqb own.tag tag ≡ t →
           followed table from tag (first_under heads (tag % heads) (position + 1 + 1) owns) ≡ item_among tag (position + 1) owns →
           followed table from tag (pick u (position + 1) (first_under heads (tag % heads) (position + 1 + 1) owns)) ≡
-          pick t (At position (last_group 0 tag (own ∷ owns))) (item_among tag (position + 1) owns)
+          pick t (Some (position, (last_group 0 tag (own ∷ owns)))) (item_among tag (position + 1) owns)
       go true u true t later =
           let e : own.tag ≡ tag = eqb-true _ _ t in
           let found = follow_hit table from tag (position + 1) (λ z. omega arith) read.within (read.tag_read ∙ e) in
@@ -246,9 +242,9 @@ module _ (table : List ℕ) (level heads : ℕ) (filled : get_or table level 0 �
 
 -- ===== a part =====
 
-unfoldable pub first_among : List Own → FirstTag
-first_among [] = NoTag
-first_among (own ∷ owns) = First own.tag
+unfoldable pub first_among : List Own → Option ℕ
+first_among [] = None
+first_among (own ∷ owns) = Some own.tag
 
 module _ (table : List ℕ) (level : ℕ) (owns : List Own) (s : Stands table level (part_words owns)) where
   -- a level's first word says how many items it has
@@ -297,7 +293,7 @@ delimiter_among table level [] s = delimiter_empty table level (count-read table
 delimiter_among table level (own ∷ owns) s =
     let r = item-first table (items_at table level) _ 0 own owns (items_stand table level (own ∷ owns) s) in
     let place = first-place table level in
-    delimiter_some table level (filled table level own owns s) (omega (arith, r.within, place)) ∙ ap First (ap (tag_at table) (sym place) ∙ r.tag_read)
+    delimiter_some table level (filled table level own owns s) (omega (arith, r.within, place)) ∙ ap Some (ap (tag_at table) (sym place) ∙ r.tag_read)
 
 pub required_among_lem : (table : List ℕ) (level : ℕ) (owns : List Own) → Stands table level (part_words owns) → required_of table level ≡ required_among owns
 unfolding required_of required_among

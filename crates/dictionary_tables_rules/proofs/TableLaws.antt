@@ -2,16 +2,14 @@
 -- Links rise and items lie in the table, so the fuel never runs out; later proofs cite only these steps.
 use Rattle.std.specs.Prelude.{◌≡◌, Bool, List, get_or}
 use Rattle.std.proofs.Math.Path.{refl, sym}
-use Rattle.std.proofs.Common.{◌∙◌, arith}
+use Rattle.std.proofs.Common.{◌∙◌, arith, Some, None}
 use Rattle.std.proofs.Math.Bool.{true, false}
 use Prim.Native.Nat.{ℕ, zero, suc, ◌+◌, ◌-◌, ◌*◌, ◌%◌, ◌≤◌, ◌<◌}
 use Rattle.std.proofs.Math.ListN.{length, get_or-eq_default}
 use Rattle.std.proofs.Math.Dec.{ltb}
 use borrow.Author.Tests.{eq-eqb, ne_eqb, lt-ltb, le-ltb, le-leb, lt-leb, ltb-true}
 use Rattle.field_rules.specs.Choice.{pick, pick_same}
-use Rattle.dictionary_layout_rules.specs.declared.FirstTag.TheVariants.{First, NoTag}
 use Rattle.dictionary_tables_rules.specs.Table.{heads_for, heads_at, items_at, item_at, lies, tag_at, group_at, later_at, chased, followed, item_of, delimiter_at}
-use Rattle.dictionary_tables_rules.specs.declared.Item.TheVariants.{At, Nowhere}
 
 pub heads-few : (count : ℕ) → count ≤ 16 → heads_for count ≡ 8
 unfolding heads_for
@@ -66,7 +64,7 @@ module _ (table : List ℕ) (from tag : ℕ) where
     where
       go : (later : ℕ) (t : Bool) → ltb link later ≡ t →
           (length table < k + later → length table < l + later → chased k table from tag later ≡ chased l table from tag later) →
-          pick t (chased k table from tag later) Nowhere ≡ pick t (chased l table from tag later) Nowhere
+          pick t (chased k table from tag later) None ≡ pick t (chased l table from tag later) None
       go later false e goes = refl
       go later true e goes = let rises : link < later = ltb-true _ _ e in goes (omega arith) (omega arith)
 
@@ -75,17 +73,17 @@ module _ (table : List ℕ) (from tag : ℕ) where
   unfolding followed
   followed-more link = chased_fuel (suc (length table) - link) (suc (length table)) link (omega arith) (omega arith)
 
-  pub follow_none : (link : ℕ) → link ≡ 0 → followed table from tag link ≡ Nowhere
+  pub follow_none : (link : ℕ) → link ≡ 0 → followed table from tag link ≡ None
   follow_none link z = followed-more link ∙ unfold chased in rw (eq-eqb link 0 z)
 
-  pub follow_past : (link : ℕ) → length table < item_at from link + 5 → followed table from tag link ≡ Nowhere
+  pub follow_past : (link : ℕ) → length table < item_at from link + 5 → followed table from tag link ≡ None
   follow_past link h = followed-more link ∙ unfold chased in rw (item_past table from link h, pick_same)
 
   module _ (link : ℕ) (some : link ≡ 0 → ⊥) (within : item_at from link + 5 ≤ length table) where
-    pub follow_hit : tag_at table (item_at from link) ≡ tag → followed table from tag link ≡ At (link - 1) (group_at table (item_at from link))
+    pub follow_hit : tag_at table (item_at from link) ≡ tag → followed table from tag link ≡ Some ((link - 1), (group_at table (item_at from link)))
     follow_hit e = followed-more link ∙ unfold chased in rw (ne_eqb link 0 some, item-lies table from link within, eq-eqb _ _ e)
 
-    pub follow_stop : (tag_at table (item_at from link) ≡ tag → ⊥) → later_at table (item_at from link) ≤ link → followed table from tag link ≡ Nowhere
+    pub follow_stop : (tag_at table (item_at from link) ≡ tag → ⊥) → later_at table (item_at from link) ≤ link → followed table from tag link ≡ None
     follow_stop e h = followed-more link ∙ unfold chased in rw (ne_eqb link 0 some, item-lies table from link within, ne_eqb _ _ e, le-ltb _ _ h)
 
     pub follow_on : (tag_at table (item_at from link) ≡ tag → ⊥) → link < later_at table (item_at from link) →
@@ -102,18 +100,18 @@ module _ (table : List ℕ) (level : ℕ) where
   unfolding item_of
   item_head tag = refl
 
-  pub item_no_head : (tag : ℕ) → length table ≤ level + 1 + tag % heads_at table level → item_of table level tag ≡ Nowhere
+  pub item_no_head : (tag : ℕ) → length table ≤ level + 1 + tag % heads_at table level → item_of table level tag ≡ None
   item_no_head tag h = item_head tag ∙ follow_none table (items_at table level) tag _ (get_or-eq_default table 0 h)
 
-  pub delimiter_empty : get_or table level 0 ≡ 0 → delimiter_at table level ≡ NoTag
+  pub delimiter_empty : get_or table level 0 ≡ 0 → delimiter_at table level ≡ None
   unfolding delimiter_at
   delimiter_empty e = rw (eq-eqb _ _ e)
 
-  pub delimiter_none : length table < items_at table level + 5 → delimiter_at table level ≡ NoTag
+  pub delimiter_none : length table < items_at table level + 5 → delimiter_at table level ≡ None
   unfolding delimiter_at lies
   delimiter_none h = rw (lt-leb _ _ h, pick_same)
 
   pub delimiter_some : (get_or table level 0 ≡ 0 → ⊥) → items_at table level + 5 ≤ length table →
-      delimiter_at table level ≡ First (tag_at table (items_at table level))
+      delimiter_at table level ≡ Some (tag_at table (items_at table level))
   unfolding delimiter_at lies
   delimiter_some filled h = rw (ne_eqb _ _ filled, le-leb _ _ h)

@@ -2,16 +2,12 @@
 -- that the tag counts. What stands in the table before and after the level makes no difference.
 use Rattle.std.specs.Prelude.{◌≡◌, Bool, true, false, List, [], ◌∷◌, ◌++◌, ℕ, ◌+◌, length, eqb}
 use Rattle.std.proofs.Math.Path.{refl, ap}
-use Rattle.std.proofs.Common.{sym, ◌∙◌, append-nil, arith, length-append, ne_eqb}
+use Rattle.std.proofs.Common.{sym, ◌∙◌, append-nil, arith, length-append, ne_eqb, Option, Some, None}
 use Rattle.field_rules.specs.Choice.{pick, pick_same}
 use Rattle.dictionary_layout_rules.specs.Layout.{Layout, end, field, group, first_of, position_from, position_in, Group, none, entries, group_since, group_of, delimiter_of_lem, required_tags}
-use Rattle.dictionary_layout_rules.specs.declared.Position.{Position}
-use Rattle.dictionary_layout_rules.specs.declared.Position.TheVariants as position
 use Rattle.dictionary_tables_rules.specs.Table.{item_of, delimiter_at, required_of}
 use Rattle.dictionary_tables_rules.specs.Laid.{Own, own_count, part_size, inner_size, table_size, own_items, last_group, part_words, inner_words, level_words, table_of}
 use Rattle.dictionary_tables_rules.proofs.PartLaws.{Stands, stands-first, stands-second, part_length, part-some, item_among, required_among, first_among, item_among_lem, delimiter_among, required_among_lem}
-use Rattle.dictionary_tables_rules.specs.declared.Item.{Item}
-use Rattle.dictionary_tables_rules.specs.declared.Item.TheVariants.{At, Nowhere}
 
 -- ===== lengths =====
 
@@ -48,17 +44,17 @@ table-length layout = level_length 0 layout
 -- ===== what the items of a layout are =====
 
 -- where an item stands
-unfoldable pub place_of : Item → Position
-place_of (At k g) = position.At k
-place_of Nowhere = position.Nowhere
+unfoldable pub place_of : Option (ℕ × ℕ) → Option ℕ
+place_of (Some (k, g)) = Some k
+place_of None = None
 
 -- where the level of the group starts that it counts, 0 where it counts none
-unfoldable pub group_of_item : Item → ℕ
-group_of_item (At k g) = g
-group_of_item Nowhere = 0
+unfoldable pub group_of_item : Option (ℕ × ℕ) → ℕ
+group_of_item (Some (k, g)) = g
+group_of_item None = 0
 
-place-first : (b : Bool) (at g : ℕ) (later : Item) {other : Position} → place_of later ≡ other →
-    place_of (pick b (At at g) later) ≡ first_of (pick b (position.At at) position.Nowhere) other
+place-first : (b : Bool) (at g : ℕ) (later : Option (ℕ × ℕ)) {other : Option ℕ} → place_of later ≡ other →
+    place_of (pick b (Some (at, g)) later) ≡ first_of (pick b (Some at) None) other
 unfolding place_of first_of
 place-first true at g later e = refl
 place-first false at g later e = e
@@ -88,7 +84,7 @@ among_group tag at [] = refl
 among_group tag at (own ∷ owns) = go (eqb own.tag tag) _ (among_group tag (at + 1) owns)
   where
     go : (b : Bool) (g : ℕ) → group_of_item (item_among tag (at + 1) owns) ≡ last_group 0 tag owns →
-        group_of_item (pick b (At at (last_group (pick b g 0) tag owns)) (item_among tag (at + 1) owns)) ≡ last_group (pick b g 0) tag owns
+        group_of_item (pick b (Some (at, (last_group (pick b g 0) tag owns))) (item_among tag (at + 1) owns)) ≡ last_group (pick b g 0) tag owns
     go true g e = refl
     go false g e = e
 

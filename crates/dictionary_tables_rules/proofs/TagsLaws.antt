@@ -2,7 +2,7 @@
 -- The table that was made of a list of tags stands for that list.
 use Rattle.std.specs.Prelude.{◌≡◌, Bool, ltb}
 use Rattle.std.proofs.Math.Path.{refl, sym, ap}
-use Rattle.std.proofs.Common.{◌∙◌, arith}
+use Rattle.std.proofs.Common.{◌∙◌, arith, Option, Some, None, ℕ}
 use Rattle.std.proofs.Math.Bool.{true, false}
 use mathlib.Core.List.{List, [], ◌∷◌}
 use Prim.Native.Nat.{ℕ, zero, suc, ◌+◌, ◌-◌, ◌*◌, ◌≤◌, ◌<◌}
@@ -17,8 +17,6 @@ use Rattle.dictionary_tables_rules.specs.Laid.{own_count, part_size, inner_size,
 use Rattle.dictionary_tables_rules.proofs.PartLaws.{Stands, item_among, heads-read, item-first, items-behind, items_stand, item_among_lem}
 use Rattle.dictionary_tables_rules.proofs.Tabled.{own_items-length, table-length}
 use Rattle.dictionary_tables_rules.specs.Tags.{fields_of, place_at, item_tags, is_item, found_of, tags_found}
-use Rattle.dictionary_tables_rules.specs.declared.Item.{Item}
-use Rattle.dictionary_tables_rules.specs.declared.Item.TheVariants.{At, Nowhere}
 
 -- ===== any words =====
 
@@ -39,8 +37,8 @@ chased_lying (suc fuel) table from tag link h =
   where
     go : (none : Bool) → eqb link 0 ≡ none → (within : Bool) → lies table (item_at from link) ≡ within →
         (same : Bool) → eqb (tag_at table (item_at from link)) tag ≡ same → (rises : Bool) →
-        is_item (pick none Nowhere (pick within (pick same (At (link - 1) (group_at table (item_at from link)))
-        (pick rises (chased fuel table from tag (later_at table (item_at from link))) Nowhere)) Nowhere)) ≡ true →
+        is_item (pick none None (pick within (pick same (Some ((link - 1), (group_at table (item_at from link))))
+        (pick rises (chased fuel table from tag (later_at table (item_at from link))) None)) None)) ≡ true →
         (is_item (chased fuel table from tag (later_at table (item_at from link))) ≡ true → Lying table from tag) → Lying table from tag
     go true z within w same t rises h later = let z : ◌≡◌ {A = ℕ} 0 1 = cc in absurd (omega arith)
     go false z false w same t rises h later = let z : ◌≡◌ {A = ℕ} 0 1 = cc in absurd (omega arith)
@@ -142,8 +140,8 @@ unfolding item_among own_items fields_of holds_tag is_item
 fields_among tag position free [] = refl
 fields_among tag position free (t ∷ tags) = go (eqb t tag) _ _ (fields_among tag (position + 1) free tags)
   where
-    go : (same : Bool) (group : ℕ) (later : Item) → is_item later ≡ holds_tag tag tags →
-        is_item (pick same (At position group) later) ≡ pick same true (holds_tag tag tags)
+    go : (same : Bool) (group : ℕ) (later : Option (ℕ × ℕ)) → is_item later ≡ holds_tag tag tags →
+        is_item (pick same (Some (position, group)) later) ≡ pick same true (holds_tag tag tags)
     go true group later e = refl
     go false group later e = e
 

@@ -2,14 +2,8 @@
 -- each of the level's own items: the low and the high half of its tag, where the level of its group starts, the required mark with the link to the
 -- next marked item, and the link to the next item that shares its head. A link is an item's position and one; 0 leads nowhere. Looking up has a meaning
 -- for every content: an item is looked at only where it lies in the table, and a link is followed only if it rises.
-use Rattle.std.specs.Prelude.{ℕ, zero, suc, ◌+◌, ◌-◌, ◌*◌, ◌/◌, ◌%◌, List, [], ◌∷◌, Bool, length, get_or, eqb, leb, ltb}
+use Rattle.std.specs.Prelude.{ℕ, zero, suc, ◌+◌, ◌-◌, ◌*◌, ◌/◌, ◌%◌, List, [], ◌∷◌, Bool, length, get_or, eqb, leb, ltb, Option, Some, None}
 use Rattle.field_rules.specs.Choice.{pick}
-use Rattle.dictionary_layout_rules.specs.declared.FirstTag.{FirstTag}
-use Rattle.dictionary_layout_rules.specs.declared.FirstTag.TheVariants.{First, NoTag}
-use Rattle.dictionary_tables_rules.specs.declared.Item.{Item}
-use Rattle.dictionary_tables_rules.specs.declared.Item.TheVariants.{At, Nowhere}
-use Rattle.dictionary_tables_rules.specs.declared.Mark.{Mark}
-use Rattle.dictionary_tables_rules.specs.declared.Mark.TheVariants.{Required, NoMore}
 
 -- words to an item
 abbrev pub item_stride : ℕ
@@ -54,27 +48,27 @@ unfoldable pub later_at : List ℕ → ℕ → ℕ
 later_at table at = get_or table (at + 4) 0
 
 -- from a link on; links rise and items lie in the table, so the fuel is what lies between
-unfoldable pub chased : ℕ → List ℕ → ℕ → ℕ → ℕ → Item
-chased zero table from tag link = Nowhere
+unfoldable pub chased : ℕ → List ℕ → ℕ → ℕ → ℕ → Option (ℕ × ℕ)
+chased zero table from tag link = None
 chased (suc fuel) table from tag link =
-    pick (eqb link 0) Nowhere
+    pick (eqb link 0) None
     (pick (lies table (item_at from link))
-    (pick (eqb (tag_at table (item_at from link)) tag) (At (link - 1) (group_at table (item_at from link)))
-    (pick (ltb link (later_at table (item_at from link))) (chased fuel table from tag (later_at table (item_at from link))) Nowhere))
-    Nowhere)
+    (pick (eqb (tag_at table (item_at from link)) tag) (Some ((link - 1), (group_at table (item_at from link))))
+    (pick (ltb link (later_at table (item_at from link))) (chased fuel table from tag (later_at table (item_at from link))) None))
+    None)
 
-unfoldable pub followed : List ℕ → ℕ → ℕ → ℕ → Item
+unfoldable pub followed : List ℕ → ℕ → ℕ → ℕ → Option (ℕ × ℕ)
 followed table from tag link = chased (suc (length table) - link) table from tag link
 
 -- what a tag is at a level
-unfoldable pub item_of : List ℕ → ℕ → ℕ → Item
+unfoldable pub item_of : List ℕ → ℕ → ℕ → Option (ℕ × ℕ)
 item_of table level tag = followed table (items_at table level) tag (get_or table (level + 1 + tag % heads_at table level) 0)
 
 -- "the delimiter (the layout's first tag)": what stands behind a level without items is none of it
-unfoldable pub delimiter_at : List ℕ → ℕ → FirstTag
+unfoldable pub delimiter_at : List ℕ → ℕ → Option ℕ
 delimiter_at table level =
-    pick (eqb (get_or table level 0) 0) NoTag
-    (pick (lies table (items_at table level)) (First (tag_at table (items_at table level))) NoTag)
+    pick (eqb (get_or table level 0) 0) None
+    (pick (lies table (items_at table level)) (Some (tag_at table (items_at table level))) None)
 
 -- where the marks go on behind an item: a link that doesn't rise ends them
 unfoldable pub marked_behind : ℕ → ℕ → ℕ
@@ -97,15 +91,15 @@ unfoldable pub required_of : List ℕ → ℕ → List ℕ
 required_of table level = required_from table level 1
 
 -- the first of them, and the link behind it
-unfoldable pub mark_within : ℕ → List ℕ → ℕ → ℕ → Mark
-mark_within zero table from link = NoMore
+unfoldable pub mark_within : ℕ → List ℕ → ℕ → ℕ → Option (ℕ × ℕ)
+mark_within zero table from link = None
 mark_within (suc fuel) table from link =
-    pick (eqb link 0) NoMore
+    pick (eqb link 0) None
     (pick (lies table (item_at from link))
     (pick (eqb (mark_at table (item_at from link) % 2) 1)
-    (Required (tag_at table (item_at from link)) (marked_behind link (mark_at table (item_at from link))))
+    (Some ((tag_at table (item_at from link)), (marked_behind link (mark_at table (item_at from link)))))
     (mark_within fuel table from (marked_behind link (mark_at table (item_at from link)))))
-    NoMore)
+    None)
 
-unfoldable pub mark_from : List ℕ → ℕ → ℕ → Mark
-mark_from table level link = pick (eqb (get_or table level 0) 0) NoMore (mark_within (suc (length table) - link) table (items_at table level) link)
+unfoldable pub mark_from : List ℕ → ℕ → ℕ → Option (ℕ × ℕ)
+mark_from table level link = pick (eqb (get_or table level 0) 0) None (mark_within (suc (length table) - link) table (items_at table level) link)

@@ -1,11 +1,9 @@
 -- A list of tags as a table: that of a layout which has just these tags as plain items, so that one probe says whether a tag is among them.
 -- Any words at all stand for a list of tags: those of the items that lie in them and that a look-up finds.
-use Rattle.std.specs.Prelude.{ℕ, zero, suc, ◌+◌, List, [], ◌∷◌, Bool, true, false, length}
+use Rattle.std.specs.Prelude.{ℕ, zero, suc, ◌+◌, List, [], ◌∷◌, Bool, true, false, length, Option, Some, None}
 use Rattle.field_rules.specs.Choice.{pick}
 use Rattle.dictionary_layout_rules.specs.Layout.{Layout, end, field}
 use Rattle.dictionary_tables_rules.specs.Table.{items_at, item_at, lies, tag_at, item_of}
-use Rattle.dictionary_tables_rules.specs.declared.Item.{Item}
-use Rattle.dictionary_tables_rules.specs.declared.Item.TheVariants.{At, Nowhere}
 
 -- a layout of plain fields
 unfoldable pub fields_of : List ℕ → Layout
@@ -22,9 +20,9 @@ item_tags zero table link = []
 item_tags (suc fuel) table link = pick (lies table (place_at table link)) (tag_at table (place_at table link) ∷ item_tags fuel table (link + 1)) []
 
 -- what a look-up finds is an item
-unfoldable pub is_item : Item → Bool
-is_item (At position group) = true
-is_item Nowhere = false
+unfoldable pub is_item : Option (ℕ × ℕ) → Bool
+is_item (Some (position, group)) = true
+is_item None = false
 
 -- those of some tags that a look-up finds
 unfoldable pub found_of : List ℕ → List ℕ → List ℕ

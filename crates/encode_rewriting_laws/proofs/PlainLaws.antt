@@ -1,14 +1,12 @@
 -- What plain says of a text: digits without leading zeros are the digits of the number that they are worth, so a tag's text, a BodyLength
 -- and a CheckSum are told by their numbers.
 use Rattle.std.specs.Prelude.{◌≡◌, refl, ◌⊎◌, Bool, true, false, List, [], ◌∷◌, ◌++◌, ℕ, ◌+◌, ◌≤◌, length, get_or, drop, eqb, leb}
-use Rattle.std.proofs.Common.{sym, ap, ◌∙◌, inl, inr, arith, get_or-drop, eqb-true, leb-true}
+use Rattle.std.proofs.Common.{sym, ap, ◌∙◌, inl, inr, arith, get_or-drop, eqb-true, leb-true, Option, Some, None}
 use Rattle.std.proofs.lemmas.Bool.{eqb-false}
 use Rattle.field_rules.specs.Choice.{pick}
 use Rattle.field_rules.specs.Number.{all_digits, worth, number_in, non_zero, tag_of}
 use Rattle.field_rules.specs.Decimal.{decimal}
 use Rattle.field_rules.proofs.DecimalLaws.{all_digits-first, decimal_small, decimal_unique}
-use Rattle.field_rules.specs.declared.Number.{Number}
-use Rattle.field_rules.specs.declared.Number.TheVariants.{Worth, NoNumber}
 use Rattle.encode_rewriting_laws.specs.Plain.{is_plain}
 
 -- "one or more digits", worth a number
@@ -18,12 +16,12 @@ pub record Digits (text : List ℕ) (n : ℕ) : Type 0 where
   pub worths : worth 0 text ≡ n
   pub most : n ≤ 4294967295
 
-pub number_digits : (text : List ℕ) (n : ℕ) → number_in text ≡ Worth n → Digits text n
+pub number_digits : (text : List ℕ) (n : ℕ) → number_in text ≡ Some n → Digits text n
 unfolding number_in
 number_digits text n e = by_tests (eqb (length text) 0) (all_digits text) (leb (worth 0 text) 4294967295) refl refl refl e
   where
     by_tests : (a b c : Bool) → eqb (length text) 0 ≡ a → all_digits text ≡ b → leb (worth 0 text) 4294967295 ≡ c
-        → pick a NoNumber (pick b (pick c (Worth (worth 0 text)) NoNumber) NoNumber) ≡ Worth n → Digits text n
+        → pick a None (pick b (pick c (Some (worth 0 text)) None) None) ≡ Some n → Digits text n
     by_tests true b c a-is b-is c-is e = let z : ◌≡◌ {A = ℕ} 0 1 = cc in absurd (omega arith)
     by_tests false false c a-is b-is c-is e = let z : ◌≡◌ {A = ℕ} 0 1 = cc in absurd (omega arith)
     by_tests false true false a-is b-is c-is e = let z : ◌≡◌ {A = ℕ} 0 1 = cc in absurd (omega arith)
@@ -38,20 +36,20 @@ pub record TagText (text : List ℕ) (tag : ℕ) : Type 0 where
   pub digits : Digits text tag
   pub least : 1 ≤ tag
 
-pub tag-text : (text : List ℕ) (tag : ℕ) → tag_of text ≡ Worth tag → TagText text tag
+pub tag-text : (text : List ℕ) (tag : ℕ) → tag_of text ≡ Some tag → TagText text tag
 unfolding tag_of non_zero
 tag-text text tag e = by_number (number_in text) refl e
   where
-    by_test : (n : ℕ) (b : Bool) → eqb n 0 ≡ b → number_in text ≡ Worth n → pick b NoNumber (Worth n) ≡ Worth tag → TagText text tag
+    by_test : (n : ℕ) (b : Bool) → eqb n 0 ≡ b → number_in text ≡ Some n → pick b None (Some n) ≡ Some tag → TagText text tag
     by_test n true b-is number e = let z : ◌≡◌ {A = ℕ} 0 1 = cc in absurd (omega arith)
     by_test n false b-is number e =
         let same : n ≡ tag = cc in
         let least : n ≡ 0 → ⊥ = eqb-false _ _ b-is in
-        record { digits = number_digits text tag (number ∙ ap Worth same); least = omega (arith, least) }
+        record { digits = number_digits text tag (number ∙ ap Some same); least = omega (arith, least) }
 
-    by_number : (r : Number) → number_in text ≡ r → non_zero r ≡ Worth tag → TagText text tag
-    by_number NoNumber number e = let z : ◌≡◌ {A = ℕ} 0 1 = cc in absurd (omega arith)
-    by_number (Worth n) number e = by_test n (eqb n 0) refl number e
+    by_number : (r : Option ℕ) → number_in text ≡ r → non_zero r ≡ Some tag → TagText text tag
+    by_number None number e = let z : ◌≡◌ {A = ℕ} 0 1 = cc in absurd (omega arith)
+    by_number (Some n) number e = by_test n (eqb n 0) refl number e
 
 -- one digit, or no leading zero
 pub Leads : List ℕ → Type 0

@@ -1,7 +1,7 @@
 -- A clean message is what its own records are rewritten to: plain tags make each part the text of its records, the plain BodyLength and
 -- the CheckSum of three digits the rest.
 use Rattle.std.specs.Prelude.{◌≡◌, refl, true, List, ◌∷◌, ◌++◌, ℕ, ◌-◌, length, drop}
-use Rattle.std.proofs.Common.{sym, ap, ◌∙◌, append_assoc, arith}
+use Rattle.std.proofs.Common.{sym, ap, ◌∙◌, append_assoc, arith, Ok}
 use Rattle.build_records.specs.Records.{value_at}
 use Rattle.field_rules.specs.declared.Mode.{Mode}
 use Rattle.field_rules.specs.Decimal.{decimal}
@@ -9,7 +9,6 @@ use Rattle.field_rules.specs.Field.{start_at, field_bytes, value_of}
 use Rattle.field_rules.specs.Fields.{Fields, field, fields_from}
 use Rattle.field_rules.specs.declared.Field.{Field}
 use Rattle.build_integrity_rules.specs.Integrity.{integrity_of}
-use Rattle.build_integrity_rules.specs.declared.Integrity.TheVariants.{Sound}
 use Rattle.build_integrity_rules.specs.declared.Verified.{Verified}
 use Rattle.build_records.specs.declared.Record.{Record}
 use Rattle.build_parts.specs.Parts.{part_record}
@@ -66,7 +65,7 @@ unfolding rewritten part_record value_at value_of
 closed mode message begin others eight = rw eight
 
 -- "clean": then the message is what its records are rewritten to
-pub clean_message : (mode : Mode) (message : List ℕ) (v : Verified) → integrity_of mode message ≡ Sound v
+pub clean_message : (mode : Mode) (message : List ℕ) (v : Verified) → integrity_of mode message ≡ Ok v
     → (others body trailer : List Record) (stop : Field) (more : Fields)
     → Followed mode message (part_record 1 v.begin_string ∷ part_record 1 v.body_length ∷ others) body trailer (field stop more)
     → stop.first ≡ length message - 7

@@ -1,17 +1,15 @@
 -- A sound message with a plain BodyLength and a CheckSum of three digits is its own encoding: the BodyLength's digits are those of what
 -- it counts, and the last seven bytes those of the sum.
 use Rattle.std.specs.Prelude.{◌≡◌, true, List, [], ◌∷◌, ◌++◌, ℕ, ◌-◌, ◌≤◌, length, take, drop}
-use Rattle.std.proofs.Common.{sym, ap, ◌∙◌, append_assoc, arith, length-append, length-drop, take_at}
+use Rattle.std.proofs.Common.{sym, ap, ◌∙◌, append_assoc, arith, length-append, length-drop, take_at, Ok}
 use Rattle.field_rules.specs.declared.Mode.{Mode}
 use Rattle.field_rules.specs.Decimal.{decimal}
 use Rattle.field_rules.specs.Field.{start_at, field_at, field_bytes, value_of}
 use Rattle.field_rules.specs.Fields.{fields_from}
 use Rattle.field_rules.specs.declared.Cursor.{Cursor}
 use Rattle.field_rules.specs.declared.Field.{Field}
-use Rattle.field_rules.specs.declared.FieldRead.TheVariants.{Read}
 use Rattle.build_integrity_rules.specs.Integrity.{integrity_of}
 use Rattle.build_integrity_rules.proofs.VerifiedLaws.{verified-read}
-use Rattle.build_integrity_rules.specs.declared.Integrity.TheVariants.{Sound}
 use Rattle.build_integrity_rules.specs.declared.Verified.{Verified}
 use Rattle.encode_rules.specs.Encoding.{summed, sum_digits}
 use Rattle.build_order_laws.specs.VerifiedTags.{verified-checked}
@@ -36,7 +34,7 @@ seven_summed mode message begin n m counted place whole size same seven =
     ∙ ap (λ (l : List ℕ). summed mode.separator (begin ++ (tagged mode.separator 9 l ++ counted))) same
 
 -- a message that starts with the texts of 8 and 9 that were read
-module _ (mode : Mode) (message : List ℕ) (v : Verified) (sound : integrity_of mode message ≡ Sound v) (counted : List ℕ)
+module _ (mode : Mode) (message : List ℕ) (v : Verified) (sound : integrity_of mode message ≡ Ok v) (counted : List ℕ)
     (whole : message ≡ tagged mode.separator 8 (value_of message v.begin_string)
     ++ (tagged mode.separator 9 (value_of message v.body_length) ++ (counted ++ drop (length message - 7) message))) where
   begins-next : v.begin_string.next ≡ start_at (length (tagged mode.separator 8 (value_of message v.begin_string)))
@@ -44,7 +42,7 @@ module _ (mode : Mode) (message : List ℕ) (v : Verified) (sound : integrity_of
       let r = verified-read mode message v sound in
       let b = value_of message v.begin_string in
       let read = placed-read mode 8 message [] b _ whole (omega arith) (omega arith) (value_ends mode message _ _ r.begins) in
-      let same : Read v.begin_string ≡ Read (placed 0 8 b) = sym r.begins ∙ read in
+      let same : Ok v.begin_string ≡ Ok (placed 0 8 b) = sym r.begins ∙ read in
       let is : v.begin_string ≡ placed 0 8 b = cc in
       ap (λ (f : Field). f.next) is ∙ placed-next mode.separator 8 [] b
 
@@ -55,9 +53,9 @@ module _ (mode : Mode) (message : List ℕ) (v : Verified) (sound : integrity_of
       let b = tagged mode.separator 8 (value_of message v.begin_string) in
       let n = value_of message v.body_length in
       let read = placed-read mode 9 message b n _ whole (omega arith) (omega arith) (value_ends mode message _ _ r.counts) in
-      let there : field_at mode message (start_at (length b)) ≡ Read v.body_length =
+      let there : field_at mode message (start_at (length b)) ≡ Ok v.body_length =
       ap (λ (c : Cursor). field_at mode message c) (sym begins-next) ∙ r.counts in
-      let same : Read v.body_length ≡ Read (placed (length b) 9 n) = sym there ∙ read in
+      let same : Ok v.body_length ≡ Ok (placed (length b) 9 n) = sym there ∙ read in
       let is : v.body_length ≡ placed (length b) 9 n = cc in
       ap (λ (f : Field). f.next.at) is ∙ ap (λ (c : Cursor). c.at) (placed-next mode.separator 9 b n)
 
@@ -104,7 +102,7 @@ module _ (mode : Mode) (message : List ℕ) (v : Verified) (sound : integrity_of
         (last_seven mode message v.checksum length_long (verified-read mode message v sound).sums checked.tags.sums checked.sum_right three)
 
 -- a message that starts with the texts of 8 and 9, and has `counted` between them and the CheckSum, is what its encoding comes to
-pub clean_rewritten : (mode : Mode) (message : List ℕ) (v : Verified) → integrity_of mode message ≡ Sound v → (counted : List ℕ)
+pub clean_rewritten : (mode : Mode) (message : List ℕ) (v : Verified) → integrity_of mode message ≡ Ok v → (counted : List ℕ)
     → message ≡ field_bytes mode.separator (decimal 8) (value_of message v.begin_string)
     ++ (field_bytes mode.separator (decimal 9) (value_of message v.body_length) ++ (counted ++ drop (length message - 7) message))
     → plain_length message (fields_from mode message (start_at 0)) ≡ true → three_digits message v.checksum ≡ true

@@ -1,7 +1,7 @@
 -- The last seven bytes of a message whose CheckSum has three digits: they are `10=`, the digits of the sum of all before, and the
 -- separator, since no other tag text worth 10 leaves room for the digits.
 use Rattle.std.specs.Prelude.{◌≡◌, refl, Bool, true, false, List, [], ◌∷◌, ◌++◌, ℕ, suc, ◌+◌, ◌-◌, ◌/◌, ◌%◌, ◌≤◌, get_or, take, drop, eqb}
-use Rattle.std.proofs.Common.{sym, ◌∙◌, append-nil, arith, length-append, length-drop, get_or-drop}
+use Rattle.std.proofs.Common.{sym, ◌∙◌, append-nil, arith, length-append, length-drop, get_or-drop, Some, Ok}
 use Rattle.std.proofs.Math.Path.{ap}
 use Rattle.std.proofs.Math.ListN.{length}
 use borrow.Author.Tests.{eqb-true}
@@ -15,8 +15,6 @@ use Rattle.field_rules.specs.Field.{start_at, field_at, field_bytes, value_of}
 use Rattle.field_rules.proofs.FieldTextLaws.{bytes-size}
 use Rattle.field_rules.proofs.FieldsLaws.{step-lies}
 use Rattle.field_rules.specs.declared.Field.{Field}
-use Rattle.field_rules.specs.declared.FieldRead.TheVariants.{Read}
-use Rattle.field_rules.specs.declared.Number.TheVariants.{Worth}
 use Rattle.build_integrity_rules.specs.Integrity.{sum_agrees}
 use Rattle.build_integrity_rules.proofs.IntegrityLaws.{sum_is_lem}
 use Rattle.encode_rules.specs.Encoding.{sum_digits}
@@ -105,11 +103,11 @@ no_bytes [] e = refl
 no_bytes (x ∷ s) e = absurd (omega (arith, e))
 
 -- three digits are compared
-three_reads : (s : List ℕ) → length s ≡ 3 → all_digits s ≡ true → checksum_of s ≡ Worth (worth 0 s)
+three_reads : (s : List ℕ) → length s ≡ 3 → all_digits s ≡ true → checksum_of s ≡ Some (worth 0 s)
 three_reads s three digits =
     checksum_three s three ∙ number_good s (worth 0 s) (λ e. omega (arith, e, three)) digits refl (three_worth s (worth 0 s) three digits refl).small
 
-module _ (mode : Mode) (message : List ℕ) (f : Field) (long : 7 ≤ length message) (read : field_at mode message (start_at (length message - 7)) ≡ Read f)
+module _ (mode : Mode) (message : List ℕ) (f : Field) (long : 7 ≤ length message) (read : field_at mode message (start_at (length message - 7)) ≡ Ok f)
     (ten : f.tag ≡ 10) (right : sum_agrees message f ≡ true)
     (three : three_digits message f ≡ true) where
   -- the value is the sum's digits
@@ -137,7 +135,7 @@ module _ (mode : Mode) (message : List ℕ) (f : Field) (long : 7 ≤ length mes
         length-append (field_bytes mode.separator w.text w.value) w.rest,
         bytes-size mode.separator w.text w.value,
       ) in
-      let text : Digits w.text 10 = (tag-text w.text 10 (w.is_tag ∙ ap Worth ten)).digits in
+      let text : Digits w.text 10 = (tag-text w.text 10 (w.is_tag ∙ ap Some ten)).digits in
       let text_is : w.text ≡ 49 ∷ 48 ∷ [] = ten_text w.text text (omega (arith, size, digits.0, ap length value)) in
       let none : w.rest ≡ [] = no_bytes w.rest (omega (arith, size, digits.0, ap length value, ap length text_is)) in
       w.whole

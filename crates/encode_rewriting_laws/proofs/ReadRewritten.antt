@@ -1,7 +1,7 @@
 -- What an encoding of records comes to is sound, and reads as 8, 9, 35, a field for each further record, and 10: the fields have the
 -- tags and values of the records.
 use Rattle.std.specs.Prelude.{◌≡◌, refl, Bool, true, false, List, [], ◌∷◌, ◌++◌, ℕ, ◌+◌, ◌-◌, ◌/◌, ◌%◌, ◌≤◌, length, eqb}
-use Rattle.std.proofs.Common.{sym, ◌∙◌, append_assoc, append-nil, arith, length-append}
+use Rattle.std.proofs.Common.{sym, ◌∙◌, append_assoc, append-nil, arith, length-append, Some, Ok}
 use Rattle.std.proofs.Math.Path.{ap}
 use Rattle.build_records.specs.Records.{value_at}
 use Rattle.field_rules.specs.declared.Mode.{Mode}
@@ -13,9 +13,7 @@ use Rattle.field_rules.proofs.DecimalLaws.{digit_byte, last_digit, decimal_digit
 use Rattle.field_rules.specs.Field.{start_at, value_of}
 use Rattle.field_rules.specs.Fields.{Fields, field, fields_from}
 use Rattle.field_rules.specs.declared.Field.{Field}
-use Rattle.field_rules.specs.declared.Number.TheVariants.{Worth}
 use Rattle.build_integrity_rules.specs.Integrity.{integrity_of}
-use Rattle.build_integrity_rules.specs.declared.Integrity.TheVariants.{Sound}
 use Rattle.build_integrity_rules.specs.declared.Verified.{Verified}
 use Rattle.build_records.specs.declared.Record.{Record}
 use Rattle.build_nesting_laws.specs.Entries.{All}
@@ -47,14 +45,14 @@ sum_three : (s : List ℕ) → length (sum_digits s) ≡ 3
 unfolding sum_digits checksum_digits
 sum_three s = refl
 
-sum-reads : (s : List ℕ) → checksum_of (sum_digits s) ≡ Worth (sum_of s % 256)
+sum-reads : (s : List ℕ) → checksum_of (sum_digits s) ≡ Some (sum_of s % 256)
 unfolding sum_digits
 sum-reads s = checksum_reads (sum_of s % 256) (omega arith)
 
 -- a copy of records reads like them
 pub record ReadsLike (mode : Mode) (bytes copy : List ℕ) (begin type : Record) (others : List Record) : Type 0 where
   pub verified : Verified
-  pub sound : integrity_of mode copy ≡ Sound verified
+  pub sound : integrity_of mode copy ≡ Ok verified
   pub begin_tag : verified.begin_string.tag ≡ 8
   pub begin_value : value_of copy verified.begin_string ≡ value_at bytes begin
   pub length_tag : verified.body_length.tag ≡ 9
@@ -104,8 +102,8 @@ module _ (mode : Mode) (bytes copy n s : List ℕ) (begin type : Record) (others
     (whole : copy ≡ framed mode.separator (value_at bytes begin) n (tagged mode.separator 35 (value_at bytes type)
     ++ written mode.separator bytes others) ++ (tagged mode.separator 10 s ++ []))
     (apart : Unseparated mode.separator (value_at bytes begin) n (value_at bytes type) s) (three : length s ≡ 3)
-    (right_length : number_in n ≡ Worth (length (tagged mode.separator 35 (value_at bytes type) ++ written mode.separator bytes others)))
-    (right-sum : checksum_of s ≡ Worth
+    (right_length : number_in n ≡ Some (length (tagged mode.separator 35 (value_at bytes type) ++ written mode.separator bytes others)))
+    (right-sum : checksum_of s ≡ Some
     (sum_of (framed mode.separator (value_at bytes begin) n (tagged mode.separator 35 (value_at bytes type) ++ written mode.separator bytes others))
     % 256)) where
   framed_like : CopiedAt mode bytes copy

@@ -1,7 +1,7 @@
 -- What was read with plain tags is what writing the records makes: the bytes of a message between two places are the text of the records
 -- of the fields between them. Whatever was read can be written.
 use Rattle.std.proofs.Math.Path.{◌≡◌, refl, ap}
-use Rattle.std.proofs.Common.{sym, ◌∙◌, append_assoc, arith}
+use Rattle.std.proofs.Common.{sym, ◌∙◌, append_assoc, arith, Ok}
 use Rattle.std.specs.Prelude.{Bool, List, ◌∷◌, ◌++◌, ℕ, ◌+◌, ◌-◌, ◌≤◌, ◌<◌, length}
 use Rattle.std.proofs.Math.Bool.{true, false}
 use Rattle.std.proofs.Math.ListN.{drop}
@@ -17,7 +17,6 @@ use Rattle.field_rules.specs.Fields.{Fields, field, fields_from}
 use Rattle.field_rules.proofs.FieldsLaws.{step-lies, step_falls}
 use Rattle.field_rules.specs.declared.Cursor.{Cursor}
 use Rattle.field_rules.specs.declared.Field.{Field}
-use Rattle.field_rules.specs.declared.FieldRead.TheVariants.{Read}
 use Rattle.build_records.specs.declared.Record.{Record}
 use Rattle.build_nesting_laws.specs.Entries.{All, all_none, all_more}
 use Rattle.message_read_laws.specs.Counting.{Of}
@@ -61,7 +60,7 @@ module _ (message : List ℕ) (place : ℕ) (f : Field) (rest : Fields) (plain :
       by_tests false b is e = let z : ◌≡◌ {A = ℕ} 0 1 = cc in absurd (omega arith)
 
 module _ (mode : Mode) (message : List ℕ) where
-  module _ (c : Cursor) (f : Field) (h : field_at mode message c ≡ Read f) where
+  module _ (c : Cursor) (f : Field) (h : field_at mode message c ≡ Ok f) where
     text-plain : is_plain message f.first (f.place - f.first - 1) ≡ true → (spells mode message c f h).text ≡ decimal f.tag
     text-plain plain =
         let w = spells mode message c f h in

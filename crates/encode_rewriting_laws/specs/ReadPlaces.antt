@@ -1,6 +1,6 @@
 -- Fields that are read one behind the other stand at places of the message: what is left to read is told by the place where reading
 -- stands, and that place only rises.
-use Rattle.std.specs.Prelude.{◌≡◌, refl, List, ℕ, ◌+◌, ◌-◌, ◌≤◌, length, take, drop}
+use Rattle.std.specs.Prelude.{◌≡◌, refl, List, ℕ, ◌+◌, ◌-◌, ◌≤◌, length, take, drop, Ok}
 use Rattle.std.proofs.Common.{sym, ap, ◌∙◌, arith}
 use Rattle.field_rules.proofs.PlaceLaws.{first_read, one-read}
 use Rattle.field_rules.specs.declared.Mode.{Mode}
@@ -10,7 +10,6 @@ use Rattle.field_rules.specs.declared.Cursor.{Cursor}
 use Rattle.field_rules.specs.declared.Field.{Field}
 use Rattle.build_integrity_rules.specs.Integrity.{integrity_of}
 use Rattle.build_integrity_rules.proofs.VerifiedLaws.{verified-read}
-use Rattle.build_integrity_rules.specs.declared.Integrity.TheVariants.{Sound}
 use Rattle.build_integrity_rules.specs.declared.Verified.{Verified}
 use Rattle.build_records.specs.declared.Record.{Record}
 use Rattle.build_order_laws.specs.Follows.{Follows, no_field, one_field}
@@ -32,7 +31,7 @@ module _ (mode : Mode) (message : List ℕ) where
       record { cursor = later.cursor; left = later.left; behind = omega (arith, falls.0, later.behind); within = λ h. later.within falls.1 }
 
   -- a field that starts at length minus 7 is the CheckSum that was verified
-  pub stop-verified : (v : Verified) → integrity_of mode message ≡ Sound v → (c : Cursor) (f : Field) (rest : Fields) → field f rest ≡ fields_from mode message c → f.first ≡ length message - 7 → f ≡ v.checksum
+  pub stop-verified : (v : Verified) → integrity_of mode message ≡ Ok v → (c : Cursor) (f : Field) (rest : Fields) → field f rest ≡ fields_from mode message c → f.first ≡ length message - 7 → f ≡ v.checksum
   stop-verified v sound c f rest e starts =
       let first = (first_read mode message c f rest e).reads in
       one-read mode message c _ f v.checksum first (verified-read mode message v sound).sums (sym (step-lies mode message c f first).starts ∙ starts)

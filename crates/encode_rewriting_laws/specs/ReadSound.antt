@@ -1,6 +1,6 @@
 -- A text of 8, 9, 35, further bytes and 10 whose length and sum are right passes the integrity checks, and its four fields are read where
 -- they were written.
-use Rattle.std.specs.Prelude.{◌≡◌, refl, true, ℕ, ◌+◌, ◌-◌, ◌%◌, ◌≤◌, take}
+use Rattle.std.specs.Prelude.{◌≡◌, refl, true, ℕ, ◌+◌, ◌-◌, ◌%◌, ◌≤◌, take, Some, Ok}
 use Rattle.std.proofs.Common.{sym, ◌∙◌}
 use Rattle.std.proofs.Math.Path.{ap}
 use mathlib.Core.List.{List, [], ◌++◌, append_assoc, append-nil}
@@ -19,11 +19,8 @@ use Rattle.field_rules.proofs.FieldTextLaws.{spelt, bytes-size}
 use Rattle.field_rules.specs.Fields.{Fields, field, fields_from}
 use Rattle.field_rules.specs.declared.Cursor.{Cursor}
 use Rattle.field_rules.specs.declared.Field.{Field}
-use Rattle.field_rules.specs.declared.FieldRead.TheVariants.{Read}
-use Rattle.field_rules.specs.declared.Number.TheVariants.{Worth}
 use Rattle.build_integrity_rules.specs.Integrity.{integrity_of, length_agrees, sum_agrees}
 use Rattle.build_integrity_rules.proofs.IntegrityLaws.{begun-on, counted-on, summed-on, typed-on, length_is_lem, sum_is_lem}
-use Rattle.build_integrity_rules.specs.declared.Integrity.TheVariants.{Sound}
 use Rattle.build_integrity_rules.specs.declared.Verified.{Verified}
 use Rattle.field_rules.proofs.SpelledLaws.{text-read, text_value, text-fields}
 
@@ -38,7 +35,7 @@ placed at tag value = spelt at tag (decimal tag) value
 -- the text of a field behind other bytes: it is read with its value, and reading goes on behind it
 module _ (mode : Mode) (tag : ℕ) (copy pre value post : List ℕ) (whole : copy ≡ pre ++ (tagged mode.separator tag value ++ post)) (least : 1 ≤ tag)
     (most : tag ≤ 4294967295) (ends : Absent mode.separator value) where
-  pub placed-read : field_at mode copy (start_at (length pre)) ≡ Read (placed (length pre) tag value)
+  pub placed-read : field_at mode copy (start_at (length pre)) ≡ Ok (placed (length pre) tag value)
   unfolding tagged placed
   placed-read = text-read mode tag copy pre (decimal tag) value post whole (decimal-reads tag least most) (decimal_digits tag) ends
 
@@ -103,7 +100,7 @@ module _ (mode : Mode) (copy b n t rest s : List ℕ) (whole : copy ≡ framed m
       ++ (tagged mode.separator 35 t ++ (rest ++ (tagged mode.separator 10 s ++ [])))
   types_whole = begins-whole ∙ sym (append_assoc (tagged mode.separator 8 b) (tagged mode.separator 9 n) _)
 
-  begins-read : field_at mode copy (start_at 0) ≡ Read (placed 0 8 b)
+  begins-read : field_at mode copy (start_at 0) ≡ Ok (placed 0 8 b)
   begins-read = placed-read mode 8 copy [] b _ begins-whole (omega arith) (omega arith) apart.begin
 
   begin-next : (placed 0 8 b).next ≡ start_at (length (tagged mode.separator 8 b))
@@ -112,11 +109,11 @@ module _ (mode : Mode) (copy b n t rest s : List ℕ) (whole : copy ≡ framed m
   count_next : (placed (length (tagged mode.separator 8 b)) 9 n).next ≡ start_at (length (tagged mode.separator 8 b ++ tagged mode.separator 9 n))
   count_next = placed-next mode.separator 9 (tagged mode.separator 8 b) n
 
-  counts-read : field_at mode copy (placed 0 8 b).next ≡ Read (placed (length (tagged mode.separator 8 b)) 9 n)
+  counts-read : field_at mode copy (placed 0 8 b).next ≡ Ok (placed (length (tagged mode.separator 8 b)) 9 n)
   counts-read = rw begin-next (placed-read mode 9 copy (tagged mode.separator 8 b) n _ counts_whole (omega arith) (omega arith) apart.count)
 
   types_read : field_at mode copy (placed (length (tagged mode.separator 8 b)) 9 n).next
-      ≡ Read (placed (length (tagged mode.separator 8 b ++ tagged mode.separator 9 n)) 35 t)
+      ≡ Ok (placed (length (tagged mode.separator 8 b ++ tagged mode.separator 9 n)) 35 t)
   types_read =
       rw count_next (placed-read mode 35 copy (tagged mode.separator 8 b ++ tagged mode.separator 9 n) t _ types_whole (omega arith) (omega arith)
       apart.type)
@@ -145,14 +142,14 @@ module _ (mode : Mode) (copy b n t rest s : List ℕ) (whole : copy ≡ framed m
         )
 
     sums_read : field_at mode copy (start_at (length copy - 7))
-        ≡ Read (placed (length (framed mode.separator b n (tagged mode.separator 35 t ++ rest))) 10 s)
+        ≡ Ok (placed (length (framed mode.separator b n (tagged mode.separator 35 t ++ rest))) 10 s)
     sums_read =
         let at : length copy - 7 ≡ length (framed mode.separator b n (tagged mode.separator 35 t ++ rest)) = omega (arith, framed-size) in
         rw at (placed-read mode 10 copy (framed mode.separator b n (tagged mode.separator 35 t ++ rest)) s [] whole (omega arith) (omega arith)
         apart.sum)
 
-    module _ (right_length : number_in n ≡ Worth (length (tagged mode.separator 35 t ++ rest)))
-        (right-sum : checksum_of s ≡ Worth (sum_of (framed mode.separator b n (tagged mode.separator 35 t ++ rest)) % 256)) where
+    module _ (right_length : number_in n ≡ Some (length (tagged mode.separator 35 t ++ rest)))
+        (right-sum : checksum_of s ≡ Some (sum_of (framed mode.separator b n (tagged mode.separator 35 t ++ rest)) % 256)) where
       length_agrees_lem : length_agrees copy (placed (length (tagged mode.separator 8 b)) 9 n) ≡ true
       unfolding framed
       length_agrees_lem =
@@ -179,7 +176,7 @@ module _ (mode : Mode) (copy b n t rest s : List ℕ) (whole : copy ≡ framed m
           sum_is_lem copy (placed (length before) 10 s) _ (ap checksum_of value ∙ right-sum)
           ∙ eq-eqb _ _ (ap (λ (l : List ℕ). sum_of l % 256) (sym front))
 
-      pub framed_sound : integrity_of mode copy ≡ Sound (framed_fields mode.separator b n t rest s)
+      pub framed_sound : integrity_of mode copy ≡ Ok (framed_fields mode.separator b n t rest s)
       unfolding integrity_of framed_fields
       framed_sound =
           begun-on mode copy _ (placed 0 8 b) begins-read (placed-tag 0 8 b)

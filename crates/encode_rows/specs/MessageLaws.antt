@@ -1,31 +1,30 @@
 -- A message that is lent, written part by part, is the text of the message; its length is the total of its fields; and the CheckSum comes
 -- behind it.
-use Rattle.std.specs.Prelude.{◌≡◌, Bool, true, ℕ, zero, suc, ◌+◌, ◌-◌, ◌*◌, ◌≤◌, ◌<◌, length, take, eqb}
+use Rattle.std.specs.Prelude.{◌≡◌, Bool, true, ℕ, ◌+◌, ◌-◌, ◌≤◌, length, take, eqb}
 use Rattle.std.proofs.Math.Path.{refl, sym, ap}
-use Rattle.std.proofs.Common.{◌∙◌, length-append, take-append-drop, take_at, length-take-le, eqb-true}
+use Rattle.std.proofs.Common.{◌∙◌, length-append, take-append-drop, take_at, eqb-true}
 use Rattle.std.proofs.Math.Bool.{false}
-use mathlib.Core.List.{List, [], ◌∷◌, ◌++◌, append_assoc, append-nil}
+use mathlib.Core.List.{List, [], ◌∷◌, ◌++◌, append_assoc}
 use native.Mathlib.Omega.{arith}
 use Rattle.std.proofs.Math.ListN.{drop}
 use Rattle.std.proofs.Math.Seq.{drop_at}
-use Rattle.field_rules.specs.Choice.{pick, pick_same}
+use Rattle.field_rules.specs.Choice.{pick}
 use Rattle.field_rules.specs.Decimal.{decimal, written_at}
 use Rattle.field_rules.proofs.DecimalLaws.{written_fits}
 use Rattle.field_rules.specs.CheckSum.{checksum_digits}
 use Rattle.field_rules.specs.Field.{field_bytes}
 use Rattle.message_maps.specs.Map.{Map, end, field, entry, values_in}
-use Rattle.message_maps.specs.Rows.{Row, row, laid, rows_from, sizes, message_rows}
+use Rattle.message_maps.specs.Rows.{row, laid, rows_from, sizes}
 use Rattle.message_lent_rules.specs.Lent.{row_count, rows_of, is_message}
-use Rattle.message_lent_rules.specs.Meaning.{Message, parts, message_in}
+use Rattle.message_lent_rules.specs.Meaning.{Message, message_in}
 use Rattle.message_rules.specs.Changes.{part_of}
 use Rattle.message_rules.specs.RowChanges.{place_of, span_of}
-use Rattle.message_rules.specs.LayoutLaws.{sizes-append, sizes-laid}
 use Rattle.message_rules.specs.PlaceLaws.{rows_part, part_rows, place_grows}
 use Rattle.message_rules.specs.StoreLaws.{In, lent_in, rows_all, own_rows_lem, count_is, span_grows}
 use Rattle.message_rules.specs.declared.Part.{Part}
 use Rattle.message_rules.specs.declared.Part.TheVariants.{Header, Body, Trailer}
 use Rattle.encode_rules.specs.Encoding.{text, text_under, is_first, is_rest, header_text, message_text, bytes_of, sum_digits, summed}
-use Rattle.encode_rows.specs.Writing.{chosen, rows_text, bytes_in, row_bytes, items_at, header_at, text_at, Stands, Spans, tail_of}
+use Rattle.encode_rows.specs.Writing.{chosen, bytes_in, row_bytes, items_at, header_at, text_at, Stands, Spans, tail_of}
 use Rattle.encode_rows.specs.WritingLaws.{text-laid, bytes-append, bytes-laid, text-length, written_twice}
 
 -- all of a map

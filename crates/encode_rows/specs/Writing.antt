@@ -1,9 +1,9 @@
 -- The layer of rows: what is written of rows and their values, one row behind the other.
-use Rattle.std.specs.Prelude.{ℕ, zero, suc, ◌+◌, ◌-◌, ◌*◌, ◌≤◌, ◌≡◌, Bool, true, false, List, [], ◌∷◌, ◌++◌, length, take, drop, eqb, leb, ltb}
+use Rattle.std.specs.Prelude.{ℕ, ◌+◌, ◌-◌, ◌≤◌, ◌≡◌, Bool, true, false, List, [], ◌∷◌, ◌++◌, length, take, drop, eqb}
 use Rattle.field_rules.specs.Choice.{pick}
 use Rattle.field_rules.specs.Decimal.{decimal}
 use Rattle.field_rules.specs.Field.{field_bytes}
-use Rattle.message_maps.specs.Rows.{Row, row, rows_from, size_of, sizes, message_words, message_rows}
+use Rattle.message_maps.specs.Rows.{Row, row, rows_from, size_of, message_words, message_rows}
 use Rattle.message_rules.specs.RowChanges.{place_of}
 use Rattle.message_rules.specs.declared.Span.{Span}
 use Rattle.encode_rules.specs.Encoding.{is_rest, sum_digits}

@@ -1,16 +1,15 @@
 -- The steps by which rows are written, and what they come to for the rows of a map.
-use Rattle.std.specs.Prelude.{◌≡◌, refl, Bool, true, false, ℕ, zero, suc, ◌+◌, ◌-◌, ◌*◌, ◌≤◌, ◌<◌, length, take, drop, leb, ltb, eqb}
+use Rattle.std.specs.Prelude.{◌≡◌, refl, Bool, true, false, ℕ, ◌+◌, ◌-◌, ◌≤◌, ◌<◌, length, take, drop, Some, None}
 use Rattle.std.proofs.Common.{sym, ap, ◌∙◌, length-append, take-append-drop, take_at, drop_at, drop-drop, length-take-le}
-use mathlib.Core.List.{List, [], ◌∷◌, ◌++◌, append_assoc, append-nil}
+use mathlib.Core.List.{List, [], ◌∷◌, ◌++◌, append_assoc}
 use native.Mathlib.Omega.{arith}
 use borrow.Author.Tests.{eq-eqb, ne_eqb}
 use Rattle.field_rules.specs.Choice.{pick, pick_same}
 use Rattle.field_rules.specs.Decimal.{decimal, written_at, answer_at}
-use Rattle.field_rules.specs.declared.Written.TheVariants.{Next, NoRoom}
 use Rattle.field_rules.proofs.DecimalLaws.{written_fits, written-length, written_copied, answer_fits}
 use Rattle.field_rules.specs.Field.{field_bytes}
 use Rattle.message_maps.specs.Map.{Map, end, field, entry, values_in}
-use Rattle.message_maps.specs.Rows.{Row, row, laid, row_at, rows_from, rows_before, size_of, sizes, level_of}
+use Rattle.message_maps.specs.Rows.{Row, row, laid, row_at, rows_from, size_of, sizes}
 use Rattle.message_maps.specs.RowsLaws.{rows_step, rows_none}
 use Rattle.message_rules.specs.RowChanges.{place_of}
 use Rattle.message_rules.specs.LayoutLaws.{sizes-append}
@@ -63,10 +62,10 @@ written_none at output h =
     written_fits at [] output (omega arith) ∙ rw e (take-append-drop at output)
 
 -- where a number has room it is written
-pub next_is : (at n : ℕ) (digits output : List ℕ) → at + length digits ≤ length output → answer_at at digits output ≡ Next n → n ≡ at + length digits
+pub next_is : (at n : ℕ) (digits output : List ℕ) → at + length digits ≤ length output → answer_at at digits output ≡ Some n → n ≡ at + length digits
 next_is at n digits output room h = let e = answer_fits at digits output room in cc
 
-pub never_full : (at : ℕ) (digits output : List ℕ) → at + length digits ≤ length output → answer_at at digits output ≡ NoRoom → ⊥
+pub never_full : (at : ℕ) (digits output : List ℕ) → at + length digits ≤ length output → answer_at at digits output ≡ None → ⊥
 never_full at digits output room h = let e = answer_fits at digits output room in let z : ◌≡◌ {A = ℕ} 0 1 = cc in omega arith
 
 -- the four pieces of a field

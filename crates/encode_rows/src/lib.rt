@@ -13,8 +13,6 @@ ghost use Rattle.message_rules.specs.RowChanges.{place_of};
 ghost use Rattle.encode_rules.specs.Encoding.{message_text, summed};
 ghost use Rattle.encode_rows.specs.Writing.{chosen, row_on, row_text, rows_text, row_bytes, bytes_in, header_at, text_at, Stands, Spans, tail_of};
 
-use field_numbers::wide;
-use field_rules::Written;
 use message_rules::{Part, Span};
 
 fn write_bytes(output: &mut [u8], at: usize, text: &[u8]) -> usize
@@ -32,15 +30,15 @@ fn write_field(output: &mut [u8], at: usize, tag: u32, value: &[u8], separator: 
     ensures value { result ≡ at + (length (decimal tag) + length value.now + 2) }
     ensures output_after { output.new ≡ written_at at (field_bytes separator (decimal tag) value.now) output.old }
 {
-    let Written::Next(digits) = field_numbers::write_number(output, at, tag) else {
+    let Some(digits) = field_numbers::write_number(output, at, tag) else {
         return at;
     };
-    let ending = [separator];
     let place = write_bytes(output, digits, b"=");
     let end = write_bytes(output, place, value);
-    write_bytes(output, end, &ending[..])
+    write_bytes(output, end, &[separator])
 }
 
+#[tactic(auto, unfolding(crate::specs::Writing::chosen, encode_rules::specs::Encoding::is_rest, encode_rules::specs::Encoding::is_first))]
 fn is_chosen(which: u32, tag: u32) -> bool
     ensures { result ≡ chosen which tag }
 {
@@ -48,13 +46,7 @@ fn is_chosen(which: u32, tag: u32) -> bool
         return true;
     }
     if which == 1 {
-        if tag == 8 {
-            return false;
-        }
-        if tag == 9 {
-            return false;
-        }
-        return tag != 35;
+        return tag != 8 && tag != 9 && tag != 35;
     }
     tag == which
 }
@@ -67,7 +59,7 @@ pub fn row_bytes(words: &[u32], row: usize) -> usize
 {
     if message_maps::kind_of(words, row) == 1 {
         return field_numbers::digit_count(message_maps::tag_of(words, row))
-            + wide(message_maps::extra_of(words, row))
+            + message_maps::extra_of(words, row) as usize
             + 2;
     }
     0
@@ -79,14 +71,13 @@ pub fn bytes_between(words: &[u32], from: usize, to: usize) -> usize
     ensures upper_bound { result ≤ message_rows * 8589934592 }
 {
     let mut size: usize = 0;
-    let mut i = from;
-    while i < to {
+    for i in from..to {
         size += row_bytes(words, i);
-        i += 1;
     }
     size
 }
 
+#[tactic(auto, unfolding(message_maps::specs::Rows::row_at, message_maps::specs::Rows::level_of, crate::specs::Writing::row_on))]
 fn row_on(words: &[u32], row: usize, which: u32, on: bool) -> bool
     requires { (row < message_rows) × (length words.now ≡ message_words) }
     ensures { result ≡ row_on which on (row_at words.now row) }
@@ -146,12 +137,10 @@ fn write_items(
     let mut next = at;
     let mut place = message_maps::size_between(words, 0, from);
     let mut on = false;
-    let mut i = from;
-    while i < to {
+    for i in from..to {
         on = row_on(words, i, which, on);
         next = write_row(words, values, output, next, i, place, on, separator);
         place += message_maps::size_of(words, i);
-        i += 1;
     }
     next
 }
@@ -163,8 +152,7 @@ fn write_header(words: &[u32], values: &[u8], output: &mut [u8], head: Span, sep
     ensures value { result ≡ length (header_at words.now values.now head separator) }
     ensures output_after { output.new ≡ written_at 0 (header_at words.now values.now head separator) output.old }
 {
-    let from = head.from;
-    let to = head.to;
+    let Span { from, to, .. } = head;
     let first = write_items(words, values, output, 0, from, to, 8, separator);
     let second = write_items(words, values, output, first, from, to, 9, separator);
     let third = write_items(words, values, output, second, from, to, 35, separator);
@@ -185,21 +173,19 @@ fn write_text(
     ensures value { result ≡ length (text_at words.now values.now head middle tail separator) }
     ensures output_after { output.new ≡ written_at 0 (text_at words.now values.now head middle tail separator) output.old }
 {
-    let body = middle.from;
-    let body_end = middle.to;
-    let trailer = tail.from;
-    let trailer_end = tail.to;
     let first = write_header(words, values, output, head, separator);
-    let second = write_items(words, values, output, first, body, body_end, 0, separator);
-    write_items(
+    let second = write_items(
         words,
         values,
         output,
-        second,
-        trailer,
-        trailer_end,
+        first,
+        middle.from,
+        middle.to,
         0,
         separator,
+    );
+    write_items(
+        words, values, output, second, tail.from, tail.to, 0, separator,
     )
 }
 
@@ -217,10 +203,9 @@ fn write_tail(output: &mut [u8], at: usize, separator: u8)
 {
     let sum = sum_before(output, at);
     let digits = field_numbers::checksum_digits(sum);
-    let ending = [separator];
     let first = write_bytes(output, at, b"10=");
-    let second = write_bytes(output, first, &digits[..]);
-    write_bytes(output, second, &ending[..]);
+    let second = write_bytes(output, first, &digits);
+    write_bytes(output, second, &[separator]);
 }
 
 // Writes a message as it is held, with the CheckSum of its bytes behind it, and answers its length.

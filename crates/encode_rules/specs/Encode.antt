@@ -1,5 +1,5 @@
 -- Encode, the operation: "Encode: 22, 43, 20, 21, 23", and 27 first. What is refused leaves everything as it was.
-use Rattle.std.specs.Prelude.{ℕ, Bool, true, false, List, ◌++◌, length, drop, ltb}
+use Rattle.std.specs.Prelude.{ℕ, Bool, true, false, List, ◌++◌, length, drop, ltb, Result, Ok, Err}
 use Rattle.field_rules.specs.Choice.{pick}
 use Rattle.field_rules.specs.Separator.{is_refused_separator}
 use Rattle.message_maps.specs.Map.{Map, end, field, entry, holds}
@@ -9,8 +9,6 @@ use Rattle.message_rules.specs.Changes.{field_total}
 use Rattle.encode_rules.specs.Encoding.{dropped, body_length, encoding, encoded_message}
 use Rattle.encode_rules.specs.declared.Encoding.{Encoding}
 use Rattle.encode_rules.specs.declared.Encoding.TheVariants.{Written, NoMessage, InvalidSeparator, Incomplete, TooLong, TooManyFields, NoRoom}
-use Rattle.encode_rules.specs.declared.Verdict.{Verdict}
-use Rattle.encode_rules.specs.declared.Verdict.TheVariants.{Measured, Refused}
 
 -- The rules' number for each answer
 unfoldable pub number_of_encoding : Encoding → ℕ
@@ -48,19 +46,19 @@ unfoldable pub is_incomplete : Message → Bool
 is_incomplete m = pick (holds 8 m.header) (pick (holds 35 m.header) (has_uncounted m) true) true
 
 -- "Encode: 22, 43, 20, 21, 23": runs are judged once the trailer's 10 is dropped, and before 9 is set
-unfoldable pub judging : ℕ → Message → ℕ → Verdict
+unfoldable pub judging : ℕ → Message → ℕ → Result ℕ Encoding
 judging separator m room =
-    pick (is_refused_separator separator) (Refused InvalidSeparator)
-    (pick (is_incomplete (dropped m)) (Refused Incomplete)
-    (pick (ltb 8192 (length (encoding separator m))) (Refused TooLong)
-    (pick (ltb 1024 (field_total (encoded_message separator m))) (Refused TooManyFields)
-    (pick (ltb room (length (encoding separator m))) (Refused NoRoom)
-    (Measured (body_length (dropped m)))))))
+    pick (is_refused_separator separator) (Err InvalidSeparator)
+    (pick (is_incomplete (dropped m)) (Err Incomplete)
+    (pick (ltb 8192 (length (encoding separator m))) (Err TooLong)
+    (pick (ltb 1024 (field_total (encoded_message separator m))) (Err TooManyFields)
+    (pick (ltb room (length (encoding separator m))) (Err NoRoom)
+    (Ok (body_length (dropped m)))))))
 
 -- "27 first"
-unfoldable pub encode_verdict : ℕ → List ℕ → List ℕ → ℕ → Verdict
+unfoldable pub encode_verdict : ℕ → List ℕ → List ℕ → ℕ → Result ℕ Encoding
 encode_verdict separator words values room =
-    pick (is_message words values) (judging separator (message_in words values) room) (Refused NoMessage)
+    pick (is_message words values) (judging separator (message_in words values) room) (Err NoMessage)
 
 -- what a call answers, and what it leaves of words, values and output
 pub data Left : Type 0 where
@@ -73,9 +71,9 @@ encoded separator m output =
     (words_of (encoded_message separator m)) (value_bytes_of (encoded_message separator m))
     (encoding separator m ++ drop (length (encoding separator m)) output)
 
-unfoldable pub after_verdict : ℕ → List ℕ → List ℕ → List ℕ → Verdict → Left
-after_verdict separator words values output (Refused refusal) = left refusal words values output
-after_verdict separator words values output (Measured body) = encoded separator (message_in words values) output
+unfoldable pub after_verdict : ℕ → List ℕ → List ℕ → List ℕ → Result ℕ Encoding → Left
+after_verdict separator words values output (Err refusal) = left refusal words values output
+after_verdict separator words values output (Ok body) = encoded separator (message_in words values) output
 
 unfoldable pub encoding_of : ℕ → List ℕ → List ℕ → List ℕ → Left
 encoding_of separator words values output =

@@ -1,6 +1,6 @@
 -- Worked examples of this crate's definitions: a call that is answered by each number, and what calls leave. antt computes them.
 -- A wrong definition is refused here, whatever code is proved against it.
-use Rattle.std.specs.Prelude.{◌≡◌, refl, List, [], ◌∷◌, ℕ, zero, suc, replicate}
+use Rattle.std.specs.Prelude.{◌≡◌, refl, List, [], ◌∷◌, ℕ, zero, suc, replicate, Result, Ok, Err}
 use Rattle.field_rules.specs.Text.{bytes}
 use Rattle.field_rules.specs.Number.{is_digit}
 use Rattle.field_rules.specs.Decimal.{decimal, decimal_within}
@@ -18,8 +18,7 @@ use Rattle.encode_rules.specs.Encoding.{summed, encoding, encoded_message}
 use Rattle.encode_rules.specs.Encode.{number_of_encoding, lacks_count, has_uncounted, is_incomplete, judging, encode_verdict, Left, left, encoded}
 use Rattle.encode_rules.specs.Encode.{after_verdict, encoding_of}
 use Rattle.encode_rules.specs.declared.Encoding.TheVariants.{Written, NoMessage, InvalidSeparator, Incomplete, TooLong, TooManyFields, NoRoom}
-use Rattle.encode_rules.specs.declared.Verdict.{Verdict}
-use Rattle.encode_rules.specs.declared.Verdict.TheVariants.{Measured, Refused}
+use Rattle.encode_rules.specs.declared.Encoding.{Encoding}
 
 -- a header with 8 and 35, and what a body or trailer has
 with_body_lem : Map → Message
@@ -45,7 +44,7 @@ many n = field 78 (bytes "1") (entries n)
 
 -- the new 9 and 10 count: 1,020 fields beside 8 and 35 are fine, 1,021 are not; a held 10 counts once; 21 comes before 23
 fields_counted_lem : judging 1 (with_body_lem (many 1019)) 0 ∷ judging 1 (with_body_lem (many 1020)) 0 ∷ judging 1 (with-trailer (field 10 (bytes "000") (many 1019))) 0 ∷ []
-    ≡ Refused NoRoom ∷ Refused TooManyFields ∷ Refused NoRoom ∷ []
+    ≡ Err NoRoom ∷ Err TooManyFields ∷ Err NoRoom ∷ []
 unfolding with_body_lem with-trailer many entries judging is_refused_separator is_digit is_incomplete has_uncounted lacks_count encoding summed sum_digits message_text header_text text_under text is_first is_rest measured dropped body_length bytes_of without_field stored holds holds_any replaced joined without_run run_on decimal decimal_within sum_of checksum_digits encoded_message field_total field_count
 fields_counted_lem = refl
 
@@ -55,19 +54,19 @@ typeless size = record { header = field 8 (bytes "FIX.4.4") end; body = field 58
 
 -- 8,192 bytes are encoded, 8,193 are not; 43 comes before 20, and 20 before 21 and 23
 bytes_counted : judging 1 (with_body_lem (field 58 (replicate 8159 65) end)) 8192 ∷ judging 1 (with_body_lem (field 58 (replicate 8160 65) end)) 0 ∷ judging 1 (with_body_lem (field 58 (replicate 8160 65) (many 1020))) 0 ∷ judging 1 (typeless 8192) 0 ∷ []
-    ≡ Measured 8168 ∷ Refused TooLong ∷ Refused TooLong ∷ Refused Incomplete ∷ []
+    ≡ Ok 8168 ∷ Err TooLong ∷ Err TooLong ∷ Err Incomplete ∷ []
 unfolding with_body_lem typeless many entries judging is_refused_separator is_digit is_incomplete has_uncounted lacks_count encoding summed sum_digits message_text header_text text_under text is_first is_rest measured dropped body_length bytes_of without_field stored holds holds_any replaced joined without_run run_on decimal decimal_within sum_of checksum_digits encoded_message field_total field_count
 bytes_counted = refl
 
 -- P1's 26 bytes have room in 26, and not in 25; `=`, `0` and `9` separate nothing, `/` and `:` do
-rooms : List Verdict
+rooms : List (Result ℕ Encoding)
 rooms =
     judging 1 (with_body_lem end) 26 ∷ judging 1 (with_body_lem end) 25
     ∷ judging 61 (with_body_lem end) 26 ∷ judging 48 (with_body_lem end) 26 ∷ judging 57 (with_body_lem end) 26
     ∷ judging 47 (with_body_lem end) 26 ∷ judging 58 (with_body_lem end) 26 ∷ []
 
 -- without 8, without 35; 22 comes before 43
-headless : List Verdict
+headless : List (Result ℕ Encoding)
 headless =
     judging 1 (record { header = field 35 (bytes "0") end; body = end; trailer = end }) 0
     ∷ judging 1 (record { header = field 8 (bytes "FIX.4.4") end; body = end; trailer = end }) 0
@@ -75,7 +74,7 @@ headless =
 
 -- runs without their counts and with them, also in an entry; a header run on 9 needs a 9 beforehand, a trailer run on 10 is refused with 10
 -- present, and in a body 10 is ordinary
-runs : List Verdict
+runs : List (Result ℕ Encoding)
 runs =
     judging 1 (with_body_lem (run 78)) 100 ∷ judging 1 (with_body_lem (field 78 (bytes "1") (run 78))) 100
     ∷ judging 1 (with_body_lem (field 78 (bytes "1") (entry 78 79 (field 79 (bytes "A") (run 539)) end))) 100
@@ -84,9 +83,9 @@ runs =
     ∷ judging 1 (with_body_lem (field 10 (bytes "1") (run 10))) 100 ∷ []
 
 verdicts : rooms ∷ headless ∷ runs ∷ []
-    ≡ (Measured 5 ∷ Refused NoRoom ∷ Refused InvalidSeparator ∷ Refused InvalidSeparator ∷ Refused InvalidSeparator ∷ Measured 5 ∷ Measured 5 ∷ [])
-    ∷ (Refused Incomplete ∷ Refused Incomplete ∷ Refused InvalidSeparator ∷ [])
-    ∷ (Refused Incomplete ∷ Measured 15 ∷ Refused Incomplete ∷ Refused Incomplete ∷ Measured 10 ∷ Refused Incomplete ∷ Measured 15 ∷ []) ∷ []
+    ≡ (Ok 5 ∷ Err NoRoom ∷ Err InvalidSeparator ∷ Err InvalidSeparator ∷ Err InvalidSeparator ∷ Ok 5 ∷ Ok 5 ∷ [])
+    ∷ (Err Incomplete ∷ Err Incomplete ∷ Err InvalidSeparator ∷ [])
+    ∷ (Err Incomplete ∷ Ok 15 ∷ Err Incomplete ∷ Err Incomplete ∷ Ok 10 ∷ Err Incomplete ∷ Ok 15 ∷ []) ∷ []
 unfolding rooms headless runs with_body_lem with-trailer with-header run judging is_refused_separator is_digit is_incomplete has_uncounted lacks_count encoding summed
     sum_digits message_text header_text text_under text is_first is_rest measured dropped body_length bytes_of without_field stored holds holds_any replaced joined
     without_run run_on decimal decimal_within sum_of checksum_digits encoded_message field_total field_count

@@ -14,10 +14,3 @@ pub enum Encoding {
     TooManyFields,
     NoRoom,
 }
-
-// What is found before anything changes: the BodyLength, or why the call is refused.
-#[derive(Clone, Copy)]
-pub enum Verdict {
-    Measured(u32),
-    Refused(Encoding),
-}

@@ -1,5 +1,5 @@
 -- What encode leaves where it answers 0 is a message again, and holds the new 9 and 10.
-use Rattle.std.specs.Prelude.{◌≡◌, refl, Bool, true, false, List, ℕ, length, ltb}
+use Rattle.std.specs.Prelude.{◌≡◌, refl, Bool, true, false, List, ℕ, length, ltb, Result, Ok, Err}
 use Rattle.std.proofs.Common.{sym, ◌∙◌, arith}
 use Rattle.field_rules.specs.Choice.{pick}
 use Rattle.field_rules.specs.Separator.{is_refused_separator}
@@ -15,8 +15,7 @@ use Rattle.encoder.specs.Leaving.{Encodable}
 use Rattle.encoder.specs.SizeLaws.{encoded-values}
 use Rattle.encoder.specs.VerdictLaws.{fit_to-encode, encodes, refuses}
 use Rattle.encode_rules.specs.declared.Encoding.TheVariants.{Written, NoMessage, InvalidSeparator, Incomplete, TooLong, TooManyFields, NoRoom}
-use Rattle.encode_rules.specs.declared.Verdict.{Verdict}
-use Rattle.encode_rules.specs.declared.Verdict.TheVariants.{Measured, Refused}
+use Rattle.encode_rules.specs.declared.Encoding.{Encoding}
 
 encoded_formed : (separator : ℕ) (m : Message) → Formed m → Formed (encoded_message separator m)
 unfolding encoded_message measured dropped
@@ -38,7 +37,7 @@ fit_within separator words values output body fit =
     }
 
 -- no refusal says 0
-pub never_written : (separator : ℕ) (words values : List ℕ) (room n : ℕ) → encode_verdict separator words values room ≡ Refused (Written n) → ⊥
+pub never_written : (separator : ℕ) (words values : List ℕ) (room n : ℕ) → encode_verdict separator words values room ≡ Err (Written n) → ⊥
 unfolding encode_verdict judging
 never_written separator words values room n verdict =
     let m = message_in words values in
@@ -46,10 +45,10 @@ never_written separator words values room n verdict =
     (ltb 1024 (field_total (encoded_message separator m))) (ltb room (length (encoding separator m))) verdict
   where
     by_tests : (a b c d e f : Bool)
-        → pick a (pick b (Refused InvalidSeparator)
-        (pick c (Refused Incomplete) (pick d (Refused TooLong)
-        (pick e (Refused TooManyFields) (pick f (Refused NoRoom) (Measured (body_length (dropped (message_in words values))))))))) (Refused NoMessage)
-        ≡ Refused (Written n)
+        → pick a (pick b (Err InvalidSeparator)
+        (pick c (Err Incomplete) (pick d (Err TooLong)
+        (pick e (Err TooManyFields) (pick f (Err NoRoom) (Ok (body_length (dropped (message_in words values))))))))) (Err NoMessage)
+        ≡ Err (Written n)
         → ⊥
     by_tests false b c d e f v = let z : ◌≡◌ {A = ℕ} 0 1 = cc in omega arith
     by_tests true true c d e f v = let z : ◌≡◌ {A = ℕ} 0 1 = cc in omega arith
@@ -61,7 +60,7 @@ never_written separator words values room n verdict =
 
 -- nor 27, where a message is lent
 pub never_none : (separator : ℕ) (words values : List ℕ) (room : ℕ) → is_message words values ≡ true
-    → encode_verdict separator words values room ≡ Refused NoMessage → ⊥
+    → encode_verdict separator words values room ≡ Err NoMessage → ⊥
 unfolding encode_verdict judging
 never_none separator words values room lent verdict =
     let m = message_in words values in
@@ -69,9 +68,9 @@ never_none separator words values room lent verdict =
     (ltb 1024 (field_total (encoded_message separator m))) (ltb room (length (encoding separator m))) (rw lent at verdict)
   where
     by_tests : (b c d e f : Bool)
-        → pick b (Refused InvalidSeparator) (pick c (Refused Incomplete)
-        (pick d (Refused TooLong) (pick e (Refused TooManyFields) (pick f (Refused NoRoom) (Measured (body_length (dropped (message_in words values))))))))
-        ≡ Refused NoMessage
+        → pick b (Err InvalidSeparator) (pick c (Err Incomplete)
+        (pick d (Err TooLong) (pick e (Err TooManyFields) (pick f (Err NoRoom) (Ok (body_length (dropped (message_in words values))))))))
+        ≡ Err NoMessage
         → ⊥
     by_tests true c d e f v = let z : ◌≡◌ {A = ℕ} 0 1 = cc in omega arith
     by_tests false true d e f v = let z : ◌≡◌ {A = ℕ} 0 1 = cc in omega arith
@@ -91,15 +90,15 @@ pub encode_layout : (separator : ℕ) (words values output : List ℕ) (n : ℕ)
     → (is_message words values ≡ true) × IsLayout (encoded_message separator (message_in words values)) w v
 encode_layout separator words values output n w v o e = by_verdict (encode_verdict separator words values (length output)) refl
   where
-    by_verdict : (d : Verdict) → encode_verdict separator words values (length output) ≡ d
+    by_verdict : (d : Result ℕ Encoding) → encode_verdict separator words values (length output) ≡ d
         → (is_message words values ≡ true) × IsLayout (encoded_message separator (message_in words values)) w v
-    by_verdict (Measured body) d =
+    by_verdict (Ok body) d =
         let fit = fit_to-encode separator words values output body d in
         let same = left_is separator (message_in words values) output n w v o (sym (encodes separator words values output body d) ∙ e) in
         (fit.message, record { within = fit_within separator words values output body fit; words_are = sym same.0; values_are = sym same.1 })
-    by_verdict (Refused refusal) d =
+    by_verdict (Err refusal) d =
         let same = sym (refuses separator words values output refusal d) ∙ e in
-        let is-written : Refused refusal ≡ Refused (Written n) = cc in
+        let is-written : Err refusal ≡ Err (Written n) = cc in
         absurd (never_written separator words values (length output) n (d ∙ is-written))
 
 pub encode_lends : (separator : ℕ) (words values output : List ℕ) (n : ℕ) (w v o : List ℕ) → encoding_of separator words values output ≡ left (Written n) w v o

@@ -1,7 +1,7 @@
 -- A message that is lent is judged by its rows as it is by what it means, one law for each answer.
 use Rattle.std.proofs.Math.Path.{◌≡◌, refl, ap}
 use Rattle.std.proofs.Common.{◌∙◌, arith}
-use Rattle.std.specs.Prelude.{Bool, ℕ, ◌+◌, ◌-◌, ◌≤◌, ◌<◌}
+use Rattle.std.specs.Prelude.{Bool, ℕ, ◌+◌, ◌-◌, ◌≤◌, ◌<◌, Ok, Err}
 use Rattle.std.proofs.Math.Bool.{true, false}
 use mathlib.Core.List.{List, []}
 use Rattle.std.proofs.Math.ListN.{length}
@@ -30,7 +30,6 @@ use Rattle.encoder.specs.FoundLaws.{span_within, held_is, hung_is, size-found}
 use Rattle.encoder.specs.CountLaws.{uncounted_is, gone_once, dropped-uncounted}
 use Rattle.encode_rules.specs.declared.Encoding.{Encoding}
 use Rattle.encode_rules.specs.declared.Encoding.TheVariants.{NoMessage, InvalidSeparator, Incomplete, TooLong, TooManyFields, NoRoom}
-use Rattle.encode_rules.specs.declared.Verdict.TheVariants.{Measured, Refused}
 
 module _ (words values : List ℕ) (lent : is_message words values ≡ true) where
   head_within : SpanWithin words (span_of Header (message_in words values))
@@ -106,38 +105,38 @@ module _ (words values : List ℕ) (lent : is_message words values ≡ true) whe
 
   -- the judgement in its order
   module _ (separator room : ℕ) where
-    pub refused-separator : is_refused_separator separator ≡ true → encode_verdict separator words values room ≡ Refused InvalidSeparator
+    pub refused-separator : is_refused_separator separator ≡ true → encode_verdict separator words values room ≡ Err InvalidSeparator
     unfolding encode_verdict judging
     refused-separator s = rw (lent, s)
 
     module _ (separates : is_refused_separator separator ≡ false) where
-      pub refused_incomplete : is_incomplete (dropped (message_in words values)) ≡ true → encode_verdict separator words values room ≡ Refused Incomplete
+      pub refused_incomplete : is_incomplete (dropped (message_in words values)) ≡ true → encode_verdict separator words values room ≡ Err Incomplete
       unfolding encode_verdict judging
       refused_incomplete i = rw (lent, separates, i)
 
       module _ (complete : is_incomplete (dropped (message_in words values)) ≡ false) where
-        pub refused_long : 8192 < length (encoding separator (message_in words values)) → encode_verdict separator words values room ≡ Refused TooLong
+        pub refused_long : 8192 < length (encoding separator (message_in words values)) → encode_verdict separator words values room ≡ Err TooLong
         unfolding encode_verdict judging
         refused_long l = rw (lent, separates, complete, lt-ltb 8192 _ l)
 
         module _ (short : length (encoding separator (message_in words values)) ≤ 8192) where
           pub refused-many : 1024 < field_total (encoded_message separator (message_in words values))
-              → encode_verdict separator words values room ≡ Refused TooManyFields
+              → encode_verdict separator words values room ≡ Err TooManyFields
           unfolding encode_verdict judging
           refused-many f = rw (lent, separates, complete, le-ltb 8192 _ short, lt-ltb 1024 _ f)
 
           module _ (few : field_total (encoded_message separator (message_in words values)) ≤ 1024) where
-            pub refused-room : room < length (encoding separator (message_in words values)) → encode_verdict separator words values room ≡ Refused NoRoom
+            pub refused-room : room < length (encoding separator (message_in words values)) → encode_verdict separator words values room ≡ Err NoRoom
             unfolding encode_verdict judging
             refused-room r = rw (lent, separates, complete, le-ltb 8192 _ short, le-ltb 1024 _ few, lt-ltb room _ r)
 
             pub found_fit : length (encoding separator (message_in words values)) ≤ room
-                → encode_verdict separator words values room ≡ Measured (body_length (dropped (message_in words values)))
+                → encode_verdict separator words values room ≡ Ok (body_length (dropped (message_in words values)))
             unfolding encode_verdict judging
             found_fit r = rw (lent, separates, complete, le-ltb 8192 _ short, le-ltb 1024 _ few, le-ltb room _ r)
 
 pub refused-message : (separator : ℕ) (words values : List ℕ) (room : ℕ) → is_message words values ≡ false
-    → encode_verdict separator words values room ≡ Refused NoMessage
+    → encode_verdict separator words values room ≡ Err NoMessage
 unfolding encode_verdict
 refused-message separator words values room h = rw h
 
@@ -174,7 +173,7 @@ module _ (words values : List ℕ) (head tail : Span) (p : Parts words values he
 
 -- what a verdict says of a message, and what is left by it
 module _ (separator : ℕ) (words values output : List ℕ) where
-  pub fit_to-encode : (body : ℕ) → encode_verdict separator words values (length output) ≡ Measured body → Encodable separator words values output body
+  pub fit_to-encode : (body : ℕ) → encode_verdict separator words values (length output) ≡ Ok body → Encodable separator words values output body
   unfolding encode_verdict judging
   fit_to-encode body verdict =
       let m = message_in words values in
@@ -185,10 +184,10 @@ module _ (separator : ℕ) (words values output : List ℕ) where
       by_tests : (a b c d e f : Bool) → is_message words values ≡ a → ltb 8192 (length (encoding separator (message_in words values))) ≡ d
           → ltb 1024 (field_total (encoded_message separator (message_in words values))) ≡ e
           → ltb (length output) (length (encoding separator (message_in words values))) ≡ f
-          → pick a (pick b (Refused InvalidSeparator)
-          (pick c (Refused Incomplete) (pick d (Refused TooLong)
-          (pick e (Refused TooManyFields) (pick f (Refused NoRoom) (Measured (body_length (dropped (message_in words values))))))))) (Refused NoMessage)
-          ≡ Measured body
+          → pick a (pick b (Err InvalidSeparator)
+          (pick c (Err Incomplete) (pick d (Err TooLong)
+          (pick e (Err TooManyFields) (pick f (Err NoRoom) (Ok (body_length (dropped (message_in words values))))))))) (Err NoMessage)
+          ≡ Ok body
           → Encodable separator words values output body
       by_tests true false false false false false lent short few room v =
           record { message = lent; measured = cc; short = ltb-false _ _ short; few = ltb-false _ _ few; room = ltb-false _ _ room }
@@ -199,12 +198,12 @@ module _ (separator : ℕ) (words values output : List ℕ) where
       by_tests true true c d e f lent short few room v = let z : ◌≡◌ {A = ℕ} 0 1 = cc in absurd (omega arith)
       by_tests false b c d e f lent short few room v = let z : ◌≡◌ {A = ℕ} 0 1 = cc in absurd (omega arith)
 
-  pub encodes : (body : ℕ) → encode_verdict separator words values (length output) ≡ Measured body
+  pub encodes : (body : ℕ) → encode_verdict separator words values (length output) ≡ Ok body
       → encoding_of separator words values output ≡ encoded separator (message_in words values) output
   unfolding encoding_of after_verdict
   encodes body verdict = rw verdict
 
-  pub refuses : (refusal : Encoding) → encode_verdict separator words values (length output) ≡ Refused refusal
+  pub refuses : (refusal : Encoding) → encode_verdict separator words values (length output) ≡ Err refusal
       → encoding_of separator words values output ≡ left refusal words values output
   unfolding encoding_of after_verdict
   refuses refusal verdict = rw verdict

@@ -15,27 +15,23 @@ ghost use Rattle.encode_rules.specs.Encode.{encode_verdict, left, encoded, encod
 ghost use Rattle.encoder.specs.Judging.{SpanWithin, held_at, hung_at, size_at, incomplete_at, all_bytes, body_at, added_at, fields_at};
 ghost use Rattle.encoder.specs.Leaving.{Encodable};
 
-use encode_rules::{Encoding, Verdict};
-use field_rules::Written;
+use encode_rules::Encoding;
 use message_lent_rules::Standing;
 use message_rules::{Change, Part, Span};
 
+// The same call as `has_run` makes, with the kind of another row: a name for each says more than the kind's number would.
 fn holds(words: &[u32], span: Span, tag: u32) -> bool
     requires { SpanWithin words.now span }
     ensures { result ≡ held_at words.now span tag }
 {
-    let from = span.from;
-    let to = span.to;
-    message_maps::find_row(words, 1, 1, tag, from, to) < to
+    message_maps::find_row(words, 1, 1, tag, span.from, span.to) < span.to
 }
 
 fn has_run(words: &[u32], span: Span, start: u32) -> bool
     requires { SpanWithin words.now span }
     ensures { result ≡ hung_at words.now span start }
 {
-    let from = span.from;
-    let to = span.to;
-    message_maps::find_row(words, 2, 1, start, from, to) < to
+    message_maps::find_row(words, 2, 1, start, span.from, span.to) < span.to
 }
 
 // How many bytes a part's own field takes when it is written, 0 where the part lacks it.
@@ -44,10 +40,8 @@ fn field_bytes(words: &[u32], span: Span, tag: u32) -> usize
     ensures value { result ≡ size_at words.now span tag }
     ensures upper_bound { result < 8589934592 }
 {
-    let from = span.from;
-    let to = span.to;
-    let at = message_maps::find_row(words, 1, 1, tag, from, to);
-    if at < to {
+    let at = message_maps::find_row(words, 1, 1, tag, span.from, span.to);
+    if at < span.to {
         return encode_rows::row_bytes(words, at);
     }
     0
@@ -77,8 +71,7 @@ fn body_length(words: &[u32], head: Span, tail: Span) -> usize
     requires tail_bound { size_at words.now head 8 + size_at words.now head 9 + size_at words.now tail 10 ≤ all_bytes words.now head }
     ensures { result ≡ body_at words.now head tail }
 {
-    let count = head.count;
-    let all = encode_rows::bytes_between(words, 0, count);
+    let all = encode_rows::bytes_between(words, 0, head.count);
     let eight = field_bytes(words, head, 8);
     let nine = field_bytes(words, head, 9);
     let ten = field_bytes(words, tail, 10);
@@ -102,12 +95,21 @@ fn passes_limit(words: &[u32], head: Span, tail: Span) -> bool
     requires { (SpanWithin words.now head) × (SpanWithin words.now tail) }
     ensures { result ≡ ltb 1024 (fields_at words.now head tail) }
 {
-    let count = head.count;
-    message_lent::passes_limit(words, count, added(words, head, 9) + added(words, tail, 10))
+    message_lent::passes_limit(
+        words,
+        head.count,
+        added(words, head, 9) + added(words, tail, 10),
+    )
 }
 
 // Judges a message that was found to be one, with or without a run that has no count.
-fn measure(words: &[u32], values: &[u8], separator: u8, room: usize, loose: bool) -> Verdict
+fn measure(
+    words: &[u32],
+    values: &[u8],
+    separator: u8,
+    room: usize,
+    loose: bool,
+) -> Result<u32, Encoding>
     requires values_value { is_message words.now values.now ≡ true }
     requires loose_value { loose ≡ uncounted [] (rows_of words.now) }
     ensures { result ≡ encode_verdict separator words.now values.now room }
@@ -115,36 +117,36 @@ fn measure(words: &[u32], values: &[u8], separator: u8, room: usize, loose: bool
     let head = message::span_of(words, values, Part::Header);
     let tail = message::span_of(words, values, Part::Trailer);
     if field_tagvalue::is_refused_separator(separator) {
-        return Verdict::Refused(Encoding::InvalidSeparator);
+        return Err(Encoding::InvalidSeparator);
     }
     if is_incomplete(words, head, tail, loose) {
-        return Verdict::Refused(Encoding::Incomplete);
+        return Err(Encoding::Incomplete);
     }
     let body = body_length(words, head, tail);
     if 8192 < body {
-        return Verdict::Refused(Encoding::TooLong);
+        return Err(Encoding::TooLong);
     }
     let begin = field_bytes(words, head, 8);
     let length = begin + field_numbers::digit_count(body as u32) + body + 10;
     if 8192 < length {
-        return Verdict::Refused(Encoding::TooLong);
+        return Err(Encoding::TooLong);
     }
     if passes_limit(words, head, tail) {
-        return Verdict::Refused(Encoding::TooManyFields);
+        return Err(Encoding::TooManyFields);
     }
     if room < length {
-        return Verdict::Refused(Encoding::NoRoom);
+        return Err(Encoding::NoRoom);
     }
-    Verdict::Measured(body as u32)
+    Ok(body as u32)
 }
 
-fn judge(words: &[u32], values: &[u8], separator: u8, room: usize) -> Verdict
+fn judge(words: &[u32], values: &[u8], separator: u8, room: usize) -> Result<u32, Encoding>
     ensures { result ≡ encode_verdict separator words.now values.now room }
 {
     let standing = message_lent::message_standing(words, values);
     match standing {
         Standing::Refused => {
-            return Verdict::Refused(Encoding::NoMessage);
+            return Err(Encoding::NoMessage);
         }
         Standing::Uncounted => {
             return measure(words, values, separator, room, true);
@@ -163,7 +165,7 @@ fn set_body_length(words: &mut [u32], values: &mut [u8], body: u32) -> Change
 {
     let mut digits = [0u8; 10];
     let scratch = &mut digits[..];
-    let Written::Next(end) = field_numbers::write_number(scratch, 0, body) else {
+    let Some(end) = field_numbers::write_number(scratch, 0, body) else {
         return Change::NotStorable;
     };
     message::store_in(words, values, Part::Header, 9, &digits[..end], true)
@@ -194,7 +196,7 @@ pub fn encode(words: &mut [u32], values: &mut [u8], output: &mut [u8], separator
     ensures { left result words.new values.new output.new ≡ encoding_of separator words.old values.old output.old }
 {
     match judge(words, values, separator, output.len()) {
-        Verdict::Measured(body) => write_encoding(words, values, output, separator, body),
-        Verdict::Refused(refusal) => refusal,
+        Ok(body) => write_encoding(words, values, output, separator, body),
+        Err(refusal) => refusal,
     }
 }

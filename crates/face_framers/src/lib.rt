@@ -42,10 +42,7 @@ pub struct HunterReply {
 fn is_set(mark: u8) -> bool
     ensures { result ≡ is_set mark }
 {
-    if mark == 0 {
-        return false;
-    }
-    true
+    mark != 0
 }
 
 // "As it was": a set mark that stays set is the byte that was lent.
@@ -135,9 +132,7 @@ pub fn ported_push(
 {
     face_told::tell(out, 0, 0, 0);
     let outcome = frame_parser::push(ported_in(state), store, chunk);
-    let after = outcome.state;
-    let answer = outcome.answer;
-    ported_told(state, after, answer)
+    ported_told(state, outcome.state, outcome.answer)
 }
 
 // The stream's end for the ported framer.
@@ -146,9 +141,7 @@ pub fn ported_end(state: PortedState, store: &[u8], out: &mut [u32; 4]) -> Porte
 {
     face_told::tell(out, 0, 0, 0);
     let outcome = frame_parser::end(ported_in(state), store);
-    let after = outcome.state;
-    let answer = outcome.answer;
-    ported_told(state, after, answer)
+    ported_told(state, outcome.state, outcome.answer)
 }
 
 // The message at the front of the ported framer's store, if it is whole; the first value is its length.
@@ -164,10 +157,8 @@ pub fn ported_take(
         × (out.new ≡ told 0 (length_returned (taken (ported_in state) store.old output.old).answer, 0)) }
 {
     let outcome = frame_parser::take(ported_in(state), store, output);
-    let after = outcome.state;
-    let answer = outcome.answer;
-    face_told::tell(out, 0, frame_answers::parser_length(answer), 0);
-    ported_told(state, after, answer)
+    face_told::tell(out, 0, frame_answers::parser_length(outcome.answer), 0);
+    ported_told(state, outcome.state, outcome.answer)
 }
 
 // A fresh, empty state of the ported framer.
@@ -200,9 +191,7 @@ pub fn hunter_push(
 {
     face_told::tell(out, 0, 0, 0);
     let reply = frame_hunter::push(hunter_in(state), store, chunk);
-    let after = reply.state;
-    let answer = reply.answer;
-    hunter_told(state, after, answer)
+    hunter_told(state, reply.state, reply.answer)
 }
 
 // The stream's end for the hunting framer.
@@ -211,9 +200,7 @@ pub fn hunter_end(state: HunterState, store: &[u8], out: &mut [u32; 4]) -> Hunte
 {
     face_told::tell(out, 0, 0, 0);
     let reply = frame_hunter::end(hunter_in(state), store);
-    let after = reply.state;
-    let answer = reply.answer;
-    hunter_told(state, after, answer)
+    hunter_told(state, reply.state, reply.answer)
 }
 
 // The first frame in the hunting framer's store, if one is ready; the first value is its length.
@@ -230,9 +217,7 @@ pub fn hunter_take(
 {
     let taken = frame_hunter::take(hunter_in(state), store, output);
     face_told::tell(out, 0, taken.length, 0);
-    let after = taken.state;
-    let answer = taken.answer;
-    hunter_told(state, after, answer)
+    hunter_told(state, taken.state, taken.answer)
 }
 
 // A fresh, empty state of the hunting framer.

@@ -85,11 +85,10 @@ fn tell_built(built: Built, out: &mut [u32; 4]) -> Shown
     ensures value { result ≡ record { number = number_of built.answer; records = built.records; written = built.written } }
     ensures out_after { out.new ≡ told built.records (values_of built.answer) }
 {
-    let answer = built.answer;
-    let values = build_answers::values_of(answer);
+    let values = build_answers::values_of(built.answer);
     face_told::tell(out, built.records, values.first, values.second);
     Shown {
-        number: build_answers::number_of(answer),
+        number: build_answers::number_of(built.answer),
         records: built.records,
         written: built.written,
     }
@@ -145,12 +144,12 @@ pub fn put_field(words: &mut [u32; build_records::WORDS], i: usize, field: Field
     ensures { words.new ≡ on_records (replaced i (record_of_lent field)) words.old }
 {
     let record = Record {
-        part: field.part as u32,
-        depth: field.depth as u32,
-        number: field.entry as u32,
+        part: u32::from(field.part),
+        depth: u32::from(field.depth),
+        number: u32::from(field.entry),
         tag: field.tag,
-        place: field.place as u32,
-        length: field.length as u32,
+        place: u32::from(field.place),
+        length: u32::from(field.length),
     };
     build_records::replace(&mut words[..], i, record);
 }
@@ -160,10 +159,7 @@ pub fn put_field(words: &mut [u32; build_records::WORDS], i: usize, field: Field
 pub fn read_count(lent: usize, count: usize) -> usize
     ensures { result ≡ read_count lent count }
 {
-    if lent < count {
-        return 0;
-    }
-    if 1024 < count {
+    if lent < count || 1024 < count {
         return 0;
     }
     count

@@ -22,12 +22,7 @@ fn low_word(n: usize) -> u32
 pub fn tell(out: &mut [u32; 4], records: usize, first: usize, second: usize)
     ensures { out.new ≡ told records (first, second) }
 {
-    // Only where the array is made a slice does the proof learn its length.
-    let words = &mut out[..];
-    words[0] = low_word(records);
-    words[1] = low_word(first);
-    words[2] = low_word(second);
-    words[3] = 0;
+    *out = [low_word(records), low_word(first), low_word(second), 0];
 }
 
 // A part by its number; every number other than 1 and 2 is the trailer.
@@ -35,13 +30,11 @@ pub fn tell(out: &mut [u32; 4], records: usize, first: usize, second: usize)
 pub fn part_numbered(number: u8) -> Part
     ensures { result ≡ part_numbered number }
 {
-    if number == 1 {
-        return Part::Header;
+    match number {
+        1 => Part::Header,
+        2 => Part::Body,
+        _ => Part::Trailer,
     }
-    if number == 2 {
-        return Part::Body;
-    }
-    Part::Trailer
 }
 
 // A change of a message: its number.

@@ -9,8 +9,6 @@ ghost use Rattle.field_rules.specs.CheckSum.{sum_of, checksum_of, checksum_digit
 ghost use Rattle.field_rules.specs.Decimal.{decimal, written_at, answer_at};
 ghost use Rattle.field_numbers.specs.Fraction.{Ahead};
 
-use field_rules::{Number, Written};
-
 // A number as an index.
 pub fn wide(n: u32) -> usize
     ensures { result ≡ n }
@@ -18,44 +16,32 @@ pub fn wide(n: u32) -> usize
     n as usize
 }
 
-fn widened(byte: u8) -> u64
-    ensures { result ≡ byte }
-{
-    byte as u64
-}
-
 // One or more digits, leading zeros allowed. However long the text, nothing overflows.
-pub fn number_of(text: &[u8]) -> Number
+pub fn number_of(text: &[u8]) -> Option<u32>
     ensures { result ≡ number_in text.now }
 {
-    if text.len() == 0 {
-        return Number::NoNumber;
+    if text.is_empty() {
+        return None;
     }
     let mut n: u64 = 0;
-    let mut i: usize = 0;
-    while i < text.len() {
-        let digit = text[i];
-        if digit < 48 {
-            return Number::NoNumber;
+    for &byte in text {
+        if !byte.is_ascii_digit() {
+            return None;
         }
-        if 57 < digit {
-            return Number::NoNumber;
-        }
-        n = n * 10 + widened(digit - 48);
+        n = n * 10 + u64::from(byte - b'0');
         if 4294967295 < n {
-            return Number::NoNumber;
+            return None;
         }
-        i += 1;
     }
-    Number::Worth(n as u32)
+    Some(n as u32)
 }
 
 // A CheckSum value that is to be compared: exactly three digits.
-pub fn checksum_of(value: &[u8]) -> Number
+pub fn checksum_of(value: &[u8]) -> Option<u32>
     ensures { result ≡ checksum_of value.now }
 {
     if value.len() != 3 {
-        return Number::NoNumber;
+        return None;
     }
     number_of(value)
 }
@@ -65,10 +51,8 @@ pub fn sum_of(bytes: &[u8]) -> u8
     ensures { result ≡ sum_of bytes.now % 256 }
 {
     let mut sum: u8 = 0;
-    let mut i: usize = 0;
-    while i < bytes.len() {
-        sum = std::num::wrapping_add_u8(sum, bytes[i]);
-        i += 1;
+    for &byte in bytes {
+        sum = sum.wrapping_add(byte);
     }
     sum
 }
@@ -77,7 +61,7 @@ pub fn sum_of(bytes: &[u8]) -> u8
 pub fn checksum_digits(sum: u8) -> [u8; 3]
     ensures { result ≡ checksum_digits sum }
 {
-    [48 + sum / 100, 48 + sum / 10 % 10, 48 + sum % 10]
+    [b'0' + sum / 100, b'0' + sum / 10 % 10, b'0' + sum % 10]
 }
 
 // 1 where a number reaches a bound, else 0.
@@ -85,7 +69,7 @@ fn reaches(n: u32, bound: u32) -> usize
     ensures value { result ≡ pick (nat_le bound n) 1 0 }
     ensures small { result ≤ 1 }
 {
-    (bound <= n) as usize
+    usize::from(bound <= n)
 }
 
 // How many digits a tag or a length has: one, and one more for each power of ten that it reaches.
@@ -123,7 +107,7 @@ fn pointed(n: u32, count: usize, power: u64) -> Digits
 {
     Digits {
         count,
-        fraction: n as u64 * ONE / power + 1,
+        fraction: u64::from(n) * ONE / power + 1,
     }
 }
 
@@ -145,27 +129,20 @@ fn digits_of(n: u32) -> Digits
     }
 }
 
-// The digits of a tag or a length, from a place of the output on. The highest comes first: the digit that counts
-// 10 ^ left stands `left` places before the last.
-pub fn write_number(output: &mut [u8], at: usize, n: u32) -> Written
+// The digits of a tag or a length, from a place of the output on. The highest comes first.
+pub fn write_number(output: &mut [u8], at: usize, n: u32) -> Option<usize>
     ensures value { result ≡ answer_at at (decimal n) output.old }
     ensures output_after { output.new ≡ written_at at (decimal n) output.old }
 {
     let digits = digits_of(n);
     let count = digits.count;
-    if output.len() < at {
-        return Written::NoRoom;
+    if output.len() < at || output.len() - at < count {
+        return None;
     }
-    if output.len() - at < count {
-        return Written::NoRoom;
-    }
-    let last = at + count - 1;
     let mut fraction = digits.fraction;
-    let mut left = count;
-    while 0 < left {
-        left -= 1;
-        output[last - left] = 48 + (fraction / ONE) as u8;
+    for place in at..at + count {
+        output[place] = b'0' + (fraction / ONE) as u8;
         fraction = fraction % ONE * 10;
     }
-    Written::Next(at + count)
+    Some(at + count)
 }

@@ -1,7 +1,7 @@
 -- The digits of a number, without fuel: one digit below ten, else the digits of the tenth and one digit more.
 -- Every other law follows by that recursion, and reading the digits is the way back.
 use Rattle.std.specs.Prelude.{◌≡◌, refl, ◌⊎◌, Bool, true, false, List, [], ◌∷◌, ◌++◌, ℕ, zero, suc, ◌+◌, ◌-◌, ◌*◌, ◌/◌, ◌%◌, ◌^◌, ◌≤◌, ◌<◌, length, get_or, take, drop, leb, ltb}
-use Rattle.std.proofs.Common.{sym, ap, ◌∙◌, inl, inr, ⊎_elim, append_assoc, append-nil, pow-suc, arith, length-append, length-take, length-drop, drop_of_length-le, take_all, drop-drop, ltb-true, ltb-false, lt-ltb, le-ltb, le-leb, leb-true, leb-false}
+use Rattle.std.proofs.Common.{sym, ap, ◌∙◌, inl, inr, ⊎_elim, append_assoc, append-nil, pow-suc, arith, length-append, length-take, length-drop, drop_of_length-le, take_all, drop-drop, ltb-true, ltb-false, lt-ltb, le-ltb, le-leb, leb-true, leb-false, Some, None}
 use Rattle.std.proofs.Math.ListN.{get_or-append}
 use Rattle.std.proofs.Math.Seq.{take-length}
 use Rattle.std.proofs.lemmas.Bool.{lt-leb}
@@ -10,8 +10,6 @@ use Rattle.field_rules.specs.Number.{is_digit, all_digits, worth, number_in, tag
 use Rattle.field_rules.proofs.NumberLaws.{number_good, tag_good}
 use Rattle.field_rules.specs.CheckSum.{checksum_of, checksum_digits}
 use Rattle.field_rules.specs.Decimal.{decimal_within, decimal, written_at, answer_at}
-use Rattle.field_rules.specs.declared.Number.TheVariants.{Worth}
-use Rattle.field_rules.specs.declared.Written.TheVariants.{Next, NoRoom}
 
 pub one_digit_or_more : (n : ℕ) → (n < 10) ⊎ (10 ≤ n)
 one_digit_or_more n = by_test (ltb n 10) refl
@@ -126,13 +124,13 @@ decimal_no_zero =
     r (omega arith)
     (sym (get_or-append (decimal (n / 10)) _ 0 0 (decimal-some (n / 10))) ∙ rw (decimal_step n h) at e))
 
-pub number-reads : (n : ℕ) → n ≤ 4294967295 → number_in (decimal n) ≡ Worth n
+pub number-reads : (n : ℕ) → n ≤ 4294967295 → number_in (decimal n) ≡ Some n
 number-reads n h = number_good (decimal n) n (λ e. omega (arith, decimal-some n)) (decimal_digits n) (decimal-worth n) h
 
-pub decimal-reads : (n : ℕ) → 1 ≤ n → n ≤ 4294967295 → tag_of (decimal n) ≡ Worth n
+pub decimal-reads : (n : ℕ) → 1 ≤ n → n ≤ 4294967295 → tag_of (decimal n) ≡ Some n
 decimal-reads n p h = tag_good (decimal n) n (number-reads n h) (λ e. omega arith)
 
-pub checksum_reads : (n : ℕ) → n < 256 → checksum_of (checksum_digits n) ≡ Worth n
+pub checksum_reads : (n : ℕ) → n < 256 → checksum_of (checksum_digits n) ≡ Some n
 unfolding checksum_of checksum_digits worth
 checksum_reads n h =
     number_good (checksum_digits n) n (λ e. omega arith)
@@ -172,7 +170,7 @@ module _ (at : ℕ) (bytes output : List ℕ) where
   unfolding written_at
   written_fits h = rw (le-leb _ _ h)
 
-  pub answer_fits : at + length bytes ≤ length output → answer_at at bytes output ≡ Next (at + length bytes)
+  pub answer_fits : at + length bytes ≤ length output → answer_at at bytes output ≡ Some (at + length bytes)
   unfolding answer_at
   answer_fits h = rw (le-leb _ _ h)
 
@@ -180,7 +178,7 @@ module _ (at : ℕ) (bytes output : List ℕ) where
   unfolding written_at
   written_none h = rw (lt-leb _ _ h)
 
-  pub answer-none : length output < at + length bytes → answer_at at bytes output ≡ NoRoom
+  pub answer-none : length output < at + length bytes → answer_at at bytes output ≡ None
   unfolding answer_at
   answer-none h = rw (lt-leb _ _ h)
 

@@ -1,23 +1,17 @@
 -- A readable field as text: tag text, `=`, value, separator. Reading finds exactly such texts, which is why a field falls, stays
 -- within the message, and depends on no byte from its end on.
-use Rattle.std.specs.Prelude.{◌≡◌, refl, List, [], ◌∷◌, ◌++◌, ℕ, zero, suc, ◌+◌, ◌-◌, ◌≤◌, ◌<◌, length, take, drop}
-use Rattle.std.proofs.Common.{sym, ap, ◌∙◌, append_assoc, add-one, arith, length-append, length-drop, take-append-drop, take_at, drop_at, drop-drop}
+use Rattle.std.specs.Prelude.{◌≡◌, refl, List, ◌∷◌, ◌++◌, ℕ, ◌+◌, ◌≤◌, length, take, drop}
+use Rattle.std.proofs.Common.{sym, ap, ◌∙◌, append_assoc, arith, length-append, take-append-drop, take_at, Option, Some, None, Ok}
 use Rattle.std.proofs.Math.Seq.{drop-append-add, take-append_seam}
-use Rattle.std.proofs.lemmas.List.{take-append-le, drop-append-le}
+use Rattle.std.proofs.lemmas.List.{take-append-le}
 use Rattle.field_rules.specs.Find.{find_in}
 use Rattle.field_rules.proofs.FindLaws.{Absent, Splits, find_splits, find_joins}
 use Rattle.field_rules.specs.Number.{tag_of}
 use Rattle.field_rules.proofs.NumberLaws.{tag-some}
-use Rattle.field_rules.specs.Field.{start_at, field_from, field_at, field_bytes, value_of}
+use Rattle.field_rules.specs.Field.{start_at, field_from, field_bytes}
 use Rattle.field_rules.proofs.FieldLaws.{no_equals, no_separator, bad-tag, one_field}
-use Rattle.field_rules.specs.declared.Found.{Found}
-use Rattle.field_rules.specs.declared.Found.TheVariants.{At, Nothing}
-use Rattle.field_rules.specs.declared.Number.{Number}
-use Rattle.field_rules.specs.declared.Number.TheVariants.{Worth, NoNumber}
 use Rattle.field_rules.specs.declared.Mode.{Mode}
-use Rattle.field_rules.specs.declared.Cursor.{Cursor}
 use Rattle.field_rules.specs.declared.Field.{Field}
-use Rattle.field_rules.specs.declared.FieldRead.TheVariants.{Read, Unreadable}
 
 -- the field that these texts spell at a place
 abbrev pub spelt : ℕ → ℕ → List ℕ → List ℕ → Field
@@ -30,7 +24,7 @@ pub record Spelled (mode : Mode) (at : ℕ) (s : List ℕ) (f : Field) : Type 0 
   pub value : List ℕ
   pub rest : List ℕ
   pub whole : s ≡ field_bytes mode.separator text value ++ rest
-  pub is_tag : tag_of text ≡ Worth f.tag
+  pub is_tag : tag_of text ≡ Some f.tag
   pub no_equals-before : Absent 61 text
   pub no_separator-before : Absent mode.separator value
   pub is : f ≡ spelt at f.tag text value
@@ -52,23 +46,23 @@ bytes-size separator text value = simp length-append (omega arith)
 
 module _ (mode : Mode) (at : ℕ) (s : List ℕ) (f : Field) where
   -- what the text spells is read
-  pub spelled-read : Spelled mode at s f → field_from at mode s ≡ Read f
+  pub spelled-read : Spelled mode at s f → field_from at mode s ≡ Ok f
   spelled-read w =
       let tail : List ℕ = w.value ++ (mode.separator ∷ w.rest) in
       let whole : s ≡ w.text ++ (61 ∷ tail) = w.whole ∙ opened mode.separator w.text w.value w.rest in
-      let q : find_in 61 0 s ≡ At (length w.text) = rw whole (find_joins 61 0 w.text tail w.no_equals-before ∙ ap At (omega arith)) in
+      let q : find_in 61 0 s ≡ Some (length w.text) = rw whole (find_joins 61 0 w.text tail w.no_equals-before ∙ ap Some (omega arith)) in
       let d : drop (length w.text + 1) s ≡ tail = rw whole (after_byte w.text tail 61 _ refl) in
-      let n : find_in mode.separator 0 (drop (length w.text + 1) s) ≡ At (length w.value) = rw d (find_joins mode.separator 0 w.value w.rest w.no_separator-before ∙ ap At (omega arith)) in
+      let n : find_in mode.separator 0 (drop (length w.text + 1) s) ≡ Some (length w.value) = rw d (find_joins mode.separator 0 w.value w.rest w.no_separator-before ∙ ap Some (omega arith)) in
       let t : take (length w.text) s ≡ w.text = rw whole (take-append_seam w.text (61 ∷ tail)) in
-      one_field at mode s _ _ f.tag q n (ap tag_of t ∙ w.is_tag) ∙ ap Read (sym w.is)
+      one_field at mode s _ _ f.tag q n (ap tag_of t ∙ w.is_tag) ∙ ap Ok (sym w.is)
 
   -- what is read is spelled by the text
-  pub read-spelled : field_from at mode s ≡ Read f → Spelled mode at s f
+  pub read-spelled : field_from at mode s ≡ Ok f → Spelled mode at s f
   read-spelled h = by_equals (find_in 61 0 s) refl
     where
-      by_tag : (q n : ℕ) → find_in 61 0 s ≡ At q → find_in mode.separator 0 (drop (q + 1) s) ≡ At n → (g : Number) → tag_of (take q s) ≡ g → Spelled mode at s f
-      by_tag q n e d NoNumber t = let r = bad-tag at mode s q n e d t in let z : ◌≡◌ {A = ℕ} 0 1 = cc in absurd (omega arith)
-      by_tag q n e d (Worth tag) t =
+      by_tag : (q n : ℕ) → find_in 61 0 s ≡ Some q → find_in mode.separator 0 (drop (q + 1) s) ≡ Some n → (g : Option ℕ) → tag_of (take q s) ≡ g → Spelled mode at s f
+      by_tag q n e d None t = let r = bad-tag at mode s q n e d t in let z : ◌≡◌ {A = ℕ} 0 1 = cc in absurd (omega arith)
+      by_tag q n e d (Some tag) t =
           let r = one_field at mode s q n tag e d t in
           let a : Splits 61 s q = find_splits 61 s q e in
           let after : drop (q + 1) s ≡ a.after = ap (λ (l : List ℕ). drop (q + 1) l) a.whole ∙ after_byte a.before a.after 61 q a.size in
@@ -80,19 +74,19 @@ module _ (mode : Mode) (at : ℕ) (s : List ℕ) (f : Field) where
             value = b.before;
             rest = b.after;
             whole = a.whole ∙ ap (λ (l : List ℕ). a.before ++ (61 ∷ l)) b.whole ∙ sym (opened mode.separator a.before b.before b.after);
-            is_tag = rw text at t ∙ ap (λ (g : Field). Worth g.tag) (sym is);
+            is_tag = rw text at t ∙ ap (λ (g : Field). Some g.tag) (sym is);
             no_equals-before = a.absent;
             no_separator-before = b.absent;
             is = rw is refl;
           }
 
-      by_separator : (q : ℕ) → find_in 61 0 s ≡ At q → (d : Found) → find_in mode.separator 0 (drop (q + 1) s) ≡ d → Spelled mode at s f
-      by_separator q e Nothing d = let r = no_separator at mode s q e d in let z : ◌≡◌ {A = ℕ} 0 1 = cc in absurd (omega arith)
-      by_separator q e (At n) d = by_tag q n e d (tag_of (take q s)) refl
+      by_separator : (q : ℕ) → find_in 61 0 s ≡ Some q → (d : Option ℕ) → find_in mode.separator 0 (drop (q + 1) s) ≡ d → Spelled mode at s f
+      by_separator q e None d = let r = no_separator at mode s q e d in let z : ◌≡◌ {A = ℕ} 0 1 = cc in absurd (omega arith)
+      by_separator q e (Some n) d = by_tag q n e d (tag_of (take q s)) refl
 
-      by_equals : (e : Found) → find_in 61 0 s ≡ e → Spelled mode at s f
-      by_equals Nothing e = let r = no_equals at mode s e in let z : ◌≡◌ {A = ℕ} 0 1 = cc in absurd (omega arith)
-      by_equals (At q) e = by_separator q e (find_in mode.separator 0 (drop (q + 1) s)) refl
+      by_equals : (e : Option ℕ) → find_in 61 0 s ≡ e → Spelled mode at s f
+      by_equals None e = let r = no_equals at mode s e in let z : ◌≡◌ {A = ℕ} 0 1 = cc in absurd (omega arith)
+      by_equals (Some q) e = by_separator q e (find_in mode.separator 0 (drop (q + 1) s)) refl
 
 -- Where a field lies: it starts at the place where reading stood, it is at least a digit, `=` and a separator, its value ends where
 -- the separator stands, and all of it is within the n bytes that were there.
@@ -114,7 +108,7 @@ spelled-lies mode at s f w =
     let next : f.next.at ≡ at + (length w.text + 1) + length w.value + 1 = ap (λ (g : Field). g.next.at) e in
     record { starts = first; falls = omega arith; value_after = omega arith; ends = omega arith; within = omega arith }
 
-pub field-lies : (mode : Mode) (at : ℕ) (s : List ℕ) (f : Field) → field_from at mode s ≡ Read f → Lies at (length s) f
+pub field-lies : (mode : Mode) (at : ℕ) (s : List ℕ) (f : Field) → field_from at mode s ≡ Ok f → Lies at (length s) f
 field-lies mode at s f h = spelled-lies mode at s f (read-spelled mode at s f h)
 
 -- a list that reaches past the start of another begins with that start
@@ -124,7 +118,7 @@ begins p q a t e h =
     sym (take-append-drop (length p) a) ∙ ap (λ (l : List ℕ). l ++ drop (length p) a) front
 
 -- a field that ends within a depends on no byte behind a
-pub field_depends : (mode : Mode) (at : ℕ) (a t u : List ℕ) (f : Field) → field_from at mode (a ++ t) ≡ Read f → f.next.at ≤ at + length a → field_from at mode (a ++ u) ≡ Read f
+pub field_depends : (mode : Mode) (at : ℕ) (a t u : List ℕ) (f : Field) → field_from at mode (a ++ t) ≡ Ok f → f.next.at ≤ at + length a → field_from at mode (a ++ u) ≡ Ok f
 field_depends mode at a t u f h l =
     let w : Spelled mode at (a ++ t) f = read-spelled mode at (a ++ t) f h in
     let p : List ℕ = field_bytes mode.separator w.text w.value in

@@ -2,8 +2,8 @@
 -- the message, and depends on no byte from the field's end on.
 use Rattle.std.specs.Prelude.{◌≡◌, refl, ℕ, zero, suc, ◌+◌, ◌-◌, ◌≤◌, ◌<◌}
 use Rattle.std.proofs.Math.Path.{sym, ap}
-use Rattle.std.proofs.Common.{◌∙◌, arith, length-drop, length-append, drop-drop}
-use mathlib.Core.List.{List, [], ◌∷◌, ◌++◌}
+use Rattle.std.proofs.Common.{◌∙◌, arith, length-drop, drop-drop, Result, Ok, Err}
+use mathlib.Core.List.{List, ◌∷◌, ◌++◌}
 use Rattle.std.proofs.Math.ListN.{length, take, drop}
 use Rattle.std.proofs.lemmas.List.{drop-append-le}
 use Rattle.std.proofs.Math.Seq.{take-append_seam}
@@ -15,16 +15,14 @@ use Rattle.field_rules.specs.declared.Mode.{Mode}
 use Rattle.field_rules.specs.declared.Cursor.{Cursor}
 use Rattle.field_rules.specs.declared.Field.{Field}
 use Rattle.field_rules.specs.declared.Cause.{Cause}
-use Rattle.field_rules.specs.declared.FieldRead.{FieldRead}
-use Rattle.field_rules.specs.declared.FieldRead.TheVariants.{Read, Unreadable}
 
 module _ (mode : Mode) (message : List ℕ) (c : Cursor) (f : Field) where
   -- a field that was read lies between the cursor and the message's end
-  pub step-lies : field_at mode message c ≡ Read f → Lies c.at (length message - c.at) f
+  pub step-lies : field_at mode message c ≡ Ok f → Lies c.at (length message - c.at) f
   unfolding field_at
   step-lies h = rw (length-drop c.at message) at (field-lies mode c.at (drop c.at message) f h)
 
-  pub step_falls : field_at mode message c ≡ Read f → (c.at < f.next.at) × (f.next.at ≤ length message)
+  pub step_falls : field_at mode message c ≡ Ok f → (c.at < f.next.at) × (f.next.at ≤ length message)
   step_falls h = let l = step-lies h in (omega (arith, l.falls), omega (arith, l.falls, l.within))
 
   -- the value that the field's text spells is the value that its place and length give
@@ -38,7 +36,7 @@ module _ (mode : Mode) (message : List ℕ) (c : Cursor) (f : Field) where
       ap (λ (n : ℕ). take n (drop f.place message)) count ∙ ap (λ (l : List ℕ). take (length w.value) l) part ∙ take-append_seam w.value (mode.separator ∷ w.rest)
 
 -- a field that ends within a depends on no byte behind a
-pub step_depends : (mode : Mode) (a t u : List ℕ) (c : Cursor) (f : Field) → field_at mode (a ++ t) c ≡ Read f → f.next.at ≤ length a → field_at mode (a ++ u) c ≡ Read f
+pub step_depends : (mode : Mode) (a t u : List ℕ) (c : Cursor) (f : Field) → field_at mode (a ++ t) c ≡ Ok f → f.next.at ≤ length a → field_at mode (a ++ u) c ≡ Ok f
 unfolding field_at
 step_depends mode a t u c f h l =
     let before : c.at ≤ length a = omega (arith, (step_falls mode (a ++ t) c f h).0) in
@@ -55,9 +53,9 @@ enough (suc k) zero mode message c h g = rw (past_end mode message c (omega arit
 enough (suc k) (suc l) mode message c h g =
     go (field_at mode message c) refl (λ f. enough k l mode message f.next)
   where
-    go : (r : FieldRead) → field_at mode message c ≡ r → ((f : Field) → length message - f.next.at ≤ k → length message - f.next.at ≤ l → fields_within k mode message f.next ≡ fields_within l mode message f.next) → followed_by r (λ f. fields_within k mode message f.next) ≡ followed_by r (λ f. fields_within l mode message f.next)
-    go (Unreadable cause place) e later = refl
-    go (Read f) e later =
+    go : (r : Result Field (Cause × ℕ)) → field_at mode message c ≡ r → ((f : Field) → length message - f.next.at ≤ k → length message - f.next.at ≤ l → fields_within k mode message f.next ≡ fields_within l mode message f.next) → followed_by r (λ f. fields_within k mode message f.next) ≡ followed_by r (λ f. fields_within l mode message f.next)
+    go (Err (cause, place)) e later = refl
+    go (Ok f) e later =
         let s = step_falls mode message c f e in
         ap (λ (x : Fields). field f x) (later f (omega (arith, s.0, s.1)) (omega (arith, s.0, s.1)))
 
@@ -67,29 +65,29 @@ module _ (mode : Mode) (message : List ℕ) (c : Cursor) where
   one_more = enough (length message - c.at) (suc (length message)) mode message c (omega arith) (omega arith)
 
   -- where a field can be read it comes first, and what follows is read from its end on
-  pub fields-field : (f : Field) → field_at mode message c ≡ Read f → fields_from mode message c ≡ field f (fields_from mode message f.next)
+  pub fields-field : (f : Field) → field_at mode message c ≡ Ok f → fields_from mode message c ≡ field f (fields_from mode message f.next)
   unfolding fields_from fields_within followed_by
   fields-field f h =
       one_more ∙ rw h (ap (λ (x : Fields). field f x) (enough (length message) (length message - f.next.at) mode message f.next (omega arith) (omega arith)))
 
   -- where none can be read the list ends, with the reason
-  pub fields-end : (cause : Cause) (place : ℕ) → field_at mode message c ≡ Unreadable cause place → fields_from mode message c ≡ unreadable cause place
+  pub fields-end : (cause : Cause) (place : ℕ) → field_at mode message c ≡ Err (cause, place) → fields_from mode message c ≡ unreadable cause place
   unfolding fields_within followed_by
   fields-end cause place h = one_more ∙ rw h
 
 -- INDUCTION: what holds where no field can be read, and of a field once it holds of what is read behind it, holds from every cursor on
 module _ (mode : Mode) (message : List ℕ) (P : Cursor → Fields → Type 0)
-    (ends : (c : Cursor) (cause : Cause) (place : ℕ) → field_at mode message c ≡ Unreadable cause place → P c (unreadable cause place))
-    (goes_on : (c : Cursor) (f : Field) → field_at mode message c ≡ Read f → P f.next (fields_from mode message f.next) → P c (field f (fields_from mode message f.next))) where
+    (ends : (c : Cursor) (cause : Cause) (place : ℕ) → field_at mode message c ≡ Err (cause, place) → P c (unreadable cause place))
+    (goes_on : (c : Cursor) (f : Field) → field_at mode message c ≡ Ok f → P f.next (fields_from mode message f.next) → P c (field f (fields_from mode message f.next))) where
   within : (most : ℕ) (c : Cursor) → length message - c.at ≤ most → P c (fields_from mode message c)
   within zero c h =
       let past = past_end mode message c (omega arith) in
       rw (fields-end mode message c _ _ past) (ends c _ _ past)
   within (suc most) c h = go (field_at mode message c) refl (λ f. within most f.next)
     where
-      go : (r : FieldRead) → field_at mode message c ≡ r → ((f : Field) → length message - f.next.at ≤ most → P f.next (fields_from mode message f.next)) → P c (fields_from mode message c)
-      go (Unreadable cause place) e later = rw (fields-end mode message c cause place e) (ends c cause place e)
-      go (Read f) e later =
+      go : (r : Result Field (Cause × ℕ)) → field_at mode message c ≡ r → ((f : Field) → length message - f.next.at ≤ most → P f.next (fields_from mode message f.next)) → P c (fields_from mode message c)
+      go (Err (cause, place)) e later = rw (fields-end mode message c cause place e) (ends c cause place e)
+      go (Ok f) e later =
           let s = step_falls mode message c f e in
           rw (fields-field mode message c f e) (goes_on c f e (later f (omega (arith, s.0, s.1))))
 
@@ -97,11 +95,11 @@ module _ (mode : Mode) (message : List ℕ) (P : Cursor → Fields → Type 0)
   by_fields c = within (length message - c.at) c (omega arith)
 
 module _ (mode : Mode) (message : List ℕ) (c : Cursor) (f : Field) where
-  pub step-inside : field_at mode message c ≡ Read f → Inside message f
+  pub step-inside : field_at mode message c ≡ Ok f → Inside message f
   step-inside h = let l = step-lies mode message c f h in record { within = omega (arith, l.ends, (step_falls mode message c f h).1) }
 
 -- what holds of each field that can be read at all holds of all of them
-pub each_read : (mode : Mode) (message : List ℕ) (P : Field → Type 0) → ((c : Cursor) (f : Field) → field_at mode message c ≡ Read f → P f) → (c : Cursor) → Each P (fields_from mode message c)
+pub each_read : (mode : Mode) (message : List ℕ) (P : Field → Type 0) → ((c : Cursor) (f : Field) → field_at mode message c ≡ Ok f → P f) → (c : Cursor) → Each P (fields_from mode message c)
 each_read mode message P holds = by_fields mode message (λ c fields. Each P fields) (λ c cause place e. each_end) (λ c f e later. each_field (holds c f e) later)
 
 pub all-inside : (mode : Mode) (message : List ℕ) (c : Cursor) → Each (Inside message) (fields_from mode message c)

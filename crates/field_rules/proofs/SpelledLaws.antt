@@ -1,7 +1,7 @@
 -- A field that was read, as the text that spells it: its tag is none but zero, where its value stands, that it has no separator, and that
 -- reading goes on behind the text. And the other way round: a field's text is read wherever it stands.
 use Rattle.std.specs.Prelude.{◌≡◌, refl, Bool, true, false, List, [], ◌∷◌, ◌++◌, ◌≢◌, ℕ, ◌+◌, ◌≤◌, eqb, length, drop}
-use Rattle.std.proofs.Common.{sym, ap, ◌∙◌, arith, length-append, drop-drop, drop_at, le-leb}
+use Rattle.std.proofs.Common.{sym, ap, ◌∙◌, arith, length-append, drop-drop, drop_at, le-leb, Option, Some, None, Ok}
 use Rattle.std.proofs.Math.Seq.{drop-append_seam}
 use Rattle.std.proofs.lemmas.Bool.{eqb-false}
 use Rattle.field_rules.specs.Choice.{pick}
@@ -15,9 +15,6 @@ use Rattle.field_rules.proofs.FieldsLaws.{step_value, fields-field}
 use Rattle.field_rules.specs.declared.Mode.{Mode}
 use Rattle.field_rules.specs.declared.Cursor.{Cursor}
 use Rattle.field_rules.specs.declared.Field.{Field}
-use Rattle.field_rules.specs.declared.FieldRead.TheVariants.{Read}
-use Rattle.field_rules.specs.declared.Number.{Number}
-use Rattle.field_rules.specs.declared.Number.TheVariants.{Worth, NoNumber}
 
 -- digits have no byte among them that is none
 pub digits_absent : (b : ℕ) → is_digit b ≡ false → (text : List ℕ) → all_digits text ≡ true → Absent b text
@@ -37,16 +34,16 @@ pub no_equals_sign : is_digit 61 ≡ false
 unfolding is_digit
 no_equals_sign = refl
 
-not_zero : (n : Number) (t : ℕ) → non_zero n ≡ Worth t → t ≡ 0 → ⊥
+not_zero : (n : Option ℕ) (t : ℕ) → non_zero n ≡ Some t → t ≡ 0 → ⊥
 unfolding non_zero
-not_zero NoNumber t e z = let y : ◌≡◌ {A = ℕ} 0 1 = cc in omega arith
-not_zero (Worth m) t e z = by_test (eqb m 0) refl e
+not_zero None t e z = let y : ◌≡◌ {A = ℕ} 0 1 = cc in omega arith
+not_zero (Some m) t e z = by_test (eqb m 0) refl e
   where
-    by_test : (b : Bool) → eqb m 0 ≡ b → pick b NoNumber (Worth m) ≡ Worth t → ⊥
+    by_test : (b : Bool) → eqb m 0 ≡ b → pick b None (Some m) ≡ Some t → ⊥
     by_test true p e = let y : ◌≡◌ {A = ℕ} 0 1 = cc in omega arith
     by_test false p e = let y : m ≡ t = cc in eqb-false m 0 p (y ∙ z)
 
-module _ (mode : Mode) (message : List ℕ) (c : Cursor) (f : Field) (read : field_at mode message c ≡ Read f) where
+module _ (mode : Mode) (message : List ℕ) (c : Cursor) (f : Field) (read : field_at mode message c ≡ Ok f) where
   pub spells : Spelled mode c.at (drop c.at message) f
   unfolding field_at
   spells = read-spelled mode c.at (drop c.at message) f read
@@ -88,7 +85,7 @@ module _ (mode : Mode) (message : List ℕ) (c : Cursor) (f : Field) (read : fie
   step-tag = not_zero (number_in spells.text) f.tag spells.is_tag
 
 -- a field's text that stands behind other bytes
-module _ (mode : Mode) (tag : ℕ) (copy pre text value post : List ℕ) (whole : copy ≡ pre ++ (field_bytes mode.separator text value ++ post)) (reads : tag_of text ≡ Worth tag)
+module _ (mode : Mode) (tag : ℕ) (copy pre text value post : List ℕ) (whole : copy ≡ pre ++ (field_bytes mode.separator text value ++ post)) (reads : tag_of text ≡ Some tag)
     (digits : all_digits text ≡ true) (ends : Absent mode.separator value) where
   spells_there : Spelled mode (length pre) (drop (length pre) copy) (spelt (length pre) tag text value)
   spells_there =
@@ -104,7 +101,7 @@ module _ (mode : Mode) (tag : ℕ) (copy pre text value post : List ℕ) (whole 
       }
 
   -- it is read
-  pub text-read : field_at mode copy (start_at (length pre)) ≡ Read (spelt (length pre) tag text value)
+  pub text-read : field_at mode copy (start_at (length pre)) ≡ Ok (spelt (length pre) tag text value)
   unfolding field_at
   text-read = spelled-read mode (length pre) (drop (length pre) copy) (spelt (length pre) tag text value) spells_there
 

@@ -1,9 +1,7 @@
 -- The CheckSum: the sum of bytes, the value that is compared with it, and how it is written (RULES.md, Integrity and Encoding).
-use Rattle.std.specs.Prelude.{ℕ, ◌+◌, ◌/◌, ◌%◌, List, [], ◌∷◌, length, eqb}
+use Rattle.std.specs.Prelude.{ℕ, ◌+◌, ◌/◌, ◌%◌, List, [], ◌∷◌, length, eqb, Option, None}
 use Rattle.field_rules.specs.Choice.{pick}
 use Rattle.field_rules.specs.Number.{number_in}
-use Rattle.field_rules.specs.declared.Number.{Number}
-use Rattle.field_rules.specs.declared.Number.TheVariants.{NoNumber}
 
 -- the sum of all bytes; a CheckSum is this mod 256
 unfoldable pub sum_of : List ℕ → ℕ
@@ -11,8 +9,8 @@ sum_of [] = 0
 sum_of (x ∷ s) = x + sum_of s
 
 -- a value of three digits is compared; "any other CheckSum value is not compared"
-unfoldable pub checksum_of : List ℕ → Number
-checksum_of value = pick (eqb (length value) 3) (number_in value) NoNumber
+unfoldable pub checksum_of : List ℕ → Option ℕ
+checksum_of value = pick (eqb (length value) 3) (number_in value) None
 
 -- "three digits"
 unfoldable pub checksum_digits : ℕ → List ℕ

@@ -1,8 +1,6 @@
 -- The decimal digits of a number, and writing bytes at a place of an output.
-use Rattle.std.specs.Prelude.{ℕ, zero, suc, ◌+◌, ◌/◌, ◌%◌, List, [], ◌∷◌, ◌++◌, length, take, drop, leb, ltb}
+use Rattle.std.specs.Prelude.{ℕ, zero, suc, ◌+◌, ◌/◌, ◌%◌, List, [], ◌∷◌, ◌++◌, length, take, drop, leb, ltb, Option, Some, None}
 use Rattle.field_rules.specs.Choice.{pick}
-use Rattle.field_rules.specs.declared.Written.{Written}
-use Rattle.field_rules.specs.declared.Written.TheVariants.{Next, NoRoom}
 
 -- the digits of n, where `fuel` digits more than one are enough
 unfoldable pub decimal_within : ℕ → ℕ → List ℕ
@@ -21,5 +19,5 @@ written_at at bytes output =
     output
 
 -- where the next bytes go
-unfoldable pub answer_at : ℕ → List ℕ → List ℕ → Written
-answer_at at bytes output = pick (leb (at + length bytes) (length output)) (Next (at + length bytes)) NoRoom
+unfoldable pub answer_at : ℕ → List ℕ → List ℕ → Option ℕ
+answer_at at bytes output = pick (leb (at + length bytes) (length output)) (Some (at + length bytes)) None

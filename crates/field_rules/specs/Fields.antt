@@ -1,22 +1,20 @@
 -- Stage one of reading: all the fields that can be read one after the other, and why there is no further one.
-use Rattle.std.specs.Prelude.{ℕ, zero, suc, ◌+◌, ◌-◌, ◌≤◌, List, length}
+use Rattle.std.specs.Prelude.{ℕ, zero, suc, ◌+◌, ◌-◌, ◌≤◌, List, length, Result, Ok, Err}
 use Rattle.field_rules.specs.Field.{field_at}
 use Rattle.field_rules.specs.declared.Mode.{Mode}
 use Rattle.field_rules.specs.declared.Cursor.{Cursor}
 use Rattle.field_rules.specs.declared.Field.{Field}
 use Rattle.field_rules.specs.declared.Cause.{Cause}
 use Rattle.field_rules.specs.declared.Cause.TheVariants.{NoEquals}
-use Rattle.field_rules.specs.declared.FieldRead.{FieldRead}
-use Rattle.field_rules.specs.declared.FieldRead.TheVariants.{Read, Unreadable}
 
 -- fields in the order in which they are read, and at the end the cause and the place of the unreadable one
 pub data Fields : Type 0 where
   unreadable : Cause → ℕ → Fields
   field : Field → Fields → Fields
 
-unfoldable pub followed_by : FieldRead → (Field → Fields) → Fields
-followed_by (Unreadable cause place) rest = unreadable cause place
-followed_by (Read f) rest = field f (rest f)
+unfoldable pub followed_by : Result Field (Cause × ℕ) → (Field → Fields) → Fields
+followed_by (Err (cause, place)) rest = unreadable cause place
+followed_by (Ok f) rest = field f (rest f)
 
 -- at most so many fields, which is enough where no more bytes than that are left
 unfoldable pub fields_within : ℕ → Mode → List ℕ → Cursor → Fields

@@ -1,8 +1,6 @@
 -- What a text of digits is worth: tags and BodyLength (RULES.md, Field reading and Integrity).
-use Rattle.std.specs.Prelude.{ℕ, ◌+◌, ◌*◌, ◌-◌, List, [], ◌∷◌, Bool, true, false, length, eqb, leb}
+use Rattle.std.specs.Prelude.{ℕ, ◌+◌, ◌*◌, ◌-◌, List, [], ◌∷◌, Bool, true, false, length, eqb, leb, Option, Some, None}
 use Rattle.field_rules.specs.Choice.{pick}
-use Rattle.field_rules.specs.declared.Number.{Number}
-use Rattle.field_rules.specs.declared.Number.TheVariants.{Worth, NoNumber}
 
 -- a byte from `0` to `9`
 unfoldable pub is_digit : ℕ → Bool
@@ -19,15 +17,15 @@ worth n [] = n
 worth n (x ∷ s) = worth (n * 10 + (x - 48)) s
 
 -- "one or more digits", here worth at most 4,294,967,295
-unfoldable pub number_in : List ℕ → Number
+unfoldable pub number_in : List ℕ → Option ℕ
 number_in text =
-    pick (eqb (length text) 0) NoNumber
-    (pick (all_digits text) (pick (leb (worth 0 text) 4294967295) (Worth (worth 0 text)) NoNumber) NoNumber)
+    pick (eqb (length text) 0) None
+    (pick (all_digits text) (pick (leb (worth 0 text) 4294967295) (Some (worth 0 text)) None) None)
 
-unfoldable pub non_zero : Number → Number
-non_zero NoNumber = NoNumber
-non_zero (Worth n) = pick (eqb n 0) NoNumber (Worth n)
+unfoldable pub non_zero : Option ℕ → Option ℕ
+non_zero None = None
+non_zero (Some n) = pick (eqb n 0) None (Some n)
 
 -- "the tag text, one or more digits worth 1 to 4,294,967,295, leading zeros allowed"
-unfoldable pub tag_of : List ℕ → Number
+unfoldable pub tag_of : List ℕ → Option ℕ
 tag_of text = non_zero (number_in text)

@@ -3,26 +3,6 @@
 // wrong definition is refused in seconds.
 #![tactic(auto)]
 
-#[derive(Clone, Copy)]
-pub enum Found {
-    At(usize),
-    Nothing,
-}
-
-// What a text of digits is worth. NoNumber: it is none, or worth more than 4,294,967,295.
-#[derive(Clone, Copy)]
-pub enum Number {
-    Worth(u32),
-    NoNumber,
-}
-
-// Where writing went on to, or that there was no room and nothing was written.
-#[derive(Clone, Copy)]
-pub enum Written {
-    Next(usize),
-    NoRoom,
-}
-
 // How fields are read. Whoever reads hands it on whole: what a way of reading must know goes here.
 #[derive(Clone, Copy)]
 pub struct Mode {
@@ -53,8 +33,5 @@ pub enum Cause {
     BadTag,
 }
 
-#[derive(Clone, Copy)]
-pub enum FieldRead {
-    Read(Field),
-    Unreadable(Cause, usize),
-}
+// Why no field can be read at a place, and that place.
+pub type Unreadable = (Cause, usize);

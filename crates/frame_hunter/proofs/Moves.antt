@@ -1,6 +1,6 @@
--- Moving bytes to the front of the store, and the hunt from a place, as the loops of `keep` and `hunt` meet them.
-use Rattle.std.proofs.Common.{◌≡◌, ℕ, suc, ◌+◌, ◌-◌, ◌<◌, ◌≤◌, Bool, List, [], ◌∷◌, ◌++◌, length, get_or, take, drop, set, sym, refl, ap, ◌∙◌, append-nil, add-one, arith, length-append, length-drop, take-append-drop, drop_of_length-le, length-take-le, get_or-drop, drop-cons, take-suc, drop-drop, get_or-append-add}
-use lib.Seq.{set_at, append_snoc, take-length}
+-- What stays where nothing is moved, what copies leave, and the hunt from a place, as the loop of `hunt` meets it.
+use Rattle.std.proofs.Common.{◌≡◌, ℕ, suc, ◌+◌, ◌-◌, ◌<◌, ◌≤◌, Bool, List, [], ◌∷◌, ◌++◌, length, get_or, take, drop, sym, ap, ◌∙◌, append-nil, add-one, arith, length-drop, take-append-drop, drop_of_length-le, length-take-le, drop-cons, drop-drop}
+use lib.Seq.{take-length}
 use Rattle.field_rules.proofs.FindLaws.{rest_part}
 use Rattle.frame_hunter_rules.specs.Hunt.{act_on, hunt_from}
 use Rattle.frame_hunter_rules.proofs.TakeLaws.{first-none, first_hand, first_pass, first-stop}
@@ -9,46 +9,6 @@ use Rattle.frame_hunter_rules.specs.declared.Act.TheVariants.{Hand, Pass, Stop}
 use Rattle.frame_hunter_rules.specs.declared.Hunted.{Hunted}
 
 -- ---- keep
-
--- the store once i bytes from the place `from` on are moved
-unfoldable pub moved : List ℕ → ℕ → ℕ → List ℕ
-moved s from i = take i (drop from s) ++ drop i s
-
-pub moved_none : (s : List ℕ) (from : ℕ) → moved s from 0 ≡ s
-unfolding moved
-moved_none s from = refl
-
-front_length : (s : List ℕ) (from i : ℕ) → from + i ≤ length s → length (take i (drop from s)) ≡ i
-front_length s from i h = length-take-le i (drop from s) (omega (arith, length-drop from s))
-
-pub moved_length : (s : List ℕ) (from i : ℕ) → from + i ≤ length s → length (moved s from i) ≡ length s
-unfolding moved
-moved_length s from i h = length-append (take i (drop from s)) (drop i s) ∙ omega (arith, front_length s from i h, length-drop i s)
-
--- the byte to move next has not been written over
-moved_byte : (s : List ℕ) (from i : ℕ) → from + i < length s → get_or (moved s from i) (from + i) 0 ≡ get_or (drop from s) i 0
-unfolding moved
-moved_byte s from i h =
-    let l : length (take i (drop from s)) ≡ i = front_length s from i (omega arith) in
-    let m : length (take i (drop from s)) + from ≡ from + i = omega arith in
-    ap (λ (n : ℕ). get_or (take i (drop from s) ++ drop i s) n 0) (sym m) ∙ get_or-append-add (take i (drop from s)) (drop i s) from 0 ∙ get_or-drop i s from 0 ∙ ap (λ (n : ℕ). get_or s n 0) (omega arith) ∙ sym (get_or-drop from s i 0)
-
-set_front : (p s : List ℕ) (i a : ℕ) → length p ≡ i → i < length s → set (p ++ drop i s) i a ≡ p ++ a ∷ drop (i + 1) s
-set_front p s i a l h = rw (add-one, drop-cons s i 0) (set_at p (get_or s i 0) (drop (suc i) s) a i l)
-
-pub moved_more : (s : List ℕ) (from i : ℕ) → from + i < length s → set (moved s from i) i (get_or (moved s from i) (from + i) 0) ≡ moved s from (i + 1)
-unfolding moved
-moved_more s from i h =
-    let p : List ℕ = take i (drop from s) in
-    let l : length p ≡ i = front_length s from i (omega arith) in
-    let t : take (i + 1) (drop from s) ≡ p ++ (get_or (drop from s) i 0 ∷ []) = ap (λ (n : ℕ). take n (drop from s)) (add-one i) ∙ take-suc (drop from s) i 0 (omega (arith, length-drop from s)) in
-    ap (λ (a : ℕ). set (p ++ drop i s) i a) (moved_byte s from i h) ∙ set_front p s i _ l (omega arith)
-    ∙ sym (append_snoc p (get_or (drop from s) i 0) (drop (i + 1) s)) ∙ ap (λ (x : List ℕ). x ++ drop (i + 1) s) (sym t)
-
--- once all bytes are moved
-pub moved_all : (s now : List ℕ) (from to i : ℕ) → now ≡ moved s from i → i ≤ to - from → to - from ≤ i → now ≡ take (to - from) (drop from s) ++ drop (to - from) s
-unfolding moved
-moved_all s now from to i e h k = let m : i ≡ to - from = omega arith in e ∙ ap (λ (n : ℕ). take n (drop from s) ++ drop n s) m
 
 -- nothing is moved where the bytes stand at the front already
 pub at_front : (s : List ℕ) (from to : ℕ) → from ≡ 0 → s ≡ take (to - from) (drop from s) ++ drop (to - from) s

@@ -17,18 +17,15 @@ const STORE_SIZE: usize = 16384;
 const FRAME_MOST: usize = 8192;
 
 // What the hunt does at a place of this verdict.
+#[tactic(auto, unfolding(frame_hunter_rules::specs::Hunt::act_on))]
 fn act_on(verdict: Verdict, ended: bool) -> Act
     ensures { result ≡ act_on ended verdict }
 {
     match verdict {
         Verdict::Frame(n) => Act::Hand(n),
         Verdict::Never => Act::Pass,
-        Verdict::Wait => {
-            if ended {
-                return Act::Pass;
-            }
-            Act::Stop
-        }
+        Verdict::Wait if ended => Act::Pass,
+        Verdict::Wait => Act::Stop,
     }
 }
 
@@ -36,10 +33,8 @@ fn act_on(verdict: Verdict, ended: bool) -> Act
 fn hunt(held: &[u8], ended: bool) -> Hunted
     ensures { result ≡ hunt_from verdict_of ended held.now }
 {
-    let mut place: usize = 0;
-    while place < held.len() {
-        let act = act_on(frame_verdict::verdict_of(&held[place..]), ended);
-        match act {
+    for place in 0..held.len() {
+        match act_on(frame_verdict::verdict_of(&held[place..]), ended) {
             Act::Hand(length) => {
                 return Hunted {
                     passed: place,
@@ -52,13 +47,11 @@ fn hunt(held: &[u8], ended: bool) -> Hunted
                     length: 0,
                 };
             }
-            Act::Pass => {
-                place += 1;
-            }
+            Act::Pass => {}
         }
     }
     Hunted {
-        passed: place,
+        passed: held.len(),
         length: 0,
     }
 }
@@ -71,21 +64,15 @@ fn keep(store: &mut [u8], from: usize, to: usize)
     if from == 0 {
         return;
     }
-    let mut i: usize = 0;
-    while i < to - from {
-        store[i] = store[from + i];
-        i += 1;
-    }
+    store.copy_within(from..to, 0);
 }
 
 // 27 comes before every other number.
+#[tactic(auto, unfolding(frame_hunter_rules::specs::Bytes::unfit))]
 fn unfit_store(state: State, size: usize) -> bool
     ensures { result ≡ unfit state size }
 {
-    if size != STORE_SIZE {
-        return true;
-    }
-    STORE_SIZE < state.used
+    size != STORE_SIZE || STORE_SIZE < state.used
 }
 
 // A chunk: 27, 26, 25, or it is put behind the bytes held. However long, it is taken if it fits.
@@ -114,8 +101,8 @@ pub fn push(state: State, store: &mut [u8], chunk: &[u8]) -> Reply
     let more = copies::copy(chunk, &mut store[used..]);
     let next = State {
         used: used + more,
-        dropped: state.dropped,
         ended: false,
+        ..state
     };
     Reply {
         answer: Answer::Fine,
@@ -140,9 +127,8 @@ pub fn end(state: State, store: &[u8]) -> Reply
         };
     }
     let next = State {
-        used: state.used,
-        dropped: state.dropped,
         ended: true,
+        ..state
     };
     Reply {
         answer: Answer::Fine,
@@ -151,6 +137,7 @@ pub fn end(state: State, store: &[u8]) -> Reply
 }
 
 // A refused take moves nothing.
+#[tactic(auto, unfolding(frame_hunter_rules::specs::Bytes::refused_take_lem))]
 fn untaken(state: State, answer: Answer) -> Taken
     ensures { result ≡ refused_take_lem state answer }
 {
@@ -179,7 +166,7 @@ pub fn take(state: State, store: &mut [u8], output: &mut [u8]) -> Taken
     keep(store, rest, used);
     let next = State {
         used: used - rest,
-        dropped: std::num::wrapping_add_u64(state.dropped, frame as u64),
+        dropped: state.dropped.wrapping_add(frame as u64),
         ended: state.ended,
     };
     Taken {
@@ -190,6 +177,7 @@ pub fn take(state: State, store: &mut [u8], output: &mut [u8]) -> Taken
 }
 
 // "Reset gives a fresh, empty state." It takes nothing: whatever the old state held is forgotten.
+#[tactic(auto, unfolding(frame_hunter_rules::specs::Bytes::fresh_state, frame_hunter_rules::specs::Bytes::state_of))]
 pub fn reset() -> State
     ensures { result ≡ fresh_state }
 {

@@ -6,12 +6,11 @@ ghost use Rattle.std.specs.Prelude.{◌≡◌, ◌*◌, ◌%◌, ◌^◌, ◌≤
 ghost use Rattle.frame_parser_rules.specs.Announced.{nominal, find_from, value_from, announced_in};
 ghost use Rattle.frame_parser_rules.specs.Framer.{unusable, fresh, only_mark, answers_with, ready_of, moved_to_front, pushed, pushed_store, finished, taken, taken_store, taken_output};
 
-use field_rules::Found;
-use frame_parser_rules::{Announced, Answer, Outcome, Ready, State, Value};
+use frame_parser_rules::{Announced, Answer, Outcome, State};
 
 const SEPARATOR: u8 = 1;
 
-const EQUALS: u8 = 61;
+const EQUALS: u8 = b'=';
 
 const MESSAGE_LIMIT: usize = 8192;
 
@@ -19,20 +18,14 @@ const STORE_SIZE: usize = 16384;
 
 const CHECKSUM_SIZE: usize = 7;
 
-fn wide(byte: u8) -> u64
-    ensures { result ≡ byte }
-{
-    byte as u64
-}
-
-// The multiply, made of wrapping additions.
+// The multiply, made of wrapping additions: the rules name this form, whatever other the language offers.
 fn ten_times(n: u64) -> u64
     ensures { result ≡ n * 10 % 2 ^ 64 }
 {
-    let two = std::num::wrapping_add_u64(n, n);
-    let four = std::num::wrapping_add_u64(two, two);
-    let eight = std::num::wrapping_add_u64(four, four);
-    std::num::wrapping_add_u64(eight, two)
+    let two = n.wrapping_add(n);
+    let four = two.wrapping_add(two);
+    let eight = four.wrapping_add(four);
+    eight.wrapping_add(two)
 }
 
 // The number that a BodyLength's text makes, whatever its bytes are.
@@ -40,50 +33,48 @@ fn nominal_length(text: &[u8]) -> u64
     ensures { result ≡ nominal 0 text.now }
 {
     let mut n: u64 = 0;
-    let mut i: usize = 0;
-    while i < text.len() {
-        let digit = std::num::wrapping_sub_u8(text[i], 48);
-        n = std::num::wrapping_add_u64(ten_times(n), wide(digit));
-        i += 1;
+    for &byte in text {
+        let digit = byte.wrapping_sub(b'0');
+        n = ten_times(n).wrapping_add(u64::from(digit));
     }
     n
 }
 
 // The first place of a byte from a place on.
-fn find_from(bytes: &[u8], at: usize, wanted: u8) -> Found
+fn find_from(bytes: &[u8], at: usize, wanted: u8) -> Option<usize>
     ensures { result ≡ find_from wanted at bytes.now }
 {
     if bytes.len() < at {
-        return Found::Nothing;
+        return None;
     }
-    let Found::At(offset) = field_tagvalue::find(&bytes[at..], wanted) else {
-        return Found::Nothing;
+    let Some(offset) = field_tagvalue::find(&bytes[at..], wanted) else {
+        return None;
     };
-    Found::At(at + offset)
+    Some(at + offset)
 }
 
-// The first `=` from a place on, and the first separator behind it.
-fn value_from(held: &[u8], at: usize) -> Value
+// Where the value behind the first `=` from a place on starts, and where the separator behind it stands.
+fn value_from(held: &[u8], at: usize) -> Option<(usize, usize)>
     ensures { result ≡ value_from at held.now }
 {
-    let Found::At(equals) = find_from(held, at, EQUALS) else {
-        return Value::NoValue;
+    let Some(equals) = find_from(held, at, EQUALS) else {
+        return None;
     };
     let first = equals + 1;
-    let Found::At(last) = find_from(held, first, SEPARATOR) else {
-        return Value::NoValue;
+    let Some(last) = find_from(held, first, SEPARATOR) else {
+        return None;
     };
-    Value::Between(first, last)
+    Some((first, last))
 }
 
 // The length is read between the second `=` and its separator.
 fn announced_in(held: &[u8]) -> Announced
     ensures { result ≡ announced_in held.now }
 {
-    let Value::Between(_, begin_end) = value_from(held, 0) else {
+    let Some((_, begin_end)) = value_from(held, 0) else {
         return Announced::Unknown;
     };
-    let Value::Between(first, last) = value_from(held, begin_end + 1) else {
+    let Some((first, last)) = value_from(held, begin_end + 1) else {
         return Announced::Unknown;
     };
     let length = nominal_length(&held[first..last]);
@@ -103,12 +94,7 @@ fn move_to_front(store: &mut [u8], first: usize, end: usize)
     requires { (first ≤ end) × (end ≤ length store.old) }
     ensures { store.new ≡ moved_to_front (drop first (take end store.old)) store.old }
 {
-    let count = end - first;
-    let mut i: usize = 0;
-    while i < count {
-        store[i] = store[first + i];
-        i += 1;
-    }
+    store.copy_within(first..end, 0);
 }
 
 fn answers(state: State, answer: Answer) -> Outcome
@@ -118,6 +104,7 @@ fn answers(state: State, answer: Answer) -> Outcome
 }
 
 // 20 keeps only its mark.
+#[tactic(auto, unfolding(frame_parser_rules::specs::Framer::only_mark))]
 fn over_long() -> Outcome
     ensures { result ≡ answers_with only_mark Answer.OverLong }
 {
@@ -132,33 +119,28 @@ fn over_long() -> Outcome
     }
 }
 
-fn ready_of(announced: Announced, used: usize) -> Ready
+// How long the message is that can be handed out, 0 where none is ready yet; none where it is refused for its length.
+#[tactic(auto, unfolding(frame_parser_rules::specs::Framer::ready_of))]
+fn ready_of(announced: Announced, used: usize) -> Option<usize>
     ensures { result ≡ ready_of used announced }
 {
     match announced {
-        Announced::Ends(end) => {
-            if end <= used {
-                Ready::Length(end)
-            } else {
-                Ready::Length(0)
-            }
-        }
-        Announced::Over => Ready::Refused,
-        Announced::Unknown => Ready::Length(0),
+        Announced::Ends(end) => { if end <= used { Some(end) } else { Some(0) } }
+        Announced::Over => None,
+        Announced::Unknown => Some(0),
     }
 }
 
 // 27: the store has another size, or the used length lies past it.
+#[tactic(auto, unfolding(frame_parser_rules::specs::Framer::unusable))]
 fn is_unusable(used: usize, store: &[u8]) -> bool
     ensures { result ≡ unusable used store.now }
 {
-    if store.len() != STORE_SIZE {
-        return true;
-    }
-    STORE_SIZE < used
+    store.len() != STORE_SIZE || STORE_SIZE < used
 }
 
 // A fresh, empty state. What the store holds does not matter.
+#[tactic(auto, unfolding(frame_parser_rules::specs::Framer::fresh))]
 pub fn reset() -> State
     ensures { result ≡ fresh }
 {
@@ -190,8 +172,7 @@ pub fn push(state: State, store: &mut [u8], chunk: &[u8]) -> Outcome
     copies::copy(chunk, &mut store[used..]);
     let next = State {
         used: used + chunk.len(),
-        ended: state.ended,
-        over: state.over,
+        ..state
     };
     answers(next, Answer::Accepted)
 }
@@ -210,9 +191,8 @@ pub fn end(state: State, store: &[u8]) -> Outcome
         return answers(state, Answer::OverLong);
     }
     let next = State {
-        used: state.used,
         ended: true,
-        over: state.over,
+        ..state
     };
     answers(next, Answer::Accepted)
 }
@@ -233,7 +213,7 @@ pub fn take(state: State, store: &mut [u8], output: &mut [u8]) -> Outcome
     if state.over {
         return over_long();
     }
-    let Ready::Length(length) = ready_of(announced_in(&store[..used]), used) else {
+    let Some(length) = ready_of(announced_in(&store[..used]), used) else {
         return over_long();
     };
     if length == 0 {
@@ -243,8 +223,7 @@ pub fn take(state: State, store: &mut [u8], output: &mut [u8]) -> Outcome
     move_to_front(store, length, used);
     let next = State {
         used: used - length,
-        ended: state.ended,
-        over: state.over,
+        ..state
     };
     answers(next, Answer::Message(length))
 }

@@ -1,8 +1,8 @@
 -- The laws of the framer's calls: one for each answer, with what it leaves.
 -- Each says it the way round that a function's contract asks for.
 use Rattle.std.proofs.Math.Path.{◌≡◌, refl, sym, ap}
-use Rattle.std.proofs.Common.{◌∙◌, arith, take-append-drop, length-take-le}
-use Rattle.std.specs.Prelude.{Bool, List, ℕ, ◌+◌, ◌-◌, ◌≤◌, ◌<◌, length, take, drop, leb, ltb}
+use Rattle.std.proofs.Common.{◌∙◌, arith, take-append-drop, length-take-le, Some, None}
+use Rattle.std.specs.Prelude.{Bool, List, ℕ, ◌+◌, ◌≤◌, ◌<◌, length, take, drop, leb, ltb}
 use Rattle.std.proofs.Math.Bool.{true, false}
 use Rattle.std.proofs.Math.Dec.{eqb}
 use borrow.Author.Tests.{eq-eqb, ne_eqb, eqb-true, le-leb, lt-leb, leb-true, lt-ltb, le-ltb, ltb-false}
@@ -16,7 +16,6 @@ use Rattle.frame_parser_rules.specs.declared.State.{State}
 use Rattle.frame_parser_rules.specs.declared.Answer.{Answer}
 use Rattle.frame_parser_rules.specs.declared.Answer.TheVariants.{Accepted, Message, OverLong, ShortOutput, StoreFull, AfterEnd, BadStore}
 use Rattle.frame_parser_rules.specs.declared.Outcome.{Outcome}
-use Rattle.frame_parser_rules.specs.declared.Ready.TheVariants.{Length, Refused}
 
 -- ===== 27 =====
 
@@ -93,20 +92,20 @@ module _ (state : State) (store : List ℕ) where
 -- ===== what is ready =====
 
 module _ (used end : ℕ) where
-  pub ready_whole : end ≤ used → ready_of used (Ends end) ≡ Length end
+  pub ready_whole : end ≤ used → ready_of used (Ends end) ≡ Some end
   unfolding ready_of
   ready_whole h = rw (le-leb _ _ h)
 
-  pub ready_short : used < end → ready_of used (Ends end) ≡ Length 0
+  pub ready_short : used < end → ready_of used (Ends end) ≡ Some 0
   unfolding ready_of
   ready_short h = rw (lt-leb _ _ h)
 
 -- what is ready lies in the bytes held and within the limit
-pub ready_in : (used n : ℕ) (announced : Announced) → ((end : ℕ) → announced ≡ Ends end → end ≤ 8192) → ready_of used announced ≡ Length n → (n ≤ used) × (n ≤ 8192)
+pub ready_in : (used n : ℕ) (announced : Announced) → ((end : ℕ) → announced ≡ Ends end → end ≤ 8192) → ready_of used announced ≡ Some n → (n ≤ used) × (n ≤ 8192)
 unfolding ready_of
 ready_in used n (Ends end) within h = by_test (leb end used) refl h
   where
-    by_test : (b : Bool) → leb end used ≡ b → Length (pick b end 0) ≡ Length n → (n ≤ used) × (n ≤ 8192)
+    by_test : (b : Bool) → leb end used ≡ b → Some (pick b end 0) ≡ Some n → (n ≤ used) × (n ≤ 8192)
     by_test true e l = let same : end ≡ n = cc in (omega (arith, leb-true end used e), omega (arith, within end refl))
     by_test false e l = let same : 0 ≡ n = cc in (omega arith, omega arith)
 ready_in used n Over within h = let z : ◌≡◌ {A = ℕ} 0 1 = cc in absurd (omega arith)
@@ -164,16 +163,16 @@ module _ (state : State) (store output : List ℕ) where
         unfolding take_answer
         take_judges = rw (u, le-ltb _ _ l, o)
 
-        pub take-over : ready_of state.used (announced_in (held state store)) ≡ Refused → TakeGives (answers_with only_mark OverLong) store output
+        pub take-over : ready_of state.used (announced_in (held state store)) ≡ None → TakeGives (answers_with only_mark OverLong) store output
         unfolding take_state where_accepted number_of_parser ready_answer
         take-over r = take_gives OverLong (take_judges ∙ ap ready_answer r)
 
-        pub take-message : (n : ℕ) → ready_of state.used (announced_in (held state store)) ≡ Length n → TakeGives (answers_with (take_state state (Message n)) (Message n)) (moved_to_front (drop n (held state store)) store) (moved_to_front (take n (held state store)) output)
+        pub take-message : (n : ℕ) → ready_of state.used (announced_in (held state store)) ≡ Some n → TakeGives (answers_with (take_state state (Message n)) (Message n)) (moved_to_front (drop n (held state store)) store) (moved_to_front (take n (held state store)) output)
         unfolding where_accepted number_of_parser length_returned ready_answer
         take-message n r = take_gives (Message n) (take_judges ∙ ap ready_answer r)
 
         -- no message is ready: state, store and output stay
-        pub take_none : ready_of state.used (announced_in (held state store)) ≡ Length 0 → TakeGives (answers_with state (Message 0)) store output
+        pub take_none : ready_of state.used (announced_in (held state store)) ≡ Some 0 → TakeGives (answers_with state (Message 0)) store output
         take_none r =
             let all = take-message 0 r in (
               ap (λ (s : State). answers_with s (Message 0)) (sym (nothing_used state)) ∙ all.0,

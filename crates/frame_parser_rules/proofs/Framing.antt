@@ -2,7 +2,7 @@
 -- all that is ready being taken after each, comes out message by message, in order, none lost, and 25 never occurs: `framing` while the
 -- stream goes on, `framing-whole` when it has arrived, and `framing-goes_on` that the calling rule can always be kept.
 use Rattle.std.specs.Prelude.{◌≡◌, refl, ◌⊎◌, Bool, true, false, List, [], ◌∷◌, ◌++◌, ℕ, suc, ◌+◌, ◌-◌, ◌≤◌, ◌<◌, length, take, drop, leb}
-use Rattle.std.proofs.Common.{sym, ◌∙◌, subst, inl, inr, ⊎_elim, append_assoc, append-nil, arith, length-append, take-append-drop, leb-true, leb-false}
+use Rattle.std.proofs.Common.{sym, ◌∙◌, subst, inl, inr, ⊎_elim, append_assoc, append-nil, arith, length-append, take-append-drop, leb-true, leb-false, Some}
 use Rattle.std.proofs.Math.Path.{ap}
 use Rattle.standard_rules.specs.Standard.{Tables}
 use Rattle.field_rules.specs.Decimal.{written_at}
@@ -16,7 +16,6 @@ use Rattle.frame_parser_rules.specs.Stream as stream
 use Rattle.frame_parser_rules.specs.declared.State.{State}
 use Rattle.frame_parser_rules.specs.declared.Answer.TheVariants.{Accepted, Message}
 use Rattle.frame_parser_rules.specs.declared.Outcome.{Outcome}
-use Rattle.frame_parser_rules.specs.declared.Ready.TheVariants.{Length}
 
 joined-append : (a b : List (List ℕ)) → joined (a ++ b) ≡ joined a ++ joined b
 joined-append [] b = refl
@@ -52,13 +51,13 @@ record Behind (T : Tables) (rest : List ℕ) (all : List (List ℕ)) (front mess
   splits : front ≡ message ++ held state store
 
 -- a take answers the length that is ready
-answers_ready : {state after : State} {store handed left : List ℕ} {k : ℕ} (r : Running state store) (n : ℕ) → ready_of state.used (announced_in (held state store)) ≡ Length n → n ≤ state.used → Takes state store k handed after left → n ≡ k
+answers_ready : {state after : State} {store handed left : List ℕ} {k : ℕ} (r : Running state store) (n : ℕ) → ready_of state.used (announced_in (held state store)) ≡ Some n → n ≤ state.used → Takes state store k handed after left → n ≡ k
 answers_ready r n ready enough t = (take_did r n ready enough _ _ _ _ t).0
 
 module _ {T : Tables} {state : State} {store : List ℕ} (r : Running state store) (rest : List ℕ) where
   -- a take that answers 0 leaves all as it was, and no whole message was held
   stays : {handed left : List ℕ} {after : State} (all : List (List ℕ)) → Each (Fits T) all → held state store ++ rest ≡ joined all
-      → ready_of state.used (announced_in (held state store)) ≡ Length 0
+      → ready_of state.used (announced_in (held state store)) ≡ Some 0
       → ((next : List ℕ) (others : List (List ℕ)) → all ≡ next ∷ others → state.used < length next)
       → Takes state store 0 handed after left → Midst T (held state store) rest all [] after left
   stays {handed} {left} {after} all fit flows ready short t =
@@ -144,10 +143,10 @@ midst_small {rest = rest} {state = state} {store = store} m = by_later m.later m
         omega (arith, held-length m.running, short message messages refl, (first_fits fit).size)
 
 -- and no whole message: nothing is ready
-midst_ready : {T : Tables} {given rest : List ℕ} {all messages : List (List ℕ)} {state : State} {store : List ℕ} → Midst T given rest all messages state store → ready_of state.used (announced_in (held state store)) ≡ Length 0
+midst_ready : {T : Tables} {given rest : List ℕ} {all messages : List (List ℕ)} {state : State} {store : List ℕ} → Midst T given rest all messages state store → ready_of state.used (announced_in (held state store)) ≡ Some 0
 midst_ready {rest = rest} {state = state} {store = store} m = by_later m.later m.fit m.flows m.at_once
   where
-    by_later : {T : Tables} (later : List (List ℕ)) → Each (Fits T) later → held state store ++ rest ≡ joined later → ((next : List ℕ) (others : List (List ℕ)) → later ≡ next ∷ others → length (held state store) < length next) → ready_of state.used (announced_in (held state store)) ≡ Length 0
+    by_later : {T : Tables} (later : List (List ℕ)) → Each (Fits T) later → held state store ++ rest ≡ joined later → ((next : List ℕ) (others : List (List ℕ)) → later ≡ next ∷ others → length (held state store) < length next) → ready_of state.used (announced_in (held state store)) ≡ Some 0
     by_later [] fit flows short = nothing_ready m.running rest flows
     by_later (message ∷ messages) fit flows short =
         part_not_ready m.running message rest (joined messages) (first_fits fit) flows (omega (arith, held-length m.running, short message messages refl))

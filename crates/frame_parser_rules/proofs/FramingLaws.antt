@@ -1,7 +1,7 @@
 -- One call on a stream of whole messages. What a state needs to be in the midst of such a stream is a record; a chunk and a take keep
 -- it, and a take hands out the next message as soon as it is whole.
-use Rattle.std.specs.Prelude.{◌≡◌, refl, ◌⊎◌, Bool, true, false, ℕ, ◌+◌, ◌-◌, ◌≤◌, ◌<◌, ltb}
-use Rattle.std.proofs.Common.{sym, ◌∙◌, arith, length-drop, ltb-true, ltb-false}
+use Rattle.std.specs.Prelude.{◌≡◌, refl, Bool, true, false, ℕ, ◌+◌, ◌-◌, ◌≤◌, ◌<◌, ltb}
+use Rattle.std.proofs.Common.{sym, ◌∙◌, arith, length-drop, ltb-true, ltb-false, Some}
 use Rattle.std.proofs.Math.Path.{ap}
 use Rattle.std.proofs.Math.Logic.{⊎_elim}
 use mathlib.Core.List.{List, [], ◌∷◌, ◌++◌, append_assoc}
@@ -20,7 +20,6 @@ use Rattle.frame_parser_rules.specs.Stream.{Fits, Takes}
 use Rattle.frame_parser_rules.specs.declared.State.{State}
 use Rattle.frame_parser_rules.specs.declared.Answer.TheVariants.{Accepted, Message, ShortOutput}
 use Rattle.frame_parser_rules.specs.declared.Outcome.{Outcome}
-use Rattle.frame_parser_rules.specs.declared.Ready.TheVariants.{Length}
 
 -- what a state and a store are while a run goes on: no end, no mark, and a used length that fits
 pub record Running (state : State) (store : List ℕ) : Type 0 where
@@ -77,7 +76,7 @@ module _ {state : State} {store : List ℕ} (r : Running state store) where
       by_test false e = ltb-false (length output) 8192 e
 
   -- what a take does when n bytes are ready
-  module _ (n : ℕ) (ready : ready_of state.used (announced_in (held state store)) ≡ Length n) (enough : n ≤ state.used) where
+  module _ (n : ℕ) (ready : ready_of state.used (announced_in (held state store)) ≡ Some n) (enough : n ≤ state.used) where
     left-size : length (drop n (held state store)) ≡ state.used - n
     left-size = length-drop n (held state store) ∙ omega (arith, held-length r)
 
@@ -130,12 +129,12 @@ module _ {state : State} {store : List ℕ} (r : Running state store) where
 
 -- ===== what is ready of a stream of whole messages =====
 
-empty_ready : (used : ℕ) → ready_of used (announced_in []) ≡ Length 0
+empty_ready : (used : ℕ) → ready_of used (announced_in []) ≡ Some 0
 unfolding ready_of announced_in with_first value_from with_equals find_from find_in
 empty_ready used = refl
 
 module _ {state : State} {store : List ℕ} (r : Running state store) where
-  pub nothing_ready : (rest : List ℕ) → held state store ++ rest ≡ [] → ready_of state.used (announced_in (held state store)) ≡ Length 0
+  pub nothing_ready : (rest : List ℕ) → held state store ++ rest ≡ [] → ready_of state.used (announced_in (held state store)) ≡ Some 0
   nothing_ready rest stream = rw (no_bytes (held state store) stream) (empty_ready state.used)
     where
       no_bytes : (bytes : List ℕ) → bytes ++ rest ≡ [] → bytes ≡ []
@@ -143,13 +142,13 @@ module _ {state : State} {store : List ℕ} (r : Running state store) where
       no_bytes (x ∷ bytes) e = let z : ◌≡◌ {A = ℕ} 0 1 = cc in absurd (omega arith)
 
   module _ {T : Tables} (message rest more : List ℕ) (fits : Fits T message) (stream : held state store ++ rest ≡ message ++ more) where
-    pub whole_ready : length message ≤ state.used → ready_of state.used (announced_in (held state store)) ≡ Length (length message)
+    pub whole_ready : length message ≤ state.used → ready_of state.used (announced_in (held state store)) ≡ Some (length message)
     whole_ready arrived =
         let there : length message ≤ length (held state store) = omega (arith, held-length r) in
         ap (ready_of state.used) (whole_announced message fits.message fits.size (held state store) rest more stream there)
         ∙ ready_whole state.used (length message) arrived
 
-    pub part_not_ready : state.used < length message → ready_of state.used (announced_in (held state store)) ≡ Length 0
+    pub part_not_ready : state.used < length message → ready_of state.used (announced_in (held state store)) ≡ Some 0
     unfolding ready_of
     part_not_ready missing =
         ⊎_elim (λ unknown. ap (ready_of state.used) unknown)

@@ -1,7 +1,7 @@
 -- A message of the standard announces its own length, whatever follows it; what has arrived of it announces that or nothing yet.
 -- BodyLength counts what stands between its own field and the CheckSum's, which is seven bytes long.
 use Rattle.std.specs.Prelude.{◌≡◌, refl, ◌⊎◌, get_or, take, drop}
-use Rattle.std.proofs.Common.{sym, ◌∙◌, inl, inr, ⊎_elim, arith, length-append, take-append-drop, drop_at}
+use Rattle.std.proofs.Common.{sym, ◌∙◌, inl, inr, ⊎_elim, arith, length-append, take-append-drop, drop_at, Some}
 use Rattle.std.proofs.Math.Path.{ap}
 use mathlib.Core.List.{List, [], ◌∷◌, ◌++◌, append_assoc}
 use Prim.Native.Nat.{ℕ, ◌+◌, ◌-◌, ◌≤◌}
@@ -15,14 +15,13 @@ use Rattle.standard_rules.specs.Standard.{Tables, Message, SOH, equals}
 use Rattle.standard_rules.proofs.FieldReads.{digits_all, worth-same, absent_all}
 use Rattle.frame_parser_rules.specs.Announced.{nominal, find_from, value_from, message_end, limited, announced_in}
 use Rattle.frame_parser_rules.specs.AnnouncedLaws.{nominal-worth, from-joins, value_between, announced_second, announced_stays, limit_ends}
-use Rattle.frame_parser_rules.specs.declared.Value.TheVariants.{Between}
 use Rattle.frame_parser_rules.specs.declared.Announced.TheVariants.{Ends, Unknown}
 
 -- the value of a field of the standard, as it is found behind bytes that were passed
 pub record FoundValue (value bytes passed rest : List ℕ) : Type 0 where
   pub first : ℕ
   pub last : ℕ
-  pub found : value_from (length passed) (passed ++ (bytes ++ rest)) ≡ Between first last
+  pub found : value_from (length passed) (passed ++ (bytes ++ rest)) ≡ Some (first, last)
   pub text : take (last - first) (drop first (passed ++ (bytes ++ rest))) ≡ value
   pub next : last + 1 ≡ length passed + length bytes
 
@@ -88,7 +87,7 @@ module _ {T : Tables} (message : List ℕ) (m : Message T message) (fits : lengt
       ap (λ (l : List ℕ). l ++ more) m.whole ∙ simp append_assoc in
       let begin = field_value 8 m.begin_string m.first [] (m.second ++ tail) m.first_is in
       let body = field_value 9 m.body_length m.second m.first tail m.second_is in
-      let second : value_from (begin.last + 1) (m.first ++ (m.second ++ tail)) ≡ Between body.first body.last =
+      let second : value_from (begin.last + 1) (m.first ++ (m.second ++ tail)) ≡ Some (body.first, body.last) =
       ap (λ (at : ℕ). value_from at (m.first ++ (m.second ++ tail))) (omega (arith, begin.next)) ∙ body.found in
       let end : body.last + 1 + nominal 0 m.body_length + 7 ≡ length message = omega (arith, body.next, body_length-number, sizes) in
       rw whole (announced_second _ _ _ begin.found _ _ second)

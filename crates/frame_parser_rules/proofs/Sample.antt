@@ -1,6 +1,6 @@
 -- The framing says something: P1 is a message of the standard that fits, so there is a run that takes it in and hands it out.
 -- Its digits, values and tags are told by tests that antt computes.
-use Rattle.std.specs.Prelude.{◌≡◌, refl, List, [], ◌∷◌, ℕ, length, replicate}
+use Rattle.std.specs.Prelude.{◌≡◌, refl, List, [], ◌∷◌, ℕ, replicate}
 use Rattle.std.proofs.Common.{arith}
 use Rattle.std.proofs.lemmas.List.{length-replicate}
 use Rattle.field_rules.specs.Text.{bytes}

@@ -1,6 +1,6 @@
 -- The laws of what is announced: one for each way that reading it goes, and that more bytes change nothing once it is known.
 -- A text of digits that is worth less than 2^64 makes the number that it is worth.
-use Rattle.std.specs.Prelude.{◌≡◌, refl, ◌⊎◌, Bool, true, false, List, [], ◌∷◌, ◌++◌, ℕ, ◌+◌, ◌*◌, ◌-◌, ◌%◌, ◌^◌, ◌≤◌, ◌<◌, get_or, take, drop, eqb, leb}
+use Rattle.std.specs.Prelude.{◌≡◌, refl, ◌⊎◌, Bool, true, false, List, [], ◌∷◌, ◌++◌, ℕ, ◌+◌, ◌*◌, ◌-◌, ◌%◌, ◌^◌, ◌≤◌, ◌<◌, get_or, take, drop, eqb, leb, Option, Some, None}
 use Rattle.std.proofs.Common.{sym, ◌∙◌, inl, inr, append_assoc, mod-eq_of_lt, add-one, arith, length-append, length-drop, drop_of_length-le, drop-cons, drop_at, le-leb, leb-true}
 use Rattle.std.proofs.Math.Path.{ap}
 use Rattle.std.proofs.Math.ListN.{length}
@@ -12,11 +12,7 @@ use Rattle.field_rules.proofs.FindLaws.{Absent, Splits, find_splits, find_joins}
 use Rattle.field_rules.specs.Number.{worth, all_digits}
 use Rattle.field_rules.proofs.NumberLaws.{worth-least}
 use Rattle.field_rules.proofs.DecimalLaws.{all_digits-first}
-use Rattle.field_rules.specs.declared.Found.{Found}
-use Rattle.field_rules.specs.declared.Found.TheVariants.{At, Nothing}
 use Rattle.frame_parser_rules.specs.Announced.{digit_of, nominal, find_from, with_separator, with_equals, value_from, message_end, limited, with_second, with_first, announced_in}
-use Rattle.frame_parser_rules.specs.declared.Value.{Value}
-use Rattle.frame_parser_rules.specs.declared.Value.TheVariants.{Between, NoValue}
 use Rattle.frame_parser_rules.specs.declared.Announced.TheVariants.{Ends, Over, Unknown}
 
 -- ===== the number =====
@@ -47,44 +43,44 @@ nominal-worth (byte ∷ text) n all small =
 
 -- ===== finding from a place on =====
 
-nowhere : (b k m : ℕ) (s : List ℕ) → find_in b k s ≡ Nothing → find_in b m s ≡ Nothing
+nowhere : (b k m : ℕ) (s : List ℕ) → find_in b k s ≡ None → find_in b m s ≡ None
 unfolding find_in
 nowhere b k m [] h = refl
 nowhere b k m (x ∷ s) h = by_test (eqb x b) h (nowhere b (k + 1) (m + 1) s)
   where
-    by_test : (t : Bool) → pick t (At k) (find_in b (k + 1) s) ≡ Nothing → (find_in b (k + 1) s ≡ Nothing → find_in b (m + 1) s ≡ Nothing) → pick t (At m) (find_in b (m + 1) s) ≡ Nothing
+    by_test : (t : Bool) → pick t (Some k) (find_in b (k + 1) s) ≡ None → (find_in b (k + 1) s ≡ None → find_in b (m + 1) s ≡ None) → pick t (Some m) (find_in b (m + 1) s) ≡ None
     by_test true h r = let z : ◌≡◌ {A = ℕ} 0 1 = cc in absurd (omega arith)
     by_test false h r = r h
 
 module _ (b at : ℕ) (held : List ℕ) where
-  pub from_past : length held < at → find_from b at held ≡ Nothing
+  pub from_past : length held < at → find_from b at held ≡ None
   unfolding find_from find_in
   from_past h = rw (drop_of_length-le held {i = at} (omega arith))
 
-  pub from-none : find_in b 0 (drop at held) ≡ Nothing → find_from b at held ≡ Nothing
+  pub from-none : find_in b 0 (drop at held) ≡ None → find_from b at held ≡ None
   unfolding find_from
   from-none h = nowhere b 0 at (drop at held) h
 
-  pub from_offset : (q : ℕ) → find_in b 0 (drop at held) ≡ At q → find_from b at held ≡ At (at + q)
+  pub from_offset : (q : ℕ) → find_in b 0 (drop at held) ≡ Some q → find_from b at held ≡ Some (at + q)
   unfolding find_from
   from_offset q h =
       let sp = find_splits b (drop at held) q h in
-      rw sp.whole (find_joins b at sp.before sp.after sp.absent ∙ ap At (omega (arith, sp.size)))
+      rw sp.whole (find_joins b at sp.before sp.after sp.absent ∙ ap Some (omega (arith, sp.size)))
 
   -- a place that is found from a place on is the first occurrence from there on
-  pub from_splits : (q : ℕ) → find_from b at held ≡ At q → (offset : ℕ) × (q ≡ at + offset) × Splits b (drop at held) offset
+  pub from_splits : (q : ℕ) → find_from b at held ≡ Some q → (offset : ℕ) × (q ≡ at + offset) × Splits b (drop at held) offset
   from_splits q h = by_found (find_in b 0 (drop at held)) refl
     where
-      by_found : (f : Found) → find_in b 0 (drop at held) ≡ f → (offset : ℕ) × (q ≡ at + offset) × Splits b (drop at held) offset
-      by_found (At p) e =
-          let r : At (at + p) ≡ At q = sym (from_offset p e) ∙ h in
+      by_found : (f : Option ℕ) → find_in b 0 (drop at held) ≡ f → (offset : ℕ) × (q ≡ at + offset) × Splits b (drop at held) offset
+      by_found (Some p) e =
+          let r : Some (at + p) ≡ Some q = sym (from_offset p e) ∙ h in
           let m : at + p ≡ q = cc in
           (p, sym m, find_splits b (drop at held) p e)
-      by_found Nothing e =
-          let r : Nothing ≡ At q = sym (from-none e) ∙ h in
+      by_found None e =
+          let r : None ≡ Some q = sym (from-none e) ∙ h in
           let z : ◌≡◌ {A = ℕ} 0 1 = cc in absurd (omega arith)
 
-  pub from_in : (q : ℕ) → find_from b at held ≡ At q → (at ≤ q) × (q < length held)
+  pub from_in : (q : ℕ) → find_from b at held ≡ Some q → (at ≤ q) × (q < length held)
   from_in q h =
       let f = from_splits q h in
       let sp : Splits b (drop at held) f.0 = f.2 in
@@ -92,17 +88,17 @@ module _ (b at : ℕ) (held : List ℕ) where
       (omega (arith, f.1), omega (arith, f.1, sp.size, sizes))
 
   -- more bytes behind change nothing
-  pub from-stays : (q : ℕ) (more : List ℕ) → find_from b at held ≡ At q → find_from b at (held ++ more) ≡ At q
+  pub from-stays : (q : ℕ) (more : List ℕ) → find_from b at held ≡ Some q → find_from b at (held ++ more) ≡ Some q
   unfolding find_from
   from-stays q more h =
       let f = from_splits q h in
       let sp : Splits b (drop at held) f.0 = f.2 in
       let start : at ≤ length held = omega (arith, from_in q h) in
       rw (drop-append-le at held more start, sp.whole, append_assoc)
-      (find_joins b at sp.before (sp.after ++ more) sp.absent ∙ ap At (omega (arith, f.1, sp.size)))
+      (find_joins b at sp.before (sp.after ++ more) sp.absent ∙ ap Some (omega (arith, f.1, sp.size)))
 
 -- the first occurrence behind bytes that were passed is found
-pub from-joins : (b at : ℕ) (passed before after : List ℕ) → length passed ≡ at → Absent b before → find_from b at (passed ++ (before ++ b ∷ after)) ≡ At (at + length before)
+pub from-joins : (b at : ℕ) (passed before after : List ℕ) → length passed ≡ at → Absent b before → find_from b at (passed ++ (before ++ b ∷ after)) ≡ Some (at + length before)
 unfolding find_from
 from-joins b at passed before after size absent =
     rw (drop_at passed (before ++ b ∷ after) at size) (find_joins b at before after absent)
@@ -110,15 +106,15 @@ from-joins b at passed before after size absent =
 -- ===== a value =====
 
 module _ (at : ℕ) (held : List ℕ) where
-  pub value_no_equals : find_from 61 at held ≡ Nothing → value_from at held ≡ NoValue
+  pub value_no_equals : find_from 61 at held ≡ None → value_from at held ≡ None
   unfolding value_from with_equals
   value_no_equals e = rw e
 
-  pub value_no_separator : (equals : ℕ) → find_from 61 at held ≡ At equals → find_from 1 (equals + 1) held ≡ Nothing → value_from at held ≡ NoValue
+  pub value_no_separator : (equals : ℕ) → find_from 61 at held ≡ Some equals → find_from 1 (equals + 1) held ≡ None → value_from at held ≡ None
   unfolding value_from with_equals with_separator
   value_no_separator equals e f = rw (e, f)
 
-  pub value_between : (equals last : ℕ) → find_from 61 at held ≡ At equals → find_from 1 (equals + 1) held ≡ At last → value_from at held ≡ Between (equals + 1) last
+  pub value_between : (equals last : ℕ) → find_from 61 at held ≡ Some equals → find_from 1 (equals + 1) held ≡ Some last → value_from at held ≡ Some ((equals + 1), last)
   unfolding value_from with_equals with_separator
   value_between equals last e f = rw (e, f)
 
@@ -126,29 +122,30 @@ module _ (at : ℕ) (held : List ℕ) where
 pub record Standing (at : ℕ) (held : List ℕ) (first last : ℕ) : Type 0 where
   pub equals : ℕ
   pub starts : first ≡ equals + 1
-  pub equals-at : find_from 61 at held ≡ At equals
-  pub separator-at : find_from 1 (equals + 1) held ≡ At last
+  pub equals-at : find_from 61 at held ≡ Some equals
+  pub separator-at : find_from 1 (equals + 1) held ≡ Some last
 
-pub value_stands : (at : ℕ) (held : List ℕ) (first last : ℕ) → value_from at held ≡ Between first last → Standing at held first last
+pub value_stands : (at : ℕ) (held : List ℕ) (first last : ℕ) → value_from at held ≡ Some (first, last) → Standing at held first last
 value_stands at held first last h = by_equals (find_from 61 at held) refl
   where
-    by_separator : (q : ℕ) → find_from 61 at held ≡ At q → (f : Found) → find_from 1 (q + 1) held ≡ f → Standing at held first last
-    by_separator q e (At p) g =
-        let r : Between (q + 1) p ≡ Between first last = sym (value_between at held q p e g) ∙ h in
-        let l : p ≡ last = cc in
-        let s : q + 1 ≡ first = cc in
-        record { equals = q; starts = sym s; equals-at = e; separator-at = g ∙ ap At l }
-    by_separator q e Nothing g =
-        let r : NoValue ≡ Between first last = sym (value_no_separator at held q e g) ∙ h in
+    by_separator : (q : ℕ) → find_from 61 at held ≡ Some q → (f : Option ℕ) → find_from 1 (q + 1) held ≡ f → Standing at held first last
+    by_separator q e (Some p) g =
+        let r : ◌≡◌ {A = Option (ℕ × ℕ)} (Some (q + 1, p)) (Some (first, last)) = sym (value_between at held q p e g) ∙ h in
+        let both : ◌≡◌ {A = ℕ × ℕ} (q + 1, p) (first, last) = cc in
+        let l : p ≡ last = ap (λ (v : ℕ × ℕ). v.1) both in
+        let s : q + 1 ≡ first = ap (λ (v : ℕ × ℕ). v.0) both in
+        record { equals = q; starts = sym s; equals-at = e; separator-at = g ∙ ap Some l }
+    by_separator q e None g =
+        let r : ◌≡◌ {A = Option (ℕ × ℕ)} None (Some (first, last)) = sym (value_no_separator at held q e g) ∙ h in
         let z : ◌≡◌ {A = ℕ} 0 1 = cc in absurd (omega arith)
 
-    by_equals : (f : Found) → find_from 61 at held ≡ f → Standing at held first last
-    by_equals (At q) e = by_separator q e (find_from 1 (q + 1) held) refl
-    by_equals Nothing e =
-        let r : NoValue ≡ Between first last = sym (value_no_equals at held e) ∙ h in
+    by_equals : (f : Option ℕ) → find_from 61 at held ≡ f → Standing at held first last
+    by_equals (Some q) e = by_separator q e (find_from 1 (q + 1) held) refl
+    by_equals None e =
+        let r : ◌≡◌ {A = Option (ℕ × ℕ)} None (Some (first, last)) = sym (value_no_equals at held e) ∙ h in
         let z : ◌≡◌ {A = ℕ} 0 1 = cc in absurd (omega arith)
 
-module _ (at : ℕ) (held : List ℕ) (first last : ℕ) (h : value_from at held ≡ Between first last) where
+module _ (at : ℕ) (held : List ℕ) (first last : ℕ) (h : value_from at held ≡ Some (first, last)) where
   pub value_in : (at < first) × (first ≤ last) × (last < length held)
   value_in =
       let s = value_stands at held first last h in
@@ -156,11 +153,11 @@ module _ (at : ℕ) (held : List ℕ) (first last : ℕ) (h : value_from at held
       let f = from_in 1 (s.equals + 1) held last s.separator-at in
       (omega (arith, s.starts, e.0), omega (arith, s.starts, f.0), f.1)
 
-  pub value_stays : (more : List ℕ) → value_from at (held ++ more) ≡ Between first last
+  pub value_stays : (more : List ℕ) → value_from at (held ++ more) ≡ Some (first, last)
   value_stays more =
       let s = value_stands at held first last h in
       value_between at (held ++ more) s.equals last (from-stays 61 at held s.equals more s.equals-at) (from-stays 1 (s.equals + 1) held last more s.separator-at)
-      ∙ ap (λ (x : ℕ). Between x last) (sym s.starts)
+      ∙ ap (λ (x : ℕ). Some (x, last)) (sym s.starts)
 
 -- ===== the message end =====
 
@@ -174,16 +171,16 @@ module _ (end : ℕ) where
   limit_ends h = rw (le-leb _ _ h)
 
 module _ (held : List ℕ) where
-  pub announced_no_first : value_from 0 held ≡ NoValue → announced_in held ≡ Unknown
+  pub announced_no_first : value_from 0 held ≡ None → announced_in held ≡ Unknown
   unfolding announced_in with_first
   announced_no_first e = rw e
 
-  module _ (begins ends : ℕ) (e : value_from 0 held ≡ Between begins ends) where
-    pub announced_no_second : value_from (ends + 1) held ≡ NoValue → announced_in held ≡ Unknown
+  module _ (begins ends : ℕ) (e : value_from 0 held ≡ Some (begins, ends)) where
+    pub announced_no_second : value_from (ends + 1) held ≡ None → announced_in held ≡ Unknown
     unfolding announced_in with_first with_second
     announced_no_second f = rw (e, f)
 
-    pub announced_second : (first last : ℕ) → value_from (ends + 1) held ≡ Between first last → announced_in held ≡ limited (message_end last (nominal 0 (take (last - first) (drop first held))))
+    pub announced_second : (first last : ℕ) → value_from (ends + 1) held ≡ Some (first, last) → announced_in held ≡ limited (message_end last (nominal 0 (take (last - first) (drop first held))))
     unfolding announced_in with_first with_second
     announced_second first last f = rw (e, f)
 
@@ -191,9 +188,9 @@ module _ (held : List ℕ) where
 pub announced_stays : (held more : List ℕ) → (announced_in held ≡ Unknown) ⊎ (announced_in (held ++ more) ≡ announced_in held)
 announced_stays held more = by_first (value_from 0 held) refl
   where
-    by_second : (begins ends : ℕ) → value_from 0 held ≡ Between begins ends → (v : Value) → value_from (ends + 1) held ≡ v → (announced_in held ≡ Unknown) ⊎ (announced_in (held ++ more) ≡ announced_in held)
-    by_second begins ends e NoValue f = inl (announced_no_second held begins ends e f)
-    by_second begins ends e (Between first last) f =
+    by_second : (begins ends : ℕ) → value_from 0 held ≡ Some (begins, ends) → (v : Option (ℕ × ℕ)) → value_from (ends + 1) held ≡ v → (announced_in held ≡ Unknown) ⊎ (announced_in (held ++ more) ≡ announced_in held)
+    by_second begins ends e None f = inl (announced_no_second held begins ends e f)
+    by_second begins ends e (Some (first, last)) f =
         let bounds = value_in (ends + 1) held first last f in
         let text : take (last - first) (drop first (held ++ more)) ≡ take (last - first) (drop first held) =
         rw (drop-append-le first held more (omega (arith, bounds)))
@@ -202,9 +199,9 @@ announced_stays held more = by_first (value_from 0 held) refl
         ∙ ap (λ (t : List ℕ). limited (message_end last (nominal 0 t))) text
         ∙ sym (announced_second held begins ends e first last f))
 
-    by_first : (v : Value) → value_from 0 held ≡ v → (announced_in held ≡ Unknown) ⊎ (announced_in (held ++ more) ≡ announced_in held)
-    by_first NoValue e = inl (announced_no_first held e)
-    by_first (Between begins ends) e = by_second begins ends e (value_from (ends + 1) held) refl
+    by_first : (v : Option (ℕ × ℕ)) → value_from 0 held ≡ v → (announced_in held ≡ Unknown) ⊎ (announced_in (held ++ more) ≡ announced_in held)
+    by_first None e = inl (announced_no_first held e)
+    by_first (Some (begins, ends)) e = by_second begins ends e (value_from (ends + 1) held) refl
 
 -- an end that is announced lies within the limit
 limited_in : (end n : ℕ) → limited end ≡ Ends n → n ≤ 8192
@@ -215,15 +212,15 @@ limited_in end n h = by_test (leb end 8192) refl h
     by_test true e l = let same : end ≡ n = cc in omega (arith, leb-true end 8192 e)
     by_test false e l = let z : ◌≡◌ {A = ℕ} 0 1 = cc in absurd (omega arith)
 
-second_in : (held : List ℕ) (n : ℕ) (v : Value) → with_second held v ≡ Ends n → n ≤ 8192
+second_in : (held : List ℕ) (n : ℕ) (v : Option (ℕ × ℕ)) → with_second held v ≡ Ends n → n ≤ 8192
 unfolding with_second
-second_in held n NoValue h = let z : ◌≡◌ {A = ℕ} 0 1 = cc in absurd (omega arith)
-second_in held n (Between first last) h = limited_in _ n h
+second_in held n None h = let z : ◌≡◌ {A = ℕ} 0 1 = cc in absurd (omega arith)
+second_in held n (Some (first, last)) h = limited_in _ n h
 
-first_in : (held : List ℕ) (n : ℕ) (v : Value) → with_first held v ≡ Ends n → n ≤ 8192
+first_in : (held : List ℕ) (n : ℕ) (v : Option (ℕ × ℕ)) → with_first held v ≡ Ends n → n ≤ 8192
 unfolding with_first
-first_in held n NoValue h = let z : ◌≡◌ {A = ℕ} 0 1 = cc in absurd (omega arith)
-first_in held n (Between first last) h = second_in held n (value_from (last + 1) held) h
+first_in held n None h = let z : ◌≡◌ {A = ℕ} 0 1 = cc in absurd (omega arith)
+first_in held n (Some (first, last)) h = second_in held n (value_from (last + 1) held) h
 
 pub announced_limit : (held : List ℕ) (n : ℕ) → announced_in held ≡ Ends n → n ≤ 8192
 unfolding announced_in

@@ -1,6 +1,6 @@
 -- The ported framer's calls. Each call's answer is the first that the rules' order gives; what it leaves of state, store and output
 -- follows from the answer.
-use Rattle.std.specs.Prelude.{ℕ, ◌+◌, ◌-◌, Bool, true, false, List, ◌++◌, length, take, drop, leb, ltb, eqb}
+use Rattle.std.specs.Prelude.{ℕ, ◌+◌, ◌-◌, Bool, true, false, List, ◌++◌, length, take, drop, leb, ltb, eqb, Option, Some, None}
 use Rattle.field_rules.specs.Choice.{pick}
 use Rattle.field_rules.specs.Decimal.{written_at}
 use Rattle.frame_parser_rules.specs.Announced.{announced_in}
@@ -10,8 +10,6 @@ use Rattle.frame_parser_rules.specs.declared.State.{State}
 use Rattle.frame_parser_rules.specs.declared.Answer.{Answer}
 use Rattle.frame_parser_rules.specs.declared.Answer.TheVariants.{Accepted, Message, OverLong, ShortOutput, StoreFull, AfterEnd, BadStore}
 use Rattle.frame_parser_rules.specs.declared.Outcome.{Outcome}
-use Rattle.frame_parser_rules.specs.declared.Ready.{Ready}
-use Rattle.frame_parser_rules.specs.declared.Ready.TheVariants.{Length, Refused}
 
 -- ===== answers =====
 
@@ -97,14 +95,14 @@ finished state store =
 -- ===== a take =====
 
 -- "its length returned, 0 if none is ready"; 20 "when a take meets such a length", be its bytes there or not
-unfoldable pub ready_of : ℕ → Announced → Ready
-ready_of used (Ends end) = Length (pick (leb end used) end 0)
-ready_of used Over = Refused
-ready_of used Unknown = Length 0
+unfoldable pub ready_of : ℕ → Announced → Option ℕ
+ready_of used (Ends end) = Some (pick (leb end used) end 0)
+ready_of used Over = None
+ready_of used Unknown = Some 0
 
-unfoldable pub ready_answer : Ready → Answer
-ready_answer (Length n) = Message n
-ready_answer Refused = OverLong
+unfoldable pub ready_answer : Option ℕ → Answer
+ready_answer (Some n) = Message n
+ready_answer None = OverLong
 
 -- "a take 23, 20", and 23 where the output is "under 8,192 bytes at any take"
 unfoldable pub take_answer : State → List ℕ → List ℕ → Answer

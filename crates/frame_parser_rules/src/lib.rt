@@ -29,24 +29,10 @@ pub struct Outcome {
     pub answer: Answer,
 }
 
-// Where a value starts and where the separator behind it stands.
-#[derive(Clone, Copy)]
-pub enum Value {
-    Between(usize, usize),
-    NoValue,
-}
-
 // Where the message at the front ends: at a place within the limit, past the limit, or not known yet.
 #[derive(Clone, Copy)]
 pub enum Announced {
     Ends(usize),
     Over,
     Unknown,
-}
-
-// How long the message is that can be handed out, 0 if none is ready; or that it is refused for its length.
-#[derive(Clone, Copy)]
-pub enum Ready {
-    Length(usize),
-    Refused,
 }

@@ -1,13 +1,11 @@
 -- Stages one after the other, by places: what is known where one stage ended and the next begins, and where a stage refuses.
 use mathlib.Core.Path.{◌≡◌, refl, sym, ap, ◌∙◌}
-use mathlib.Core.Logic.{◌⊎◌, inl, inr, ⊎_elim}
+use mathlib.Core.Logic.{◌⊎◌, inl, inr}
 use mathlib.Core.List.{List, [], ◌∷◌, ◌++◌}
 use Prim.Native.Nat.{ℕ, zero, suc, ◌+◌, ◌-◌, ◌≤◌, ◌<◌}
 use native.Mathlib.Omega.{arith}
 use lib.ListN.{length, take, drop, length-append, length-drop, take-append-drop}
 use lib.Seq.{drop-drop, take-add, drop-append_seam, take-append_seam, length-take-le}
-use types.Run.{OneOf}
-use denote.Enum.Declared.{tag_of}
 use Rattle.field_rules.specs.Number.{worth}
 use Rattle.frame_verdict_rules.specs.Readers.{Out, on, bad, short, Reader, ◌>>=◌, literal, with_head, any, body_length}
 use Rattle.frame_verdict_rules.specs.Verdict.{stage_of, length_of}
@@ -16,7 +14,6 @@ use Rattle.frame_verdict_rules.specs.Literals.{literal_sound}
 use Rattle.frame_verdict_rules.specs.declared.Stage.{Stage}
 use Rattle.frame_verdict_rules.specs.declared.Stage.TheVariants.{On, Bad, Short}
 use Rattle.frame_verdict_rules.specs.declared.Length.TheVariants.{Announced, BadLength, ShortLength}
-use Rattle.frame_verdict_rules.specs.contracts.Stage.{the_type}
 
 apart : {X : Type 0} → ◌≡◌ {A = ℕ} 0 1 → X
 apart z = absurd (omega arith)

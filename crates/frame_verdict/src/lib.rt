@@ -17,19 +17,16 @@ fn literal_at(bytes: &[u8], at: usize, wanted: &[u8]) -> Stage
     requires { at ≤ length bytes.now }
     ensures { result ≡ stage_of bytes.now (literal wanted.now (drop at bytes.now)) }
 {
-    let mut i: usize = 0;
-    let mut place = at;
-    while i < wanted.len() {
+    for (i, &byte) in wanted.iter().enumerate() {
+        let place = at + i;
         if place == bytes.len() {
             return Stage::Short;
         }
-        if wanted[i] != bytes[place] {
+        if bytes[place] != byte {
             return Stage::Bad;
         }
-        i += 1;
-        place += 1;
     }
-    Stage::On(place)
+    Stage::On(at + wanted.len())
 }
 
 // From the place `at`: "1 to 16 bytes without separator, separator".
@@ -37,9 +34,8 @@ fn begin_string_at(bytes: &[u8], at: usize) -> Stage
     requires { at ≤ length bytes.now }
     ensures { result ≡ stage_of bytes.now (begin_string (drop at bytes.now)) }
 {
-    let mut read: usize = 0;
-    let mut place = at;
-    while place < bytes.len() {
+    for place in at..bytes.len() {
+        let read = place - at;
         if bytes[place] == SEPARATOR {
             if read == 0 {
                 return Stage::Bad;
@@ -49,28 +45,15 @@ fn begin_string_at(bytes: &[u8], at: usize) -> Stage
         if read == 16 {
             return Stage::Bad;
         }
-        read += 1;
-        place += 1;
     }
     Stage::Short
-}
-
-// A digit's value, widened here once so that the loop need not show that it fits.
-fn digit_value(digit: u8) -> usize
-    requires { 48 ≤ digit }
-    ensures { result ≡ digit - 48 }
-{
-    (digit - 48) as usize
 }
 
 // N can still be at least 4 and within the room: digits worth n were read, and at most `left` follow.
 fn may_become(left: usize, room: usize, n: usize) -> bool
     ensures { result ≡ may_become left room n }
 {
-    if n < 4 {
-        return 0 < left;
-    }
-    n <= room
+    if n < 4 { 0 < left } else { n <= room }
 }
 
 // From the place `at`: "one to five digits of value N, separator", refused as soon as N cannot be at least 4 and within the room.
@@ -79,33 +62,22 @@ fn body_length_at(bytes: &[u8], at: usize, allowed: usize) -> Length
     ensures { result ≡ length_of 0 bytes.now (body_length 5 allowed 0 (drop at bytes.now)) }
 {
     let mut n: usize = 0;
-    let mut left: usize = 5;
-    let mut room = allowed;
-    let mut place = at;
-    while place < bytes.len() {
+    for place in at..bytes.len() {
         let byte = bytes[place];
+        let read = place - at;
         if byte == SEPARATOR {
             if n < 4 {
                 return Length::BadLength;
             }
             return Length::Announced(n, place + 1);
         }
-        if byte < 48 {
+        if !byte.is_ascii_digit() || read == 5 {
             return Length::BadLength;
         }
-        if 57 < byte {
+        n = n * 10 + usize::from(byte - b'0');
+        if !may_become(4 - read, allowed - read - 1, n) {
             return Length::BadLength;
         }
-        if left == 0 {
-            return Length::BadLength;
-        }
-        left -= 1;
-        room -= 1;
-        n = n * 10 + digit_value(byte);
-        if !may_become(left, room, n) {
-            return Length::BadLength;
-        }
-        place += 1;
     }
     Length::ShortLength
 }

@@ -1,5 +1,5 @@
 // The dictionary's check, a dictionary prepared in the caller's memory, and the build over the caller's records.
-ghost use Rattle.std.specs.Prelude.{◌≡◌, ◌≤◌, min, length, get_or};
+ghost use Rattle.std.specs.Prelude.{◌≡◌, ◌≤◌, length, get_or};
 ghost use Rattle.dictionary_rules.specs.Check.{check_of, number_of_check, values_of_check};
 ghost use Rattle.build_answers.specs.Answer.{number_of, values_of};
 ghost use Rattle.face_told.specs.Told.{told};
@@ -43,23 +43,13 @@ pub fn gateway_prepare(
     dictionary_prepared::number_of(preparing)
 }
 
-fn least(one: usize, other: usize) -> usize
-    ensures { result ≡ min one other }
-{
-    if one < other {
-        return one;
-    }
-    other
-}
-
 // Writes blank records over the lent ones, from one place on up to another. Most of what is lent is blank: the loop has no branch and no call, so
 // that the compiler clears all of it at once.
 fn fill_blank(records: &mut [FieldRecord], from: usize, written: usize)
     requires { (from ≤ written) × (written ≤ length records.old) }
     ensures { records.new ≡ blanked from written records.old }
 {
-    let mut i = from;
-    while i < written {
+    for i in from..written {
         records[i] = FieldRecord {
             part: 0,
             depth: 0,
@@ -68,7 +58,6 @@ fn fill_blank(records: &mut [FieldRecord], from: usize, written: usize)
             place: 0,
             length: 0,
         };
-        i += 1;
     }
 }
 
@@ -82,11 +71,9 @@ fn fill(
     requires { written ≤ length records.old }
     ensures { records.new ≡ filled words.now shown written records.old }
 {
-    let count = least(shown, written);
-    let mut i: usize = 0;
-    while i < count {
+    let count = shown.min(written);
+    for i in 0..count {
         records[i] = face_messages::field_at(words, shown, i);
-        i += 1;
     }
     fill_blank(records, count, written);
 }

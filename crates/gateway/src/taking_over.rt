@@ -11,10 +11,8 @@ fn lay(records: &[FieldRecord], read: usize, words: &mut [u32; build_records::WO
     requires { read ≤ length records.now }
     ensures { words.new ≡ put_fields records.now read words.old }
 {
-    let mut i: usize = 0;
-    while i < read {
+    for i in 0..read {
         face_messages::put_field(words, i, records[i]);
-        i += 1;
     }
 }
 

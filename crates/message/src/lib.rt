@@ -9,7 +9,7 @@ ghost use Rattle.message_lent_rules.specs.Meaning.{message_in};
 ghost use Rattle.message_rules.specs.Changes.{after, emptying, making, storing, removing};
 ghost use Rattle.message_rules.specs.RowChanges.{body_head, trailer_head, span_of, located_in, held_rows, place_of, Cuttable, BlankFrom, Blank, changed_at, Ready, put_at, counted_fields};
 
-use message_rules::{Change, Cut, Located, Part, Span};
+use message_rules::{Change, Cut, Part, Span};
 
 // The row of the body's head in a message that is lent: behind the rows of the header.
 fn body_head(words: &[u32], values: &[u8]) -> usize
@@ -60,23 +60,20 @@ pub fn span_of(words: &[u32], values: &[u8], part: Part) -> Span
 }
 
 // Where a part of the message stands that is lent, if it is one.
-pub fn locate(words: &[u32], values: &[u8], part: Part) -> Located
+pub fn locate(words: &[u32], values: &[u8], part: Part) -> Option<Span>
     ensures { result ≡ located_in part words.now values.now }
 {
     if !message_lent::is_message(words, values) {
-        return Located::Nowhere;
+        return None;
     }
-    Located::At(span_of(words, values, part))
+    Some(span_of(words, values, part))
 }
 
 // Whether values of a size have room beside others.
 fn fits(left: usize, more: usize) -> bool
     ensures { result ≡ leb (left + more) 8192 }
 {
-    if 8192 < left {
-        return false;
-    }
-    more <= 8192 - left
+    left <= 8192 && more <= 8192 - left
 }
 
 // Where the values of a cut's rows stand, in the order of its rows.
@@ -94,15 +91,11 @@ fn places_of(words: &[u32], cut: Cut) -> Places
     requires { (cut.from ≤ cut.kept) × (cut.kept ≤ cut.to) × (cut.to ≤ cut.until) × (cut.until ≤ cut.count) × (cut.count ≤ message_rows) × (length words.now ≡ message_words) × (place_of words.now cut.count ≤ 8192) }
     ensures { (result.from ≡ place_of words.now cut.from) × (result.kept ≡ place_of words.now cut.kept) × (result.to ≡ place_of words.now cut.to) × (result.until ≡ place_of words.now cut.until) × (result.used ≡ place_of words.now cut.count) }
 {
-    let first_row = cut.from;
-    let kept_row = cut.kept;
-    let last_row = cut.to;
-    let until_row = cut.until;
-    let from = message_maps::size_between(words, 0, first_row);
-    let kept = from + message_maps::size_between(words, first_row, kept_row);
-    let to = kept + message_maps::size_between(words, kept_row, last_row);
-    let until = to + message_maps::size_between(words, last_row, until_row);
-    let used = until + message_maps::size_between(words, until_row, cut.count);
+    let from = message_maps::size_between(words, 0, cut.from);
+    let kept = from + message_maps::size_between(words, cut.from, cut.kept);
+    let to = kept + message_maps::size_between(words, cut.kept, cut.to);
+    let until = to + message_maps::size_between(words, cut.to, cut.until);
+    let used = until + message_maps::size_between(words, cut.until, cut.count);
     Places {
         from,
         kept,
@@ -129,11 +122,13 @@ pub fn cut_rows(
     requires blank_from { BlankFrom blank cut.count words.old values.old }
     ensures { after result words.new values.new ≡ changed_at cut rows.now added bytes.now whole fields words.old values.old }
 {
-    let from = cut.from;
-    let to = cut.to;
-    let kept = cut.kept;
-    let until = cut.until;
-    let count = cut.count;
+    let Cut {
+        from,
+        to,
+        kept,
+        until,
+        count,
+    } = cut;
     let places = places_of(words, cut);
     let first = places.from;
     let third = places.kept;
@@ -182,9 +177,7 @@ pub fn put_field(
     requires blank_from { BlankFrom blank span.count words.old values.old }
     ensures { after result words.new values.new ≡ put_at span tag value.now fields words.old values.old }
 {
-    let from = span.from;
-    let to = span.to;
-    let count = span.count;
+    let Span { from, to, count } = span;
     let row = [1u32, 1, tag, value.len() as u32];
     let at = message_maps::find_row(words, 1, 1, tag, from, to);
     if at < to {
@@ -195,17 +188,7 @@ pub fn put_field(
             until: at + 1,
             count,
         };
-        return cut_rows(
-            words,
-            values,
-            place,
-            &row[..],
-            1,
-            value,
-            true,
-            fields,
-            blank,
-        );
+        return cut_rows(words, values, place, &row, 1, value, true, fields, blank);
     }
     let first = message_maps::find_row(words, 2, 1, tag, from, to);
     let last = message_maps::run_end(words, 1, tag, first, to);
@@ -216,17 +199,7 @@ pub fn put_field(
         until: to,
         count,
     };
-    cut_rows(
-        words,
-        values,
-        run,
-        &row[..],
-        1,
-        value,
-        true,
-        fields + 1,
-        blank,
-    )
+    cut_rows(words, values, run, &row, 1, value, true, fields + 1, blank)
 }
 
 // Makes what is lent an empty message.
@@ -240,10 +213,9 @@ pub fn empty(words: &mut [u32], values: &mut [u8]) -> Change
         return Change::NoMessage;
     }
     let heads = [2u32, 0, 1, 0, 2, 0, 2, 0, 2, 0, 3, 0];
-    let no_bytes = [0u8; 1];
-    message_maps::splice_words(words, 1, 1, 1, 1, 1, &heads[..], false);
+    message_maps::splice_words(words, 1, 1, 1, 1, 1, &heads, false);
     words[0] = 3;
-    message_maps::splice_bytes(values, 0, 0, 0, 0, 0, &no_bytes[..0], false);
+    message_maps::splice_bytes(values, 0, 0, 0, 0, 0, &[], false);
     Change::Made
 }
 
@@ -326,13 +298,9 @@ pub fn remove_in(words: &mut [u32], values: &mut [u8], part: Part, tag: u32) -> 
     ensures { after result words.new values.new ≡ removing part tag words.old values.old }
 {
     let span = span_of(words, values, part);
-    let from = span.from;
-    let to = span.to;
-    let count = span.count;
+    let Span { from, to, count } = span;
     let at = message_maps::find_row(words, 1, 1, tag, from, to);
     let held = held_rows(at, to);
-    let no_words = [0u32; 1];
-    let no_bytes = [0u8; 1];
     let place = Cut {
         from: at,
         to: at + held,
@@ -340,17 +308,7 @@ pub fn remove_in(words: &mut [u32], values: &mut [u8], part: Part, tag: u32) -> 
         until: at + held,
         count,
     };
-    cut_rows(
-        words,
-        values,
-        place,
-        &no_words[..0],
-        0,
-        &no_bytes[..0],
-        true,
-        0,
-        false,
-    )
+    cut_rows(words, values, place, &[], 0, &[], true, 0, false)
 }
 
 // Removes a field from a part of a message; a run that hung on it stays. Where it is not held, what stood behind the message goes all the same.

@@ -257,6 +257,9 @@ module _ (table words : List ℕ) (i level tag : ℕ) (tree : Tree table i) (few
     pub way_small : cell < 1024 + 3 * i
     way_small = omega (arith, way.link.low, way.link.old)
 
+    pub way_few : v ≤ i
+    way_few = omega (arith, value, way.link.few)
+
     module _ (some : v ≡ 0 → ⊥) where
       pub way_rise : (cell < 1021 + 3 * v) × (v ≤ i)
       way_rise =

@@ -11,23 +11,7 @@ ghost use Rattle.message_lent_rules.specs.declared.Standing.TheVariants.{Uncount
 ghost use Rattle.message_allowed.specs.Distinct.{held, tagged, latest, reach, starts_run};
 ghost use Rattle.message_allowed.specs.Branch.{bucket_of, rest_of, cell_of, Tree, tag_of, Known, grown, Sized};
 
-use field_numbers::wide;
 use message_lent_rules::Standing;
-
-fn number(n: u16) -> usize
-    ensures { result ≡ n }
-{
-    n as usize
-}
-
-fn either(one: bool, other: bool) -> bool
-    ensures { result ≡ pick one true other }
-{
-    if one {
-        return true;
-    }
-    other
-}
 
 // How rows stand that are allowed.
 fn standing_of(loose: bool) -> Standing
@@ -39,34 +23,31 @@ fn standing_of(loose: bool) -> Standing
     Standing::Counted
 }
 
+#[tactic(auto, unfolding(crate::specs::Branch::bucket_of))]
 fn bucket_of(level: u32, tag: u32) -> usize
     ensures value { result ≡ bucket_of level tag }
     ensures upper_bound { result < 1024 }
 {
-    (wide(tag) + 509 * wide(level)) % 1024
+    (tag as usize + 509 * level as usize) % 1024
 }
 
+#[tactic(auto, unfolding(message_maps::specs::Rows::row_at, message_maps::specs::Rows::level_of, crate::specs::Distinct::tagged))]
 fn is_tagged(words: &[u32], row: usize, level: u32, tag: u32) -> bool
     requires { (row < message_rows) × (length words.now ≡ message_words) }
     ensures { result ≡ tagged level tag (row_at words.now row) }
 {
-    if message_maps::tag_of(words, row) != tag {
-        return false;
-    }
-    if message_maps::level_of(words, row) != level {
+    if message_maps::tag_of(words, row) != tag || message_maps::level_of(words, row) != level {
         return false;
     }
     let kind = message_maps::kind_of(words, row);
-    if kind == 1 {
-        return true;
-    }
-    kind == 2
+    kind == 1 || kind == 2
 }
 
+#[tactic(auto, unfolding(crate::specs::Branch::rest_of))]
 fn rest_of(level: u32, tag: u32) -> usize
     ensures { result ≡ rest_of level tag }
 {
-    wide(tag) / 1024 + 4194304 * wide(level)
+    tag as usize / 1024 + 4194304 * level as usize
 }
 
 // The word of the table that holds, or is to hold, the newest row of a level and tag. As the tree branches by their bits, a way to it has no
@@ -78,14 +59,15 @@ fn cell_of(words: &[u32], table: &[u16], row: usize, level: u32, tag: u32) -> us
 {
     let mut cell = bucket_of(level, tag);
     let mut rest = rest_of(level, tag);
-    let mut link = number(table[cell]);
+    let mut link = table[cell] as usize;
+    // No `for`: a turn goes on along the links of the tree.
     while link != 0 {
         if is_tagged(words, link - 1, level, tag) {
             return 1023 + 3 * link;
         }
         cell = 1021 + 3 * link + rest % 2;
         rest = rest / 2;
-        link = number(table[cell]);
+        link = table[cell] as usize;
     }
     cell
 }
@@ -103,20 +85,17 @@ fn is_held(
     requires { (row < message_rows) × (length words.now ≡ message_words) × Sized table.now tops row × Known words.now row tops table.now × (level ≤ reach (rows_before row words.now)) × (newest ≡ latest level tag (rows_before row words.now)) }
     ensures { result ≡ held level tag (rows_before row words.now) }
 {
-    number(table[tops + wide(level)]) < newest
+    (table[tops + level as usize] as usize) < newest
 }
 
+#[tactic(auto, unfolding(message_maps::specs::Rows::row_at, message_lent_rules::specs::Lent::continues, message_lent_rules::specs::Lent::delimiter_is))]
 fn continues_run(words: &[u32], row: usize, level: u32, start: u32, delimiter: u32) -> bool
     requires { (row < message_rows) × (length words.now ≡ message_words) }
     ensures { result ≡ continues level start delimiter (row_at words.now row) }
 {
-    if message_maps::is_row(words, row, 1, level, start) {
-        return true;
-    }
-    if message_maps::is_row(words, row, 2, level, start) {
-        return message_maps::extra_of(words, row) == delimiter;
-    }
-    false
+    message_maps::is_row(words, row, 1, level, start)
+        || message_maps::is_row(words, row, 2, level, start)
+            && message_maps::extra_of(words, row) == delimiter
 }
 
 // Whether a run of the map that is open goes on: the newest row that is no deeper is its count or an entry of it.
@@ -132,11 +111,8 @@ fn follows_on(
     requires { (row < message_rows) × (length words.now ≡ message_words) × Sized table.now tops row × Known words.now row tops table.now × (level < reach (rows_before row words.now)) }
     ensures { result ≡ follows_on level start delimiter (rows_before row words.now) }
 {
-    let last = number(table[tops + (wide(level) + 1)]);
-    if last == 0 {
-        return false;
-    }
-    continues_run(words, last - 1, level, start, delimiter)
+    let last = table[tops + (level as usize + 1)] as usize;
+    last != 0 && continues_run(words, last - 1, level, start, delimiter)
 }
 
 // How deep a row may stand: as deep as the row before it, and one level deeper behind a head.
@@ -147,7 +123,7 @@ fn deepest_at(words: &[u32], row: usize) -> usize
     if row == 0 {
         return 0;
     }
-    let outer = wide(message_maps::level_of(words, row - 1));
+    let outer = message_maps::level_of(words, row - 1) as usize;
     if message_maps::kind_of(words, row - 1) == 2 {
         return outer + 1;
     }
@@ -208,7 +184,7 @@ fn row_allowed(words: &[u32], table: &[u16], tops: usize, row: usize, newest: us
     ensures { result ≡ row_allowed (rows_before row words.now) (row_at words.now row) }
 {
     let level = message_maps::level_of(words, row);
-    if deepest_at(words, row) < wide(level) {
+    if deepest_at(words, row) < level as usize {
         return false;
     }
     let kind = message_maps::kind_of(words, row);
@@ -253,7 +229,7 @@ fn enter(words: &[u32], table: &mut [u16], tops: usize, row: usize, cell: usize)
     ensures { table.new ≡ grown words.now row tops cell table.old }
 {
     let place = 1024 + 3 * row;
-    let top = tops + 1 + wide(message_maps::level_of(words, row));
+    let top = tops + 1 + message_maps::level_of(words, row) as usize;
     table[cell] = (row + 1) as u16;
     table[place] = 0;
     table[place + 1] = 0;
@@ -267,8 +243,7 @@ fn judge(words: &[u32], table: &mut [u16], tops: usize, to: usize) -> Standing
     ensures { result ≡ standing_of (rows_from (to - 0) 0 words.now) }
 {
     let mut loose = false;
-    let mut i: usize = 0;
-    while i < to {
+    for i in 0..to {
         let cell = cell_of(
             words,
             table,
@@ -276,13 +251,12 @@ fn judge(words: &[u32], table: &mut [u16], tops: usize, to: usize) -> Standing
             message_maps::level_of(words, i),
             message_maps::tag_of(words, i),
         );
-        let newest = number(table[cell]);
+        let newest = table[cell] as usize;
         if !row_allowed(words, table, tops, i, newest) {
             return Standing::Refused;
         }
-        loose = either(loose, starts_run(words, table, tops, i, newest));
+        loose = loose || starts_run(words, table, tops, i, newest);
         enter(words, table, tops, i, cell);
-        i += 1;
     }
     standing_of(loose)
 }

@@ -1,7 +1,7 @@
 -- The layer of rows: where a run hangs, what is cut out for it, and its rows one level deeper.
-use Rattle.std.specs.Prelude.{ℕ, zero, suc, ◌+◌, ◌-◌, ◌*◌, ◌≤◌, ◌<◌, ◌≡◌, Bool, true, false, List, [], ◌∷◌, length, get_or, set, take, eqb, ltb, leb}
+use Rattle.std.specs.Prelude.{ℕ, zero, suc, ◌+◌, ◌-◌, ◌*◌, ◌≤◌, ◌≡◌, Bool, true, false, List, [], ◌∷◌, length, get_or, set, take, eqb, ltb, leb}
 use Rattle.field_rules.specs.Choice.{pick}
-use Rattle.message_maps.specs.Rows.{Row, row, flat, row_at, rows_from, level_of, sizes, run_end_from, message_words, message_rows}
+use Rattle.message_maps.specs.Rows.{Row, row, flat, rows_from, level_of, sizes, run_end_from, message_words, message_rows}
 use Rattle.message_lent_rules.specs.Lent.{row_count, rows_of, fields_in}
 use Rattle.message_rules.specs.Changes.{After, after}
 use Rattle.message_rules.specs.RowChanges.{Cuttable, changed_at, field_place, run_place}

@@ -1,11 +1,11 @@
 -- Inserting the rows of a run and raising them where they stand is inserting them raised: a cut leaves what stands before them, the rows
 -- themselves and what stands behind, and raising changes the level in each.
 use Rattle.std.proofs.Math.Path.{◌≡◌, refl, ap}
-use Rattle.std.proofs.Common.{sym, ◌∙◌, arith, get_or-append-add, drop-cons}
+use Rattle.std.proofs.Common.{sym, ◌∙◌, arith, get_or-append-add}
 use Rattle.std.specs.Prelude.{Bool, drop}
 use Rattle.std.proofs.Math.Bool.{true, false}
-use mathlib.Core.List.{List, [], ◌∷◌, ◌++◌, append_assoc, append-nil}
-use Prim.Native.Nat.{ℕ, zero, suc, ◌+◌, ◌-◌, ◌*◌, ◌≤◌, ◌<◌}
+use mathlib.Core.List.{List, [], ◌∷◌, ◌++◌, append_assoc}
+use Prim.Native.Nat.{ℕ, suc, ◌+◌, ◌-◌, ◌*◌, ◌≤◌, ◌<◌}
 use Rattle.std.proofs.Math.Nat.{sub_self}
 use Rattle.std.proofs.Math.ListN.{length, get_or, take, set, replicate, length-append, length-take, length-drop}
 use Rattle.std.proofs.Math.Seq.{set_at}
@@ -13,16 +13,15 @@ use Rattle.std.proofs.Math.Dec.{leb}
 use Rattle.std.proofs.Math.Decide.{dec_le}
 use borrow.Author.Tests.{leb-true}
 use Rattle.field_rules.specs.Choice.{pick}
-use Rattle.message_maps.specs.Rows.{Row, row, flat, part, padded, spliced, level_of, rows_from, message_words, message_rows}
-use Rattle.message_maps.specs.RowsLaws.{part_length}
+use Rattle.message_maps.specs.Rows.{Row, row, flat, part, padded, spliced, level_of, message_words, message_rows}
 use Rattle.message_lent_rules.specs.Lent.{row_count, rows_of}
 use Rattle.message_lent_rules.specs.LentLaws.{both}
 use Rattle.message_lent_rules.proofs.MeaningLaws.{flat-length, rows_flat}
-use Rattle.message_rules.specs.Changes.{After, after}
+use Rattle.message_rules.specs.Changes.{after}
 use Rattle.message_rules.specs.RowChanges.{Cuttable, cut_rows, cut_size, cut_words, cut_values, changed_at}
 use Rattle.message_rules.specs.declared.Cut.{Cut}
 use Rattle.message_rules.specs.declared.Change.{Change}
-use Rattle.message_rules.specs.declared.Change.TheVariants.{Made, NoMessage, NotStorable, NoRun, TooManyFields}
+use Rattle.message_rules.specs.declared.Change.TheVariants.{Made, NotStorable, NoRun, TooManyFields}
 use Rattle.message_hung_rows.specs.Hanging.{raised, raised_from, within}
 
 pub raised-length : (rows : List Row) → length (raised rows) ≡ length rows

@@ -9,17 +9,13 @@ ghost use Rattle.message_rules.specs.Changes.{after};
 ghost use Rattle.message_rules.specs.RowChanges.{Cuttable, changed_at};
 ghost use Rattle.message_hung_rows.specs.Hanging.{raised, raised_from, is_untagged, untagged_in, is_of, all_of, hung_place, Lent, Hangable, hang_at};
 
+#[tactic(auto, unfolding(message_maps::specs::Rows::row_at, message_maps::specs::Rows::level_of, crate::specs::Hanging::is_untagged))]
 fn is_untagged(words: &[u32], row: usize) -> bool
     requires { (row < message_rows) × (length words.now ≡ message_words) }
     ensures { result ≡ is_untagged (row_at words.now row) }
 {
-    if message_maps::level_of(words, row) != 0 {
-        return false;
-    }
-    if message_maps::tag_of(words, row) == 0 {
-        return true;
-    }
-    message_maps::extra_of(words, row) == 0
+    message_maps::level_of(words, row) == 0
+        && (message_maps::tag_of(words, row) == 0 || message_maps::extra_of(words, row) == 0)
 }
 
 // Whether an entry at the top level has a tag 0.
@@ -27,27 +23,22 @@ pub fn has_untagged(words: &[u32], count: usize) -> bool
     requires { (count ≤ message_rows) × (length words.now ≡ message_words) }
     ensures { result ≡ untagged_in (rows_from (count - 0) 0 words.now) }
 {
-    let mut i: usize = 0;
-    while i < count {
-        if is_untagged(words, i) {
+    for row in 0..count {
+        if is_untagged(words, row) {
             return true;
         }
-        i += 1;
     }
     false
 }
 
+#[tactic(auto, unfolding(message_maps::specs::Rows::row_at, message_maps::specs::Rows::level_of, crate::specs::Hanging::is_of))]
 fn is_of(words: &[u32], row: usize, start: u32, delimiter: u32) -> bool
     requires { (row < message_rows) × (length words.now ≡ message_words) }
     ensures { result ≡ is_of start delimiter (row_at words.now row) }
 {
-    if message_maps::level_of(words, row) != 0 {
-        return true;
-    }
-    if message_maps::tag_of(words, row) != start {
-        return false;
-    }
-    message_maps::extra_of(words, row) == delimiter
+    message_maps::level_of(words, row) != 0
+        || message_maps::tag_of(words, row) == start
+            && message_maps::extra_of(words, row) == delimiter
 }
 
 // Whether all entries at the top level have the same tags.
@@ -55,12 +46,10 @@ fn all_of(words: &[u32], count: usize, start: u32, delimiter: u32) -> bool
     requires { (count ≤ message_rows) × (length words.now ≡ message_words) }
     ensures { result ≡ all_of start delimiter (rows_from (count - 0) 0 words.now) }
 {
-    let mut i: usize = 0;
-    while i < count {
-        if !is_of(words, i, start, delimiter) {
+    for row in 0..count {
+        if !is_of(words, row, start, delimiter) {
             return false;
         }
-        i += 1;
     }
     true
 }
@@ -69,11 +58,8 @@ fn raise_rows(words: &mut [u32], from: usize, to: usize)
     requires { (from ≤ to) × (to ≤ message_rows) × (length words.old ≡ message_words) × ((i : ℕ) → from ≤ i → i < to → get_or words.old (4 * i + 2) 0 ≤ message_rows) }
     ensures { words.new ≡ raised_from (to - from) from words.old }
 {
-    let mut i = from;
-    while i < to {
-        let level = message_maps::level_of(words, i);
-        words[4 * i + 2] = level + 1;
-        i += 1;
+    for row in from..to {
+        words[4 * row + 2] += 1;
     }
 }
 

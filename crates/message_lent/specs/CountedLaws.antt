@@ -125,3 +125,9 @@ module _ (words : List ℕ) (i to : ℕ) (some : 0 < i) where
   fields_back floor f w h e g =
       let later : f ≡ fields_in floor (rows_from (to - (i - 1 + 1)) (i - 1 + 1) words) = e ∙ ap (λ (n : ℕ). fields_in floor (rows_from (to - n) n words)) back in
       omega (arith, later, g, fields-on words (i - 1) to (omega arith) floor)
+
+-- the place kept for a row is where the rows below it end
+pub link : (words ends : List ℕ) (from to i : ℕ) → Ended words from to ends → from ≤ i → i < to
+    → get_or ends i 0 ≡ end_from (level_of (row_at words i)) (i + 1) (rows_from (to - (i + 1)) (i + 1) words)
+unfolding Ended
+link words ends from to i kept h more = kept i h more

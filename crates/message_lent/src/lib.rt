@@ -8,20 +8,17 @@ ghost use Rattle.message_lent_rules.specs.Lent.{is_part, next_part, parts_from, 
 ghost use Rattle.message_lent_rules.specs.Standing.{is_standing, laid_standing, message_standing};
 ghost use Rattle.message_lent.specs.Counted.{Ended, Told};
 
-use field_numbers::wide;
 use message_lent_rules::Standing;
 
 // What `quick_weight` answers where the next row can't tell what a head weighs.
 const UNTOLD: usize = 2;
 
+#[tactic(auto, unfolding(message_maps::specs::Rows::row_at, message_lent_rules::specs::Lent::is_part, message_lent_rules::specs::Lent::delimiter_is))]
 fn is_part(words: &[u32], row: usize, part: u32) -> bool
     requires { (row < message_rows) × (length words.now ≡ message_words) }
     ensures { result ≡ is_part part (row_at words.now row) }
 {
-    if message_maps::is_row(words, row, 2, 0, part) {
-        return message_maps::extra_of(words, row) == 0;
-    }
-    false
+    message_maps::is_row(words, row, 2, 0, part) && message_maps::extra_of(words, row) == 0
 }
 
 // The part that must come next after a row, or 0 where the row is no part and should be one.
@@ -44,26 +41,22 @@ fn has_parts(words: &[u32], to: usize) -> bool
     ensures { result ≡ parts_from 1 (rows_from (to - 0) 0 words.now) }
 {
     let mut part: u32 = 1;
-    let mut i: usize = 0;
-    while i < to {
+    for i in 0..to {
         let next = next_part(words, i, part);
         if next == 0 {
             return false;
         }
         part = next;
-        i += 1;
     }
     part == 4
 }
 
+#[tactic(auto, unfolding(message_maps::specs::Rows::row_at, message_maps::specs::Rows::level_of, message_lent_rules::specs::Lent::is_own))]
 fn is_own(words: &[u32], row: usize, level: usize) -> bool
     requires { (row < message_rows) × (length words.now ≡ message_words) }
     ensures { result ≡ is_own level (row_at words.now row) }
 {
-    if message_maps::kind_of(words, row) != 1 {
-        return false;
-    }
-    wide(message_maps::level_of(words, row)) == level
+    message_maps::kind_of(words, row) == 1 && message_maps::level_of(words, row) as usize == level
 }
 
 // What a row weighs, as far as the row itself and the next one tell: a head has nothing below it, or a field of its own comes first.
@@ -85,17 +78,10 @@ fn quick_weight(words: &[u32], floor: u32, row: usize, to: usize) -> usize
     if message_maps::level_of(words, next) <= level {
         return 1;
     }
-    if is_own(words, next, wide(level) + 1) {
+    if is_own(words, next, level as usize + 1) {
         return 0;
     }
     UNTOLD
-}
-
-// A place as an index.
-fn place(n: u16) -> usize
-    ensures { result ≡ n }
-{
-    n as usize
 }
 
 // Whether a head has a field of its own; its rows start at `from`. Rows deeper than those are passed over.
@@ -103,8 +89,9 @@ fn own_below(words: &[u32], ends: &[u16], level: u32, from: usize, to: usize) ->
     requires { (from ≤ to) × (to ≤ message_rows) × (length words.now ≡ message_words) × (length ends.now ≡ message_rows) × Ended words.now from to ends.now }
     ensures { result ≡ own_below level (rows_from (to - from) from words.now) }
 {
-    let below = wide(level) + 1;
+    let below = level as usize + 1;
     let mut i = from;
+    // No `for`: a turn goes on at the place that `ends` holds.
     while i < to {
         if message_maps::level_of(words, i) <= level {
             return false;
@@ -112,7 +99,7 @@ fn own_below(words: &[u32], ends: &[u16], level: u32, from: usize, to: usize) ->
         if is_own(words, i, below) {
             return true;
         }
-        i = place(ends[i]);
+        i = ends[i] as usize;
     }
     false
 }
@@ -124,11 +111,12 @@ fn end_below(words: &[u32], ends: &[u16], level: u32, from: usize, to: usize) ->
     ensures upper_bound { result ≤ to }
 {
     let mut i = from;
+    // No `for`: a turn goes on at the place that `ends` holds.
     while i < to {
         if message_maps::level_of(words, i) <= level {
             return i;
         }
-        i = place(ends[i]);
+        i = ends[i] as usize;
     }
     i
 }
@@ -157,9 +145,7 @@ fn fields_from_behind(words: &[u32], floor: u32, from: usize, to: usize) -> usiz
     let mut scratch = [0u16; message_maps::ROWS];
     let ends = &mut scratch[..];
     let mut fields: usize = 0;
-    let mut i = to;
-    while from < i {
-        i -= 1;
+    for i in (from..to).rev() {
         fields += weight_of(words, ends, floor, i, to);
         let end = end_below(words, ends, message_maps::level_of(words, i), i + 1, to);
         ends[i] = end as u16;
@@ -173,24 +159,23 @@ pub fn fields_in(words: &[u32], floor: u32, from: usize, to: usize) -> usize
     ensures { result ≡ fields_in floor (rows_from (to - from) from words.now) }
 {
     let mut fields: usize = 0;
-    let mut i = from;
-    while i < to {
+    for i in from..to {
         let weight = quick_weight(words, floor, i, to);
         if weight == UNTOLD {
             return fields_from_behind(words, floor, from, to);
         }
         fields += weight;
-        i += 1;
     }
     fields
 }
 
 // How many rows are lent, as their first word says.
+#[tactic(auto, unfolding(message_lent_rules::specs::Lent::row_count))]
 pub fn row_count(words: &[u32]) -> usize
     requires { length words.now ≡ message_words }
     ensures { result ≡ row_count words.now }
 {
-    wide(words[0])
+    words[0] as usize
 }
 
 // Whether rows store so many fields that with some more they pass the limit. No row stores more than one, so few rows needn't be counted.

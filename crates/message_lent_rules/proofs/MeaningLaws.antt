@@ -1,17 +1,16 @@
 -- What is lent and passes the check is the layout of the message that it means. By induction over the rows: the maps that are open after
 -- the rows from one on have these rows and these values, and are no deeper than that row may stand.
-use Rattle.std.specs.Prelude.{◌≡◌, ◌⊎◌, Bool, true, false, ℕ, zero, suc, ◌+◌, ◌-◌, ◌*◌, ◌≤◌, ◌<◌, get_or, take, leb, ltb, eqb}
+use Rattle.std.specs.Prelude.{◌≡◌, ◌⊎◌, Bool, true, false, ℕ, zero, suc, ◌+◌, ◌-◌, ◌*◌, ◌≤◌, ◌<◌, get_or, take, eqb}
 use Rattle.std.proofs.Math.Path.{refl, sym, ap}
-use Rattle.std.proofs.Common.{◌∙◌, inl, inr, ⊎_elim, arith, add-one, length-append, length-take, length-drop, take-append-drop, take-add, length-take-le, drop-cons, take_all, drop-drop, eqb-true, leb-true, eq-eqb, ne_eqb}
+use Rattle.std.proofs.Common.{◌∙◌, inl, inr, arith, length-drop, take-append-drop, take-add, length-take-le, drop-cons, eqb-true, leb-true, ne_eqb}
 use mathlib.Core.List.{List, [], ◌∷◌, ◌++◌, append_assoc, append-nil}
 use Rattle.std.proofs.Math.Nat.{sub-zero}
 use Rattle.std.proofs.Math.ListN.{length, drop}
-use Rattle.std.proofs.Math.Seq.{take-length}
 use Rattle.field_rules.specs.Choice.{pick}
 use Rattle.message_maps.specs.Map.{Map, end, field, entry, values_in}
-use Rattle.message_maps.specs.Rows.{Row, row, laid, flat, row_at, rows_from, padded, level_of, size_of, sizes, matches, message_words, message_rows}
-use Rattle.message_lent_rules.specs.Lent.{deepest, field_allowed, head_allowed, row_allowed, rows_allowed, delimiter_is, is_part, next_part, parts_from, row_count, rows_of, is_message}
-use Rattle.message_lent_rules.specs.LentLaws.{both, Laid, Held, message-held}
+use Rattle.message_maps.specs.Rows.{Row, row, laid, flat, row_at, rows_from, level_of, size_of, sizes, matches, message_words, message_rows}
+use Rattle.message_lent_rules.specs.Lent.{deepest, field_allowed, head_allowed, row_allowed, rows_allowed, delimiter_is, is_part, next_part, parts_from, row_count, rows_of}
+use Rattle.message_lent_rules.specs.LentLaws.{both, Laid, Held}
 use Rattle.message_lent_rules.specs.Meaning.{Message, parts, LaysOut, opened, with_field, with_entry, with_row, open_in, outermost, third_of, second_of, parts_in, message_in}
 
 -- the rows and the values of what is open, the deepest first

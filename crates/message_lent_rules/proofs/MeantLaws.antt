@@ -1,10 +1,10 @@
 -- A map's layout means that map, whatever it is and whatever stands behind: the rows are read back from the words, and what a map's rows
 -- open is that map in front of what the rows behind it open.
-use Rattle.std.specs.Prelude.{◌≡◌, refl, List, [], ◌∷◌, ◌++◌, ℕ, suc, ◌+◌, ◌-◌, ◌*◌, ◌≤◌, length, get_or, drop, replicate}
+use Rattle.std.specs.Prelude.{◌≡◌, refl, List, [], ◌∷◌, ◌++◌, ℕ, suc, ◌+◌, ◌-◌, ◌*◌, ◌≤◌, length, get_or, drop}
 use Rattle.std.proofs.Common.{sym, ap, ◌∙◌, append_assoc, append-nil, arith, take_at, drop_at, get_or-drop, drop-drop}
 use Rattle.std.proofs.Math.Nat.{sub-zero}
 use Rattle.message_maps.specs.Map.{Map, end, field, entry, joined, values_in}
-use Rattle.message_maps.specs.Rows.{Row, row, laid, flat, row_at, rows_from, padded, size_of, message_words}
+use Rattle.message_maps.specs.Rows.{Row, row, laid, flat, row_at, rows_from, padded, size_of}
 use Rattle.message_lent_rules.specs.Lent.{row_count, rows_of}
 use Rattle.message_lent_rules.specs.Meaning.{Message, parts, words_of, value_bytes_of, LaysOut, opened, with_field, with_entry, with_row, open_in, outermost, third_of, second_of, parts_in, message_in}
 use Rattle.message_lent_rules.proofs.MeaningLaws.{opened-length}

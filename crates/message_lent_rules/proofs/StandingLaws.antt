@@ -1,11 +1,11 @@
 -- What stands is what is allowed: the standing of what is lent, by the tests that a caller's memory passes one after the other.
 use Rattle.std.proofs.Math.Path.{◌≡◌, refl, sym, ap}
 use Rattle.std.proofs.Common.{◌∙◌, arith}
-use Rattle.std.specs.Prelude.{Bool, ℕ, ◌-◌, length, eqb, leb}
+use Rattle.std.specs.Prelude.{Bool, ℕ, length, eqb, leb}
 use Rattle.std.proofs.Math.Bool.{true, false}
 use mathlib.Core.List.{List, []}
 use Rattle.field_rules.specs.Choice.{pick, pick_same}
-use Rattle.message_maps.specs.Rows.{Row, rows_from, sizes, message_words, message_rows}
+use Rattle.message_maps.specs.Rows.{Row, sizes, message_words, message_rows}
 use Rattle.message_lent_rules.specs.Lent.{rows_allowed, row_count, rows_of, is_laid, parts_from, fields_in, is_message}
 use Rattle.message_lent_rules.specs.Standing.{uncounted, counting, is_standing, standing_of, laid_standing, message_standing}
 use Rattle.message_lent_rules.specs.declared.Standing.TheVariants.{Refused, Uncounted, Counted}

@@ -1,17 +1,16 @@
 -- What is found in the rows that were opened is what the definitions say of the message.
-use Rattle.std.specs.Prelude.{◌≡◌, refl, Bool, true, false, List, [], ◌∷◌, ℕ, zero, suc, ◌+◌, ◌-◌, ◌≤◌, ◌<◌, length}
-use Rattle.std.proofs.Common.{sym, ap, ◌∙◌, arith}
-use Rattle.field_rules.specs.Choice.{pick}
-use Rattle.message_maps.specs.Map.{Map, Looked, none, some}
-use Rattle.message_maps.specs.Rows.{laid, rows_from, message_rows}
+use Rattle.std.specs.Prelude.{◌≡◌, refl, Bool, true, false, List, ℕ, ◌+◌, ◌-◌, ◌≤◌}
+use Rattle.std.proofs.Common.{arith}
+use Rattle.message_maps.specs.Map.{none}
+use Rattle.message_maps.specs.Rows.{rows_from, message_rows}
 use Rattle.message_lent_rules.specs.Lent.{is_message}
 use Rattle.message_lent_rules.specs.Meaning.{Message, parts, message_in}
 use Rattle.message_rules.specs.RowChanges.{place_of, span_of}
 use Rattle.message_rules.specs.declared.Part.{Part}
 use Rattle.message_rules.specs.declared.Part.TheVariants.{Header, Body, Trailer}
-use Rattle.message_rules.specs.LookUps.{rows_in, standing, map_at, value_in, entry_in, part_row, value_of_map, entry_of, part_found, field_found, entry_found}
+use Rattle.message_rules.specs.LookUps.{map_at, part_row, value_of_map, entry_of, part_found, field_found, entry_found}
 use Rattle.message_rules.proofs.LookUpLimits.{rows_in_lem}
-use Rattle.message_look_ups.specs.Opening.{rows_below, opened_at, value_from, entry_from}
+use Rattle.message_look_ups.specs.Opening.{opened_at, value_from, entry_from}
 use Rattle.message_look_ups.specs.RowLaws.{value_laid, entry-laid}
 use Rattle.message_look_ups.specs.OpeningLaws.{Inside, Opens, shut, opened, opens, opened_no}
 use Rattle.message_rules.specs.declared.FoundValue.TheVariants as value

@@ -1,19 +1,18 @@
 -- Each row is a head and names the map below it, or names none. By induction over the map: a row past the first is one of an entry's own
 -- map, or of what follows.
-use Rattle.std.specs.Prelude.{◌≡◌, Bool, true, List, [], ◌∷◌, ◌++◌, ℕ, zero, suc, ◌+◌, ◌-◌, ◌*◌, ◌≤◌, ◌<◌, length, leb, ltb, eqb}
+use Rattle.std.specs.Prelude.{◌≡◌, Bool, true, List, [], ◌∷◌, ◌++◌, ℕ, zero, suc, ◌+◌, ◌-◌, ◌≤◌, ◌<◌, length, leb, eqb}
 use Rattle.std.proofs.Math.Path.{refl}
-use Rattle.std.proofs.Common.{sym, ap, ◌∙◌, append_assoc, append-nil, arith, length-append}
+use Rattle.std.proofs.Common.{sym, ap, ◌∙◌, append_assoc, arith, length-append}
 use Rattle.std.proofs.Math.Bool.{false}
 use borrow.Author.Tests.{eqb-true, eqb-false, eq-eqb, ne_eqb, le-leb, lt-leb, leb-true, leb-false}
-use Rattle.field_rules.specs.Choice.{pick}
-use Rattle.message_maps.specs.Map.{Map, end, field, entry, Looked, none, some, values_in}
+use Rattle.message_maps.specs.Map.{Map, end, field, entry, some, values_in}
 use Rattle.message_maps.specs.Rows.{Row, row, laid, level_of, size_of, sizes}
 use Rattle.message_rules.specs.LayoutLaws.{sizes-append, sizes-laid}
 use Rattle.message_lent_rules.specs.LaidLaws.{shallow}
-use Rattle.message_rules.specs.LookUps.{rows_in, Standing, standing, map_at}
+use Rattle.message_rules.specs.LookUps.{rows_in, standing, map_at}
 use Rattle.message_rules.proofs.LookUpLimits.{rows_in_lem}
 use Rattle.message_look_ups.specs.Opening.{is_head}
-use Rattle.message_look_ups.specs.RowLaws.{head_in, head_past, MapSplit, MapNamed, there, nowhere}
+use Rattle.message_look_ups.specs.RowLaws.{head_in, MapNamed, there, nowhere}
 
 shallow-map : (l d : ℕ) (m : Map) → d ≤ l → shallow l (laid d m) ≡ true
 unfolding shallow laid level_of

@@ -1,5 +1,5 @@
 -- The layer of rows: the rows that stand below a head, and what is found among them.
-use Rattle.std.specs.Prelude.{ℕ, zero, suc, ◌+◌, ◌-◌, Bool, true, false, List, [], ◌∷◌, eqb, ltb}
+use Rattle.std.specs.Prelude.{ℕ, ◌+◌, ◌-◌, Bool, List, [], ◌∷◌, eqb, ltb}
 use Rattle.field_rules.specs.Choice.{pick}
 use Rattle.message_maps.specs.Rows.{Row, row, row_at, rows_from, level_of, size_of, matches, end_from}
 use Rattle.message_lent_rules.specs.Lent.{row_count, is_message}

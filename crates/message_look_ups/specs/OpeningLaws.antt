@@ -1,26 +1,26 @@
 -- What is opened is the map that a row names, and one law for each way that a look among rows goes.
-use Rattle.std.specs.Prelude.{◌≡◌, refl, Bool, true, false, ℕ, zero, suc, ◌+◌, ◌-◌, ◌*◌, ◌≤◌, ◌<◌, take, leb, ltb, eqb}
+use Rattle.std.specs.Prelude.{◌≡◌, refl, Bool, true, false, ℕ, ◌+◌, ◌-◌, ◌≤◌, ◌<◌, ltb}
 use Rattle.std.proofs.Math.Path.{sym, ap}
 use Rattle.std.proofs.Common.{◌∙◌}
 use mathlib.Core.List.{List, [], ◌∷◌, ◌++◌, append_assoc, append-nil}
 use native.Mathlib.Omega.{arith}
 use Rattle.std.proofs.Math.Nat.{sub-zero}
 use Rattle.std.proofs.Math.ListN.{length, length-append}
-use borrow.Author.Tests.{ltb-true, ltb-false, lt-ltb, le-ltb, eq-eqb, ne_eqb, leb-true, lt-leb}
+use borrow.Author.Tests.{ltb-true, ltb-false, lt-ltb, le-ltb, eq-eqb, ne_eqb}
 use Rattle.field_rules.specs.Choice.{pick, pick_same}
-use Rattle.message_maps.specs.Map.{Map, Looked, none, some, values_in}
+use Rattle.message_maps.specs.Map.{Map, none, some}
 use Rattle.message_maps.specs.Rows.{Row, row, laid, row_at, rows_from, level_of, size_of, sizes, matches, end_from, message_rows}
 use Rattle.message_maps.specs.RowsLaws.{rows_step, rows_none}
 use Rattle.message_lent_rules.specs.Lent.{row_count, rows_of, is_message}
 use Rattle.message_lent_rules.specs.LentLaws.{message-held}
-use Rattle.message_lent_rules.specs.Meaning.{Message, parts, message_in}
+use Rattle.message_lent_rules.specs.Meaning.{parts, message_in}
 use Rattle.message_lent_rules.proofs.MeaningLaws.{means}
 use Rattle.message_rules.specs.RowChanges.{place_of}
 use Rattle.message_rules.specs.LayoutLaws.{sizes-append, end_below}
 use Rattle.message_lent_rules.specs.LaidLaws.{shallow}
 use Rattle.message_rules.specs.PlaceLaws.{rows_length, rows_part}
 use Rattle.message_rules.specs.CutLaws.{Sized, laid_sized}
-use Rattle.message_rules.specs.LookUps.{Standing, standing, map_at}
+use Rattle.message_rules.specs.LookUps.{standing, map_at}
 use Rattle.message_look_ups.specs.Opening.{is_head, rows_below, opened_at, value_from, entry_from}
 use Rattle.message_look_ups.specs.RowLaws.{head_in, head_within, head_past, MapSplit, MapNamed, there, nowhere}
 use Rattle.message_look_ups.specs.NamedLaws.{map-named}

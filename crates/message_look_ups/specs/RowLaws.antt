@@ -1,24 +1,17 @@
 -- From rows to maps: what is found among the rows of a map is what the map has, and a row that is a head names the map below it.
-use Rattle.std.specs.Prelude.{◌≡◌, refl, Bool, true, false, ℕ, zero, suc, ◌+◌, ◌-◌, ◌*◌, ◌≤◌, ◌<◌, take, drop, leb, ltb, eqb}
-use Rattle.std.proofs.Common.{sym, ◌∙◌, eqb-true, eq-eqb, ne_eqb, le-leb, leb-true, lt-ltb, le-ltb}
+use Rattle.std.specs.Prelude.{◌≡◌, refl, Bool, true, false, ℕ, zero, suc, ◌+◌, ◌-◌, ◌≤◌, ◌<◌, eqb}
+use Rattle.std.proofs.Common.{◌∙◌, eq-eqb, ne_eqb}
 use Rattle.std.proofs.Math.Path.{ap}
-use mathlib.Core.List.{List, [], ◌∷◌, ◌++◌, append_assoc, append-nil}
+use mathlib.Core.List.{List, [], ◌∷◌, ◌++◌, append_assoc}
 use native.Mathlib.Omega.{arith}
-use Rattle.std.proofs.Math.Nat.{sub-zero}
 use Rattle.std.proofs.Math.ListN.{length, length-append}
-use Rattle.std.proofs.lemmas.Bool.{lt-leb}
-use Rattle.field_rules.specs.Choice.{pick, pick_same}
-use Rattle.message_maps.specs.Map.{Map, end, field, entry, Looked, none, some, values_in}
-use Rattle.message_maps.specs.Rows.{Row, row, laid, row_at, rows_from, level_of, size_of, sizes, matches, end_from}
-use Rattle.message_maps.specs.RowsLaws.{rows_step, rows_none}
-use Rattle.message_rules.specs.LayoutLaws.{sizes-append, sizes-laid}
+use Rattle.field_rules.specs.Choice.{pick}
+use Rattle.message_maps.specs.Map.{Map, end, field, entry, none, some, values_in}
+use Rattle.message_maps.specs.Rows.{Row, row, laid, row_at, rows_from, size_of, sizes, matches}
 use Rattle.message_lent_rules.specs.LaidLaws.{shallow}
-use Rattle.message_rules.specs.LookUps.{rows_in, Standing, standing, map_at, value_in, entry_in}
+use Rattle.message_rules.specs.LookUps.{rows_in, standing, map_at, value_in, entry_in}
 use Rattle.message_look_ups.specs.Opening.{is_head, value_from, entry_from}
-use Rattle.message_rules.specs.declared.FoundValue.{FoundValue}
 use Rattle.message_rules.specs.declared.FoundValue.TheVariants as value
-use Rattle.message_rules.specs.declared.FoundMap.{FoundMap}
-use Rattle.message_rules.specs.declared.FoundMap.TheVariants as map
 
 -- rows that stand deeper are passed over
 module _ (l : ℕ) where

@@ -52,17 +52,14 @@ fn value_from(words: &[u32], rows: Rows, tag: u32) -> FoundValue
     requires { (rows.from ≤ rows.to) × (rows.to ≤ message_rows) × (length words.now ≡ message_words) × (place_of words.now rows.from ≤ 8192) }
     ensures { result ≡ value_from rows.level tag (place_of words.now rows.from) (rows_from (rows.to - rows.from) rows.from words.now) }
 {
-    let level = rows.level;
-    let to = rows.to;
-    let mut i = rows.from;
-    let mut place = message_maps::size_between(words, 0, i);
-    while i < to {
+    let Rows { level, from, to } = rows;
+    let mut place = message_maps::size_between(words, 0, from);
+    for i in from..to {
         let size = message_maps::size_of(words, i);
         if message_maps::is_row(words, i, 1, level, tag) {
             return FoundValue::At(Value { place, size });
         }
         place += size;
-        i += 1;
     }
     FoundValue::Absent
 }
@@ -71,18 +68,15 @@ fn entry_from(words: &[u32], rows: Rows, start: u32, number: usize) -> FoundMap
     requires { (rows.from ≤ rows.to) × (rows.to ≤ message_rows) × (length words.now ≡ message_words) }
     ensures { result ≡ entry_from rows.level start number rows.from (rows_from (rows.to - rows.from) rows.from words.now) }
 {
-    let level = rows.level;
-    let to = rows.to;
-    let mut i = rows.from;
+    let Rows { level, from, to } = rows;
     let mut left = number;
-    while i < to {
+    for i in from..to {
         if message_maps::is_row(words, i, 2, level, start) {
             if left == 0 {
                 return FoundMap::At(i);
             }
-            left = left - 1;
+            left -= 1;
         }
-        i += 1;
     }
     FoundMap::Absent
 }
@@ -91,7 +85,7 @@ fn entry_from(words: &[u32], rows: Rows, start: u32, number: usize) -> FoundMap
 pub fn part_map(words: &[u32], values: &[u8], part: message_rules::Part) -> FoundMap
     ensures { result ≡ part_found part words.now values.now }
 {
-    let message_rules::Located::At(span) = message::locate(words, values, part) else {
+    let Some(span) = message::locate(words, values, part) else {
         return FoundMap::NoMessage;
     };
     let from = span.from;

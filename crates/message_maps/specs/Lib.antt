@@ -1,5 +1,4 @@
 pub mod Map
-pub mod MoveLaws
 pub mod Rows
 pub mod RowsLaws
 pub mod SpliceLaws

@@ -1,6 +1,6 @@
 -- RULES.md, Field maps. A map is its fields in order, each count followed by the entries of its run; a run without its count stands
 -- where the count stood, or last where it was hung without one. An entry carries the tags of its run, as in the Rust.
-use Rattle.std.specs.Prelude.{ℕ, zero, suc, ◌+◌, Bool, true, false, List, [], ◌∷◌, ◌++◌, length, eqb}
+use Rattle.std.specs.Prelude.{ℕ, ◌+◌, Bool, true, false, List, [], ◌++◌, eqb}
 use Rattle.field_rules.specs.Choice.{pick}
 
 pub data Map : Type 0 where

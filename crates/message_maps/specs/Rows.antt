@@ -27,7 +27,7 @@ flat [] = []
 flat (row k l t x ∷ rows) = k ∷ l ∷ t ∷ x ∷ flat rows
 
 -- a part of a list, from one place up to another
-unfoldable pub part : ℕ → ℕ → List ℕ → List ℕ
+unfoldable pub part : {A : Type 0} → ℕ → ℕ → List A → List A
 part from to s = take (to - from) (drop from s)
 
 -- a list with zeros behind it
@@ -80,6 +80,6 @@ sizes [] = 0
 sizes (r ∷ rows) = size_of r + sizes rows
 
 -- a list with a part taken out, what followed it up to an end moved up, and then what is new and what comes back
-unfoldable pub spliced : ℕ → ℕ → ℕ → ℕ → ℕ → List ℕ → List ℕ → List ℕ
+unfoldable pub spliced : {A : Type 0} → ℕ → ℕ → ℕ → ℕ → ℕ → List A → List A → List A
 spliced from to kept until used new s =
     part 0 from s ++ (part to until s ++ (new ++ (part kept to s ++ part until used s)))

@@ -1,7 +1,7 @@
 -- The body as it is read: fields of the layout are stored, and a count is stored with the run that was read behind it.
 use Rattle.std.proofs.Math.Path.{◌≡◌, refl, sym}
 use Rattle.std.proofs.Common.{◌∙◌, arith, length-append}
-use Rattle.std.specs.Prelude.{Bool, length, eqb}
+use Rattle.std.specs.Prelude.{Bool, length, eqb, Some}
 use Rattle.std.proofs.Math.Bool.{true, false}
 use mathlib.Core.List.{List, [], ◌∷◌, ◌++◌}
 use Prim.Native.Nat.{ℕ, zero, suc, ◌+◌, ◌≤◌}
@@ -9,7 +9,6 @@ use Rattle.field_rules.specs.Choice.{pick}
 use Rattle.field_rules.specs.Fields.{Fields, unreadable, field}
 use Rattle.field_rules.specs.declared.Field.{Field}
 use Rattle.dictionary_layout_rules.specs.Tree.{holds_tag}
-use Rattle.dictionary_layout_rules.specs.declared.Position.TheVariants.{At}
 use Rattle.build_records.specs.Records.{stored, value_at}
 use Rattle.build_records.specs.declared.Record.{Record}
 use Rattle.build_group_rules.specs.Groups.{Rules, opens, run, outermost, RunOutcome, walk}
@@ -74,7 +73,7 @@ run_fewer r es (x ∷ rs) = by_tests (eqb x.depth r.depth) (eqb x.tag r.tag) (ru
     by_tests true false h = (omega (arith, h.0), unfold total in omega (arith, h.1))
     by_tests false t h = (omega (arith, h.0), unfold total in omega (arith, h.1))
 
-module _ {L : Type 0} (rules : Rules L) (first : (level : L) (tag : ℕ) → opens rules level tag ≡ true → rules.position level tag ≡ At 0) where
+module _ {L : Type 0} (rules : Rules L) (first : (level : L) (tag : ℕ) → opens rules level tag ≡ true → rules.position level tag ≡ Some 0) where
   -- the count's field is read, then its run, and both go into the body
   reads-run : {message : List ℕ} {most bytes : ℕ} {f g : Field} {rest more : Fields} {room room₁ : ℕ} {rs : List Record} (inner : L) (run-records : List Record) → Reads message 2 most bytes (field f rest) (suc room) rs
       → walk rules list_store room (run (outermost f.tag inner) 0 ∷ []) [] rest ≡ ran g more room₁ run-records

@@ -1,5 +1,5 @@
 -- Each field that is read goes into the records, and what is left to read grows less by as much.
-use Rattle.std.specs.Prelude.{◌≡◌, refl, Bool, true, false, List, [], ◌∷◌, ◌++◌, ℕ, zero, suc, ◌+◌, ◌-◌, ◌≤◌, take, drop, eqb}
+use Rattle.std.specs.Prelude.{◌≡◌, refl, Bool, true, false, List, [], ◌∷◌, ◌++◌, ℕ, zero, suc, ◌+◌, ◌-◌, ◌≤◌, take, drop, eqb, Ok}
 use Rattle.std.proofs.Common.{sym, ap, ◌∙◌, arith, length-append, take-append-drop}
 use Rattle.std.proofs.Math.ListN.{length}
 use Rattle.field_rules.proofs.SpelledLaws.{step-tag}
@@ -10,7 +10,6 @@ use Rattle.field_rules.proofs.FieldsLaws.{step-lies, by_fields, step-inside, eac
 use Rattle.field_rules.specs.Fields.{Fields, field, fields_from, Each, each_field}
 use Rattle.field_rules.specs.declared.Cursor.{Cursor}
 use Rattle.field_rules.specs.declared.Field.{Field}
-use Rattle.field_rules.specs.declared.FieldRead.TheVariants.{Read}
 use Rattle.std.proofs.lemmas.Bool.{eqb-false}
 use Rattle.build_records.specs.Records.{stored}
 use Rattle.build_records.specs.declared.Record.{Record}
@@ -97,7 +96,7 @@ counts-on {message} {part} r c o g =
 
 -- the fields of a message are fine, and take no more bytes than there are
 module _ (mode : Mode) (message : List ℕ) where
-  pub read_fine : (c : Cursor) (f : Field) → field_at mode message c ≡ Read f → Fine message f
+  pub read_fine : (c : Cursor) (f : Field) → field_at mode message c ≡ Ok f → Fine message f
   read_fine c f e = record { some = step-tag mode message c f e; inside = (step-inside mode message c f e).within }
 
   pub all_fine : (c : Cursor) → Each (Fine message) (fields_from mode message c)

@@ -1,14 +1,11 @@
 -- The records of a run have the shape of a run of entries, and those of an entry the shape of a map; both are formed. By induction over the
 -- form that reading gives them.
-use Rattle.std.specs.Prelude.{◌≡◌, Bool, true, false, ℕ, ◌+◌, eqb}
+use Rattle.std.specs.Prelude.{◌≡◌, Bool, true, false, ℕ, ◌+◌, eqb, Option, Some, None}
 use Rattle.std.proofs.Math.Path.{refl}
 use Rattle.std.proofs.Common.{sym, ◌∙◌, arith}
 use mathlib.Core.List.{List, [], ◌∷◌, ◌++◌, append_assoc, append-nil}
 use borrow.Author.Tests.{eqb-true, eq-eqb}
 use Rattle.field_rules.specs.Choice.{pick}
-use Rattle.dictionary_layout_rules.specs.declared.Position.TheVariants.{At}
-use Rattle.dictionary_layout_rules.specs.declared.FirstTag.{FirstTag}
-use Rattle.dictionary_layout_rules.specs.declared.FirstTag.TheVariants.{First, NoTag}
 use Rattle.build_records.specs.Records.{stored, value_at}
 use Rattle.build_records.specs.declared.Record.{Record}
 use Rattle.message_maps.specs.Map.{Map, end, field, entry, joined}
@@ -23,10 +20,10 @@ use Rattle.message_read_laws.specs.ShapeLaws.{all_first, all_rest, all_left, all
 use Rattle.message_read_laws.specs.PutLaws.{run-joined, AllFormed, formed_none, formed_more, all-joined, run_is_formed, new_formed, new-run_formed, put_formed}
 
 -- a level has one delimiter
-one_delimiter : (first : FirstTag) (t u : ℕ) → is_delimiter first t ≡ true → is_delimiter first u ≡ true → t ≡ u
+one_delimiter : (first : Option ℕ) (t u : ℕ) → is_delimiter first t ≡ true → is_delimiter first u ≡ true → t ≡ u
 unfolding is_delimiter
-one_delimiter NoTag t u a b = let z : ◌≡◌ {A = ℕ} 0 1 = cc in absurd (omega arith)
-one_delimiter (First d) t u a b = sym (eqb-true d t a) ∙ eqb-true d u b
+one_delimiter None t u a b = let z : ◌≡◌ {A = ℕ} 0 1 = cc in absurd (omega arith)
+one_delimiter (Some d) t u a b = sym (eqb-true d t a) ∙ eqb-true d u b
 
 -- a tag of a record that was replaced is the tag of the one that replaced it
 tagged-stored : (r : Record) (rs : List Record) → All Tagged (stored r rs) → All Tagged rs
@@ -95,7 +92,7 @@ module _ (bytes : List ℕ) where
   extend_run above number start entries run_map run es entry_map inner q rest extends o e f s m ss sh =
       rw (joined_assoc run_map (entry start q.tag entry_map end) m, append_assoc run es ss, e, f) (unfold joined in extends (entry start q.tag (field q.tag (value_at bytes q) inner) m) (q ∷ (rest ++ ss)) (one_entry q o s sh))
 
-  module _ {L : Type 0} (rules : Rules L) (first : (level : L) (tag : ℕ) → opens rules level tag ≡ true → rules.position level tag ≡ At 0) where
+  module _ {L : Type 0} (rules : Rules L) (first : (level : L) (tag : ℕ) → opens rules level tag ≡ true → rules.position level tag ≡ Some 0) where
     -- a run's map, behind a count
     pub record RunBuilt (level : L) (depth number start entries : ℕ) (rs : List Record) : Type 0 where
       pub map : Map

@@ -1,5 +1,5 @@
 -- The three parts together: what was read as header, body and trailer of a message stands for a message within the limits.
-use Rattle.std.specs.Prelude.{◌≡◌, true, ℕ, suc, ◌+◌, ◌-◌, ◌≤◌, drop}
+use Rattle.std.specs.Prelude.{◌≡◌, true, ℕ, suc, ◌+◌, ◌-◌, ◌≤◌, drop, Some}
 use Rattle.std.proofs.Math.Path.{refl, ap}
 use Rattle.std.proofs.Common.{sym, ◌∙◌}
 use mathlib.Core.List.{List, [], ◌∷◌, ◌++◌}
@@ -11,7 +11,6 @@ use Rattle.field_rules.specs.Fields.{Fields, field, fields_from}
 use Rattle.field_rules.proofs.FieldsLaws.{step-lies}
 use Rattle.field_rules.specs.declared.Field.{Field}
 use Rattle.build_integrity_rules.specs.declared.Verified.{Verified}
-use Rattle.dictionary_layout_rules.specs.declared.Position.TheVariants.{At}
 use Rattle.build_records.specs.Records.{stored, value_at}
 use Rattle.build_records.specs.declared.Record.{Record}
 use Rattle.message_maps.specs.Map.{Map, end, holds_any, field_count}
@@ -156,7 +155,7 @@ module _ (mode : Mode) (message : List ℕ) (v : Verified) (w : VerifiedRead mod
   none_read most bytes f rest room few small c =
       record { tagged = all_none; placed = all_none; few = omega arith; small = unfold total in omega arith; each = c.each }
 
-  module _ {L : Type 0} (rules : Rules L) (first : (level : L) (tag : ℕ) → opens rules level tag ≡ true → rules.position level tag ≡ At 0)
+  module _ {L : Type 0} (rules : Rules L) (first : (level : L) (tag : ℕ) → opens rules level tag ≡ true → rules.position level tag ≡ Some 0)
       (demands : Demands L) (header_tags_lem trailer_tags_lem : List ℕ) (level : L) where
     pub parts-take : (f g : Field) (rest more : Fields) (room room₂ : ℕ) (h b t : List Record) (trailer : Trailer) → length message ≤ 8192
         → header_from header_tags_lem (fields_from mode message v.msg_type.next) 1021 (stored (part_record 1 v.msg_type)

@@ -1,20 +1,19 @@
 -- A new message is an empty one in which 8 and then 35 are stored: after each call what is lent is the message that the definition names.
-use Rattle.std.specs.Prelude.{◌≡◌, Bool, false, ℕ, zero, suc, ◌+◌, ◌-◌, ◌*◌, ◌≤◌, ◌<◌, get_or, take, drop, ltb, eqb}
+use Rattle.std.specs.Prelude.{◌≡◌, false, ℕ, ◌+◌, ◌-◌, ◌≤◌}
 use Rattle.std.proofs.Math.Path.{refl}
-use Rattle.std.proofs.Common.{sym, ap, ◌∙◌, length-append, take_at, drop_at}
+use Rattle.std.proofs.Common.{sym, ◌∙◌, length-append, take_at}
 use Rattle.std.proofs.Math.Bool.{true}
-use mathlib.Core.List.{List, [], ◌∷◌, ◌++◌, append_assoc, append-nil}
+use mathlib.Core.List.{List, [], ◌∷◌, ◌++◌, append-nil}
 use native.Mathlib.Omega.{arith}
 use Rattle.std.proofs.Math.ListN.{length, replicate}
 use Rattle.std.proofs.Math.Dec.{leb}
-use borrow.Author.Tests.{le-leb, lt-leb, eq-eqb, ne_eqb}
-use Rattle.field_rules.specs.Choice.{pick}
-use Rattle.message_maps.specs.Map.{Map, end, field, entry, joined, holds, replaced, without_run, run_on, stored, field_count, holds_any, values_in}
-use Rattle.message_maps.specs.Rows.{Row, row, laid, flat, padded, row_at, rows_from, sizes, size_of, level_of, matches, message_words, message_rows}
+use borrow.Author.Tests.{le-leb, eq-eqb, ne_eqb}
+use Rattle.message_maps.specs.Map.{end, field, joined, holds, without_run, run_on, stored, field_count, values_in}
+use Rattle.message_maps.specs.Rows.{row, laid, flat, padded, row_at, rows_from, sizes, size_of, level_of, matches, message_words, message_rows}
 use Rattle.message_maps.specs.RowsLaws.{padded-length}
 use Rattle.message_lent_rules.specs.Lent.{held_before, deepest, field_allowed, head_allowed, row_allowed, rows_allowed, delimiter_is, is_part, next_part, parts_from, is_own, own_below, weight, fields_in, row_count, rows_of, is_laid, is_message}
 use Rattle.message_lent_rules.specs.Meaning.{Message, parts, words_of, value_bytes_of, opened, with_field, with_entry, with_row, open_in, outermost, third_of, second_of, parts_in, message_in}
-use Rattle.message_rules.specs.Changes.{After, after, of_message, of_store, part_of, with_part, field_total, value_total, judged, no_fields, new_message, emptying, making, storing}
+use Rattle.message_rules.specs.Changes.{after, of_store, part_of, with_part, field_total, value_total, judged, no_fields, new_message, emptying, making, storing}
 use Rattle.message_rules.specs.ChangeLaws.{store-on, empty-made}
 use Rattle.message_rules.specs.declared.Change.{Change}
 use Rattle.message_rules.specs.declared.Change.TheVariants.{Made, NoMessage, NotStorable}

@@ -1,5 +1,5 @@
 -- One law for each way that a change goes.
-use Rattle.std.specs.Prelude.{◌≡◌, refl, Bool, true, false, List, [], ◌∷◌, ◌++◌, ℕ, ◌+◌, ◌-◌, ◌*◌, ◌≤◌, ◌<◌, length, set, leb, ltb, eqb}
+use Rattle.std.specs.Prelude.{◌≡◌, refl, Bool, true, false, List, [], ◌∷◌, ◌++◌, ℕ, ◌+◌, ◌-◌, ◌*◌, ◌≤◌, ◌<◌, length, set, leb, ltb, eqb, Some, None}
 use Rattle.std.proofs.Common.{sym, ◌∙◌, arith}
 use Rattle.std.proofs.Math.Path.{ap}
 use borrow.Author.Tests.{le-leb, lt-leb, eq-eqb, ne_eqb, lt-ltb, le-ltb}
@@ -15,8 +15,6 @@ use Rattle.message_rules.specs.declared.Change.TheVariants.{Made, NoMessage, Not
 use Rattle.message_rules.specs.declared.Cut.{Cut}
 use Rattle.message_rules.specs.declared.Span.{Span}
 use Rattle.message_rules.specs.declared.Part.{Part}
-use Rattle.message_rules.specs.declared.Located.{Located}
-use Rattle.message_rules.specs.declared.Located.TheVariants.{At, Nowhere}
 
 module _ (words values : List ℕ) (cut : Cut) (rows : List ℕ) (added : ℕ) (bytes : List ℕ) (whole : Bool) (fields : ℕ) where
   pub change_large : leb (cut_size words cut + length bytes) 8192 ≡ false → changed_at cut rows added bytes whole fields words values ≡ after NotStorable words values
@@ -96,19 +94,19 @@ module _ (words values : List ℕ) (span : Span) (tag : ℕ) (value : List ℕ) 
     able_last r = rw (begins-place, ends-stop) (r.appends (rw found at past))
 
 -- where a part was located
-pub located_no : (part : Part) (words values : List ℕ) → located_in part words values ≡ Nowhere → is_message words values ≡ false
+pub located_no : (part : Part) (words values : List ℕ) → located_in part words values ≡ None → is_message words values ≡ false
 unfolding located_in
 located_no part words values h = by_test (is_message words values) refl h
   where
-    by_test : (b : Bool) → is_message words values ≡ b → pick b (At (span_of part (message_in words values))) Nowhere ≡ Nowhere → b ≡ false
+    by_test : (b : Bool) → is_message words values ≡ b → pick b (Some (span_of part (message_in words values))) None ≡ None → b ≡ false
     by_test true e k = let z : ◌≡◌ {A = ℕ} 0 1 = cc in absurd (omega arith)
     by_test false e k = refl
 
-pub located_at : (part : Part) (words values : List ℕ) (span : Span) → located_in part words values ≡ At span → (is_message words values ≡ true) × (span ≡ span_of part (message_in words values))
+pub located_at : (part : Part) (words values : List ℕ) (span : Span) → located_in part words values ≡ Some span → (is_message words values ≡ true) × (span ≡ span_of part (message_in words values))
 unfolding located_in
 located_at part words values span h = by_test (is_message words values) refl h
   where
-    by_test : (b : Bool) → is_message words values ≡ b → pick b (At (span_of part (message_in words values))) Nowhere ≡ At span → (b ≡ true) × (span ≡ span_of part (message_in words values))
+    by_test : (b : Bool) → is_message words values ≡ b → pick b (Some (span_of part (message_in words values))) None ≡ Some span → (b ≡ true) × (span ≡ span_of part (message_in words values))
     by_test true e k = (refl, cc)
     by_test false e k = let z : ◌≡◌ {A = ℕ} 0 1 = cc in absurd (omega arith)
 

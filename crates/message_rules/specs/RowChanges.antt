@@ -1,6 +1,6 @@
 -- A change as the rows and values show it: where a part's rows stand, what a cut of rows makes of the words, and a field put in its place. The
 -- code is proved against this layer, and the laws say that it comes to what `Changes` says of the message.
-use Rattle.std.specs.Prelude.{ℕ, ◌+◌, ◌-◌, ◌*◌, ◌≤◌, ◌<◌, ◌≡◌, Bool, true, List, [], ◌∷◌, length, drop, set, replicate, ltb}
+use Rattle.std.specs.Prelude.{ℕ, ◌+◌, ◌-◌, ◌*◌, ◌≤◌, ◌<◌, ◌≡◌, Bool, true, List, [], ◌∷◌, length, drop, set, replicate, ltb, Option, Some, None}
 use Rattle.field_rules.specs.Choice.{pick}
 use Rattle.message_maps.specs.Rows.{laid, rows_from, find_from, run_end_from, sizes, padded, spliced, message_words, message_rows}
 use Rattle.message_lent_rules.specs.Lent.{fields_in, is_message}
@@ -10,8 +10,6 @@ use Rattle.message_rules.specs.declared.Part.{Part}
 use Rattle.message_rules.specs.declared.Part.TheVariants.{Header, Body, Trailer}
 use Rattle.message_rules.specs.declared.Span.{Span}
 use Rattle.message_rules.specs.declared.Cut.{Cut}
-use Rattle.message_rules.specs.declared.Located.{Located}
-use Rattle.message_rules.specs.declared.Located.TheVariants.{At, Nowhere}
 
 -- the rows of the heads of body and trailer
 unfoldable pub body_head : Message → ℕ
@@ -37,8 +35,8 @@ span_of Trailer m =
       count = length (laid 0 (parts m));
     }
 
-unfoldable pub located_in : Part → List ℕ → List ℕ → Located
-located_in part words values = pick (is_message words values) (At (span_of part (message_in words values))) Nowhere
+unfoldable pub located_in : Part → List ℕ → List ℕ → Option Span
+located_in part words values = pick (is_message words values) (Some (span_of part (message_in words values))) None
 
 -- the layer of words: what a cut of rows makes of them
 unfoldable pub place_of : List ℕ → ℕ → ℕ

@@ -28,12 +28,6 @@ pub struct Span {
     pub count: usize,
 }
 
-#[derive(Clone, Copy)]
-pub enum Located {
-    At(Span),
-    Nowhere,
-}
-
 // Rows that are taken out, from `from` to `to`; those from `kept` on come back behind what follows up to `until`.
 #[derive(Clone, Copy)]
 pub struct Cut {

@@ -1,28 +1,25 @@
 -- A draft that is lent has the rows and values of its run; and the map of its last entry stands at level 1, behind all others.
-use Rattle.std.specs.Prelude.{◌≡◌, refl, Bool, true, false, List, [], ◌∷◌, ◌++◌, ℕ, zero, suc, ◌+◌, ◌-◌, ◌*◌, ◌≤◌, ◌<◌, take, set, leb, eqb}
+use Rattle.std.specs.Prelude.{◌≡◌, refl, true, false, List, [], ◌∷◌, ◌++◌, ℕ, ◌+◌, ◌-◌, ◌≤◌, take, set}
 use Rattle.std.proofs.Math.Path.{sym, ap}
-use Rattle.std.proofs.Common.{◌∙◌, append_assoc, append-nil, arith}
+use Rattle.std.proofs.Common.{◌∙◌, append_assoc, arith}
 use Rattle.std.proofs.Math.Nat.{sub-zero}
 use Rattle.std.proofs.Math.ListN.{length, length-append}
-use borrow.Author.Tests.{leb-true, eq-eqb, ne_eqb, lt-leb}
-use Rattle.field_rules.specs.Choice.{pick}
-use Rattle.message_maps.specs.Map.{Map, end, field, entry, joined, holds, holds_any, replaced, without_run, run_on, stored, field_count, values_in}
-use Rattle.message_maps.specs.Rows.{Row, row, laid, flat, part, padded, spliced, rows_from, sizes, size_of, message_words, message_rows}
-use Rattle.message_lent_rules.specs.Lent.{row_count, rows_of, fields_in, is_laid}
-use Rattle.message_lent_rules.specs.LentLaws.{both, Laid, laid_out}
-use Rattle.message_lent_rules.specs.Meaning.{open_in, outermost}
+use borrow.Author.Tests.{eq-eqb, ne_eqb}
+use Rattle.message_maps.specs.Map.{Map, end, entry, joined, field_count, values_in}
+use Rattle.message_maps.specs.Rows.{Row, row, laid, flat, part, padded, spliced, sizes, size_of, message_words}
+use Rattle.message_lent_rules.specs.Lent.{row_count, rows_of, is_laid}
+use Rattle.message_lent_rules.specs.LentLaws.{both, laid_out}
 use Rattle.message_lent_rules.proofs.MeaningLaws.{laid_means}
-use Rattle.message_rules.specs.Changes.{After, after, of_store, map_words, map_values, judged_map}
-use Rattle.message_rules.specs.RowChanges.{Cuttable, changed_at, put_at, Ready}
-use Rattle.message_rules.specs.LayoutLaws.{laid-joined, values-joined, count-joined, sizes-append, sizes-laid}
-use Rattle.message_rules.specs.PlaceLaws.{rows_length, rows_part}
+use Rattle.message_rules.specs.Changes.{After, after, of_store, map_words, map_values}
+use Rattle.message_rules.specs.LayoutLaws.{laid-joined, values-joined, sizes-append, sizes-laid}
+use Rattle.message_rules.specs.PlaceLaws.{rows_length}
 use Rattle.message_rules.specs.CutLaws.{Sized, laid_sized}
 use Rattle.message_rules.specs.FrameLaws.{Frame}
 use Rattle.message_rules.specs.declared.Span.{Span}
-use Rattle.message_rules.specs.declared.Change.TheVariants.{Made, NoMessage, NotStorable, NoRun}
-use Rattle.message_rules.specs.Runs.{is_draft, run_in, of_draft, judged_run, starting, entering, is_empty, in_last, storing_last}
+use Rattle.message_rules.specs.declared.Change.TheVariants.{Made, NoMessage}
+use Rattle.message_rules.specs.Runs.{is_draft, run_in, of_draft, starting}
 use Rattle.message_rules.proofs.Drafts.{lent-run, few_rows}
-use Rattle.message_runs.specs.RunLaws.{only_entries, entries_only, LastSplit, Last, none_last, one_last, last_of}
+use Rattle.message_runs.specs.RunLaws.{only_entries, entries_only, LastSplit}
 
 -- what is known of a draft
 pub record Draft (words values : List ℕ) (run : Map) : Type 0 where

@@ -1,21 +1,19 @@
 -- An entry that is added stands behind all rows of its draft, and brings no value.
-use Rattle.std.specs.Prelude.{◌≡◌, refl, Bool, false, ℕ, zero, suc, ◌+◌, ◌-◌, ◌*◌, ◌≤◌, ◌<◌, take}
+use Rattle.std.specs.Prelude.{◌≡◌, refl, ℕ, ◌+◌, ◌-◌}
 use Rattle.std.proofs.Math.Path.{sym, ap}
 use Rattle.std.proofs.Common.{◌∙◌, arith}
 use Rattle.std.proofs.Math.Bool.{true}
 use mathlib.Core.List.{List, [], ◌∷◌, ◌++◌, append-nil}
 use Rattle.std.proofs.Math.Nat.{sub-zero}
 use Rattle.std.proofs.Math.ListN.{length}
-use Rattle.field_rules.specs.Choice.{pick}
-use Rattle.message_maps.specs.Map.{Map, end, field, entry, joined, holds_any, field_count, values_in}
-use Rattle.message_maps.specs.Rows.{Row, row, laid, flat, rows_from, sizes}
+use Rattle.message_maps.specs.Map.{Map, end, entry, joined, holds_any, field_count, values_in}
+use Rattle.message_maps.specs.Rows.{row, laid, flat, rows_from, sizes}
 use Rattle.message_lent_rules.specs.Lent.{row_count, rows_of, fields_in}
-use Rattle.message_rules.specs.Changes.{after, judged_map}
+use Rattle.message_rules.specs.Changes.{judged_map}
 use Rattle.message_rules.specs.RowChanges.{Cuttable, changed_at}
 use Rattle.message_rules.specs.LayoutLaws.{laid-joined, values-joined, count-joined, sizes-laid}
 use Rattle.message_rules.specs.PlaceLaws.{rows_length}
 use Rattle.message_rules.specs.CutLaws.{Cutting, cut_judged, cut_able}
-use Rattle.message_rules.specs.declared.Cut.{Cut}
 use Rattle.message_rules.specs.Runs.{judged_run}
 use Rattle.message_rules.proofs.Drafts.{fields-run, few_rows}
 use Rattle.message_runs.specs.DraftLaws.{Draft}

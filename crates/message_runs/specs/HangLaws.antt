@@ -1,31 +1,29 @@
 -- Hanging a draft is judged by what it would leave.
-use Rattle.std.specs.Prelude.{◌≡◌, refl, Bool, true, false, List, [], ◌∷◌, ◌++◌, ℕ, zero, suc, ◌+◌, ◌-◌, ◌*◌, ◌≤◌, ◌<◌, length, take, get_or, leb, eqb}
-use Rattle.std.proofs.Common.{sym, ◌∙◌, length-append, eq-eqb, ne_eqb, eqb-true}
+use Rattle.std.specs.Prelude.{◌≡◌, refl, Bool, true, false, List, ◌∷◌, ◌++◌, ℕ, zero, suc, ◌+◌, ◌-◌, ◌≤◌, length, eqb}
+use Rattle.std.proofs.Common.{sym, ◌∙◌, length-append, eq-eqb}
 use Rattle.std.proofs.Math.Path.{ap}
 use native.Mathlib.Omega.{arith}
-use Rattle.std.proofs.Math.Nat.{sub-zero}
 use Rattle.field_rules.specs.Choice.{pick}
 use Rattle.message_maps.specs.Map.{Map, end, field, entry, joined, holds, holds_any, past_leading, hung_on_count, hung_alone, hung, field_count, values_in}
-use Rattle.message_maps.specs.Rows.{Row, row, laid, flat, row_at, rows_from, sizes, message_rows}
+use Rattle.message_maps.specs.Rows.{Row, row, laid, flat, row_at, rows_from, message_rows}
 use Rattle.message_lent_rules.specs.Lent.{row_count, rows_of, fields_in}
 use Rattle.message_lent_rules.specs.Formed.{is_run}
-use Rattle.message_rules.specs.Changes.{After, after, judged_map}
-use Rattle.message_rules.specs.RowChanges.{Cuttable, changed_at}
+use Rattle.message_rules.specs.Changes.{judged_map}
+use Rattle.message_rules.specs.RowChanges.{changed_at}
 use Rattle.message_rules.specs.LayoutLaws.{joined_end, laid-joined, count-joined}
 use Rattle.message_rules.specs.FrameLaws.{Frame, Leaves}
 use Rattle.message_rules.specs.FrameLaws as frame
 use Rattle.message_rules.specs.declared.Span.{Span}
-use Rattle.message_rules.specs.declared.Change.TheVariants.{NoRun}
-use Rattle.message_hung_rows.specs.Hanging.{raised, within, all_of, hung_place, hung_stop, hung_cut, replaced_fields, hung_fields, start_of, delimiter_of_lem, hang_at}
+use Rattle.message_hung_rows.specs.Hanging.{raised, all_of, hung_cut, replaced_fields, hung_fields, start_of, delimiter_of_lem, hang_at}
 use Rattle.message_hung_rows.specs.Hanging.{Lent, Hangable}
-use Rattle.message_hung_rows.specs.RowLaws.{hang-none, hang-some}
+use Rattle.message_hung_rows.specs.RowLaws.{hang-some}
 use Rattle.message_hung_rows.specs.RaiseLaws.{raised-length}
 use Rattle.message_rules.specs.Runs.{is_empty, is_whole, hung_run}
 use Rattle.message_runs.specs.RunLaws.{only_entries, raised-laid, within-laid, all_laid}
 use Rattle.message_rules.proofs.Drafts.{fields-run}
 use Rattle.message_runs.specs.DraftLaws.{Draft}
 use Rattle.message_runs.specs.EnterLaws.{count_rows}
-use Rattle.message_runs.specs.HungLaws.{HungAt, hung_at, hung-leaves, hung-replaced, hung-count}
+use Rattle.message_runs.specs.HungLaws.{hung_at, hung-leaves, hung-replaced, hung-count}
 
 -- a run brings no field of the map itself
 any-behind : (run m : Map) → only_entries run ≡ true → holds_any (joined run m) ≡ holds_any m

@@ -1,14 +1,13 @@
 -- Hanging a run in a map that stands at level 1: the rows of the run on its start tag are cut out for it, behind its count where there is
 -- one.
-use Rattle.std.specs.Prelude.{◌≡◌, Bool, true, false, ℕ, zero, suc, ◌+◌, ◌-◌, ◌*◌, ◌≤◌, ◌<◌, take, leb, ltb, eqb}
+use Rattle.std.specs.Prelude.{◌≡◌, Bool, true, false, ℕ, ◌+◌, ◌-◌, ◌≤◌, ◌<◌, ltb}
 use Rattle.std.proofs.Math.Path.{refl, sym, ap}
 use Rattle.std.proofs.Common.{◌∙◌, arith, ltb-true, ltb-false}
-use mathlib.Core.List.{List, [], ◌∷◌, ◌++◌, append_assoc, append-nil}
+use mathlib.Core.List.{List, [], ◌++◌, append_assoc, append-nil}
 use Rattle.std.proofs.Math.ListN.{length, length-append}
-use Rattle.field_rules.specs.Choice.{pick}
-use Rattle.message_maps.specs.Map.{Map, end, field, entry, joined, holds, holds_any, leading, past_leading, hung_on_count, hung_alone, hung, field_count, values_in}
-use Rattle.message_maps.specs.Rows.{Row, row, laid, flat, rows_from, find_from, run_end_from, sizes}
-use Rattle.message_lent_rules.specs.Lent.{row_count, rows_of, fields_in}
+use Rattle.message_maps.specs.Map.{Map, end, field, joined, holds, leading, past_leading, hung_on_count, hung_alone, hung, field_count, values_in}
+use Rattle.message_maps.specs.Rows.{Row, laid, flat, rows_from, run_end_from}
+use Rattle.message_lent_rules.specs.Lent.{row_count, fields_in}
 use Rattle.message_lent_rules.specs.LaidLaws.{fields_laid, shallow}
 use Rattle.message_rules.specs.RowChanges.{field_place, run_place}
 use Rattle.message_rules.specs.LayoutLaws.{joined_assoc, laid-joined, values-joined, count-joined, sizes-laid}

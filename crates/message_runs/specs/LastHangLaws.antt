@@ -1,12 +1,12 @@
 -- Hanging in the last entry of a draft: one law for each way.
-use Rattle.std.specs.Prelude.{◌≡◌, refl, Bool, true, false, List, [], ◌∷◌, ◌++◌, ℕ, zero, suc, ◌+◌, ◌-◌, ◌≤◌, ◌<◌, length, leb}
+use Rattle.std.specs.Prelude.{◌≡◌, refl, Bool, true, false, List, ℕ, ◌+◌, ◌≤◌, length}
 use Rattle.std.proofs.Common.{sym, ◌∙◌, arith, le-leb}
 use Rattle.std.proofs.Math.Path.{ap}
 use Rattle.field_rules.specs.Choice.{pick}
 use Rattle.message_maps.specs.Map.{Map, end, entry, joined, holds_any, field_count, values_in}
 use Rattle.message_maps.specs.Rows.{laid, sizes}
-use Rattle.message_lent_rules.specs.Lent.{row_count, rows_of}
-use Rattle.message_rules.specs.Changes.{After, after, judged_map}
+use Rattle.message_lent_rules.specs.Lent.{row_count}
+use Rattle.message_rules.specs.Changes.{after, judged_map}
 use Rattle.message_rules.specs.LayoutLaws.{sizes-laid}
 use Rattle.message_rules.specs.declared.Change.TheVariants.{NoMessage, NotStorable, NoRun}
 use Rattle.message_hung_rows.specs.Hanging.{hang_at, Hangable}

@@ -1,28 +1,28 @@
 -- Storing in the last entry: its map stands at level 1 behind all others, and with a field it counts no more for itself.
-use Rattle.std.specs.Prelude.{◌≡◌, refl, Bool, false, List, [], ◌∷◌, ◌++◌, ℕ, zero, suc, ◌+◌, ◌-◌, ◌*◌, ◌≤◌, ◌<◌, length, take, leb, eqb}
-use Rattle.std.proofs.Common.{sym, ◌∙◌, append_assoc, append-nil, arith, length-append}
+use Rattle.std.specs.Prelude.{◌≡◌, refl, Bool, false, List, [], ◌∷◌, ◌++◌, ℕ, ◌+◌, ◌-◌, ◌≤◌, ◌<◌, length}
+use Rattle.std.proofs.Common.{sym, ◌∙◌, append-nil, arith}
 use Rattle.std.proofs.Math.Path.{ap}
 use Rattle.std.proofs.Math.Bool.{true}
 use Rattle.std.proofs.Math.Nat.{sub-zero}
 use borrow.Author.Tests.{eq-eqb, ne_eqb, le-leb, lt-leb}
 use Rattle.field_rules.specs.Choice.{pick}
 use Rattle.message_maps.specs.Map.{Map, end, field, entry, joined, holds, holds_any, replaced, without_run, run_on, stored, field_count, values_in}
-use Rattle.message_maps.specs.Rows.{Row, row, laid, rows_from}
+use Rattle.message_maps.specs.Rows.{row, laid, rows_from}
 use Rattle.message_lent_rules.specs.Lent.{row_count, rows_of, fields_in}
 use Rattle.message_lent_rules.specs.LaidLaws.{fields_laid, shallow}
-use Rattle.message_rules.specs.Changes.{After, after, judged_map}
+use Rattle.message_rules.specs.Changes.{after, judged_map}
 use Rattle.message_rules.specs.RowChanges.{put_at, Ready}
-use Rattle.message_rules.specs.LayoutLaws.{laid-joined, values-joined, count-joined}
+use Rattle.message_rules.specs.LayoutLaws.{laid-joined, count-joined}
 use Rattle.message_rules.specs.SplitLaws.{field_split}
-use Rattle.message_rules.specs.PlaceLaws.{rows_length, rows_part}
-use Rattle.message_rules.specs.StoreLaws.{stored-holds, stored-adds, stored_long}
+use Rattle.message_rules.specs.PlaceLaws.{rows_part}
+use Rattle.message_rules.specs.StoreLaws.{stored-holds, stored-adds}
 use Rattle.message_rules.specs.FrameLaws.{Frame}
 use Rattle.message_rules.specs.FrameLaws as frame
 use Rattle.message_rules.specs.declared.Change.TheVariants.{NotStorable, NoRun}
 use Rattle.message_rules.specs.Runs.{is_draft, run_in, judged_run, is_empty, in_last, last_from, storing_last}
 use Rattle.message_runs.specs.RunLaws.{LastSplit, Last, none_last, one_last, last_of}
 use Rattle.message_rules.proofs.Drafts.{fields-run}
-use Rattle.message_runs.specs.DraftLaws.{Draft, draft_of, draft_yes, last_frame}
+use Rattle.message_runs.specs.DraftLaws.{Draft, draft_yes, last_frame}
 
 -- a map in which a field was stored has one
 any-joined : (a : Map) (t : ℕ) (v : List ℕ) (b : Map) → holds_any (joined a (field t v b)) ≡ true

@@ -1,9 +1,7 @@
 -- One law for each way that a walk over a run's rows goes.
-use Rattle.std.specs.Prelude.{◌≡◌, refl, Bool, true, false, List, [], ◌∷◌, ◌++◌, ℕ, zero, suc, ◌+◌, ◌-◌, ◌*◌, ◌≤◌, ◌<◌, length, get_or, set, leb, eqb}
-use Rattle.std.proofs.Common.{sym, ap, ◌∙◌, arith}
-use borrow.Author.Tests.{eq-eqb, ne_eqb, le-leb, lt-leb}
-use Rattle.field_rules.specs.Choice.{pick}
-use Rattle.message_maps.specs.Rows.{Row, row, row_at, rows_from, level_of}
+use Rattle.std.specs.Prelude.{◌≡◌, true, false, List, ℕ, ◌+◌, ◌-◌, ◌≤◌, ◌<◌, leb}
+use borrow.Author.Tests.{eq-eqb, ne_eqb}
+use Rattle.message_maps.specs.Rows.{row_at, rows_from, level_of}
 use Rattle.message_maps.specs.RowsLaws.{rows_step, rows_none}
 use Rattle.message_lent_rules.specs.Lent.{rows_of, fields_in, is_laid}
 use Rattle.message_rules.specs.Runs.{is_draft, last_from}

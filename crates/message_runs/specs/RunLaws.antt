@@ -1,14 +1,13 @@
 -- A run in its rows: what the walks over rows say of it, and its rows one level deeper.
 use Rattle.std.proofs.Math.Path.{◌≡◌, refl}
-use Rattle.std.proofs.Common.{sym, ap, ◌∙◌, append_assoc, append-nil, arith, length-append, eq-eqb, ne_eqb, le-leb}
-use Rattle.std.specs.Prelude.{Bool, List, [], ◌∷◌, ◌++◌, ℕ, zero, suc, ◌+◌, ◌-◌, ◌*◌, ◌≤◌, ◌<◌, length, leb, eqb}
+use Rattle.std.proofs.Common.{ap, ◌∙◌, append_assoc, arith, length-append, ne_eqb, le-leb}
+use Rattle.std.specs.Prelude.{Bool, List, [], ◌∷◌, ◌++◌, ℕ, ◌+◌, ◌≤◌, length, leb, eqb}
 use Rattle.std.proofs.Math.Bool.{true, false}
 use Rattle.field_rules.specs.Choice.{pick}
 use Rattle.message_maps.specs.Map.{Map, end, field, entry, joined}
 use Rattle.message_maps.specs.Rows.{Row, row, laid, level_of}
 use Rattle.message_lent_rules.specs.LentLaws.{both}
 use Rattle.message_lent_rules.specs.Formed.{is_formed, entries_formed, is_run}
-use Rattle.message_rules.specs.LayoutLaws.{laid-joined}
 use Rattle.message_hung_rows.specs.Hanging.{raised, within, is_untagged, untagged_in, is_of, all_of}
 use Rattle.message_rules.specs.Runs.{is_empty, in_last, last_from, has_untagged}
 

@@ -10,11 +10,8 @@ ghost use Rattle.message_rules.specs.Runs.{is_draft, last_from, starting, enteri
 fn is_draft(words: &[u32], values: &[u8]) -> bool
     ensures { result ≡ is_draft words.now values.now }
 {
-    if !message_lent::is_laid(words, values) {
-        return false;
-    }
-    let count = message_lent::row_count(words);
-    message_lent::fields_in(words, 0, 0, count) <= 1024
+    message_lent::is_laid(words, values)
+        && message_lent::fields_in(words, 0, 0, message_lent::row_count(words)) <= 1024
 }
 
 // Where the own rows of the last entry start, or 0 where there is none.
@@ -23,12 +20,10 @@ fn last_start(words: &[u32], count: usize) -> usize
     ensures { result ≡ last_from 0 0 (rows_from (count - 0) 0 words.now) }
 {
     let mut start: usize = 0;
-    let mut i: usize = 0;
-    while i < count {
+    for i in 0..count {
         if message_maps::level_of(words, i) == 0 {
             start = i + 1;
         }
-        i += 1;
     }
     start
 }
@@ -43,11 +38,9 @@ pub fn empty(words: &mut [u32], values: &mut [u8]) -> message_rules::Change
     if values.len() != 8192 {
         return message_rules::Change::NoMessage;
     }
-    let no_words = [0u32; 1];
-    let no_bytes = [0u8; 1];
-    message_maps::splice_words(words, 1, 1, 1, 1, 1, &no_words[..0], false);
+    message_maps::splice_words(words, 1, 1, 1, 1, 1, &[], false);
     words[0] = 0;
-    message_maps::splice_bytes(values, 0, 0, 0, 0, 0, &no_bytes[..0], false);
+    message_maps::splice_bytes(values, 0, 0, 0, 0, 0, &[], false);
     message_rules::Change::Made
 }
 
@@ -66,7 +59,6 @@ pub fn add_entry(
     let count = message_lent::row_count(words);
     let fields = message_lent::fields_in(words, 0, 0, count);
     let head = [2u32, 0, start, delimiter];
-    let no_bytes = [0u8; 1];
     let last = message_rules::Cut {
         from: count,
         to: count,
@@ -74,17 +66,7 @@ pub fn add_entry(
         until: count,
         count,
     };
-    message::cut_rows(
-        words,
-        values,
-        last,
-        &head[..],
-        1,
-        &no_bytes[..0],
-        true,
-        fields + 1,
-        false,
-    )
+    message::cut_rows(words, values, last, &head, 1, &[], true, fields + 1, false)
 }
 
 // Stores a field in the last entry.
@@ -162,7 +144,7 @@ pub fn hang(
 ) -> message_rules::Change
     ensures { after result words.new values.new ≡ hanging part run_words.now run_values.now words.old values.old }
 {
-    let message_rules::Located::At(span) = message::locate(words, values, part) else {
+    let Some(span) = message::locate(words, values, part) else {
         return message_rules::Change::NoMessage;
     };
     if !is_draft(run_words, run_values) {

@@ -2,13 +2,11 @@
 -- first record joined, and so where it stands.
 use Rattle.std.proofs.Math.Path.{◌≡◌, sym}
 use Rattle.std.specs.Prelude.{refl, ◌⊎◌, Bool, true, false, List, [], ◌∷◌, ◌++◌, ℕ, zero, suc, ◌+◌, ◌-◌, ◌≤◌, eqb}
-use Rattle.std.proofs.Common.{ap, ◌∙◌, inl, inr, ⊎_elim, eqb-true}
+use Rattle.std.proofs.Common.{ap, ◌∙◌, inl, inr, ⊎_elim, eqb-true, Option, Some, None}
 use native.Mathlib.Omega.{arith}
 use Rattle.std.proofs.lemmas.Bool.{eqb-false}
 use Rattle.build_records.specs.declared.Record.{Record}
 use Rattle.message_maps.specs.Rows.{Row, row}
-use Rattle.message_take_over.specs.declared.Nearest.{Nearest}
-use Rattle.message_take_over.specs.declared.Nearest.TheVariants.{Is, Nothing}
 use Rattle.message_take_over.specs.declared.Joins.TheVariants.{Open, Entry}
 use Rattle.message_take_over.specs.Taking.{nearest_in, on_count, joins_of, is_next, are_next, part_heads, own_rows, record_rows, rows_behind}
 use Rattle.message_take_over.specs.JoinLaws.{run-same, run_skips, run-next, joins-own, joins-numbered, joins-run, joins-late, joins-count}
@@ -33,7 +31,7 @@ entry-deep before r start j d =
     ⊎_elim (λ e. let q = sym (joins-own before r d e) ∙ j in let z : ◌≡◌ {A = ℕ} 0 1 = cc in
     omega arith) (λ e. let q = sym (joins-numbered before r d e) ∙ j in let z : ◌≡◌ {A = ℕ} 0 1 = cc in omega arith) (decided r.number 0)
 
-on_count_lem : (q : Record) → on_count (Is q) ≡ Entry q.tag
+on_count_lem : (q : Record) → on_count (Some q) ≡ Entry q.tag
 unfolding on_count
 on_count_lem q = refl
 
@@ -53,9 +51,9 @@ module _ (bytes : List ℕ) (part : ℕ) {depth number start entries : ℕ} {bef
           (decided r.number (c.count.number + 1)))
           (decided r.number c.count.number)
         where
-          not_open : (n : Nearest) → on_count n ≡ Open → ⊥
-          not_open Nothing e = let y : ◌≡◌ {A = ℕ} 0 1 = unfold on_count in cc in omega arith
-          not_open (Is q) e = let y : ◌≡◌ {A = ℕ} 0 1 = unfold on_count in cc in omega arith
+          not_open : (n : Option Record) → on_count n ≡ Open → ⊥
+          not_open None e = let y : ◌≡◌ {A = ℕ} 0 1 = unfold on_count in cc in omega arith
+          not_open (Some q) e = let y : ◌≡◌ {A = ℕ} 0 1 = unfold on_count in cc in omega arith
 
   -- an entry that begins is the next of the run
   pub entry_number : (s : ℕ) → r.depth ≡ depth + 1 → joins_of before r ≡ Entry s → (r.number ≡ entries + 1) × (s ≡ start)
@@ -64,13 +62,13 @@ module _ (bytes : List ℕ) (part : ℕ) {depth number start entries : ℕ} {bef
       deep : r.depth ≡ 0 → ⊥
       deep z = omega arith
 
-      near : nearest_in r.depth before ≡ Is c.last
+      near : nearest_in r.depth before ≡ Some c.last
       near = ap (λ (n : ℕ). nearest_in n before) d ∙ c.nearest_below
 
       by_entries : ((entries ≡ 0) × (c.last ≡ c.count)) ⊎ ((c.last.part ≡ part) × (c.last.depth ≡ depth + 1) × (c.last.number ≡ entries))
           → (r.number ≡ entries + 1) × (s ≡ start)
       by_entries (inl (e, l)) =
-          let here : nearest_in r.depth before ≡ Is c.count = near ∙ ap Is l in
+          let here : nearest_in r.depth before ≡ Some c.count = near ∙ ap Some l in
           let of : c.count.part ≡ r.part = c.counts.of ∙ sym same in
           let higher : c.count.depth ≡ r.depth → ⊥ = λ z. omega (arith, z, c.counts.deep) in
           let below : r.depth ≡ c.count.depth + 1 = omega (arith, c.counts.deep) in
@@ -86,7 +84,7 @@ module _ (bytes : List ℕ) (part : ℕ) {depth number start entries : ℕ} {bef
           (λ f. let q = sym (k ∙ run-same before r c.last.number f) ∙ j in let y : ◌≡◌ {A = ℕ} 0 1 = cc in absurd (omega arith))
           (λ f. ⊎_elim
           (λ g. let q : Entry c.count.tag ≡ Entry s =
-          sym (k ∙ run-next before r c.last.number f g (Is c.count) (ap (λ (i : ℕ). nearest_in i before) up ∙ c.nearest) ∙ on_count_lem c.count) ∙ j in
+          sym (k ∙ run-next before r c.last.number f g (Some c.count) (ap (λ (i : ℕ). nearest_in i before) up ∙ c.nearest) ∙ on_count_lem c.count) ∙ j in
           let y : c.count.tag ≡ s = cc in (omega arith, sym y ∙ c.starts))
           (λ g. let q = sym (k ∙ run_skips before r c.last.number f g) ∙ j in let y : ◌≡◌ {A = ℕ} 0 1 = cc in absurd (omega arith))
           (decided r.number (c.last.number + 1)))

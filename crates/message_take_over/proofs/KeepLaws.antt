@@ -1,7 +1,7 @@
 -- What is taken over has the records that were given: the message that is left is the one that they stand for.
 use Rattle.std.proofs.Math.Path.{◌≡◌, ap}
 use Rattle.std.specs.Prelude.{refl, Bool, length, leb}
-use Rattle.std.proofs.Common.{sym, ◌∙◌}
+use Rattle.std.proofs.Common.{sym, ◌∙◌, Some}
 use Rattle.std.proofs.Math.Bool.{true, false}
 use mathlib.Core.List.{List, [], ◌∷◌, ◌++◌, append-nil}
 use Prim.Native.Nat.{ℕ, zero, suc, ◌+◌, ◌-◌, ◌≤◌, ◌<◌}
@@ -12,7 +12,6 @@ use Rattle.message_maps.specs.Map.{Map, values_in}
 use Rattle.message_maps.specs.Rows.{Row, row, laid}
 use Rattle.message_lent_rules.specs.LentLaws.{both}
 use Rattle.message_lent_rules.specs.Meaning.{Message, parts}
-use Rattle.message_take_over.specs.declared.Nearest.TheVariants.{Is}
 use Rattle.message_take_over.specs.declared.Joins.{Joins}
 use Rattle.message_take_over.specs.declared.Joins.TheVariants.{Open, Entry, Nowhere}
 use Rattle.message_take_over.specs.Taking.{nearest_in, joins_of, is_joined, is_next, are_next, part_heads, own_rows, record_rows, rows_behind, rows_of, values_at}
@@ -25,7 +24,7 @@ use Rattle.message_take_over.proofs.TakenLaws.{Later, later-none, later-some, ro
 
 -- every record before is of a part or an earlier one
 record UpTo (part : ℕ) (before : List Record) : Type 0 where
-  up_to : (depth : ℕ) (q : Record) → nearest_in depth before ≡ Is q → q.part ≤ part
+  up_to : (depth : ℕ) (q : Record) → nearest_in depth before ≡ Some q → q.part ≤ part
 
 up_to-none : (part : ℕ) → UpTo part []
 up_to-none part = record { up_to = λ depth q e. let z : ◌≡◌ {A = ℕ} 0 1 = unfold nearest_in in cc in absurd (omega arith) }
@@ -33,7 +32,7 @@ up_to-none part = record { up_to = λ depth q e. let z : ◌≡◌ {A = ℕ} 0 1
 up_to_record : (part : ℕ) (r : Record) (before : List Record) → r.part ≤ part → UpTo part before → UpTo part (r ∷ before)
 up_to_record part r before h u = record { up_to = λ depth q e. by_test depth q (leb r.depth depth) (unfold nearest_in in e) }
   where
-    by_test : (depth : ℕ) (q : Record) (b : Bool) → pick b (Is r) (nearest_in depth before) ≡ Is q → q.part ≤ part
+    by_test : (depth : ℕ) (q : Record) (b : Bool) → pick b (Some r) (nearest_in depth before) ≡ Some q → q.part ≤ part
     by_test depth q true e = let same : r ≡ q = cc in omega (arith, ap (λ (x : Record). x.part) same)
     by_test depth q false e = u.up_to depth q e
 

@@ -1,6 +1,6 @@
 -- Records that are laid as a map's rows stand for that map, and those behind them are laid as the rows behind it.
 use Rattle.std.proofs.Math.Path.{◌≡◌, refl, sym, ap}
-use Rattle.std.proofs.Common.{◌∙◌, take_at, drop_at}
+use Rattle.std.proofs.Common.{◌∙◌, take_at, drop_at, Option, Some, None}
 use Rattle.std.specs.Prelude.{true, false, ℕ, ◌+◌, ◌≤◌, ◌<◌, take, drop}
 use mathlib.Core.List.{List, [], ◌∷◌, ◌++◌, append_assoc}
 use native.Mathlib.Omega.{arith}
@@ -11,8 +11,6 @@ use Rattle.build_records.specs.declared.Record.{Record}
 use Rattle.message_maps.specs.Map.{Map, end, field, entry, values_in}
 use Rattle.message_maps.specs.Rows.{Row, row, laid}
 use Rattle.message_lent_rules.specs.LentLaws.{both}
-use Rattle.message_take_over.specs.declared.Nearest.{Nearest}
-use Rattle.message_take_over.specs.declared.Nearest.TheVariants.{Is, Nothing}
 use Rattle.message_take_over.specs.declared.Joins.{Joins}
 use Rattle.message_take_over.specs.declared.Joins.TheVariants.{Open, Entry, Nowhere}
 use Rattle.message_take_over.specs.Taking.{nearest_in, joins_of, is_joined, is_next, are_next, own_rows, rows_behind, values_at}
@@ -281,7 +279,7 @@ module _ (bytes : List ℕ) (part : ℕ) where
 
   -- a part's own map, behind other parts: no record of it can join an entry first
   pub part-back : (used : ℕ) (m : Map) (before rs : List Record) (tail : List Row) (texts : List ℕ)
-      → ((depth : ℕ) (q : Record) → nearest_in depth before ≡ Is q → q.part < part) → are_next (length bytes) part used before rs ≡ true
+      → ((depth : ℕ) (q : Record) → nearest_in depth before ≡ Some q → q.part < part) → are_next (length bytes) part used before rs ≡ true
       → rows_behind part before rs ≡ laid 1 m ++ tail → values_at bytes rs ≡ values_in m ++ texts → Lower 1 tail → Back 0 0 0 0 m before rs tail texts
   unfolding laid values_in passed
   part-back used end before rs tail texts earlier ok e q low =
@@ -297,11 +295,11 @@ module _ (bytes : List ℕ) (part : ℕ) where
       let f = entry_first used before rs 0 s d _ _ ok q e in
       absurd (by_nearest f (nearest_in f.r.depth before) refl)
     where
-      by_nearest : {rows : List Row} {texts' : List ℕ} (f : EntryFirst used before rs 0 s d rows texts') (n : Nearest) → nearest_in f.r.depth before ≡ n
+      by_nearest : {rows : List Row} {texts' : List ℕ} (f : EntryFirst used before rs 0 s d rows texts') (n : Option Record) → nearest_in f.r.depth before ≡ n
           → ⊥
-      by_nearest f Nothing n =
+      by_nearest f None n =
           let j = sym f.lead.joins ∙ joins-first before f.r (λ z. omega (arith, z, f.deep)) n in let y : ◌≡◌ {A = ℕ} 0 1 = cc in omega arith
-      by_nearest f (Is p) n =
+      by_nearest f (Some p) n =
           let j =
           sym f.lead.joins ∙ joins-other before f.r (λ z. omega (arith, z, f.deep)) p n
           (λ z. omega (arith, z, earlier f.r.depth p n, f.lead.of)) in

@@ -1,7 +1,7 @@
 -- All records, one after the other: what is laid so far and what is still to come make the whole.
 use Rattle.std.proofs.Math.Path.{◌≡◌, refl, sym, ap}
 use Rattle.std.proofs.Common.{◌∙◌, arith}
-use Rattle.std.specs.Prelude.{Bool, ℕ, ◌+◌, ◌-◌, ◌*◌, ◌≤◌, ◌<◌, replicate}
+use Rattle.std.specs.Prelude.{Bool, ℕ, ◌+◌, ◌-◌, ◌*◌, ◌≤◌, ◌<◌, replicate, Some, None}
 use Rattle.std.proofs.Math.Bool.{true, false}
 use mathlib.Core.List.{List, [], ◌∷◌, ◌++◌, append_assoc}
 use Rattle.std.proofs.Math.ListN.{length, set, length-append}
@@ -13,7 +13,6 @@ use Rattle.message_maps.specs.Rows.{Row, row, flat, padded, message_words, messa
 use Rattle.message_maps.specs.RowsLaws.{padded-length}
 use Rattle.message_lent_rules.proofs.MeaningLaws.{flat-length}
 use Rattle.message_take_over.specs.declared.Laying.{Laying}
-use Rattle.message_take_over.specs.declared.Step.TheVariants.{On, Refused}
 use Rattle.message_take_over.specs.Taking.{records_before, joins_of, is_next, are_next, part_heads, record_rows, rows_behind, rows_of}
 use Rattle.message_take_over.specs.Laying.{rowed, Adds, reach, Ready, stepped_by, adds_rows, RowsLaid}
 use Rattle.message_take_over.specs.JoinLaws.{before-next}
@@ -90,7 +89,7 @@ module _ (size : ℕ) (rs : List Record) (count : ℕ) where
       this : between i count rs ≡ record_at i rs ∷ between (i + 1) count rs
       this = between-on i count rs more (omega arith)
 
-      pub going-refused : (left : List ℕ) → stepped_by size (records_before i rs) laying (record_at i rs) ≡ Refused
+      pub going-refused : (left : List ℕ) → stepped_by size (records_before i rs) laying (record_at i rs) ≡ None
           → RowsLaid size (between 0 count rs) false left
       unfolding are_next stepped_by
       going-refused left e =
@@ -101,33 +100,33 @@ module _ (size : ℕ) (rs : List Record) (count : ℕ) where
           }
         where
           by_test : (b : Bool) → is_next size laying.part laying.used (records_before i rs) (record_at i rs) ≡ b → (on : Laying)
-              → pick b (On on) Refused ≡ Refused → is_next size laying.part laying.used (records_before i rs) (record_at i rs) ≡ false
+              → pick b (Some on) None ≡ None → is_next size laying.part laying.used (records_before i rs) (record_at i rs) ≡ false
           by_test true b on e = let z : ◌≡◌ {A = ℕ} 0 1 = cc in absurd (omega arith)
           by_test false b on e = b
 
-      stepped : (next : Laying) → stepped_by size (records_before i rs) laying (record_at i rs) ≡ On next
+      stepped : (next : Laying) → stepped_by size (records_before i rs) laying (record_at i rs) ≡ Some next
           → (is_next size laying.part laying.used (records_before i rs) (record_at i rs) ≡ true)
           × (next.part ≡ (record_at i rs).part) × (next.used ≡ laying.used + (record_at i rs).length)
       unfolding stepped_by
       stepped next e = by_test (is_next size laying.part laying.used (records_before i rs) (record_at i rs)) refl e
         where
           by_test : (b : Bool) → is_next size laying.part laying.used (records_before i rs) (record_at i rs) ≡ b
-              → pick b (On (record {
+              → pick b (Some (record {
                 part = (record_at i rs).part;
                 rows = laying.rows
                     + length (record_rows laying.part (joins_of (records_before i rs) (record_at i rs)) (record_at i rs));
                 used = laying.used + (record_at i rs).length;
-              })) Refused ≡ On next
+              })) None ≡ Some next
               → (is_next size laying.part laying.used (records_before i rs) (record_at i rs) ≡ true)
               × (next.part ≡ (record_at i rs).part) × (next.used ≡ laying.used + (record_at i rs).length)
           by_test true b e = (b, cc, cc)
           by_test false b e = let z : ◌≡◌ {A = ℕ} 0 1 = cc in absurd (omega arith)
 
-      near : (next : Laying) → stepped_by size (records_before i rs) laying (record_at i rs) ≡ On next → (record_at i rs).depth ≤ reach (records_before i rs)
+      near : (next : Laying) → stepped_by size (records_before i rs) laying (record_at i rs) ≡ Some next → (record_at i rs).depth ≤ reach (records_before i rs)
       near next e = joined-reach _ _ (next_is size laying.part laying.used _ _ (stepped next e).0).joined
 
-      pub going_on : (next : Laying) (words_after : List ℕ) → stepped_by size (records_before i rs) laying (record_at i rs) ≡ On next
-          → adds_rows (records_before i rs) laying (record_at i rs) (On next) words words_after → Going (i + 1) words_after next
+      pub going_on : (next : Laying) (words_after : List ℕ) → stepped_by size (records_before i rs) laying (record_at i rs) ≡ Some next
+          → adds_rows (records_before i rs) laying (record_at i rs) (Some next) words words_after → Going (i + 1) words_after next
       unfolding adds_rows
       going_on next words_after e s =
           let r = record_at i rs in
@@ -154,10 +153,10 @@ module _ (size : ℕ) (rs : List Record) (count : ℕ) where
           }
 
       -- a record that is laid is the newest of its depth
-      pub going-deep : count ≤ 1024 → (next : Laying) → stepped_by size (records_before i rs) laying (record_at i rs) ≡ On next → (record_at i rs).depth < 1024
+      pub going-deep : count ≤ 1024 → (next : Laying) → stepped_by size (records_before i rs) laying (record_at i rs) ≡ Some next → (record_at i rs).depth < 1024
       going-deep k next e = omega (arith, near next e, g.shallow)
 
-      pub going_newest : count ≤ 1024 → (next : Laying) → stepped_by size (records_before i rs) laying (record_at i rs) ≡ On next
+      pub going_newest : count ≤ 1024 → (next : Laying) → stepped_by size (records_before i rs) laying (record_at i rs) ≡ Some next
           → (last kept : List ℕ) → Newest rs i last → kept ≡ set last (record_at i rs).depth i → Newest rs (i + 1) kept
       going_newest k next e last kept n s = newest_step n (near next e) (going-deep k next e) kept s
 

@@ -1,11 +1,9 @@
 -- Where a record belongs: one law for each way that looking back goes.
-use Rattle.std.specs.Prelude.{◌≡◌, List, ◌∷◌, ℕ, suc, ◌+◌, ◌-◌, ◌≤◌, ◌<◌}
+use Rattle.std.specs.Prelude.{◌≡◌, List, ◌∷◌, ℕ, suc, ◌+◌, ◌-◌, ◌≤◌, ◌<◌, Option, Some, None}
 use Rattle.std.proofs.Common.{ap, arith}
 use borrow.Author.Tests.{le-leb, lt-leb, eq-eqb, ne_eqb}
 use Rattle.build_records.specs.Records.{record_at}
 use Rattle.build_records.specs.declared.Record.{Record}
-use Rattle.message_take_over.specs.declared.Nearest.{Nearest}
-use Rattle.message_take_over.specs.declared.Nearest.TheVariants.{Is, Nothing}
 use Rattle.message_take_over.specs.declared.Joins.TheVariants.{Open, Entry, Nowhere}
 use Rattle.message_take_over.specs.Taking.{records_before, nearest_in, on_count, joins_in_run, joins_on_count, joins_behind, joins_of}
 
@@ -17,7 +15,7 @@ pub before-next : (rs : List Record) (i : ℕ) → records_before (i + 1) rs ≡
 before-next rs i = let e : i + 1 - 1 ≡ i = omega arith in rw e at (before-step rs (i + 1) (omega arith))
 
 module _ (depth : ℕ) (r : Record) (before : List Record) where
-  pub nearest_first : r.depth ≤ depth → nearest_in depth (r ∷ before) ≡ Is r
+  pub nearest_first : r.depth ≤ depth → nearest_in depth (r ∷ before) ≡ Some r
   unfolding nearest_in
   nearest_first h = rw (le-leb _ _ h)
 
@@ -26,10 +24,10 @@ module _ (depth : ℕ) (r : Record) (before : List Record) where
   nearest_past h = rw (lt-leb _ _ h)
 
 module _ (depth : ℕ) (rs : List Record) where
-  pub nearest_here : (i : ℕ) → 0 < i → (record_at (i - 1) rs).depth ≤ depth → nearest_in depth (records_before i rs) ≡ Is (record_at (i - 1) rs)
+  pub nearest_here : (i : ℕ) → 0 < i → (record_at (i - 1) rs).depth ≤ depth → nearest_in depth (records_before i rs) ≡ Some (record_at (i - 1) rs)
   nearest_here i more h = rw (before-step rs i more) (nearest_first _ _ _ h)
 
-  pub nearest_none : (i : ℕ) → i ≡ 0 → nearest_in depth (records_before i rs) ≡ Nothing
+  pub nearest_none : (i : ℕ) → i ≡ 0 → nearest_in depth (records_before i rs) ≡ None
   unfolding nearest_in records_before
   nearest_none i e = rw e
 
@@ -44,7 +42,7 @@ module _ (before : List Record) (r : Record) where
     unfolding joins_in_run
     run_skips h k = rw (ne_eqb _ _ h, ne_eqb _ _ k)
 
-    pub run-next : (r.number ≡ number → ⊥) → r.number ≡ number + 1 → (n : Nearest) → nearest_in (r.depth - 1) before ≡ n → joins_in_run before number r ≡ on_count n
+    pub run-next : (r.number ≡ number → ⊥) → r.number ≡ number + 1 → (n : Option Record) → nearest_in (r.depth - 1) before ≡ n → joins_in_run before number r ≡ on_count n
     unfolding joins_in_run
     run-next h k n e = rw (ne_eqb _ _ h, eq-eqb _ _ k, e)
 
@@ -59,11 +57,11 @@ module _ (before : List Record) (r : Record) where
 
   -- in an entry
   module _ (deep : r.depth ≡ 0 → ⊥) where
-    pub joins-first : nearest_in r.depth before ≡ Nothing → joins_of before r ≡ Nowhere
+    pub joins-first : nearest_in r.depth before ≡ None → joins_of before r ≡ Nowhere
     unfolding joins_of joins_behind
     joins-first e = rw (ne_eqb _ _ deep, e)
 
-    module _ (q : Record) (near : nearest_in r.depth before ≡ Is q) where
+    module _ (q : Record) (near : nearest_in r.depth before ≡ Some q) where
       pub joins-other : (q.part ≡ r.part → ⊥) → joins_of before r ≡ Nowhere
       unfolding joins_of joins_behind
       joins-other h = rw (ne_eqb _ _ deep, near, ne_eqb _ _ h)

@@ -1,11 +1,9 @@
 -- The layer of words: what one record adds to rows that are laid in front of zeros.
-use Rattle.std.specs.Prelude.{ℕ, ◌+◌, ◌-◌, ◌≤◌, ◌≡◌, Bool, true, List, [], ◌∷◌, ◌++◌, length}
+use Rattle.std.specs.Prelude.{ℕ, ◌+◌, ◌-◌, ◌≤◌, ◌≡◌, Bool, true, List, [], ◌∷◌, ◌++◌, length, Option, Some, None}
 use Rattle.field_rules.specs.Choice.{pick}
 use Rattle.build_records.specs.declared.Record.{Record}
 use Rattle.message_maps.specs.Rows.{Row, flat, padded, message_words, message_rows}
 use Rattle.message_take_over.specs.declared.Laying.{Laying}
-use Rattle.message_take_over.specs.declared.Step.{Step}
-use Rattle.message_take_over.specs.declared.Step.TheVariants.{On, Refused}
 use Rattle.message_take_over.specs.Taking.{joins_of, is_next, are_next, record_rows, rows_of}
 
 -- rows in words, before they are counted
@@ -30,19 +28,19 @@ pub record Ready (before : List Record) (words : List ℕ) (laying : Laying) : T
   pub within : laying.used ≤ 8192
   pub shallow : reach before ≤ 1023
 
-unfoldable pub stepped_by : ℕ → List Record → Laying → Record → Step
+unfoldable pub stepped_by : ℕ → List Record → Laying → Record → Option Laying
 stepped_by size before laying r =
     pick (is_next size laying.part laying.used before r)
-    (On (record {
+    (Some (record {
       part = r.part;
       rows = laying.rows + length (record_rows laying.part (joins_of before r) r);
       used = laying.used + r.length;
     }))
-    Refused
+    None
 
 -- and where the record may come next, its rows are added
-unfoldable pub adds_rows : List Record → Laying → Record → Step → List ℕ → List ℕ → Type 0
-adds_rows before laying r step words words_after = (next : Laying) → step ≡ On next → Adds words words_after laying.rows next.rows (record_rows laying.part (joins_of before r) r)
+unfoldable pub adds_rows : List Record → Laying → Record → Option Laying → List ℕ → List ℕ → Type 0
+adds_rows before laying r step words words_after = (next : Laying) → step ≡ Some next → Adds words words_after laying.rows next.rows (record_rows laying.part (joins_of before r) r)
 
 -- what laying all of them answers: whether each may come next, and then how many rows there are, and the rows
 pub record RowsLaid (size : ℕ) (rs : List Record) (done : Bool) (words : List ℕ) : Type 0 where

@@ -4,17 +4,15 @@ use Rattle.std.proofs.Common.{sym, ap, ◌∙◌, append_assoc, append-nil, arit
 use Rattle.field_rules.specs.Decimal.{written_at}
 use Rattle.field_rules.proofs.DecimalLaws.{written-length}
 use Rattle.message_maps.specs.Rows.{Row, row, flat, padded, message_words, message_rows}
-use Rattle.message_maps.specs.Rows.{part as part_of}
-use Rattle.message_maps.specs.RowsLaws.{written_next, part-all}
+use Rattle.message_maps.specs.RowsLaws.{written_next}
 use Rattle.message_lent_rules.proofs.MeaningLaws.{flat-length, flat_append}
 use Rattle.message_take_over.specs.Taking.{part_heads}
 use Rattle.message_take_over.specs.Laying.{rowed, Adds}
 
-pub row_added : (entry exit : List ℕ) (rows k l t x : ℕ) → rows < message_rows → exit ≡ written_at (4 * rows + 1) (part_of 0 4 (k ∷ l ∷ t ∷ x ∷ [])) entry → Adds entry exit rows (rows + 1) (row k l t x ∷ [])
+pub row_added : (entry exit : List ℕ) (rows k l t x : ℕ) → rows < message_rows → exit ≡ written_at (4 * rows + 1) (k ∷ l ∷ t ∷ x ∷ []) entry → Adds entry exit rows (rows + 1) (row k l t x ∷ [])
 unfolding rowed
 row_added entry exit rows k l t x few e =
-    let four : part_of 0 4 (k ∷ l ∷ t ∷ x ∷ []) ≡ k ∷ l ∷ t ∷ x ∷ [] = part-all (k ∷ l ∷ t ∷ x ∷ []) in
-    record { counts = refl; whole = ap length e ∙ written-length _ _ _; adds = behind (e ∙ ap (λ (s : List ℕ). written_at (4 * rows + 1) s entry) four) }
+    record { counts = refl; whole = ap length e ∙ written-length _ _ _; adds = behind e }
   where
     behind : exit ≡ written_at (4 * rows + 1) (k ∷ l ∷ t ∷ x ∷ []) entry → (laid : List Row) → length laid ≡ rows → entry ≡ padded message_words (0 ∷ flat laid) → exit ≡ padded message_words (0 ∷ flat (laid ++ (row k l t x ∷ [])))
     behind e laid n q =

@@ -1,12 +1,11 @@
 -- Records that stand for a message are taken over as that message. By induction over what they stand for: each record joins the map that
 -- it is a record of, so the rows that are laid are those of the map.
-use Rattle.std.specs.Prelude.{◌≡◌, refl, ◌⊎◌, List, [], ◌∷◌, ◌++◌, ℕ, zero, suc, ◌+◌, ◌-◌, ◌≤◌, ◌<◌}
+use Rattle.std.specs.Prelude.{◌≡◌, refl, ◌⊎◌, List, [], ◌∷◌, ◌++◌, ℕ, zero, suc, ◌+◌, ◌-◌, ◌≤◌, ◌<◌, Some}
 use Rattle.std.proofs.Common.{sym, ◌∙◌, inl, inr, arith, le-leb}
 use Rattle.std.proofs.Math.Path.{ap}
 use Rattle.std.proofs.lemmas.Bool.{lt-leb}
 use Rattle.build_records.specs.declared.Record.{Record}
 use Rattle.message_maps.specs.Map.{Map}
-use Rattle.message_take_over.specs.declared.Nearest.TheVariants.{Is}
 use Rattle.message_take_over.specs.declared.Joins.TheVariants.{Open, Entry}
 use Rattle.message_take_over.specs.Taking.{nearest_in, on_count, joins_of}
 use Rattle.message_take_over.specs.JoinLaws.{run-same, run-next, joins-own, joins-run, joins-count}
@@ -22,7 +21,7 @@ unfolding passed
 passed-append before [] b = refl
 passed-append before (r ∷ a) b = passed-append (r ∷ before) a b
 
-nearest_first : (depth : ℕ) (r : Record) (before : List Record) → r.depth ≤ depth → nearest_in depth (r ∷ before) ≡ Is r
+nearest_first : (depth : ℕ) (r : Record) (before : List Record) → r.depth ≤ depth → nearest_in depth (r ∷ before) ≡ Some r
 unfolding nearest_in
 nearest_first depth r before h = rw (le-leb _ _ h)
 
@@ -47,11 +46,11 @@ module _ (bytes : List ℕ) (part : ℕ) where
   -- the last record of a map has a tag, and so many entries came behind it
   pub record Context (depth number start entries : ℕ) (before : List Record) : Type 0 where
     pub count : Record
-    pub nearest : nearest_in depth before ≡ Is count
+    pub nearest : nearest_in depth before ≡ Some count
     pub counts : Own bytes part depth number count
     pub starts : count.tag ≡ start
     pub last : Record
-    pub nearest_below : nearest_in (depth + 1) before ≡ Is last
+    pub nearest_below : nearest_in (depth + 1) before ≡ Some last
     pub either : ((entries ≡ 0) × (last ≡ count)) ⊎ ((last.part ≡ part) × (last.depth ≡ depth + 1) × (last.number ≡ entries))
 
   pub own_context : {depth number : ℕ} (r : Record) (before : List Record) → Own bytes part depth number r → Context depth number r.tag 0 (r ∷ before)
@@ -90,19 +89,19 @@ module _ (bytes : List ℕ) (part : ℕ) where
       deep : r.depth ≡ 0 → ⊥
       deep z = omega (arith, o.deep)
 
-      near : nearest_in r.depth before ≡ Is c.last
+      near : nearest_in r.depth before ≡ Some c.last
       near = ap (λ (n : ℕ). nearest_in n before) o.deep ∙ c.nearest_below
 
       by_entries : ((entries ≡ 0) × (c.last ≡ c.count)) ⊎ ((c.last.part ≡ part) × (c.last.depth ≡ depth + 1) × (c.last.number ≡ entries))
           → joins_of before r ≡ Entry start
       by_entries (inl (e, l)) =
-          joins-count before r deep c.count (near ∙ ap Is l) (c.counts.of ∙ sym o.of) (λ z. omega (arith, z, c.counts.deep, o.deep))
+          joins-count before r deep c.count (near ∙ ap Some l) (c.counts.of ∙ sym o.of) (λ z. omega (arith, z, c.counts.deep, o.deep))
           (omega (arith, c.counts.deep, o.deep)) (omega (arith, o.numbered))
           ∙ ap Entry c.starts
       by_entries (inr (p, d, n)) =
           let up : r.depth - 1 ≡ depth = omega (arith, o.deep) in
           joins-run before r deep c.last near (p ∙ sym o.of) (d ∙ sym o.deep)
-          ∙ run-next before r c.last.number (λ z. omega (arith, z, n, o.numbered)) (omega (arith, n, o.numbered)) (Is c.count)
+          ∙ run-next before r c.last.number (λ z. omega (arith, z, n, o.numbered)) (omega (arith, n, o.numbered)) (Some c.count)
           (ap (λ (k : ℕ). nearest_in k before) up ∙ c.nearest)
           ∙ (unfold on_count in ap Entry c.starts)
 

@@ -1,7 +1,7 @@
 -- One record behind those that are laid: one law for each way that the code goes.
 use Rattle.std.proofs.Math.Path.{◌≡◌, refl, ap}
 use Rattle.std.proofs.Common.{sym, ◌∙◌, arith, length-append}
-use Rattle.std.specs.Prelude.{Bool, ℕ, ◌+◌, ◌-◌, ◌≤◌, ◌<◌, length, eqb, leb}
+use Rattle.std.specs.Prelude.{Bool, ℕ, ◌+◌, ◌-◌, ◌≤◌, ◌<◌, length, eqb, leb, Some, None}
 use Rattle.std.proofs.Math.Bool.{true, false}
 use mathlib.Core.List.{List, [], ◌∷◌, append-nil}
 use borrow.Author.Tests.{le-leb, lt-leb, leb-true, leb-false, eqb-true}
@@ -9,11 +9,9 @@ use Rattle.field_rules.specs.Choice.{pick, pick_same}
 use Rattle.build_records.specs.declared.Record.{Record}
 use Rattle.message_maps.specs.Rows.{row}
 use Rattle.message_lent_rules.specs.LentLaws.{both}
-use Rattle.message_take_over.specs.declared.Nearest.TheVariants.{Is}
 use Rattle.message_take_over.specs.declared.Joins.{Joins}
 use Rattle.message_take_over.specs.declared.Joins.TheVariants.{Open, Entry, Nowhere}
 use Rattle.message_take_over.specs.declared.Laying.{Laying}
-use Rattle.message_take_over.specs.declared.Step.TheVariants.{On, Refused}
 use Rattle.message_take_over.specs.Taking.{nearest_in, joins_in_run, joins_on_count, joins_behind, joins_of, is_joined, has_room, is_next, part_heads, own_rows}
 use Rattle.message_take_over.specs.Taking.{record_rows}
 use Rattle.message_take_over.specs.Laying.{Adds, reach, stepped_by, adds_rows}
@@ -46,7 +44,7 @@ unfolding joins_of reach
 joined-reach before r h = by_depth (eqb r.depth 0) refl before h
   where
     by_nearest : (q : Record) (before : List Record) (near : Bool) → leb q.depth r.depth ≡ near
-        → is_joined (joins_behind (q ∷ before) r (pick near (Is q) (nearest_in r.depth before))) ≡ true → r.depth ≤ q.depth + 1
+        → is_joined (joins_behind (q ∷ before) r (pick near (Some q) (nearest_in r.depth before))) ≡ true → r.depth ≤ q.depth + 1
     by_nearest q before true n h = by_part (eqb q.part r.part) (unfold joins_behind in h)
       where
         by_part : (p : Bool) → is_joined (pick p (pick (eqb q.depth r.depth) (joins_in_run (q ∷ before) q.number r) (joins_on_count q r)) Nowhere) ≡ true
@@ -109,7 +107,7 @@ rows_few part joined r =
 module _ (size : ℕ) (before : List Record) (laying : Laying) where
   -- a record that may not come next leaves nothing to be told
   pub step-refused : (taken r : Record) (words : List ℕ) → taken ≡ r → is_next size laying.part laying.used before taken ≡ false
-      → (Refused ≡ stepped_by size before laying r) × adds_rows before laying r Refused words words
+      → (None ≡ stepped_by size before laying r) × adds_rows before laying r None words words
   unfolding stepped_by adds_rows
   step-refused taken r words t h =
       let e : is_next size laying.part laying.used before r ≡ false = ap (is_next size laying.part laying.used before) (sym t) ∙ h in
@@ -118,8 +116,8 @@ module _ (size : ℕ) (before : List Record) (laying : Laying) where
   -- one that may adds its rows
   step-on : (r : Record) (words words_after : List ℕ) (rows : ℕ) → is_next size laying.part laying.used before r ≡ true
       → Adds words words_after laying.rows rows (record_rows laying.part (joins_of before r) r)
-      → (On (record { part = r.part; rows = rows; used = laying.used + r.length }) ≡ stepped_by size before laying r)
-      × adds_rows before laying r (On (record { part = r.part; rows = rows; used = laying.used + r.length })) words words_after
+      → (Some (record { part = r.part; rows = rows; used = laying.used + r.length }) ≡ stepped_by size before laying r)
+      × adds_rows before laying r (Some (record { part = r.part; rows = rows; used = laying.used + r.length })) words words_after
   unfolding stepped_by adds_rows
   step-on r words words_after rows h a = (rw (h, a.counts), λ next e. let q : rows ≡ next.rows = cc in rw (← q) a)
 
@@ -128,8 +126,8 @@ module _ (size : ℕ) (before : List Record) (laying : Laying) where
       → more ≡ taken.length
       → is_next size laying.part laying.used before taken ≡ true
       → Adds words words_after laying.rows rows (record_rows laying.part joined taken)
-      → (On (record { part = taken.part; rows = rows; used = laying.used + more }) ≡ stepped_by size before laying r)
-      × adds_rows before laying r (On (record { part = taken.part; rows = rows; used = laying.used + more })) words words_after
+      → (Some (record { part = taken.part; rows = rows; used = laying.used + more }) ≡ stepped_by size before laying r)
+      × adds_rows before laying r (Some (record { part = taken.part; rows = rows; used = laying.used + more })) words words_after
   step-laid taken r joined more words words_after rows t j m h a = rw (m, t) (step-on r words words_after rows (rw t at h) (rw (j, t) at a))
 
 -- the rows that are laid for a record, by where it belongs

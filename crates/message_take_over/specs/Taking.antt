@@ -1,7 +1,7 @@
 -- Taking over what a build answered: from records and the bytes that they point into to a lent message, or 27 where they are none.
 -- "Records .. stand in part and map order, each count followed by its entries. .. A record holds part (1 header, 2 body, 3 trailer), depth,
 -- entry number (both 0 outside groups, else from 1), tag, and place and length of the value."
-use Rattle.std.specs.Prelude.{ℕ, zero, suc, ◌+◌, ◌-◌, Bool, true, false, List, [], ◌∷◌, ◌++◌, length, take, drop, eqb, leb}
+use Rattle.std.specs.Prelude.{ℕ, zero, suc, ◌+◌, ◌-◌, Bool, true, false, List, [], ◌∷◌, ◌++◌, length, eqb, leb, Option, Some, None}
 use Rattle.field_rules.specs.Choice.{pick}
 use Rattle.build_records.specs.Records.{records_of, record_at, between, value_at}
 use Rattle.build_records.specs.declared.Record.{Record}
@@ -9,8 +9,6 @@ use Rattle.message_maps.specs.Rows.{Row, row, flat, padded, message_words}
 use Rattle.message_lent_rules.specs.Lent.{is_message}
 use Rattle.message_take_over.specs.declared.Taken.{Taken}
 use Rattle.message_take_over.specs.declared.Taken.TheVariants.{Made, NoMessage}
-use Rattle.message_take_over.specs.declared.Nearest.{Nearest}
-use Rattle.message_take_over.specs.declared.Nearest.TheVariants.{Is, Nothing}
 use Rattle.message_take_over.specs.declared.Joins.{Joins}
 use Rattle.message_take_over.specs.declared.Joins.TheVariants.{Open, Entry, Nowhere}
 
@@ -25,14 +23,14 @@ records_before zero rs = []
 records_before (suc i) rs = record_at i rs ∷ records_before i rs
 
 -- the nearest that stands no deeper than a depth
-unfoldable pub nearest_in : ℕ → List Record → Nearest
-nearest_in depth [] = Nothing
-nearest_in depth (r ∷ before) = pick (leb r.depth depth) (Is r) (nearest_in depth before)
+unfoldable pub nearest_in : ℕ → List Record → Option Record
+nearest_in depth [] = None
+nearest_in depth (r ∷ before) = pick (leb r.depth depth) (Some r) (nearest_in depth before)
 
 -- a new entry belongs to the run on the count that was read last
-unfoldable pub on_count : Nearest → Joins
-on_count Nothing = Nowhere
-on_count (Is count) = Entry count.tag
+unfoldable pub on_count : Option Record → Joins
+on_count None = Nowhere
+on_count (Some count) = Entry count.tag
 
 -- behind a record of the same depth: in the same entry, or first in the next one of the run
 unfoldable pub joins_in_run : List Record → ℕ → Record → Joins
@@ -44,9 +42,9 @@ joins_in_run before number r =
 unfoldable pub joins_on_count : Record → Record → Joins
 joins_on_count count r = pick (eqb r.depth (count.depth + 1)) (pick (eqb r.number 1) (Entry count.tag) Nowhere) Nowhere
 
-unfoldable pub joins_behind : List Record → Record → Nearest → Joins
-joins_behind before r Nothing = Nowhere
-joins_behind before r (Is q) =
+unfoldable pub joins_behind : List Record → Record → Option Record → Joins
+joins_behind before r None = Nowhere
+joins_behind before r (Some q) =
     pick (eqb q.part r.part) (pick (eqb q.depth r.depth) (joins_in_run before q.number r) (joins_on_count q r)) Nowhere
 
 -- where a record belongs, by those before it; depth 0 is the part's own map

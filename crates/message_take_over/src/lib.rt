@@ -12,20 +12,12 @@ ghost use Rattle.message_take_over.specs.Newest.{Newest};
 ghost use Rattle.message_take_over.specs.Written.{BlankBehind};
 
 use build_records::Record;
-use field_numbers::wide;
 
 // What taking over answers: 0 or 27.
 #[derive(Clone, Copy)]
 pub enum Taken {
     Made,
     NoMessage,
-}
-
-// The nearest record before another that stands no deeper than it.
-#[derive(Clone, Copy)]
-pub enum Nearest {
-    Is(Record),
-    Nothing,
 }
 
 // Where a record belongs: in the map that is open, first in a new entry of the run on a start tag, or nowhere.
@@ -44,32 +36,19 @@ pub struct Laying {
     pub used: usize,
 }
 
-#[derive(Clone, Copy)]
-pub enum Step {
-    On(Laying),
-    Refused,
-}
-
-// An entry of `last` as an index.
-fn place(n: u16) -> usize
-    ensures { result ≡ n }
-{
-    n as usize
-}
-
 // The nearest record before another that stands no deeper than a depth. `last` has the newest for each depth down to the record before.
-fn nearest_before(records: &[u32], last: &[u16], to: usize, depth: u32) -> Nearest
+fn nearest_before(records: &[u32], last: &[u16], to: usize, depth: u32) -> Option<Record>
     requires { Newest (records_of records.now) to last.now }
     ensures { result ≡ nearest_in depth (records_before to (records_of records.now)) }
 {
     if to == 0 {
-        return Nearest::Nothing;
+        return None;
     }
     let before = build_records::record_at(records, to - 1);
     if before.depth <= depth {
-        return Nearest::Is(before);
+        return Some(before);
     }
-    Nearest::Is(build_records::record_at(records, place(last[wide(depth)])))
+    Some(build_records::record_at(records, last[depth as usize] as usize))
 }
 
 // Enters a record as the newest of its depth. What `last` has of deeper ones stays, and is written over before it is asked again.
@@ -78,7 +57,7 @@ fn enter(records: &[u32], last: &mut [u16], at: usize)
     ensures { last.new ≡ set last.old (record_at at (records_of records.now)).depth at }
 {
     let entered = build_records::record_at(records, at);
-    last[wide(entered.depth)] = at as u16;
+    last[entered.depth as usize] = at as u16;
 }
 
 // A record behind one of the same run: in the same entry, or first in the next.
@@ -89,10 +68,10 @@ fn joins_run(records: &[u32], last: &[u16], to: usize, number: u32, taken: Recor
     if taken.number == number {
         return Joins::Open;
     }
-    if wide(taken.number) != wide(number) + 1 {
+    if taken.number as usize != number as usize + 1 {
         return Joins::Nowhere;
     }
-    let Nearest::Is(count) = nearest_before(records, last, to, taken.depth - 1) else {
+    let Some(count) = nearest_before(records, last, to, taken.depth - 1) else {
         return Joins::Nowhere;
     };
     Joins::Entry(count.tag)
@@ -108,7 +87,7 @@ fn joins_of(records: &[u32], last: &[u16], to: usize, taken: Record) -> Joins
         }
         return Joins::Nowhere;
     }
-    let Nearest::Is(before) = nearest_before(records, last, to, taken.depth) else {
+    let Some(before) = nearest_before(records, last, to, taken.depth) else {
         return Joins::Nowhere;
     };
     if before.part != taken.part {
@@ -117,7 +96,7 @@ fn joins_of(records: &[u32], last: &[u16], to: usize, taken: Record) -> Joins
     if before.depth == taken.depth {
         return joins_run(records, last, to, before.number, taken);
     }
-    if wide(taken.depth) != wide(before.depth) + 1 {
+    if taken.depth as usize != before.depth as usize + 1 {
         return Joins::Nowhere;
     }
     if taken.number != 1 {
@@ -131,10 +110,10 @@ fn has_room(size: usize, used: usize, taken: Record) -> bool
     requires { used ≤ 8192 }
     ensures { result ≡ has_room size used taken }
 {
-    if size < wide(taken.place) + wide(taken.length) {
+    if size < taken.place as usize + taken.length as usize {
         return false;
     }
-    used + wide(taken.length) <= 8192
+    used + taken.length as usize <= 8192
 }
 
 fn put_row(words: &mut [u32], rows: usize, kind: u32, level: u32, tag: u32, extra: u32) -> usize
@@ -142,7 +121,7 @@ fn put_row(words: &mut [u32], rows: usize, kind: u32, level: u32, tag: u32, extr
     ensures { Adds words.old words.new rows result (row kind level tag extra ∷ []) }
 {
     let four = [kind, level, tag, extra];
-    message_maps::put_words(words, 4 * rows + 1, &four[..], 0, 4);
+    words[4 * rows + 1..4 * rows + 5].copy_from_slice(&four);
     rows + 1
 }
 
@@ -152,11 +131,9 @@ fn open_parts(words: &mut [u32], rows: usize, part: u32, to: u32) -> usize
     ensures adds { Adds words.old words.new rows result (part_heads (to - part) part) }
     ensures value { result ≡ rows + (to - part) }
 {
-    let mut open = part;
     let mut next = rows;
-    while open < to {
-        open += 1;
-        next = put_row(words, next, 2, 0, open, 0);
+    for before in part..to {
+        next = put_row(words, next, 2, 0, before + 1, 0);
     }
     next
 }
@@ -200,30 +177,30 @@ fn lay_record(
     size: usize,
     words: &mut [u32],
     laying: Laying,
-) -> Step
+) -> Option<Laying>
     requires { Ready (records_before at (records_of records.now)) words.old laying × Newest (records_of records.now) at last.now }
     ensures value { result ≡ stepped_by size (records_before at (records_of records.now)) laying (record_at at (records_of records.now)) }
     ensures adds_rows { adds_rows (records_before at (records_of records.now)) laying (record_at at (records_of records.now)) result words.old words.new }
 {
     let taken = build_records::record_at(records, at);
     if taken.part < laying.part {
-        return Step::Refused;
+        return None;
     }
     if 3 < taken.part {
-        return Step::Refused;
+        return None;
     }
     if !has_room(size, laying.used, taken) {
-        return Step::Refused;
+        return None;
     }
     let joined = joins_of(records, last, at, taken);
     if !is_joined(joined) {
-        return Step::Refused;
+        return None;
     }
     let rows = lay_rows(words, laying.rows, laying.part, joined, taken);
-    Step::On(Laying {
+    Some(Laying {
         part: taken.part,
         rows,
-        used: laying.used + wide(taken.length),
+        used: laying.used + taken.length as usize,
     })
 }
 
@@ -241,14 +218,12 @@ fn lay_records(records: &[u32], count: usize, size: usize, words: &mut [u32]) ->
     };
     let mut newest = [0u16; 1024];
     let last = &mut newest[..];
-    let mut i: usize = 0;
-    while i < count {
-        let Step::On(next) = lay_record(records, last, i, size, words, laying) else {
+    for i in 0..count {
+        let Some(next) = lay_record(records, last, i, size, words, laying) else {
             return false;
         };
         enter(records, last, i);
         laying = next;
-        i += 1;
     }
     let all = open_parts(words, laying.rows, laying.part, build_records::TRAILER);
     words[0] = all as u32;
@@ -260,9 +235,9 @@ fn put_rows(words: &mut [u32], laid: &[u32])
     requires { BlankBehind laid.now × (length words.old ≡ message_words) }
     ensures { words.new ≡ laid.now }
 {
-    let used = 4 * wide(laid[0]) + 1;
-    message_maps::put_words(words, 0, laid, 0, used);
-    message_maps::clear_words(words, used, message_maps::WORDS);
+    let used = 4 * laid[0] as usize + 1;
+    words[..used].copy_from_slice(&laid[..used]);
+    words[used..].fill(0);
 }
 
 // Writes the values of records one behind the other, and zeros behind them. That they lie in the bytes and have room was tested with the rows.
@@ -271,14 +246,14 @@ fn put_values(records: &[u32], count: usize, bytes: &[u8], values: &mut [u8])
     ensures { values.new ≡ padded 8192 (values_at bytes.now (between 0 count (records_of records.now))) }
 {
     let mut used: usize = 0;
-    let mut i: usize = 0;
-    while i < count {
+    for i in 0..count {
         let taken = build_records::record_at(records, i);
-        let place = wide(taken.place);
-        used = message_maps::put_bytes(values, used, bytes, place, place + wide(taken.length));
-        i += 1;
+        let place = taken.place as usize;
+        let size = taken.length as usize;
+        values[used..used + size].copy_from_slice(&bytes[place..place + size]);
+        used += size;
     }
-    message_maps::clear_bytes(values, used, 8192);
+    values[used..].fill(0);
 }
 
 // Takes a build's records and the bytes that they point into over into a lent message. Only the rows tell whether they are one, so they are laid

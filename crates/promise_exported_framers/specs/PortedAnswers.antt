@@ -1,6 +1,6 @@
 -- What the ported framer's number tells of its call, on the core: 0 is a chunk that was accepted, an end that was told, or a length; a call in
 -- vain leaves all as it was, and so does a take that hands out nothing.
-use Rattle.std.specs.Prelude.{◌≡◌, refl, Bool, true, false, List, ℕ, ◌+◌, ◌≤◌, leb, ltb, length, take}
+use Rattle.std.specs.Prelude.{◌≡◌, refl, Bool, true, false, List, ℕ, ◌+◌, ◌≤◌, leb, ltb, length, take, Option, Some, None}
 use Rattle.std.proofs.Common.{ap, arith, take-append-drop, length-take-le, le-ltb, ne_eqb}
 use Rattle.field_rules.specs.Choice.{pick}
 use Rattle.frame_parser_rules.specs.Announced.{announced_in}
@@ -11,9 +11,6 @@ use Rattle.frame_parser_rules.proofs.FramerLaws.{usable_is, ready_in}
 use Rattle.frame_parser_rules.specs.declared.State.{State}
 use Rattle.frame_parser_rules.specs.declared.Answer.{Answer}
 use Rattle.frame_parser_rules.specs.declared.Answer.TheVariants.{Accepted, Message, OverLong, ShortOutput, StoreFull, AfterEnd, BadStore}
-use Rattle.frame_parser_rules.specs.declared.Ready.{Ready}
-use Rattle.frame_parser_rules.specs.declared.Ready.TheVariants.{Length}
-use Rattle.frame_parser_rules.specs.declared.Ready.TheVariants as ready
 use Rattle.frame_hunter_rules.specs.Calls.{InVain, output_short, after_the_end, bad-store}
 use Rattle.frame_hunter_rules.proofs.InVainLaws.{not_done}
 
@@ -49,14 +46,14 @@ unfolding take_answer ready_answer number_of_parser length_returned
 take_done state store output =
     by_tests (unusable state.used store) (ltb (length output) 8192) state.over (ready_of state.used (announced_in (held state store)))
   where
-    by_tests : (u l o : Bool) (r : Ready) → number_of_parser (pick u BadStore (pick l ShortOutput (pick o OverLong (ready_answer r)))) ≡ 0 →
+    by_tests : (u l o : Bool) (r : Option ℕ) → number_of_parser (pick u BadStore (pick l ShortOutput (pick o OverLong (ready_answer r)))) ≡ 0 →
         pick u BadStore (pick l ShortOutput (pick o OverLong (ready_answer r)))
         ≡ Message (length_returned (pick u BadStore (pick l ShortOutput (pick o OverLong (ready_answer r)))))
     by_tests true l o r h = absurd (omega arith)
     by_tests false true o r h = absurd (omega arith)
     by_tests false false true r h = absurd (omega arith)
-    by_tests false false false (Length n) h = refl
-    by_tests false false false ready.Refused h = absurd (omega arith)
+    by_tests false false false (Some n) h = refl
+    by_tests false false false None h = absurd (omega arith)
 
 -- A LENGTH IS AT MOST 8,192, whatever state, store and output are
 pub length_small : (state : State) (store output : List ℕ) → length_returned (take_answer state store output) ≤ 8192
@@ -65,13 +62,13 @@ length_small state store output =
     by_tests (unusable state.used store) (ltb (length output) 8192) state.over (ready_of state.used (announced_in (held state store)))
     (λ n h. (ready_in state.used n (announced_in (held state store)) (announced_limit (held state store)) h).1)
   where
-    by_tests : (u l o : Bool) (r : Ready) → ((n : ℕ) → r ≡ Length n → n ≤ 8192) →
+    by_tests : (u l o : Bool) (r : Option ℕ) → ((n : ℕ) → r ≡ Some n → n ≤ 8192) →
         length_returned (pick u BadStore (pick l ShortOutput (pick o OverLong (ready_answer r)))) ≤ 8192
     by_tests true l o r h = omega arith
     by_tests false true o r h = omega arith
     by_tests false false true r h = omega arith
-    by_tests false false false (Length n) h = h n refl
-    by_tests false false false ready.Refused h = omega arith
+    by_tests false false false (Some n) h = h n refl
+    by_tests false false false None h = omega arith
 
 -- ---- calls in vain
 

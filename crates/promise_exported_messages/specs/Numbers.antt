@@ -1,6 +1,6 @@
 -- A build answers the number 0 for a valid message only: no reading is refused with an answer whose number is 0.
 use Prim.Native.Nat.{ℕ, zero, suc}
-use Rattle.std.specs.Prelude.{◌≡◌, Bool, ltb, length, replicate}
+use Rattle.std.specs.Prelude.{◌≡◌, Bool, ltb, length, replicate, Result, Ok, Err}
 use Rattle.std.proofs.Math.Path.{refl}
 use Rattle.std.proofs.Math.Bool.{true, false}
 use mathlib.Core.List.{List, [], ◌∷◌}
@@ -14,8 +14,6 @@ use Rattle.field_rules.specs.declared.Field.{Field}
 use Rattle.build_config.specs.declared.Config.{Config}
 use Rattle.build_config.specs.Settings.{config_of}
 use Rattle.build_integrity_rules.specs.Integrity.{integrity_of, number_of_reason}
-use Rattle.build_integrity_rules.specs.declared.Integrity.{Integrity}
-use Rattle.build_integrity_rules.specs.declared.Integrity.TheVariants.{Sound, Garbled}
 use Rattle.build_integrity_rules.specs.declared.GarbledReason.{GarbledReason}
 use Rattle.build_integrity_rules.specs.declared.GarbledReason.TheVariants.{Malformed as Unreadable, InvalidBeginString, InvalidBodyLength, InvalidMsgType, InvalidChecksum}
 use Rattle.dictionary_rules.specs.Check.{check_of, number_of_check}
@@ -45,6 +43,7 @@ use Rattle.build_rules.specs.Beginning.{header_of, verified_records, with_checks
 use Rattle.build_rules.specs.Message.{refusal, after_trailer, after_body, after_type, after_header, message_read}
 use Rattle.builder.specs.Build.{untouched, shown, checked_read, build_of}
 use Rattle.face_messages.specs.Lent.{built_from}
+use Rattle.build_integrity_rules.specs.declared.Verified.{Verified}
 
 -- an answer that is 0 only where it is the valid one
 record Honest (answer : Answer) : Type 0 where
@@ -150,10 +149,10 @@ module _ (dictionary : Dictionary) (config : Config) where
   reason_honest InvalidMsgType = refuses 12 refl
   reason_honest InvalidChecksum = refuses 13 refl
 
-  integrity_honest : (message : List ℕ) (i : Integrity) → Honest (after_header dictionary config message (started_by (header_tags_lem dictionary) config message i)).answer
+  integrity_honest : (message : List ℕ) (i : Result Verified GarbledReason) → Honest (after_header dictionary config message (started_by (header_tags_lem dictionary) config message i)).answer
   unfolding started_by header_of
-  integrity_honest message (Sound v) = header_honest message v.checksum _ (header-reads (header_tags_lem dictionary) (fields_from config.mode message v.msg_type.next) 1021 (verified_records v))
-  integrity_honest message (Garbled reason) = unfold after_header refusal in reason_honest reason
+  integrity_honest message (Ok v) = header_honest message v.checksum _ (header-reads (header_tags_lem dictionary) (fields_from config.mode message v.msg_type.next) 1021 (verified_records v))
+  integrity_honest message (Err reason) = unfold after_header refusal in reason_honest reason
 
   read_honest : (message : List ℕ) → Honest (message_read dictionary config message).answer
   unfolding message_read start_of

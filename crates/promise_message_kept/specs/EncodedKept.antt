@@ -1,5 +1,5 @@
 -- What encoding leaves is a message, with zeros behind it; what it refuses leaves everything as it was, and 27 is answered where no message is lent.
-use Rattle.std.specs.Prelude.{◌≡◌, refl, true, List, ◌++◌, ℕ, length}
+use Rattle.std.specs.Prelude.{◌≡◌, refl, true, List, ◌++◌, ℕ, length, Result, Ok, Err}
 use Rattle.std.proofs.Common.{◌∙◌, arith}
 use Rattle.std.proofs.Math.ListN.{drop}
 use Rattle.message_lent_rules.specs.Lent.{is_message}
@@ -9,8 +9,6 @@ use Rattle.encode_rules.specs.Encoding.{encoding, encoded_message}
 use Rattle.encode_rules.specs.Encode.{encode_verdict, left, encoded, encoding_of, number_of_encoding}
 use Rattle.encode_rules.specs.declared.Encoding.{Encoding}
 use Rattle.encode_rules.specs.declared.Encoding.TheVariants.{Written, NoMessage, InvalidSeparator, Incomplete, TooLong, TooManyFields, NoRoom}
-use Rattle.encode_rules.specs.declared.Verdict.{Verdict}
-use Rattle.encode_rules.specs.declared.Verdict.TheVariants.{Measured, Refused}
 use Rattle.encoder.specs.VerdictLaws.{encodes, refuses}
 use Rattle.encoder.specs.EncodedLaws.{never_written, never_none, encode_layout}
 use Rattle.promise_message_kept.specs.Calls.{written}
@@ -26,7 +24,7 @@ pub encoded-kept : (separator : ℕ) (words values output : List ℕ) (zeroed : 
     → Keeps is_message zeroed fit words values (written (encoding_of separator words values output))
 encoded-kept separator words values output zeroed fit zeros = by_verdict (encode_verdict separator words values (length output)) refl
   where
-    by_refusal : (r : Encoding) → encode_verdict separator words values (length output) ≡ Refused r → Keeps is_message zeroed fit words values (record { answer = number_of_encoding r; words = words; values = values })
+    by_refusal : (r : Encoding) → encode_verdict separator words values (length output) ≡ Err r → Keeps is_message zeroed fit words values (record { answer = number_of_encoding r; words = words; values = values })
     by_refusal (Written n) d = absurd (never_written separator words values (length output) n d)
     by_refusal NoMessage d = unfold number_of_encoding in refused_keeps 27 (λ e. omega arith) (λ h f e. never_none separator words values (length output) h d)
     by_refusal InvalidSeparator d = unfold number_of_encoding in refused_keeps 22 (λ e. omega arith) (λ h f e. omega arith)
@@ -35,9 +33,9 @@ encoded-kept separator words values output zeroed fit zeros = by_verdict (encode
     by_refusal TooManyFields d = unfold number_of_encoding in refused_keeps 21 (λ e. omega arith) (λ h f e. omega arith)
     by_refusal NoRoom d = unfold number_of_encoding in refused_keeps 23 (λ e. omega arith) (λ h f e. omega arith)
 
-    by_verdict : (d : Verdict) → encode_verdict separator words values (length output) ≡ d → Keeps is_message zeroed fit words values (written (encoding_of separator words values output))
-    by_verdict (Refused r) d = rw (refuses separator words values output r d) (unfold written in by_refusal r d)
-    by_verdict (Measured body) d =
+    by_verdict : (d : Result ℕ Encoding) → encode_verdict separator words values (length output) ≡ d → Keeps is_message zeroed fit words values (written (encoding_of separator words values output))
+    by_verdict (Err r) d = rw (refuses separator words values output r d) (unfold written in by_refusal r d)
+    by_verdict (Ok body) d =
         let m = message_in words values in
         let n = encoded_message separator m in
         let e : encoding_of separator words values output ≡ left (Written (length (encoding separator m))) (words_of n) (value_bytes_of n) (encoding separator m ++ drop (length (encoding separator m)) output) =

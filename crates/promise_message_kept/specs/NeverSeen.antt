@@ -1,6 +1,6 @@
 -- WHAT STANDS BEHIND THE ROWS AND BEHIND THE VALUES IS NEVER LOOKED AT: on two memories that lay out the same message a call answers the same
 -- and finds the same, and where it changes the message and answers 0 it leaves the same words and the same values.
-use Rattle.std.specs.Prelude.{◌≡◌, refl, Bool, false, List, ℕ, length, leb, eqb}
+use Rattle.std.specs.Prelude.{◌≡◌, refl, Bool, false, List, ℕ, length, leb, eqb, Result, Ok, Err}
 use Rattle.std.proofs.Common.{sym, ◌∙◌, subst}
 use Rattle.std.proofs.Math.Bool.{true}
 use native.Mathlib.Omega.{arith}
@@ -28,8 +28,6 @@ use Rattle.message_rules.specs.declared.Change.TheVariants.{Made, NoMessage, Not
 use Rattle.encode_rules.specs.Encode.{encode_verdict, encoding_of, number_of_encoding}
 use Rattle.encode_rules.specs.declared.Encoding.{Encoding}
 use Rattle.encode_rules.specs.declared.Encoding.TheVariants as encoding
-use Rattle.encode_rules.specs.declared.Verdict.{Verdict}
-use Rattle.encode_rules.specs.declared.Verdict.TheVariants.{Measured, Refused}
 use Rattle.encoder.specs.VerdictLaws.{encodes, refuses}
 use Rattle.encoder.specs.EncodedLaws.{never_written}
 use Rattle.promise_message_kept.specs.Calls.{Outcome, changed, taken, written, Call, empty, new, take-over, store, remove, hang, encode, find_part, find_field, find_entry, called, changes}
@@ -52,7 +50,7 @@ data SameTaken (words values words' values' : List ℕ) : AfterTaking → AfterT
 
 -- a refusal isn't 0
 module _ (separator : ℕ) (words values : List ℕ) (room : ℕ) where
-  not_written : (r : Encoding) → encode_verdict separator words values room ≡ Refused r → number_of_encoding r ≡ 0 → ⊥
+  not_written : (r : Encoding) → encode_verdict separator words values room ≡ Err r → number_of_encoding r ≡ 0 → ⊥
   unfolding number_of_encoding
   not_written (encoding.Written n) d e = never_written separator words values room n d
   not_written encoding.NoMessage d e = omega arith
@@ -178,12 +176,12 @@ module _ (words values words' values' : List ℕ) where
         same-verdict : encode_verdict separator words values (length output) ≡ encode_verdict separator words' values' (length output)
         same-verdict = unfold encode_verdict in rw (same_test, same-message)
 
-        by_verdict : (d : Verdict) → encode_verdict separator words values (length output) ≡ d
+        by_verdict : (d : Result ℕ Encoding) → encode_verdict separator words values (length output) ≡ d
             → Alike true words values words' values' (written (encoding_of separator words values output)) (written (encoding_of separator words' values' output))
-        by_verdict (Refused r) d =
+        by_verdict (Err r) d =
             rw (refuses separator words values output r d, refuses separator words' values' output r (sym same-verdict ∙ d))
             (unfold written in alike_still (number_of_encoding r) (λ change e. not_written separator words values (length output) r d e))
-        by_verdict (Measured body) d =
+        by_verdict (Ok body) d =
             rw (encodes separator words values output body d, encodes separator words' values' output body (sym same-verdict ∙ d), same-message) (alike_made _)
 
     -- the law, for each call

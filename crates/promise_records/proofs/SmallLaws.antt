@@ -1,15 +1,13 @@
 -- Laws of what specs/Small.antt defines.
 use Prim.Native.Nat.{ℕ, zero, suc, ◌+◌, ◌≤◌, ◌<◌}
 use Rattle.std.proofs.Math.Path.{◌≡◌, refl}
-use Rattle.std.proofs.Common.{sym, arith, ltb-true, take-append-drop}
+use Rattle.std.proofs.Common.{sym, arith, ltb-true, take-append-drop, Option, Some, None, ℕ}
 use Rattle.std.specs.Prelude.{Bool, true, false, length, take, drop, eqb, ltb, leb}
 use mathlib.Core.List.{List, [], ◌∷◌, ◌++◌}
 use Rattle.field_rules.specs.Choice.{pick}
 use Rattle.field_rules.specs.Fields.{Fields, unreadable, field}
 use Rattle.field_rules.specs.declared.Field.{Field}
 use Rattle.dictionary_layout_rules.specs.Tree.{holds_tag}
-use Rattle.dictionary_layout_rules.specs.declared.Position.{Position}
-use Rattle.dictionary_layout_rules.specs.declared.Position.TheVariants.{At, Nowhere}
 use Rattle.build_records.specs.Records.{stored}
 use Rattle.build_records.specs.declared.Record.{Record}
 use Rattle.build_group_rules.specs.Groups.{Rules, Opened, none, opened, OpenGroup, OpenEntry, Frame, run, outermost, entry, Kind, plain, count, joins, wrong, ends, counting, declared, entry_kind, opens, Move, adds, joins_at, disorders, leaves, nested, in_entry_lem, decide, RunOutcome, moved, walk}
@@ -85,10 +83,10 @@ counting_fits {L} depth position (opened inner) = by_test (ltb depth 4) refl
     by_test false e = tt
 
 module _ {L : Type 0} (rules : Rules L) where
-  declared_fits : (level : L) (depth last tag : ℕ) (p : Position) → KindFits depth (declared rules level depth last tag p)
+  declared_fits : (level : L) (depth last tag : ℕ) (p : Option ℕ) → KindFits depth (declared rules level depth last tag p)
   unfolding declared
-  declared_fits level depth last tag Nowhere = kind_pick depth (rules.accepts tag) joins ends tt tt
-  declared_fits level depth last tag (At position) = kind_pick depth (leb position last) wrong (counting depth position (rules.group level tag)) tt (counting_fits depth position (rules.group level tag))
+  declared_fits level depth last tag None = kind_pick depth (rules.accepts tag) joins ends tt tt
+  declared_fits level depth last tag (Some position) = kind_pick depth (leb position last) wrong (counting depth position (rules.group level tag)) tt (counting_fits depth position (rules.group level tag))
 
   kind_fits : (level : L) (depth last tag : ℕ) → KindFits depth (entry_kind rules level depth last tag)
   unfolding entry_kind

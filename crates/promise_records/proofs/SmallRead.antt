@@ -3,15 +3,13 @@ use Rattle.std.specs.Prelude.{ℕ, suc, ◌≡◌, Bool, leb}
 use Rattle.std.proofs.Math.Path.{refl}
 use Rattle.std.proofs.Math.Bool.{true, false}
 use mathlib.Core.List.{List, [], ◌∷◌}
-use Rattle.std.proofs.Common.{arith}
+use Rattle.std.proofs.Common.{arith, Result, Ok, Err}
 use Rattle.build_records.specs.Records.{value_at}
 use Rattle.build_config.specs.declared.Config.{Config}
 use Rattle.field_rules.specs.Choice.{pick}
 use Rattle.field_rules.specs.Fields.{Fields, field, fields_from}
 use Rattle.field_rules.specs.declared.Field.{Field}
 use Rattle.build_integrity_rules.specs.Integrity.{integrity_of}
-use Rattle.build_integrity_rules.specs.declared.Integrity.{Integrity}
-use Rattle.build_integrity_rules.specs.declared.Integrity.TheVariants.{Sound, Garbled}
 use Rattle.build_integrity_rules.specs.declared.Verified.{Verified}
 use Rattle.build_integrity_rules.proofs.VerifiedLaws.{VerifiedRead, verified-read}
 use Rattle.dictionary_layout_rules.specs.Tree.{Dictionary, knows, header_tags_lem, trailer_tags_lem, Choice, no_message, laid_out, layout_of}
@@ -31,6 +29,7 @@ use Rattle.message_read_laws.specs.Counting.{Fine}
 use Rattle.message_read_laws.specs.CountLaws.{read_fine, all_fine}
 use Rattle.promise_records.specs.Small.{Small, Kept, TrailerSmall}
 use Rattle.promise_records.proofs.SmallLaws.{part_small, header-kept, trailer_small, body_kept}
+use Rattle.build_integrity_rules.specs.declared.GarbledReason.{GarbledReason}
 
 module _ (message : List ℕ) where
   abbrev AllSmall : List Record → Type 0
@@ -97,11 +96,11 @@ module _ (message : List ℕ) where
           left = omega arith;
         }
 
-    started-shown : (i : Integrity) → integrity_of config.mode message ≡ i
+    started-shown : (i : Result Verified GarbledReason) → integrity_of config.mode message ≡ i
         → AllSmall (after_header dictionary config message (started_by (header_tags_lem dictionary) config message i)).records
     unfolding started_by
-    started-shown (Garbled reason) e = unfold after_header in refusal_small _ [] all_none
-    started-shown (Sound v) e =
+    started-shown (Err reason) e = unfold after_header in refusal_small _ [] all_none
+    started-shown (Ok v) e =
         let r = verified-read config.mode message v e in
         header-shown dictionary config v.checksum (read_fine config.mode message _ v.checksum r.sums)
         (header_of (header_tags_lem dictionary) config message v)

@@ -1,6 +1,6 @@
 -- How many records are shown: 1,024 at the most, whatever the answer is, so that all of them stand in the lent ones.
 -- With 0 that is a law of `promise_records`; with a refusal there are no more than the header's, each of a field that was read.
-use Rattle.std.specs.Prelude.{ℕ, zero, suc, ◌+◌, ◌≤◌, ◌≡◌, refl, ◌⊎◌, Bool, true, false, leb}
+use Rattle.std.specs.Prelude.{ℕ, zero, suc, ◌+◌, ◌≤◌, ◌≡◌, refl, ◌⊎◌, Bool, true, false, leb, Result, Ok, Err}
 use Rattle.std.proofs.Common.{inl, inr}
 use mathlib.Core.List.{List, [], ◌∷◌}
 use native.Mathlib.Omega.{arith}
@@ -10,8 +10,6 @@ use Rattle.field_rules.specs.Choice.{pick}
 use Rattle.field_rules.specs.Fields.{Fields, unreadable, field, fields_from}
 use Rattle.field_rules.specs.declared.Field.{Field}
 use Rattle.build_integrity_rules.specs.Integrity.{integrity_of}
-use Rattle.build_integrity_rules.specs.declared.Integrity.{Integrity}
-use Rattle.build_integrity_rules.specs.declared.Integrity.TheVariants.{Sound, Garbled}
 use Rattle.build_integrity_rules.specs.declared.Verified.{Verified}
 use Rattle.dictionary_layout_rules.specs.Tree.{Dictionary, knows, header_tags_lem, trailer_tags_lem, holds_tag, Choice, no_message, laid_out, layout_of}
 use Rattle.build_records.specs.Records.{stored, value_at}
@@ -30,6 +28,7 @@ use Rattle.build_rules.specs.Beginning.{header_of, verified_records, with_checks
 use Rattle.build_rules.specs.Message.{Outcome, shown_with, refusal, after_trailer, after_body, after_type, after_header, message_read}
 use Rattle.message_read_laws.specs.CountLaws.{grows_stored}
 use Rattle.promise_records.specs.TakenOver.{build_takes}
+use Rattle.build_integrity_rules.specs.declared.GarbledReason.{GarbledReason}
 
 header-few : (tags : List ℕ) (fields : Fields) (room : ℕ) (rs : List Record) → length rs + room ≤ 1024
     → (f : Field) (rest : Fields) (room₁ : ℕ) (rs₁ : List Record) → header_from tags fields room rs ≡ ended f rest room₁ rs₁ → length rs₁ ≤ 1024
@@ -100,10 +99,10 @@ module _ (dictionary : Dictionary) (config : Config) (message : List ℕ) where
         (grows_stored (part_record 1 v.msg_type) two).longer,
       )
 
-  integrity_few : (i : Integrity) → Few (after_header dictionary config message (started_by (header_tags_lem dictionary) config message i))
+  integrity_few : (i : Result Verified GarbledReason) → Few (after_header dictionary config message (started_by (header_tags_lem dictionary) config message i))
   unfolding started_by
-  integrity_few (Garbled reason) = unfold after_header in refusal-few _ [] (omega arith)
-  integrity_few (Sound v) =
+  integrity_few (Err reason) = unfold after_header in refusal-few _ [] (omega arith)
+  integrity_few (Ok v) =
       start-few v.checksum (header_of (header_tags_lem dictionary) config message v)
       (λ f rest room h q. header-few (header_tags_lem dictionary) (fields_from config.mode message v.msg_type.next) 1021 (verified_records v)
       (omega (arith, verified-few v)) f rest room h (unfold header_of in q))

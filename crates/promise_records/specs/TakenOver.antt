@@ -4,7 +4,7 @@ use Rattle.std.proofs.Math.Path.{◌≡◌, refl, ap}
 use Rattle.std.proofs.Common.{sym, ◌∙◌, arith, length-append, take_at}
 use Rattle.std.proofs.Math.Bool.{Bool, true, false}
 use mathlib.Core.List.{List, [], ◌∷◌, ◌++◌}
-use Rattle.std.specs.Prelude.{ℕ, suc, ◌-◌, ◌/◌, ◌≤◌, length, replicate, eqb}
+use Rattle.std.specs.Prelude.{ℕ, suc, ◌-◌, ◌/◌, ◌≤◌, length, replicate, eqb, Result, Ok, Err}
 use Rattle.std.proofs.Math.Nat.{sub-zero}
 use Rattle.std.proofs.Math.Dec.{ltb}
 use borrow.Author.Tests.{ltb-false, le-ltb}
@@ -15,8 +15,6 @@ use Rattle.field_rules.specs.Fields.{Fields, field, fields_from}
 use Rattle.field_rules.specs.declared.Field.{Field}
 use Rattle.build_integrity_rules.specs.Integrity.{integrity_of}
 use Rattle.build_config.specs.declared.Config.{Config}
-use Rattle.build_integrity_rules.specs.declared.Integrity.{Integrity}
-use Rattle.build_integrity_rules.specs.declared.Integrity.TheVariants.{Sound, Garbled}
 use Rattle.build_integrity_rules.specs.declared.Verified.{Verified}
 use Rattle.dictionary_rules.specs.Check.{check_of, number_of_check}
 use Rattle.dictionary_meaning_rules.specs.Meaning.{dictionary_of}
@@ -45,6 +43,7 @@ use Rattle.message_read_laws.specs.PartReading.{Ended, at_checksum, at_end}
 use Rattle.build_integrity_rules.proofs.VerifiedLaws.{verified-read}
 use Rattle.message_read_laws.specs.Parted.{Takes, parts-take}
 use Rattle.message_read_laws.specs.Refusals.{header_never, body_never}
+use Rattle.build_integrity_rules.specs.declared.GarbledReason.{GarbledReason}
 
 module _ (dictionary : Dictionary) (config : Config) (message : List ℕ) (short : length message ≤ 8192) where
   -- behind the trailer
@@ -55,7 +54,7 @@ module _ (dictionary : Dictionary) (config : Config) (message : List ℕ) (short
   trailer_takes h b (unstopped rs) takes e = takes rs at_end
   trailer_takes h b crowded takes e = let z : ◌≡◌ {A = ℕ} 0 1 = unfold refusal in cc in absurd (omega arith)
 
-  module _ (v : Verified) (sound : integrity_of config.mode message ≡ Sound v) (f : Field) (rest : Fields) (room : ℕ) (h : List Record)
+  module _ (v : Verified) (sound : integrity_of config.mode message ≡ Ok v) (f : Field) (rest : Fields) (room : ℕ) (h : List Record)
       (header : header_of (header_tags_lem dictionary) config message v ≡ ended f rest room h) where
     -- behind the body
     body_takes : (layout : _) (r : Reading)
@@ -81,7 +80,7 @@ module _ (dictionary : Dictionary) (config : Config) (message : List ℕ) (short
         (suc room) []) refl a
 
   -- behind the header
-  header_takes : (v : Verified) → integrity_of config.mode message ≡ Sound v → (r : Reading) → header_of (header_tags_lem dictionary) config message v ≡ r
+  header_takes : (v : Verified) → integrity_of config.mode message ≡ Ok v → (r : Reading) → header_of (header_tags_lem dictionary) config message v ≡ r
       → (after_header dictionary config message (with_checksum v.checksum r)).answer ≡ Valid
       → Takes message (after_header dictionary config message (with_checksum v.checksum r)).records
   unfolding after_header with_checksum
@@ -90,12 +89,12 @@ module _ (dictionary : Dictionary) (config : Config) (message : List ℕ) (short
       (unfold header_of in (e ∙ ap refused (unfold refusal in a))))
   header_takes v sound (ended f rest room h) e a = type-takes v sound f rest room h e (layout_of dictionary (value_at message (msg_type_record h))) a
 
-  integrity_takes : (i : Integrity) → integrity_of config.mode message ≡ i
+  integrity_takes : (i : Result Verified GarbledReason) → integrity_of config.mode message ≡ i
       → (after_header dictionary config message (started_by (header_tags_lem dictionary) config message i)).answer ≡ Valid
       → Takes message (after_header dictionary config message (started_by (header_tags_lem dictionary) config message i)).records
   unfolding started_by
-  integrity_takes (Garbled reason) e a = let z : ◌≡◌ {A = ℕ} 0 1 = unfold after_header refusal in cc in absurd (omega arith)
-  integrity_takes (Sound v) e a = header_takes v e (header_of (header_tags_lem dictionary) config message v) refl a
+  integrity_takes (Err reason) e a = let z : ◌≡◌ {A = ℕ} 0 1 = unfold after_header refusal in cc in absurd (omega arith)
+  integrity_takes (Ok v) e a = header_takes v e (header_of (header_tags_lem dictionary) config message v) refl a
 
   -- the records of a message that was read with 0 stand for a message within the limits
   pub build_takes : (message_read dictionary config message).answer ≡ Valid → Takes message (message_read dictionary config message).records

@@ -2,7 +2,7 @@
 -- with the message's own BodyLength and CheckSum is the message, and an encoding writes just that text.
 use Rattle.std.specs.Prelude.{◌≡◌, Bool, true, false, ℕ, ◌-◌, ◌≤◌, length, drop}
 use Rattle.std.proofs.Math.Path.{refl, ap}
-use Rattle.std.proofs.Common.{sym, ◌∙◌, arith}
+use Rattle.std.proofs.Common.{sym, ◌∙◌, arith, Option, Some}
 use mathlib.Core.List.{List, [], ◌∷◌, ◌++◌}
 use Rattle.message_maps.specs.Rows.{message_words}
 use Rattle.field_rules.specs.Field.{start_at}
@@ -12,8 +12,6 @@ use Rattle.build_records.specs.declared.Record.{Record}
 use Rattle.build_nesting_laws.specs.Entries.{all_more}
 use Rattle.build_parts.specs.Parts.{part_record}
 use Rattle.build_rules.specs.Message.{message_read}
-use Rattle.build_rules.specs.declared.Stop.{Stop}
-use Rattle.build_rules.specs.declared.Stop.TheVariants.{At}
 use Rattle.message_lent_rules.specs.Meaning.{Message, words_of, value_bytes_of}
 use Rattle.encode_rules.specs.Encoding.{encoded_message}
 use Rattle.field_rules.specs.Separator.{is_refused_separator}
@@ -37,6 +35,7 @@ use Rattle.encode_rewriting_laws.proofs.EncodedFit.{encoding-written}
 use Rattle.encode_rewriting_laws.proofs.EncodedParts.{read-built}
 use Rattle.encode_rewriting_laws.proofs.PlainMessage.{clean_message}
 use Rattle.promise_roundtrip.specs.Clean.{RepeatFree, Clean}
+use Rattle.field_rules.specs.declared.Field.{Field}
 
 module _ (dictionary : Dictionary) (config : Config) (message : List ℕ) where
   -- "no tag stored twice in one map": the records stand in the order of reading
@@ -78,7 +77,7 @@ module _ (dictionary : Dictionary) (config : Config) (message : List ℕ) where
     pub clean_text : Clean dictionary config message → message ≡ encoding_back
     clean_text c = by_last (message_read dictionary config message).stop o.last o.is_last c.stops o.trailer_follows
       where
-        by_last : (stop : Stop) (last : Fields) → Last stop last → stop ≡ At c.stop → Follows 3 (field o.parts.g o.parts.more) o.trailer last → message ≡ encoding_back
+        by_last : (stop : Option Field) (last : Fields) → Last stop last → stop ≡ Some c.stop → Follows 3 (field o.parts.g o.parts.more) o.trailer last → message ≡ encoding_back
         by_last _ _ (at-stop {f = f} {rest = rest} ten) e follows =
             let same : f ≡ c.stop = cc in
             clean_message config.mode message o.parts.verified o.parts.sound (type ∷ o.others) o.parts.body o.trailer c.stop rest

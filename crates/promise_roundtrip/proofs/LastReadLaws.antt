@@ -2,7 +2,7 @@
 -- What a part holds under a tag is the record of the last field with it that the part took, in header, body and trailer.
 use Rattle.std.specs.Prelude.{◌≡◌, Bool, true, eqb}
 use Rattle.std.proofs.Math.Path.{refl, sym, ap}
-use Rattle.std.proofs.Common.{◌∙◌, arith}
+use Rattle.std.proofs.Common.{◌∙◌, arith, Option}
 use Rattle.std.proofs.Math.Bool.{false}
 use mathlib.Core.List.{List, [], ◌∷◌}
 use Prim.Native.Nat.{ℕ, zero, suc}
@@ -27,7 +27,6 @@ use Rattle.build_body_rules.specs.Body.{plain, counts, other, Body, stored_run, 
 use Rattle.build_body_rules.specs.Kinds.{body_of}
 use Rattle.build_rules.specs.Beginning.{header_of, verified_records}
 use Rattle.build_rules.specs.Message.{Outcome}
-use Rattle.build_rules.specs.declared.Stop.{Stop}
 use Rattle.build_order_laws.specs.InParts.{InParts}
 use Rattle.build_order_laws.specs.TrailerStores.{trailer_at, not_crowded, stopped-with, unstopped-with}
 use Rattle.promise_roundtrip.specs.BodyTurns.{RunRead, body-ends}
@@ -76,7 +75,7 @@ header-last tags (field g more) (suc room) rs f rest room₁ rs₁ e s tag =
 
 -- ===== the trailer =====
 
-trailer-last : (fields : Fields) (room : ℕ) (rs : List Record) (stop : Stop) (ts : List Record) → trailer_from fields room rs ≡ trailer_at stop ts → Single 0 rs
+trailer-last : (fields : Fields) (room : ℕ) (rs : List Record) (stop : Option Field) (ts : List Record) → trailer_from fields room rs ≡ trailer_at stop ts → Single 0 rs
     → (tag : ℕ) → under 0 tag ts ≡ latest 3 tag (under 0 tag rs) (trailer_takes fields)
 unfolding trailer_from trailer_takes
 trailer-last (unreadable cause place) zero rs stop ts e s tag = absurd (not_crowded stop ts e)

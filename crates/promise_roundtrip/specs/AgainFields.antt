@@ -1,13 +1,11 @@
 -- The fields of a copy beside those that its records were read of: record by record they have the same tag, so they agree.
 -- The copy's 10 stands behind them, where the message has a 10 too or nothing that can be read.
-use Rattle.std.specs.Prelude.{◌≡◌, Bool, true, false, List, [], ◌∷◌, ◌++◌, ℕ, suc, ◌+◌, ◌≤◌, length, eqb}
+use Rattle.std.specs.Prelude.{◌≡◌, Bool, true, false, List, [], ◌∷◌, ◌++◌, ℕ, suc, ◌+◌, ◌≤◌, length, eqb, Option, Some, None}
 use Rattle.std.proofs.Common.{sym, ◌∙◌, arith, eq-eqb}
 use Rattle.field_rules.specs.Choice.{pick}
 use Rattle.field_rules.specs.Fields.{Fields, field}
 use Rattle.field_rules.specs.declared.Field.{Field}
 use Rattle.build_records.specs.declared.Record.{Record}
-use Rattle.build_rules.specs.declared.Stop.{Stop}
-use Rattle.build_rules.specs.declared.Stop.TheVariants.{At, Nowhere}
 use Rattle.build_order_laws.specs.Counted.{trailer_fields}
 use Rattle.build_order_laws.specs.Follows.{Follows, no_field, one_field, Reaches, here, further}
 use Rattle.build_order_laws.specs.TrailerStores.{Last, at-stop, at_end}
@@ -27,17 +25,17 @@ unfolding onto
 copied_none_agree copied_none a = a
 
 -- whether a 10 stopped the trailer, as a number of fields
-unfoldable pub stop_fields : Stop → ℕ
-stop_fields (At f) = 1
-stop_fields Nowhere = 0
+unfoldable pub stop_fields : Option Field → ℕ
+stop_fields (Some f) = 1
+stop_fields None = 0
 
-pub end_agree : {stop : Stop} {last : Fields} → Last stop last → (checksum : Field) (end : Fields) → checksum.tag ≡ 10 → Agree (stop_fields stop) last (field checksum end)
+pub end_agree : {stop : Option Field} {last : Fields} → Last stop last → (checksum : Field) (end : Fields) → checksum.tag ≡ 10 → Agree (stop_fields stop) last (field checksum end)
 unfolding stop_fields
 end_agree (at-stop ten) checksum end e = same (ten ∙ sym e) enough
 end_agree at_end checksum end e = enough
 
 -- the field that ended the body is one of the trailer's, or the 10 that stopped it
-pub trailer-some : {stop : Stop} {last fields more : Fields} {g : Field} {rs : List Record} → Last stop last → Follows 3 fields rs last → fields ≡ field g more → 1 ≤ length rs + stop_fields stop
+pub trailer-some : {stop : Option Field} {last fields more : Fields} {g : Field} {rs : List Record} → Last stop last → Follows 3 fields rs last → fields ≡ field g more → 1 ≤ length rs + stop_fields stop
 unfolding stop_fields
 trailer-some (at-stop ten) follows e = omega arith
 trailer-some at_end no_field e = let z : ◌≡◌ {A = ℕ} 0 1 = cc in absurd (omega arith)

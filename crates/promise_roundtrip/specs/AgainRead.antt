@@ -1,6 +1,6 @@
 -- A message in order, and a copy that reads like its records: the copy is read with 0, part by part beside the message.
 -- Header, body and trailer are read by tags alone, and MsgType has the same value, so it chooses the same layout.
-use Rattle.std.specs.Prelude.{◌≡◌, refl, Bool, List, [], ◌∷◌, ◌++◌, ℕ, suc, ◌+◌, ◌≤◌}
+use Rattle.std.specs.Prelude.{◌≡◌, refl, Bool, List, [], ◌∷◌, ◌++◌, ℕ, suc, ◌+◌, ◌≤◌, Option, Some, None}
 use Rattle.std.proofs.Common.{sym, ap, ◌∙◌, append-nil, arith, length-append}
 use Rattle.std.proofs.Math.ListN.{length}
 use Rattle.build_records.specs.Records.{value_at}
@@ -20,8 +20,6 @@ use Rattle.build_parts.specs.Header.{header_from}
 use Rattle.build_parts.specs.Trailer.{trailer_from}
 use Rattle.build_body_rules.specs.Body.{body_from}
 use Rattle.build_body_rules.specs.Kinds.{body_of}
-use Rattle.build_rules.specs.declared.Stop.{Stop}
-use Rattle.build_rules.specs.declared.Stop.TheVariants.{At, Nowhere}
 use Rattle.build_rules.specs.Beginning.{header_of, verified_records, msg_type_record}
 use Rattle.build_rules.specs.Message.{Outcome, message_read}
 use Rattle.build_order_laws.specs.Counted.{trailer_fields}
@@ -47,6 +45,7 @@ use Rattle.message_read_laws.specs.PartReading.{of_field}
 use Rattle.promise_roundtrip.specs.AgainFields.{copied_agree, copied_none_agree, stop_fields, end_agree, trailer-some, reaches-onto, reaches-rest}
 use Rattle.promise_roundtrip.specs.AgainFields.{ten_ends}
 use Rattle.promise_roundtrip.specs.AgainParts.{verified-first, verified_similar, msg_type_third, put_together}
+use Rattle.field_rules.specs.declared.Field.{Field}
 
 module _ (dictionary : Dictionary) (config : Config) (message : List ℕ) (order : InOrder dictionary config message) (copy : List ℕ)
     (like : ReadsLike config.mode message copy (part_record 1 order.parts.verified.begin_string) (part_record 1 order.parts.verified.msg_type)
@@ -60,7 +59,7 @@ module _ (dictionary : Dictionary) (config : Config) (message : List ℕ) (order
   abbrev w : Verified
   w = like.verified
 
-  abbrev stop : Stop
+  abbrev stop : Option Field
   stop = (message_read dictionary config message).stop
 
   abbrev fields : Fields
@@ -182,20 +181,20 @@ module _ (dictionary : Dictionary) (config : Config) (message : List ℕ) (order
       checks : Similar (part_record 3 v.checksum ∷ []) (part_record 3 w.checksum ∷ [])
       checks = more (alike_field 3 v.checksum w.checksum (tags.sums ∙ sym tags_again.sums)) none
 
-      by_stop : (s : Stop)
+      by_stop : (s : Option Field)
           → trailer_from (field p.g p.more) (suc p.room₂) (part_record 3 v.checksum ∷ [])
           ≡ trailer_at s (part_record 3 v.checksum ∷ order.trailer)
           → Agree (length order.trailer + stop_fields s) (field p.g p.more) (field body_along.found body_along.behind)
           → Stops (trailer_from (field body_along.found body_along.behind) (suc p.room₂) (part_record 3 w.checksum ∷ []))
           (part_record 3 v.checksum ∷ order.trailer)
-      by_stop (At f) e a =
-          let l : suc (trailer_fields (field p.g p.more)) ≤ length order.trailer + stop_fields (At f) = unfold stop_fields in
+      by_stop (Some f) e a =
+          let l : suc (trailer_fields (field p.g p.more)) ≤ length order.trailer + stop_fields (Some f) = unfold stop_fields in
           omega (arith, order.trailer-count) in
           trailer-same (field p.g p.more) (field body_along.found body_along.behind) (suc p.room₂) (part_record 3 v.checksum ∷ [])
           (part_record 3 w.checksum ∷ []) f (part_record 3 v.checksum ∷ order.trailer) (unfold trailer_at in e) checks
           (agree_less l a)
-      by_stop Nowhere e a =
-          let l : trailer_fields (field p.g p.more) ≤ length order.trailer + stop_fields Nowhere = omega (arith, order.trailer-count) in
+      by_stop None e a =
+          let l : trailer_fields (field p.g p.more) ≤ length order.trailer + stop_fields None = omega (arith, order.trailer-count) in
           let t =
           trailer-stopped (field p.g p.more) (field body_along.found body_along.behind) (suc p.room₂) (part_record 3 v.checksum ∷ [])
           (part_record 3 w.checksum ∷ []) (part_record 3 v.checksum ∷ order.trailer) w.checksum like.end (unfold trailer_at in e) checks
@@ -221,7 +220,7 @@ module _ (dictionary : Dictionary) (config : Config) (message : List ℕ) (order
   pub read_along : ReadAlong
   read_along =
       record {
-        outcome = record { answer = Valid; records = header_along.kept ++ (body_along.kept ++ trailer_along.kept); stop = At trailer_along.found };
+        outcome = record { answer = Valid; records = header_along.kept ++ (body_along.kept ++ trailer_along.kept); stop = Some trailer_along.found };
         is =
             put_together dictionary config copy w like.sound p.layout header_along.found body_along.found header_along.behind
             body_along.behind p.room p.room₂ header_along.kept body_along.kept trailer_along.kept trailer_along.found

@@ -1,5 +1,5 @@
 -- "Clean and repeat-free": which messages come back.
-use Rattle.std.specs.Prelude.{ℕ, ◌-◌, ◌≡◌, refl, List, Bool, true, false, ◌↔◌, length}
+use Rattle.std.specs.Prelude.{ℕ, ◌-◌, ◌≡◌, refl, List, Bool, true, false, ◌↔◌, length, Some}
 use Rattle.std.proofs.Common.{arith}
 use Rattle.build_config.specs.declared.Config.{Config}
 use Rattle.field_rules.specs.Field.{start_at}
@@ -8,7 +8,6 @@ use Rattle.field_rules.specs.declared.Field.{Field}
 use Rattle.dictionary_layout_rules.specs.Tree.{Dictionary, header_tags_lem, holds_tag}
 use Rattle.build_answers.specs.declared.Answer.TheVariants.{Valid}
 use Rattle.build_rules.specs.Message.{message_read}
-use Rattle.build_rules.specs.declared.Stop.TheVariants.{At}
 use Rattle.build_order_laws.specs.Counted.{fields_counted}
 use Rattle.build_order_laws.specs.Twice.{stored_twice}
 use Rattle.build_order_laws.proofs.TwiceMessage.{once_all, twice_fewer}
@@ -40,7 +39,7 @@ module _ (dictionary : Dictionary) (config : Config) (message : List ℕ) where
   pub record Clean : Type 0 where
     pub repeat-free : RepeatFree dictionary config message
     pub stop : Field
-    pub stops : (message_read dictionary config message).stop ≡ At stop
+    pub stops : (message_read dictionary config message).stop ≡ Some stop
     pub at_checksum : stop.first ≡ length message - 7
     pub tags-plain : plain_tags message stop.first (fields_from config.mode message (start_at 0)) ≡ true
     pub length-plain : plain_length message (fields_from config.mode message (start_at 0)) ≡ true

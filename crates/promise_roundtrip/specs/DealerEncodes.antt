@@ -1,6 +1,6 @@
 -- What was built with 0 and taken over is encoded, whether a tag was stored twice in it or not: the separator is one that the build took, the
 -- header holds 8 and 35, every run has its count, and there are no more fields than records. Only 20 and 23 are left, by its length.
-use Rattle.std.specs.Prelude.{◌≡◌, refl, Bool, true, false, List, [], ◌∷◌, ◌++◌, ℕ, zero, suc, ◌≤◌, ◌<◌, length, drop, eqb}
+use Rattle.std.specs.Prelude.{◌≡◌, refl, Bool, true, false, List, [], ◌∷◌, ◌++◌, ℕ, zero, suc, ◌≤◌, ◌<◌, length, drop, eqb, Option}
 use Rattle.std.proofs.Common.{ap, ◌∙◌, arith}
 use Rattle.build_config.specs.declared.Config.{Config}
 use Rattle.field_rules.specs.Choice.{pick}
@@ -23,7 +23,6 @@ use Rattle.build_parts.specs.Trailer.{stopped, trailer_from}
 use Rattle.build_body_rules.specs.Body.{body_from}
 use Rattle.build_rules.specs.Beginning.{header_of, verified_records}
 use Rattle.build_rules.specs.Message.{Outcome, message_read}
-use Rattle.build_rules.specs.declared.Stop.{Stop}
 use Rattle.message_lent_rules.specs.Meaning.{Message, words_of, value_bytes_of}
 use Rattle.message_lent_rules.proofs.FormedLaws.{layout_lends}
 use Rattle.message_rules.specs.Changes.{field_total}
@@ -64,7 +63,7 @@ header-part tags (field g more) (suc room) rs f rest room₁ rs₁ e a =
     by_tag true e later = later e
     by_tag false e later = let d : rs ≡ rs₁ = cc in rw (← d) a
 
-trailer-part : (fields : Fields) (room : ℕ) (rs : List Record) (stop : Stop) (ts : List Record) → trailer_from fields room rs ≡ trailer_at stop ts
+trailer-part : (fields : Fields) (room : ℕ) (rs : List Record) (stop : Option Field) (ts : List Record) → trailer_from fields room rs ≡ trailer_at stop ts
     → All (InPart 3) rs → All (InPart 3) ts
 unfolding trailer_from
 trailer-part (unreadable cause place) zero rs stop ts e a = absurd (not_crowded stop ts e)

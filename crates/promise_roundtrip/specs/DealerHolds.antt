@@ -1,6 +1,6 @@
 -- A message that was read with 0 has a 9 in its header and a 10 in its trailer, whatever is stored over them. So the new 9 and 10 of an
 -- encoding stand for the old, and the encoded message has as many fields as there are records.
-use Rattle.std.specs.Prelude.{◌≡◌, ◌⊎◌, Bool, ℕ, zero, suc, ◌<◌}
+use Rattle.std.specs.Prelude.{◌≡◌, ◌⊎◌, Bool, ℕ, zero, suc, ◌<◌, Option}
 use Rattle.std.proofs.Math.Path.{refl, sym, ap}
 use Rattle.std.proofs.Common.{◌∙◌, inl, inr, ⊎_elim, eqb-true, eq-eqb}
 use Rattle.std.proofs.Math.Bool.{true, false}
@@ -21,7 +21,6 @@ use Rattle.build_parts.specs.Header.{header_from}
 use Rattle.build_parts.specs.Trailer.{stopped, trailer_from}
 use Rattle.build_rules.specs.Beginning.{header_of, verified_records}
 use Rattle.build_rules.specs.Message.{Outcome}
-use Rattle.build_rules.specs.declared.Stop.{Stop}
 use Rattle.message_maps.specs.Map.{Map, holds}
 use Rattle.message_lent_rules.specs.Meaning.{Message}
 use Rattle.message_rules.specs.Changes.{field_total}
@@ -133,7 +132,7 @@ header-held {tag} tags (field g more) (suc room) rs f rest left ss e h =
     by_tag false q later = let d : rs ≡ ss = cc in rw (← d) h
 
 -- the verified CheckSum is in the trailer, and stays there
-trailer-held : {tag : ℕ} (fields : Fields) (room : ℕ) (rs : List Record) (stop : Stop) (ts : List Record) → trailer_from fields room rs ≡ trailer_at stop ts
+trailer-held : {tag : ℕ} (fields : Fields) (room : ℕ) (rs : List Record) (stop : Option Field) (ts : List Record) → trailer_from fields room rs ≡ trailer_at stop ts
     → Held 3 tag rs → Held 3 tag ts
 unfolding trailer_from
 trailer-held (unreadable cause place) zero rs stop ts e h = absurd (not_crowded stop ts e)

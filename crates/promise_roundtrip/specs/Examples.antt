@@ -1,5 +1,5 @@
 -- Worked examples of "clean": the five tests of each message, one table under one statement, and one clean message whole.
-use Rattle.std.specs.Prelude.{◌≡◌, refl, Bool, true, false, List, [], ◌∷◌, ◌++◌, map, ℕ, ◌-◌, length, eqb}
+use Rattle.std.specs.Prelude.{◌≡◌, refl, Bool, true, false, List, [], ◌∷◌, ◌++◌, map, ℕ, ◌-◌, length, eqb, Option, Some, None}
 use Rattle.build_config.specs.Settings.{validating}
 use Rattle.field_rules.specs.Computing.{reading-fields}
 use Rattle.field_rules.specs.Text.{bytes}
@@ -22,28 +22,27 @@ use Rattle.build_body_rules.specs.Body.{behind_run, stored_run, and_then, next_f
 use Rattle.build_body_rules.specs.Kinds.{group_kind, placed_kind, body_kind, checked, ran_as, run_from, body_of}
 use Rattle.build_rules.specs.Beginning.{verified_records, header_of, with_checksum, started_by, start_of, msg_type_record}
 use Rattle.build_rules.specs.Message.{after_trailer, after_body, after_type, after_header, message_read}
-use Rattle.build_rules.specs.declared.Stop.{Stop}
-use Rattle.build_rules.specs.declared.Stop.TheVariants.{At, Nowhere}
 use Rattle.build_rules.specs.Examples.{dictionary, closed, order}
 use Rattle.build_order_laws.specs.Counted.{fields_counted, counted_fields, counted_to}
 use Rattle.build_order_laws.specs.Twice.{twice_in_header, twice_in_trailer, twice_moved, twice_in_run, twice_behind, twice_taking, twice_within, twice_in_body}
 use Rattle.build_order_laws.specs.Twice.{twice_from_body, twice_from_header, stored_twice}
 use Rattle.encode_rewriting_laws.specs.Plain.{is_plain, plain_tags, plain_length, three_digits}
 use Rattle.promise_roundtrip.specs.Clean.{Clean}
+use Rattle.field_rules.specs.declared.Field.{Field}
 
 -- a tag stored twice; plain tags; a plain BodyLength; a CheckSum of three digits; the trailer stops at length minus 7
 abbrev Tests : Type 0
 Tests = Bool × Bool × Bool × Bool × Bool
 
-abbrev tests_at : List ℕ → Stop → Tests
-tests_at message (At f) = (
+abbrev tests_at : List ℕ → Option Field → Tests
+tests_at message (Some f) = (
   stored_twice dictionary (validating true) message,
   plain_tags message f.first (fields_from (separated_by 1) message (start_at 0)),
   plain_length message (fields_from (separated_by 1) message (start_at 0)),
   three_digits message f,
   eqb f.first (length message - 7),
 )
-tests_at message Nowhere =
+tests_at message None =
     (stored_twice dictionary (validating true) message, true, plain_length message (fields_from (separated_by 1) message (start_at 0)), false, false)
 
 abbrev tests : List ℕ → Tests

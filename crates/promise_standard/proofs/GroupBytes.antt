@@ -1,7 +1,7 @@
 -- The same of the bytes of a message and of the code's own definition: a group's fields as the standard writes them are read as its entries,
 -- and the run that `read_run`'s contract cites, which looks levels up in a table and keeps records as words, ends with these records.
 use Rattle.std.specs.Prelude.{◌≡◌, refl, Bool, List, [], ◌∷◌, ◌++◌, ℕ, suc, ◌+◌, length}
-use Rattle.std.proofs.Common.{ap, ◌∙◌}
+use Rattle.std.proofs.Common.{ap, ◌∙◌, Ok}
 use Rattle.promise_standard.specs.Reading.{standard_mode}
 use Rattle.field_rules.specs.Field.{start_at, field_at}
 use Rattle.field_rules.specs.Fields.{Fields, field, fields_from}
@@ -10,7 +10,6 @@ use Rattle.standard_rules.specs.Standard as standard
 use Rattle.standard_rules.specs.Standard.{Tables, Told, entries, Stands}
 use Rattle.field_rules.specs.declared.Cursor.{Cursor}
 use Rattle.field_rules.specs.declared.Field.{Field}
-use Rattle.field_rules.specs.declared.FieldRead.TheVariants.{Read}
 use Rattle.build_config.specs.declared.Config.{Config}
 use Rattle.dictionary_layout_rules.specs.Layout.{Layout}
 use Rattle.dictionary_tables_rules.proofs.Tabled.{Tabled}
@@ -27,7 +26,7 @@ use Rattle.promise_standard.proofs.GroupReading.{group-read, layout_group-read}
 
 module _ {T : Tables} {Here : ℕ → Type 0} {c d n : ℕ} {gs : List Told} (s : Stands T Here (entries c d (suc n)) gs) (layout : Layout) (message : List ℕ) (left : ℕ) (x : Field) where
   -- the bytes of a group's entries, wherever they stand in a message
-  pub group-bytes-read : (accepts : ℕ → Bool) (tag : ℕ) (before bytes after : List ℕ) → message ≡ before ++ (bytes ++ after) → standard.Fields T gs bytes → Readable gs → field_at standard_mode message (start_at (length before + length bytes)) ≡ Read x
+  pub group-bytes-read : (accepts : ℕ → Bool) (tag : ℕ) (before bytes after : List ℕ) → message ≡ before ++ (bytes ++ after) → standard.Fields T gs bytes → Readable gs → field_at standard_mode message (start_at (length before + length bytes)) ≡ Ok x
       → Fits (layout_rules accepts) (entries_of layout 1) x.tag (entries c d (suc n)) gs s → Leaves (layout_rules accepts) layout x.tag
       → walk (layout_rules accepts) list_store (length gs + suc left) (run (outermost tag layout) 0 ∷ []) [] (fields_from standard_mode message (start_at (length before)))
       ≡ ended x (fields_from standard_mode message x.next) left (records_as (numbered 1 0 s) (fields_from standard_mode message (start_at (length before))))

@@ -1,7 +1,7 @@
 -- The other way round: a group of the standard that is read as exactly its entries fits its layout. By the standard's own structure: each
 -- field does to what is open what its depth and entry number say, so the levels that are open are those of the structure.
 use Rattle.std.proofs.Math.Path.{◌≡◌, refl}
-use Rattle.std.proofs.Common.{sym, ap, ◌∙◌, arith, length-append}
+use Rattle.std.proofs.Common.{sym, ap, ◌∙◌, arith, length-append, None}
 use Rattle.std.specs.Prelude.{◌↔◌, Bool, false, ℕ, suc, ◌+◌, ◌≤◌, length, drop}
 use mathlib.Core.List.{List, [], ◌∷◌, ◌++◌, append_assoc, append-nil}
 use Rattle.std.proofs.Math.Seq.{drop-append_seam}
@@ -9,7 +9,6 @@ use Rattle.field_rules.specs.Fields.{Fields, field}
 use Rattle.standard_rules.specs.Standard.{Tables, NoCount, All, Told, told, Int, Once, Stretch, members, entries, Stands}
 use Rattle.field_rules.specs.declared.Field.{Field}
 use Rattle.dictionary_layout_rules.specs.Layout.{Layout}
-use Rattle.dictionary_layout_rules.specs.declared.Position.TheVariants.{Nowhere}
 use Rattle.build_records.specs.declared.Record.{Record}
 use Rattle.build_group_rules.specs.Groups.{Rules, opens, Kind, plain, count, ends, entry_kind, OpenGroup, OpenEntry, Frame, run, outermost, entry, reaching, nested, leaves, decide, ended, walk}
 use Rattle.build_group_rules.specs.Reading.{layout_rules, list_store}
@@ -22,7 +21,7 @@ use Rattle.promise_standard.proofs.GroupOpen.{Above, Elsewhere, Head, head_none,
 
 module _ {L : Type 0} (rules : Rules L) (message : List ℕ) (x : Field) (rest : Fields) where
   abbrev Untaken : L → ℕ → Type 0
-  Untaken level tag = (rules.position level tag ≡ Nowhere) × (rules.accepts tag ≡ false)
+  Untaken level tag = (rules.position level tag ≡ None) × (rules.accepts tag ≡ false)
 
   -- a tag that ends an entry and does not open the next one is none of the level's, nor an unknown user tag
   ends_untaken : (level : L) (depth last tag : ℕ) → entry_kind rules level depth last tag ≡ ends → opens rules level tag ≡ false → Untaken level tag

@@ -1,7 +1,7 @@
 -- Reading where each field makes one record more: what the records say of depth and entry number is then what each field did to what was
 -- open. A user tag that took the place of another would leave a record less.
 use Rattle.std.proofs.Math.Path.{◌≡◌, refl, sym, ap}
-use Rattle.std.proofs.Common.{◌∙◌, inl, inr}
+use Rattle.std.proofs.Common.{◌∙◌, inl, inr, Option, Some, None, ℕ}
 use Rattle.std.specs.Prelude.{◌⊎◌, Bool}
 use Rattle.std.proofs.Math.Bool.{true, false}
 use mathlib.Core.List.{List, [], ◌∷◌, ◌++◌, append_assoc, append-nil}
@@ -14,8 +14,6 @@ use Rattle.field_rules.specs.Choice.{pick}
 use Rattle.field_rules.specs.Fields.{Fields, unreadable, field}
 use Rattle.standard_rules.specs.Standard.{Told}
 use Rattle.field_rules.specs.declared.Field.{Field}
-use Rattle.dictionary_layout_rules.specs.declared.Position.{Position}
-use Rattle.dictionary_layout_rules.specs.declared.Position.TheVariants.{At, Nowhere}
 use Rattle.build_records.specs.declared.Record.{Record}
 use Rattle.build_group_rules.specs.Groups.{Opened, none, opened, Rules, opens, Kind, plain, count, joins, wrong, ends, counting, declared, entry_kind, Frame, Numbers, Move, adds, joins_at, disorders, leaves, decide, entry_record, ended, moved, walk}
 use Rattle.build_group_rules.specs.Reading.{joined_list, list_store}
@@ -44,7 +42,7 @@ module _ {L : Type 0} (rules : Rules L) where
     says_count : {inner : L} {position : ℕ} → Rises rules level last position tag → rules.group level tag ≡ opened inner → depth < 4 → Says level depth last tag (count inner position)
     says_joins : Joins rules level tag → Says level depth last tag joins
     says_wrong : Says level depth last tag wrong
-    says_ends : (opens rules level tag ≡ false → (rules.position level tag ≡ Nowhere) × (rules.accepts tag ≡ false)) → Says level depth last tag ends
+    says_ends : (opens rules level tag ≡ false → (rules.position level tag ≡ None) × (rules.accepts tag ≡ false)) → Says level depth last tag ends
 
   module _ (level : L) (depth last tag : ℕ) where
     counting_says : (position : ℕ) → Rises rules level last position tag → (o : Opened L) → rules.group level tag ≡ o → Says level depth last tag (counting depth position o)
@@ -56,14 +54,14 @@ module _ {L : Type 0} (rules : Rules L) where
         by_depth true e = says_count r g (ltb-true _ _ e)
         by_depth false e = says_plain r (inr (ltb-false _ _ e))
 
-    declared_says : opens rules level tag ≡ false → (p : Position) → rules.position level tag ≡ p → Says level depth last tag (declared rules level depth last tag p)
+    declared_says : opens rules level tag ≡ false → (p : Option ℕ) → rules.position level tag ≡ p → Says level depth last tag (declared rules level depth last tag p)
     unfolding declared
-    declared_says o Nowhere e = by_user (rules.accepts tag) refl
+    declared_says o None e = by_user (rules.accepts tag) refl
       where
         by_user : (b : Bool) → rules.accepts tag ≡ b → Says level depth last tag (pick b joins ends)
         by_user true a = says_joins (record { no_delimiter = o; no_position = e; accepted = a })
         by_user false a = says_ends (λ _. (e, a))
-    declared_says o (At position) e = by_order (leb position last) refl
+    declared_says o (Some position) e = by_order (leb position last) refl
       where
         by_order : (b : Bool) → leb position last ≡ b → Says level depth last tag (pick b wrong (counting depth position (rules.group level tag)))
         by_order true l = says_wrong

@@ -1,9 +1,8 @@
 -- Repeating groups of the standard against the layout that they are read by: what it is that a group fits its layout, and the records that
 -- its entries are. Each field has the depth and the entry number that the standard's own structure gives it.
-use Rattle.std.specs.Prelude.{◌≡◌, ◌⊎◌, true, false, List, [], ◌∷◌, ◌++◌, ℕ, suc, ◌+◌, ◌≤◌, ◌<◌, take, drop}
+use Rattle.std.specs.Prelude.{◌≡◌, ◌⊎◌, true, false, List, [], ◌∷◌, ◌++◌, ℕ, suc, ◌+◌, ◌≤◌, ◌<◌, take, drop, Some, None}
 use Rattle.field_rules.specs.Fields.{Fields, unreadable, field}
 use Rattle.standard_rules.specs.Standard.{Tables, NoCount, All, Told, Int, Once, Stretch, members, entries, Stands}
-use Rattle.dictionary_layout_rules.specs.declared.Position.TheVariants.{At, Nowhere}
 use Rattle.build_records.specs.declared.Record.{Record}
 use Rattle.build_group_rules.specs.Groups.{none, opened, Rules, opens, entry_record}
 
@@ -45,19 +44,19 @@ module _ {L : Type 0} (rules : Rules L) where
   -- neither a run of the level nor an entry of it takes the tag
   pub record Leaves (level : L) (tag : ℕ) : Type 0 where
     pub no_delimiter : opens rules level tag ≡ false
-    pub no_position : rules.position level tag ≡ Nowhere
+    pub no_position : rules.position level tag ≡ None
     pub not_accepted : rules.accepts tag ≡ false
 
   -- a declared tag of the level that rises in position, and is not the delimiter
   pub record Rises (level : L) (last position tag : ℕ) : Type 0 where
     pub no_delimiter : opens rules level tag ≡ false
-    pub placed : rules.position level tag ≡ At position
+    pub placed : rules.position level tag ≡ Some position
     pub rises : last < position
 
   -- "unknown user tags join the open entry"
   pub record Joins (level : L) (tag : ℕ) : Type 0 where
     pub no_delimiter : opens rules level tag ≡ false
-    pub no_position : rules.position level tag ≡ Nowhere
+    pub no_position : rules.position level tag ≡ None
     pub accepted : rules.accepts tag ≡ true
 
   module _ {T : Tables} {Here : ℕ → Type 0} where

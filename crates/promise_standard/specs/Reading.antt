@@ -1,6 +1,6 @@
 -- Reading against the standard: the fields of a message of the standard are read one by one, each with its tag and its value, up to the end.
 -- Where a data field's value holds a delimiter, and where a tag passes 4,294,967,295, they are not: both are asked for.
-use Rattle.std.specs.Prelude.{◌≡◌, refl, true, List, [], ◌∷◌, ◌++◌, ℕ, ◌+◌, ◌≤◌, length}
+use Rattle.std.specs.Prelude.{◌≡◌, refl, true, List, [], ◌∷◌, ◌++◌, ℕ, ◌+◌, ◌≤◌, length, Ok}
 use Rattle.std.proofs.Common.{sym, ap, ◌∙◌, append_assoc, append-nil, arith, length-append}
 use Rattle.field_rules.specs.declared.Mode.{Mode}
 use Rattle.field_rules.specs.Field.{start_at, field_at, value_of, separated_by}
@@ -11,7 +11,6 @@ use Rattle.standard_rules.specs.Standard.{Tables, SOH, All, NotDelimiter, Told, 
 use Rattle.standard_rules.proofs.FieldReads.{standard_field}
 use Rattle.field_rules.specs.declared.Cursor.{Cursor}
 use Rattle.field_rules.specs.declared.Field.{Field}
-use Rattle.field_rules.specs.declared.FieldRead.TheVariants.{Read}
 
 -- how fields of the standard are read
 abbrev pub standard_mode : Mode
@@ -29,7 +28,7 @@ pub data Readable : List Told → Type 0 where
 
 -- one field of the standard is one field read
 pub reads-one : (message before bytes after : List ℕ) (n m t : ℕ) (v : List ℕ) → message ≡ before ++ (bytes ++ after) → n ≡ length before → m ≡ n + length bytes → standard.Field t v bytes → t ≤ 4294967295
-    → (f : Field) × (field_at standard_mode message (start_at n) ≡ Read f) × (f.tag ≡ t) × (value_of message f ≡ v) × (f.next ≡ start_at m)
+    → (f : Field) × (field_at standard_mode message (start_at n) ≡ Ok f) × (f.tag ≡ t) × (value_of message f ≡ v) × (f.next ≡ start_at m)
 reads-one message before bytes after n m t v w p q s small =
     let r = standard_field t v bytes before after s small in
     (r.got, rw (w, p) r.reads, r.tag_is, rw w r.value_is, r.next_is ∙ ap (λ (k : ℕ). start_at k) (omega arith))
@@ -46,7 +45,7 @@ data_field t text v is_tag some plain = record { text = text; is_tag = is_tag; i
 
 module _ (message : List ℕ) where
   -- a field that was read, and then those behind it
-  pub reads_then : (n m t : ℕ) (v : List ℕ) (ts : List Told) (last : Fields) → (f : Field) × (field_at standard_mode message (start_at n) ≡ Read f) × (f.tag ≡ t) × (value_of message f ≡ v) × (f.next ≡ start_at m)
+  pub reads_then : (n m t : ℕ) (v : List ℕ) (ts : List Told) (last : Fields) → (f : Field) × (field_at standard_mode message (start_at n) ≡ Ok f) × (f.tag ≡ t) × (value_of message f ≡ v) × (f.next ≡ start_at m)
       → ReadsAs message (fields_from standard_mode message (start_at m)) ts last → ReadsAs message (fields_from standard_mode message (start_at n)) (told t v ∷ ts) last
   reads_then n m t v ts last (f, reads, tag, value, next) more =
       let rest : ReadsAs message (fields_from standard_mode message f.next) ts last = rw next more in
@@ -86,10 +85,10 @@ module _ (message : List ℕ) where
 
     -- the first of them, whatever stands in the others
     pub first_read : (t : ℕ) (v : List ℕ) (fs : List Told) (bytes before after : List ℕ) (n : ℕ) → message ≡ before ++ (bytes ++ after) → n ≡ length before → standard.Fields T (told t v ∷ fs) bytes → t ≤ 4294967295
-        → (f : Field) × (field_at standard_mode message (start_at n) ≡ Read f) × (f.tag ≡ t) × (value_of message f ≡ v)
+        → (f : Field) × (field_at standard_mode message (start_at n) ≡ Ok f) × (f.tag ≡ t) × (value_of message f ≡ v)
     first_read t v fs bytes before after n w p s small = by_form (told t v ∷ fs) bytes w s refl
       where
-        by_form : (gs : List Told) (bytes : List ℕ) → message ≡ before ++ (bytes ++ after) → standard.Fields T gs bytes → gs ≡ told t v ∷ fs → (f : Field) × (field_at standard_mode message (start_at n) ≡ Read f) × (f.tag ≡ t) × (value_of message f ≡ v)
+        by_form : (gs : List Told) (bytes : List ℕ) → message ≡ before ++ (bytes ++ after) → standard.Fields T gs bytes → gs ≡ told t v ∷ fs → (f : Field) × (field_at standard_mode message (start_at n) ≡ Ok f) × (f.tag ≡ t) × (value_of message f ≡ v)
         by_form _ _ w standard.Fields.no_field e = let z : ◌≡◌ {A = ℕ} 0 1 = cc in absurd (omega arith)
         by_form _ _ w (standard.Fields.plain {t = u} {v = x} {bytes = b} {rest = rest} s y more) e =
             let same : told u x ≡ told t v = cc in

@@ -2,7 +2,7 @@
 -- after the other, with room for all of its fields.
 use Rattle.std.specs.Prelude.{◌≡◌, refl, Bool, ℕ, suc, ◌+◌, ◌-◌, ◌≤◌, length}
 use Rattle.std.proofs.Math.Path.{ap}
-use Rattle.std.proofs.Common.{◌∙◌, arith, length-append}
+use Rattle.std.proofs.Common.{◌∙◌, arith, length-append, Some, Ok}
 use mathlib.Core.List.{List, [], ◌∷◌, ◌++◌}
 use Rattle.field_rules.specs.Field.{start_at, value_of}
 use Rattle.field_rules.specs.Fields.{Fields, unreadable, field, fields_from}
@@ -13,7 +13,6 @@ use Rattle.standard_rules.specs.Standard.{Tables, Told, told, Message}
 use Rattle.standard_rules.specs.Reading.{others}
 use Rattle.build_config.specs.declared.Config.{Config}
 use Rattle.build_integrity_rules.specs.Integrity.{integrity_of}
-use Rattle.build_integrity_rules.specs.declared.Integrity.TheVariants.{Sound}
 use Rattle.build_integrity_rules.specs.declared.Verified.{Verified}
 use Rattle.build_integrity_rules.proofs.VerifiedLaws.{verified-read}
 use Rattle.build_order_laws.specs.VerifiedTags.{VerifiedTags, verified-tags}
@@ -30,7 +29,6 @@ use Rattle.build_required_rules.specs.Checking.{layout_demands}
 use Rattle.build_body_rules.specs.Body.{Body, body_from}
 use Rattle.build_body_rules.specs.Kinds.{body_of}
 use Rattle.build_rules.specs.Beginning.{verified_records, room_behind, header_of, started, with_checksum, started_by, start_of, msg_type_record}
-use Rattle.build_rules.specs.declared.Stop.TheVariants.{At}
 use Rattle.build_rules.specs.Message.{Outcome, after_trailer, after_body, after_type, after_header, message_read}
 use Rattle.promise_standard.specs.Reading.{standard_mode, ReadsAs, no_field, one_field, Readable}
 use Rattle.promise_standard.specs.Sound.{SoundAs, standard_sound, standard_read}
@@ -133,13 +131,13 @@ module _ (dictionary : Dictionary) (config : Config) (message : List ℕ) (x : F
   -- the trailer is stopped by CheckSum: the message is valid
   body-goes : (read : Reading) (y z : Field) (later : Fields) (left : ℕ) (body trailer : List Record) → read ≡ ended y later left body
       → trailer_from (field y later) (suc left) (part_record 3 checksum ∷ []) ≡ stopped z trailer
-      → after_body header checksum read ≡ record { answer = Valid; records = header ++ (body ++ trailer); stop = At z }
+      → after_body header checksum read ≡ record { answer = Valid; records = header ++ (body ++ trailer); stop = Some z }
   unfolding after_body after_trailer
   body-goes read y z later left body trailer reads stops = rw (reads, stops)
 
 -- integrity passed, and the header ended at a field
 header-goes : (known : List ℕ) (config : Config) (message : List ℕ) (v : Verified) (x : Field) (rest : Fields) (room : ℕ) (header : List Record)
-    → config.mode ≡ standard_mode → integrity_of standard_mode message ≡ Sound v
+    → config.mode ≡ standard_mode → integrity_of standard_mode message ≡ Ok v
     → header_from known (fields_from standard_mode message v.msg_type.next) room_behind (verified_records v) ≡ ended x rest room header
     → start_of known config message ≡ started x rest room header v.checksum
 unfolding start_of started_by header_of with_checksum
@@ -236,7 +234,7 @@ module _ (dictionary : Dictionary) (config : Config) {T : Tables} {bytes : List 
           answer = Valid;
           records = header ++
               (body ++ trailer);
-          stop = At z;
+          stop = Some z;
         } =
         ap (after_header dictionary config bytes) h.walked
         ∙ type-goes dictionary config bytes x rest header_room header s.verified.checksum m.msg_type fits.layout (type_value m s h.records are)

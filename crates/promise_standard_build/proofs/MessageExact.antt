@@ -2,7 +2,7 @@
 -- part was read field by field, and the parts of the records are those of the message.
 use Rattle.std.specs.Prelude.{◌≡◌, ◌↔◌, Bool, eqb, ltb}
 use Rattle.std.proofs.Math.Path.{refl, ap}
-use Rattle.std.proofs.Common.{sym, ◌∙◌, subst, length-append, eq-eqb, lt-ltb, le-ltb}
+use Rattle.std.proofs.Common.{sym, ◌∙◌, subst, length-append, eq-eqb, lt-ltb, le-ltb, Option, Ok}
 use Rattle.std.proofs.Math.Bool.{true, false}
 use mathlib.Core.List.{List, [], ◌∷◌, ◌++◌, append-nil}
 use Prim.Native.Nat.{ℕ, zero, suc, ◌+◌, ◌≤◌, ◌<◌}
@@ -44,9 +44,7 @@ use Rattle.promise_standard.proofs.GroupOpen.{entries-start}
 use Rattle.promise_standard.proofs.GroupSteps.{tell_each, reads_split}
 use Rattle.promise_standard.specs.Sound.{standard_sound, standard_read}
 use Rattle.build_integrity_rules.specs.Integrity.{integrity_of}
-use Rattle.build_integrity_rules.specs.declared.Integrity.TheVariants.{Sound}
 use Rattle.field_rules.specs.declared.Mode.{Mode}
-use Rattle.build_rules.specs.declared.Stop.{Stop}
 use Rattle.build_order_laws.specs.TrailerStores.{at-stop, at_end, trailer_at}
 use Rattle.build_order_laws.specs.TrailerStores.{Last as Stopped}
 use Rattle.build_order_laws.specs.StoresLaws.{reaches_then}
@@ -224,7 +222,7 @@ module _ (dictionary : Dictionary) (config : Config) {T : Tables} {bytes : List 
       )
 
   -- the trailer is stopped by CheckSum, so no more fields are counted than there are
-  counted_most : (g : Field) (more : Fields) (room n k : ℕ) (rs ts : List Record) (stop : Stop) (last : Fields) → Stopped stop last
+  counted_most : (g : Field) (more : Fields) (room n k : ℕ) (rs ts : List Record) (stop : Option Field) (last : Fields) → Stopped stop last
       → Reaches (fields_from config.mode bytes (start_at 0)) n last → Reaches (fields_from config.mode bytes (start_at 0)) k (field g more)
       → trailer_from (field g more) room rs ≡ trailer_at stop ts → n < length (fields_of m)
   unfolding trailer_at
@@ -274,7 +272,7 @@ module _ (dictionary : Dictionary) (config : Config) {T : Tables} {bytes : List 
 
     same-verified : p.verified ≡ verified m small
     same-verified =
-        let a : integrity_of standard_mode bytes ≡ Sound p.verified = ap (λ (mode : Mode). integrity_of mode bytes) (sym separator) ∙ p.sound in
+        let a : integrity_of standard_mode bytes ≡ Ok p.verified = ap (λ (mode : Mode). integrity_of mode bytes) (sym separator) ∙ p.sound in
         let b = (standard_sound bytes m small).sound in cc
 
     behind_type : Last bytes (fields_from config.mode bytes p.verified.msg_type.next) (others m) 10 (unreadable NoEquals (length bytes))

@@ -1,7 +1,7 @@
 -- The same of the call: where encode answers 0 with separator 0x01, and what it was lent conforms, the bytes that it wrote are a message of the
 -- standard. That the message is formed and has its 8 and 35 is what encode found itself.
 use Rattle.std.proofs.Math.Path.{◌≡◌, refl, sym}
-use Rattle.std.proofs.Common.{◌∙◌, arith, take_at}
+use Rattle.std.proofs.Common.{◌∙◌, arith, take_at, Result, Ok, Err}
 use Rattle.std.specs.Prelude.{Bool, List, ◌++◌, ℕ, length, take, drop}
 use Rattle.std.proofs.Math.Bool.{true, false}
 use Rattle.field_rules.specs.Choice.{pick}
@@ -18,10 +18,9 @@ use Rattle.encode_rules.specs.Encode.{has_uncounted, is_incomplete, encode_verdi
 use Rattle.encoder.specs.EncodedLaws.{never_written, encode_lends}
 use Rattle.encoder.specs.VerdictLaws.{refused_incomplete, encodes, refuses}
 use Rattle.encode_rules.specs.declared.Encoding.TheVariants.{Written, Incomplete}
-use Rattle.encode_rules.specs.declared.Verdict.{Verdict}
-use Rattle.encode_rules.specs.declared.Verdict.TheVariants.{Measured, Refused}
 use Rattle.promise_standard_encodings.specs.EncodedStandard.{Complete, Conformant}
 use Rattle.promise_standard_encodings.proofs.EncodedStandardLaws.{encoding_standard}
+use Rattle.encode_rules.specs.declared.Encoding.{Encoding}
 
 -- "a header without 8 or 35" is incomplete
 holds-both : (m : Message) → is_incomplete (dropped m) ≡ false → (holds 8 m.header ≡ true) × (holds 35 m.header ≡ true)
@@ -42,14 +41,14 @@ module _ (words values output : List ℕ) (n : ℕ) (w v o : List ℕ) (answered
   bytes-written : take n o ≡ encoding 1 (message_in words values)
   bytes-written = by_verdict (encode_verdict 1 words values (length output)) refl
     where
-      by_verdict : (d : Verdict) → encode_verdict 1 words values (length output) ≡ d → take n o ≡ encoding 1 (message_in words values)
-      by_verdict (Measured body) d =
+      by_verdict : (d : Result ℕ Encoding) → encode_verdict 1 words values (length output) ≡ d → take n o ≡ encoding 1 (message_in words values)
+      by_verdict (Ok body) d =
           let same : encoded 1 (message_in words values) output ≡ left (Written n) w v o = sym (encodes 1 words values output body d) ∙ answered in
           let left_is = output_is (message_in words values) output n w v o same in
           rw (← left_is.1) (take_at (encoding 1 (message_in words values)) (drop (length (encoding 1 (message_in words values))) output) n left_is.0)
-      by_verdict (Refused refusal) d =
+      by_verdict (Err refusal) d =
           let same = sym (refuses 1 words values output refusal d) ∙ answered in
-          let is-written : Refused refusal ≡ Refused (Written n) = cc in
+          let is-written : Err refusal ≡ Err (Written n) = cc in
           absurd (never_written 1 words values (length output) n (d ∙ is-written))
 
   complete : Complete (message_in words values)

@@ -1,7 +1,7 @@
 -- What a build returns with its answer fits in 32 bits: tags of fields, of counts and of the dictionary, and the place and length of MsgType,
 -- which lies in the message. Header, body and trailer in turn.
 use Prim.Native.Nat.{ℕ, zero, suc, ◌+◌, ◌≤◌, ◌<◌, ◌^◌}
-use Rattle.std.specs.Prelude.{◌≡◌, Bool, length, eqb, ltb}
+use Rattle.std.specs.Prelude.{◌≡◌, Bool, length, eqb, ltb, Option, Some, None, Result, Ok, Err, ℕ}
 use Rattle.std.proofs.Math.Path.{refl}
 use Rattle.std.proofs.Math.Bool.{true, false}
 use mathlib.Core.List.{List, [], ◌∷◌}
@@ -14,13 +14,9 @@ use Rattle.field_rules.specs.declared.Field.{Field}
 use Rattle.field_rules.specs.declared.Cause.{Cause}
 use Rattle.build_config.specs.declared.Config.{Config}
 use Rattle.build_integrity_rules.specs.Integrity.{integrity_of}
-use Rattle.build_integrity_rules.specs.declared.Integrity.{Integrity}
-use Rattle.build_integrity_rules.specs.declared.Integrity.TheVariants.{Sound, Garbled}
 use Rattle.build_integrity_rules.proofs.VerifiedLaws.{verified-read}
 use Rattle.dictionary_rules.specs.Check.{check_of, number_of_check}
 use Rattle.dictionary_layout_rules.specs.Layout.{Layout, group_of, position_in}
-use Rattle.dictionary_layout_rules.specs.declared.Position.{Position}
-use Rattle.dictionary_layout_rules.specs.declared.Position.TheVariants.{At, Nowhere}
 use Rattle.dictionary_layout_rules.specs.Tree.{Dictionary, holds_tag, knows, header_tags_lem, trailer_tags_lem, Choice, no_message, laid_out, layout_of}
 use Rattle.dictionary_meaning_rules.specs.Meaning.{dictionary_of}
 use Rattle.dictionary_meaning_rules.proofs.MsgTypeText.{Bytes}
@@ -53,6 +49,8 @@ use Rattle.promise_records.proofs.SmallRead.{verified-kept}
 use Rattle.promise_told.specs.DictionaryNumbers.{value_of_check, check_small}
 use Rattle.promise_told.specs.LayoutNumbers.{LayoutSmall, ChoiceSmall, layout_small, group_of_small}
 use Rattle.promise_told.specs.RunNumbers.{FieldTagSmall, fields_small, first_small, rest_small, RefusalSmall, RunSmall, LackSmall, nothing_open, run_open, walk_small, OpenedSmall, opened_small, run_small}
+use Rattle.build_integrity_rules.specs.declared.GarbledReason.{GarbledReason}
+use Rattle.build_integrity_rules.specs.declared.Verified.{Verified}
 
 -- the values that an answer returns
 pub record AnswerSmall (answer : Answer) : Type 0 where
@@ -152,9 +150,9 @@ module _ (accepts : ℕ → Bool) (tags : List ℕ) (level : Layout) (small : La
   unfolding body_kind layout_rules
   kind_small tag = by_position (position_in tag level)
     where
-      by_position : (p : Position) → KindSmall (placed_kind (layout_rules accepts) level tag p)
-      by_position (At position) = unfold placed_kind in group_kind_lem (opened_as (group_of tag level)) (opened_small (group_of tag level) (group_of_small tag small))
-      by_position Nowhere = unfold placed_kind in by_test (accepts tag)
+      by_position : (p : Option ℕ) → KindSmall (placed_kind (layout_rules accepts) level tag p)
+      by_position (Some position) = unfold placed_kind in group_kind_lem (opened_as (group_of tag level)) (opened_small (group_of tag level) (group_of_small tag small))
+      by_position None = unfold placed_kind in by_test (accepts tag)
         where
           by_test : (b : Bool) → KindSmall (pick b plain other)
           by_test true = tt
@@ -226,11 +224,11 @@ module _ (message : List ℕ) (short : length message ≤ 8192) (dictionary : Di
   after_header_lem checksum (ended f rest room h) s k =
       after_type_lem f rest room h checksum _ (layouts (value_at message (msg_type_record h))) (k f rest room h refl).small s
 
-  started_small : (i : Integrity) → integrity_of config.mode message ≡ i
+  started_small : (i : Result Verified GarbledReason) → integrity_of config.mode message ≡ i
       → AnswerSmall (after_header dictionary config message (started_by (header_tags_lem dictionary) config message i)).answer
   unfolding started_by
-  started_small (Garbled reason) e = unfold after_header refusal values_of in record { first = omega arith; second = omega arith }
-  started_small (Sound v) e =
+  started_small (Err reason) e = unfold after_header refusal values_of in record { first = omega arith; second = omega arith }
+  started_small (Ok v) e =
       let fields = fields_from config.mode message v.msg_type.next in
       let kept = verified-kept message dictionary config v (verified-read config.mode message v e) in
       after_header_lem v.checksum (header_of (header_tags_lem dictionary) config message v)

@@ -1,5 +1,5 @@
 -- The numbers of a dictionary's records fit in 32 bits: two or four bytes each, and places within 60,000. So does what its check returns.
-use Rattle.std.specs.Prelude.{◌≡◌, refl, Bool, true, List, ℕ, zero, suc, ◌+◌, ◌-◌, ◌≤◌, ◌<◌, ◌^◌, take, drop, get_or, eqb, ltb}
+use Rattle.std.specs.Prelude.{◌≡◌, refl, Bool, true, List, ℕ, zero, suc, ◌+◌, ◌-◌, ◌≤◌, ◌<◌, ◌^◌, take, drop, get_or, eqb, ltb, Option, Some, None, Result, Ok, Err}
 use Rattle.std.proofs.Math.Bool.{false}
 use native.Mathlib.Omega.{arith}
 use Rattle.std.proofs.Math.ListN.{length}
@@ -15,17 +15,11 @@ use Rattle.dictionary_rules.specs.Step.{closes_innermost, on_close, step_of, pre
 use Rattle.dictionary_rules.specs.Check.{outcome, on_step, walked, too_long, read_of, answer_of, check_of, values_of_check}
 use Rattle.dictionary_rules.specs.declared.Record.{Record}
 use Rattle.dictionary_rules.specs.declared.Record.TheVariants.{KnownTag, OpensComponent, OpensMessage, FieldItem, ComponentItem, OpensGroup, Closes}
-use Rattle.dictionary_rules.specs.declared.Body.{Body}
-use Rattle.dictionary_rules.specs.declared.Body.TheVariants.{Good, Wrong}
 use Rattle.dictionary_rules.specs.declared.RecordRead.{RecordRead}
 use Rattle.dictionary_rules.specs.declared.RecordRead.TheVariants.{Whole, Bad, End}
 use Rattle.dictionary_rules.specs.declared.Checked.{Checked}
 use Rattle.dictionary_rules.specs.declared.Checked.TheVariants.{Passes, TooLong, BadRecord}
 use Rattle.dictionary_rules.specs.declared.Component.{Component}
-use Rattle.dictionary_rules.specs.declared.Looked.{Looked}
-use Rattle.dictionary_rules.specs.declared.Looked.TheVariants.{Closed, Missing}
-use Rattle.dictionary_rules.specs.declared.Placed.{Placed}
-use Rattle.dictionary_rules.specs.declared.Placed.TheVariants.{At, Nowhere}
 use Rattle.dictionary_rules.specs.declared.Group.{Group}
 use Rattle.dictionary_rules.specs.declared.Groups.{Groups}
 use Rattle.dictionary_rules.specs.declared.Groups.TheVariants.{NoGroup, OneGroup, TwoGroups, ThreeGroups, FourGroups}
@@ -35,8 +29,6 @@ use Rattle.dictionary_rules.specs.declared.Open.{Open}
 use Rattle.dictionary_rules.specs.declared.State.{State}
 use Rattle.dictionary_rules.specs.declared.State.TheVariants.{TopLevel, Inside}
 use Rattle.dictionary_rules.specs.declared.Note.{Note}
-use Rattle.dictionary_rules.specs.declared.Step.{Step}
-use Rattle.dictionary_rules.specs.declared.Step.TheVariants.{Refuses, Goes}
 use Rattle.dictionary_meaning_rules.proofs.MsgTypeText.{Bytes, no_bytes, a_byte, take-bytes, drop-bytes}
 
 -- ===== the records =====
@@ -66,11 +58,11 @@ RecordSmall (ComponentItem required number) = number < 2 ^ 32
 RecordSmall (OpensGroup tag required) = tag < 2 ^ 32
 RecordSmall Closes = Unit {0}
 
-abbrev BodySmall : Body → Type 0
-BodySmall Wrong = Unit {0}
-BodySmall (Good r) = RecordSmall r
+abbrev BodySmall : Option Record → Type 0
+BodySmall None = Unit {0}
+BodySmall (Some r) = RecordSmall r
 
-body-pick : (b : Bool) (x y : Body) → BodySmall x → BodySmall y → BodySmall (pick b x y)
+body-pick : (b : Bool) (x y : Option Record) → BodySmall x → BodySmall y → BodySmall (pick b x y)
 body-pick true x y p q = p
 body-pick false x y p q = q
 
@@ -95,9 +87,9 @@ unfolding record_from with_kind
 from_small most place no_bytes h = tt
 from_small most place (a_byte {b = kind} {s = rest} k b) h = by_test (ltb (length rest) (record_body_length kind))
   where
-    with_body_lem : (next : ℕ) (body : Body) → BodySmall body → ReadSmall most place (with_body next body)
-    with_body_lem next Wrong q = unfold with_body in h (omega arith)
-    with_body_lem next (Good r) q = unfold with_body in (h (omega arith), q)
+    with_body_lem : (next : ℕ) (body : Option Record) → BodySmall body → ReadSmall most place (with_body next body)
+    with_body_lem next None q = unfold with_body in h (omega arith)
+    with_body_lem next (Some r) q = unfold with_body in (h (omega arith), q)
 
     by_test : (t : Bool)
         → ReadSmall most place (pick t Bad (with_body (place + 1 + record_body_length kind) (record_body kind (take (record_body_length kind) rest))))
@@ -146,11 +138,11 @@ abbrev StateSmall : State → Type 0
 StateSmall TopLevel = Unit {0}
 StateSmall (Inside o) = GroupsSmall o.groups
 
-abbrev StepSmall : Step → Type 0
-StepSmall (Refuses checked) = value_of_check checked < 2 ^ 32
-StepSmall (Goes state note) = StateSmall state
+abbrev StepSmall : Result (State × Note) Checked → Type 0
+StepSmall (Err checked) = value_of_check checked < 2 ^ 32
+StepSmall (Ok (state, note)) = StateSmall state
 
-step-pick : (b : Bool) (x y : Step) → StepSmall x → StepSmall y → StepSmall (pick b x y)
+step-pick : (b : Bool) (x y : Result (State × Note) Checked) → StepSmall x → StepSmall y → StepSmall (pick b x y)
 step-pick true x y p q = p
 step-pick false x y p q = q
 
@@ -168,44 +160,44 @@ module _ (place : ℕ) (near : place ≤ 60000) where
   unfolding value_of_check values_of_check
   bad_record = omega (arith, near)
 
-  top_small : (state : State) (step : Step) → StepSmall step → StepSmall (at_top_lem state place step)
+  top_small : (state : State) (step : Result (State × Note) Checked) → StepSmall step → StepSmall (at_top_lem state place step)
   unfolding at_top_lem
   top_small TopLevel step p = p
   top_small (Inside o) step p = bad_record
 
-  inside_small : (state : State) (step : Open → Step) → StateSmall state → ((o : Open) → GroupsSmall o.groups → StepSmall (step o))
+  inside_small : (state : State) (step : Open → Result (State × Note) Checked) → StateSmall state → ((o : Open) → GroupsSmall o.groups → StepSmall (step o))
       → StepSmall (inside state place step)
   unfolding inside
   inside_small TopLevel step s p = bad_record
   inside_small (Inside o) step s p = p o s
 
-  deep_small : (depth : ℕ) (step : Step) → StepSmall step → StepSmall (not_too_deep depth place step)
+  deep_small : (depth : ℕ) (step : Result (State × Note) Checked) → StepSmall step → StepSmall (not_too_deep depth place step)
   unfolding not_too_deep
   deep_small depth step p = step-pick (ltb 4 depth) _ _ (unfold value_of_check values_of_check in omega (arith, near)) p
 
-  many_small : (items : ℕ) (step : Step) → StepSmall step → StepSmall (not_too_many items place step)
+  many_small : (items : ℕ) (step : Result (State × Note) Checked) → StepSmall step → StepSmall (not_too_many items place step)
   unfolding not_too_many
   many_small items step p = step-pick (ltb 1024 items) _ _ (unfold value_of_check values_of_check in omega (arith, near)) p
 
-  component_once : (looked : Looked) (step : Step) → StepSmall step → StepSmall (once_component looked place step)
+  component_once : (looked : Option Component) (step : Result (State × Note) Checked) → StepSmall step → StepSmall (once_component looked place step)
   unfolding once_component
-  component_once Missing step p = p
-  component_once (Closed c) step p = unfold value_of_check values_of_check in omega (arith, near)
+  component_once None step p = p
+  component_once (Some c) step p = unfold value_of_check values_of_check in omega (arith, near)
 
-  message_once : (placed : Placed) (step : Step) → StepSmall step → StepSmall (once_message placed place step)
+  message_once : (placed : Option ℕ) (step : Result (State × Note) Checked) → StepSmall step → StepSmall (once_message placed place step)
   unfolding once_message
-  message_once Nowhere step p = p
-  message_once (At earlier) step p = unfold value_of_check values_of_check in omega (arith, near)
+  message_once None step p = p
+  message_once (Some earlier) step p = unfold value_of_check values_of_check in omega (arith, near)
 
-  known_small : (known : Bool) (tag : ℕ) (step : Step) → tag < 2 ^ 32 → StepSmall step → StepSmall (known_before known tag step)
+  known_small : (known : Bool) (tag : ℕ) (step : Result (State × Note) Checked) → tag < 2 ^ 32 → StepSmall step → StepSmall (known_before known tag step)
   unfolding known_before
   known_small known tag step t p = step-pick known _ _ p (unfold value_of_check values_of_check in t)
 
-  closed_small : (looked : Looked) (number : ℕ) (step : Component → Step) → number < 2 ^ 32 → ((c : Component) → StepSmall (step c))
+  closed_small : (looked : Option Component) (number : ℕ) (step : Component → Result (State × Note) Checked) → number < 2 ^ 32 → ((c : Component) → StepSmall (step c))
       → StepSmall (closed_before looked number step)
   unfolding closed_before
-  closed_small Missing number step n p = unfold value_of_check values_of_check in n
-  closed_small (Closed c) number step n p = p c
+  closed_small None number step n p = unfold value_of_check values_of_check in n
+  closed_small (Some c) number step n p = p c
 
   group-closes : (o : Open) (g : Group) (groups : Groups) → g.tag < 2 ^ 32 → GroupsSmall groups → StepSmall (closes_group o g groups)
   unfolding closes_group not_empty grown
@@ -245,10 +237,10 @@ unfolding at_end value_of_check values_of_check present
 end_small looks (Inside o) size near = omega (arith, near)
 end_small looks TopLevel size near = by_looked (looks.component 0) (looks.component 1)
   where
-    by_looked : (zeroth first : Looked) → value_of_check (present zeroth 0 (present first 1 Passes)) < 2 ^ 32
-    by_looked Missing first = omega arith
-    by_looked (Closed c) Missing = omega arith
-    by_looked (Closed c) (Closed d) = omega arith
+    by_looked : (zeroth first : Option Component) → value_of_check (present zeroth 0 (present first 1 Passes)) < 2 ^ 32
+    by_looked None first = omega arith
+    by_looked (Some c) None = omega arith
+    by_looked (Some c) (Some d) = omega arith
 
 walked_small : {S : Type 0} (looks : S → Looks) (noted : S → Note → S) (most : ℕ) (rs : Records) (state : State) (store : S) → most ≤ 60000
     → RecordsSmall most rs → StateSmall state
@@ -260,11 +252,11 @@ walked_small {S} looks noted most (whole place r rest) state store near (whole_s
     by_step (step_of (looks store) state place r) (step_small place (omega (arith, h, near)) (looks store) state r small s)
     (λ state₁ store₁ p. walked_small looks noted most rest state₁ store₁ near later p)
   where
-    by_step : (step : Step) → StepSmall step
+    by_step : (step : Result (State × Note) Checked) → StepSmall step
         → ((state₁ : State) (store₁ : S) → StateSmall state₁ → value_of_check (answer_of (walked looks noted rest state₁ store₁)) < 2 ^ 32)
         → value_of_check (answer_of (on_step store step (λ state₁ note. walked looks noted rest state₁ (noted store note)))) < 2 ^ 32
-    by_step (Refuses checked) p later = unfold on_step in p
-    by_step (Goes state₁ note) p later = unfold on_step in later state₁ (noted store note) p
+    by_step (Err checked) p later = unfold on_step in p
+    by_step (Ok (state₁, note)) p later = unfold on_step in later state₁ (noted store note) p
 
 -- what a dictionary's check returns fits in 32 bits
 pub check_small : (dictionary : List ℕ) → Bytes dictionary → value_of_check (check_of dictionary) < 2 ^ 32

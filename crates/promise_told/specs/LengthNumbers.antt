@@ -1,5 +1,5 @@
 -- The lengths that are told are 8,192 at the most: of an encoding, of a message from the ported framer, of a frame from the hunting one.
-use Rattle.std.specs.Prelude.{ℕ, ◌≤◌, ◌≡◌, Bool, List, length, take, ltb}
+use Rattle.std.specs.Prelude.{ℕ, ◌≤◌, ◌≡◌, Bool, List, length, take, ltb, Option, Some, None, Result, Ok, Err}
 use Rattle.std.proofs.Math.Path.{refl, ap}
 use Rattle.std.proofs.Math.Bool.{true, false}
 use native.Mathlib.Omega.{arith}
@@ -10,16 +10,12 @@ use Rattle.encode_rules.specs.declared.Encoding.{Encoding}
 use Rattle.encoder.specs.VerdictLaws.{fit_to-encode, encodes, refuses}
 use Rattle.encoder.specs.EncodedLaws.{never_written}
 use Rattle.encode_rules.specs.declared.Encoding.TheVariants as encodings
-use Rattle.encode_rules.specs.declared.Verdict.{Verdict}
-use Rattle.encode_rules.specs.declared.Verdict.TheVariants.{Measured, Refused}
 use Rattle.frame_verdict_rules.specs.Frame.{frame_most}
 use Rattle.frame_parser_rules.specs.Announced.{announced_in}
 use Rattle.frame_parser_rules.specs.AnnouncedLaws.{announced_limit}
 use Rattle.frame_parser_rules.specs.Framer.{length_returned, held, unusable, ready_of, ready_answer, take_answer, taken}
 use Rattle.frame_parser_rules.proofs.FramerLaws.{ready_in}
 use Rattle.frame_parser_rules.specs.declared.State.{State}
-use Rattle.frame_parser_rules.specs.declared.Ready.{Ready}
-use Rattle.frame_parser_rules.specs.declared.Ready.TheVariants as ready
 use Rattle.frame_parser_rules.specs.declared.Answer.TheVariants as answers
 use Rattle.frame_verdict_rules.specs.Verdict.{verdict_of}
 use Rattle.frame_hunter_rules.specs.Hunt.{hunt_from}
@@ -33,7 +29,7 @@ use Rattle.face_told.specs.Told.{encoding_length}
 pub encoded_small : (separator : ℕ) (words values output : List ℕ) → encoding_length (encoding_of separator words values output) ≤ 8192
 encoded_small separator words values output = by_verdict (encode_verdict separator words values (length output)) refl
   where
-    refused_none : (e : Encoding) → encode_verdict separator words values (length output) ≡ Refused e → length_of_encoding e ≤ 8192
+    refused_none : (e : Encoding) → encode_verdict separator words values (length output) ≡ Err e → length_of_encoding e ≤ 8192
     refused_none (encodings.Written n) v = absurd (never_written separator words values (length output) n v)
     refused_none encodings.NoMessage v = unfold length_of_encoding in omega arith
     refused_none encodings.InvalidSeparator v = unfold length_of_encoding in omega arith
@@ -42,21 +38,21 @@ encoded_small separator words values output = by_verdict (encode_verdict separat
     refused_none encodings.TooManyFields v = unfold length_of_encoding in omega arith
     refused_none encodings.NoRoom v = unfold length_of_encoding in omega arith
 
-    by_verdict : (d : Verdict) → encode_verdict separator words values (length output) ≡ d → encoding_length (encoding_of separator words values output) ≤ 8192
-    by_verdict (Measured body) d =
+    by_verdict : (d : Result ℕ Encoding) → encode_verdict separator words values (length output) ≡ d → encoding_length (encoding_of separator words values output) ≤ 8192
+    by_verdict (Ok body) d =
         rw (encodes separator words values output body d)
         (unfold encoded encoding_length length_of_encoding in (fit_to-encode separator words values output body d).short)
-    by_verdict (Refused e) d = rw (refuses separator words values output e d) (unfold encoding_length in refused_none e d)
+    by_verdict (Err e) d = rw (refuses separator words values output e d) (unfold encoding_length in refused_none e d)
 
 -- a message from the ported framer's store, whatever state and store are lent
 pub ported_small : (state : State) (store output : List ℕ) → length_returned (taken state store output).answer ≤ 8192
 unfolding taken take_answer
 ported_small state store output = by_tests (unusable state.used store) (ltb (length output) 8192) state.over
   where
-    by_ready : (r : Ready) → ready_of state.used (announced_in (held state store)) ≡ r → length_returned (ready_answer r) ≤ 8192
-    by_ready (ready.Length n) e =
+    by_ready : (r : Option ℕ) → ready_of state.used (announced_in (held state store)) ≡ r → length_returned (ready_answer r) ≤ 8192
+    by_ready (Some n) e =
         unfold ready_answer length_returned in (ready_in state.used n (announced_in (held state store)) (announced_limit (held state store)) e).1
-    by_ready ready.Refused e = unfold ready_answer length_returned in omega arith
+    by_ready None e = unfold ready_answer length_returned in omega arith
 
     by_tests : (x y z : Bool)
         → length_returned

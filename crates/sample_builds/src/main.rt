@@ -86,7 +86,7 @@ fn step(rt: &impl Print, case: Case, dictionary: &mut [u8], piece: &[u8]) -> io:
         b'p' => {
             let config = build_config::config_of(case.settings, case.separator);
             let lent = sample_texts::first(dictionary, size);
-            telling::prepared(rt, config, lent, case.lent, sample_texts::byte_at(piece, 1))?;
+            telling::prepared(rt, config, lent, case.lent, sample_texts::at(piece, 1))?;
             Ok(case)
         }
         b'm' | b'f' => {
@@ -99,11 +99,8 @@ fn step(rt: &impl Print, case: Case, dictionary: &mut [u8], piece: &[u8]) -> io:
 
 fn play(rt: &impl Print, script: &[u8], dictionary: &mut [u8]) -> io::Result<()> {
     let mut case = usual(0);
-    let mut from: usize = 0;
-    while from < script.len() {
-        let end = sample_texts::end_of(script, from, b'\n');
-        case = step(rt, case, dictionary, &script[from..end])?;
-        from = end + 1;
+    for piece in script.split(|&byte| byte == b'\n') {
+        case = step(rt, case, dictionary, piece)?;
     }
     Ok(())
 }

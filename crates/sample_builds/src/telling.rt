@@ -6,11 +6,10 @@ use sample_kit::saying;
 use std::io;
 
 fn show_record(rt: &impl Print, message: &[u8], record: Record) -> io::Result<()> {
-    saying::marked(rt, b" ", record.part as u64)?;
-    saying::marked(rt, b"/", record.depth as u64)?;
-    saying::marked(rt, b"/", record.number as u64)?;
-    saying::marked(rt, b"/", record.tag as u64)?;
-    saying::say(rt, b"/")?;
+    print!(rt;
+        " {}/{}/{}/{}/",
+        record.part, record.depth, record.number, record.tag
+    )?;
     saying::bytes(
         rt,
         sample_texts::part(message, record.place as usize, record.length as usize),
@@ -23,26 +22,16 @@ fn show_records(
     words: &[u32; build_records::WORDS],
     count: usize,
 ) -> io::Result<()> {
-    let mut i: usize = 0;
-    while i < count {
+    for i in 0..count {
         show_record(rt, message, build_records::record_at(&words[..], i))?;
-        i += 1;
     }
     Ok(())
 }
 
 // Whether all words from a record on hold one number.
 fn all_hold(words: &[u32; build_records::WORDS], record: usize, n: u32) -> bool {
-    let mut i: usize = 0;
-    while i < build_records::WORDS {
-        if record <= i / build_records::STRIDE {
-            if words[i] != n {
-                return false;
-            }
-        }
-        i += 1;
-    }
-    true
+    let rest = sample_texts::from(words, record.saturating_mul(build_records::STRIDE));
+    rest.iter().all(|&word| word == n)
 }
 
 // What the words hold behind the shown records, where all held 7 before the build.
@@ -53,52 +42,24 @@ fn show_rest(
     written: usize,
     lent: usize,
 ) -> io::Result<()> {
-    if written == 0 {
-        if all_hold(words, 0, 7) {
-            saying::say(rt, b" as they were")?;
-            return Ok(());
-        }
+    if written == 0 && all_hold(words, 0, 7) {
+        return print!(rt; " as they were");
     }
-    if written == lent {
-        if all_hold(words, count, 0) {
-            saying::say(rt, b" blank")?;
-            return Ok(());
-        }
+    if written == lent && all_hold(words, count, 0) {
+        return print!(rt; " blank");
     }
-    saying::say(rt, b" otherwise")
-}
-
-// Whether two builds left the same words.
-fn same_words(words: &[u32; build_records::WORDS], again: &[u32; build_records::WORDS]) -> bool {
-    let mut i: usize = 0;
-    while i < build_records::WORDS {
-        if words[i] != again[i] {
-            return false;
-        }
-        i += 1;
-    }
-    true
+    print!(rt; " otherwise")
 }
 
 // Whether two builds are answered alike.
 fn same(built: Built, again: Built) -> bool {
-    let answer = built.answer;
-    let answered_again = again.answer;
-    let values = build_answers::values_of(answer);
-    let values_again = build_answers::values_of(answered_again);
-    if build_answers::number_of(answer) != build_answers::number_of(answered_again) {
-        return false;
-    }
-    if values.first != values_again.first {
-        return false;
-    }
-    if values.second != values_again.second {
-        return false;
-    }
-    if built.records != again.records {
-        return false;
-    }
-    built.written == again.written
+    let values = build_answers::values_of(built.answer);
+    let values_again = build_answers::values_of(again.answer);
+    build_answers::number_of(built.answer) == build_answers::number_of(again.answer)
+        && values.first == values_again.first
+        && values.second == values_again.second
+        && built.records == again.records
+        && built.written == again.written
 }
 
 // Builds again over memory that the dictionary was prepared in, if it can be; only where that is answered otherwise, it is said.
@@ -120,11 +81,10 @@ fn compare_over(
     }
     let over = builder::build_prepared(message, config, &copy[..], memory, lent, &mut again);
     if !same(built, over) {
-        saying::say(rt, b" otherwise over prepared memory")?;
-        return Ok(());
+        return print!(rt; " otherwise over prepared memory");
     }
-    if !same_words(words, &again) {
-        saying::say(rt, b" other records over prepared memory")?;
+    if words[..] != again[..] {
+        print!(rt; " other records over prepared memory")?;
     }
     Ok(())
 }
@@ -174,13 +134,10 @@ pub fn told(
 ) -> io::Result<()> {
     let mut words = [7u32; build_records::WORDS];
     let built = builder::build(message, config, dictionary, lent, &mut words);
-    let answer = built.answer;
     let count = built.records;
-    let values = build_answers::values_of(answer);
-    saying::marked(rt, b" ", build_answers::number_of(answer) as u64)?;
-    saying::marked(rt, b" ", count as u64)?;
-    saying::marked(rt, b" ", values.first as u64)?;
-    saying::marked(rt, b" ", values.second as u64)?;
+    let values = build_answers::values_of(built.answer);
+    print!(rt; " {} {count}", build_answers::number_of(built.answer))?;
+    print!(rt; " {} {}", values.first, values.second)?;
     show_rest(rt, &words, count, built.written, lent)?;
     if shown {
         show_records(rt, message, &words, count)?;
@@ -198,13 +155,14 @@ fn over(
     memory: &mut [u16],
 ) -> io::Result<()> {
     let mut words = [7u32; build_records::WORDS];
-    let empty = [0u8; 0];
     let preparing = dictionary_prepared::prepare(dictionary, copy, memory);
-    let built = builder::build_prepared(&empty[..], config, copy, memory, lent, &mut words);
-    let answer = built.answer;
-    saying::marked(rt, b" ", dictionary_prepared::number_of(preparing) as u64)?;
-    saying::marked(rt, b" ", dictionary_prepared::value_of(preparing) as u64)?;
-    saying::marked(rt, b" then ", build_answers::number_of(answer) as u64)?;
+    let built = builder::build_prepared(&[], config, copy, memory, lent, &mut words);
+    let number = dictionary_prepared::number_of(preparing);
+    let value = dictionary_prepared::value_of(preparing);
+    print!(rt;
+        " {number} {value} then {}",
+        build_answers::number_of(built.answer)
+    )?;
     show_rest(rt, &words, built.records, built.written, lent)
 }
 

@@ -2,14 +2,13 @@
 // nothing but dictionaries, each checked as it stands. The lines of `stdout` were written from the rules.
 #![tactic(auto)]
 
-use sample_kit::{dictionaries, saying, scripts};
+use sample_kit::{dictionaries, scripts};
 use std::io;
 
 fn show(rt: &impl Print, dictionary: &[u8]) -> io::Result<()> {
     let checked = dictionary_check::check(dictionary);
-    saying::marked(rt, b"", dictionary_check::number_of(checked) as u64)?;
-    saying::marked(rt, b" ", dictionary_check::value_of(checked) as u64)?;
-    saying::say(rt, b"\n")
+    let value = dictionary_check::value_of(checked);
+    println!(rt; "{} {value}", dictionary_check::number_of(checked))
 }
 
 fn check(rt: &impl Print, dictionary: &mut [u8], piece: &[u8]) -> io::Result<()> {
@@ -18,11 +17,8 @@ fn check(rt: &impl Print, dictionary: &mut [u8], piece: &[u8]) -> io::Result<()>
 }
 
 fn play(rt: &impl Print, script: &[u8], dictionary: &mut [u8]) -> io::Result<()> {
-    let mut from: usize = 0;
-    while from < script.len() {
-        let end = sample_texts::end_of(script, from, b'\n');
-        check(rt, dictionary, &script[from..end])?;
-        from = end + 1;
+    for line in script.split_inclusive(|&byte| byte == b'\n') {
+        check(rt, dictionary, sample_texts::before(line, b'\n'))?;
     }
     Ok(())
 }

@@ -24,51 +24,39 @@ struct Held {
     lent: usize,
 }
 
-fn answered(rt: &impl Print, name: &[u8], piece: &[u8], answer: Answer) -> io::Result<()> {
+fn answered(rt: &impl Print, name: &str, piece: &[u8], answer: Answer) -> io::Result<()> {
     let mut space = [0u8; 100];
-    let size = messages::spell(
-        &mut space,
-        0,
-        sample_texts::before(sample_texts::from(piece, 1), b':'),
-        b' ',
-    );
-    saying::say(rt, b"\n")?;
-    saying::say(rt, name)?;
-    saying::say(rt, sample_texts::first(&space, size))?;
-    saying::marked(rt, b" ", frame_answers::hunter_number(answer) as u64)
+    let shown = sample_texts::before(sample_texts::from(piece, 1), b':');
+    let size = messages::spell(&mut space, 0, shown, b' ');
+    print!(rt; "\n{name}")?;
+    rt.write_all(sample_texts::first(&space, size))?;
+    print!(rt; " {}", frame_answers::hunter_number(answer))
 }
 
-fn told(rt: &impl Print, name: &[u8], piece: &[u8], reply: Reply) -> io::Result<State> {
-    let answer = reply.answer;
-    let state = reply.state;
-    answered(rt, name, piece, answer)?;
-    saying::marked(rt, b" used ", state.used as u64)?;
-    Ok(state)
+fn told(rt: &impl Print, name: &str, piece: &[u8], reply: Reply) -> io::Result<State> {
+    answered(rt, name, piece, reply.answer)?;
+    print!(rt; " used {}", reply.state.used)?;
+    Ok(reply.state)
 }
 
 fn push(rt: &impl Print, state: State, store: &mut [u8], piece: &[u8]) -> io::Result<State> {
     let mut chunk = [0u8; 16385];
     let size = messages::spell(&mut chunk, 0, sample_texts::behind(piece, b':'), 1);
     let reply = frame_hunter::push(state, store, sample_texts::first(&chunk, size));
-    told(rt, b"push", piece, reply)
+    told(rt, "push", piece, reply)
 }
 
 fn taken(rt: &impl Print, piece: &[u8], taken: Taken, output: &[u8]) -> io::Result<State> {
-    let answer = taken.answer;
     let state = taken.state;
-    answered(rt, b"take", piece, answer)?;
-    saying::marked(rt, b" length ", taken.length as u64)?;
-    saying::marked(rt, b" used ", state.used as u64)?;
-    saying::marked(rt, b" dropped ", state.dropped)?;
-    if sample_texts::first_byte(piece) == b'm' {
-        saying::say(rt, b"\n")?;
-        saying::bytes(
-            rt,
-            sample_texts::first(
-                output,
-                sample_texts::number(sample_texts::behind(piece, b':')) as usize,
-            ),
-        )?;
+    answered(rt, "take", piece, taken.answer)?;
+    print!(rt;
+        " length {} used {} dropped {}",
+        taken.length, state.used, state.dropped
+    )?;
+    if piece.starts_with(b"m") {
+        let size = sample_texts::number(sample_texts::behind(piece, b':')) as usize;
+        println!(rt;)?;
+        saying::bytes(rt, sample_texts::first(output, size))?;
     }
     Ok(state)
 }
@@ -87,25 +75,8 @@ fn take_short(rt: &impl Print, state: State, store: &mut [u8], piece: &[u8]) -> 
 
 // Of P2 and then P1, however cut, P1 is handed out once and 26 places are dropped.
 fn right(state: State, first: usize, second: usize, third: usize, last: usize) -> bool {
-    if state.used != 0 {
-        return false;
-    }
-    if state.dropped != 26 {
-        return false;
-    }
-    if third != 0 {
-        return false;
-    }
-    if last != 0 {
-        return false;
-    }
-    if first == 26 {
-        return second == 0;
-    }
-    if first != 0 {
-        return false;
-    }
-    second == 26
+    let once = matches!((first, second), (26, 0) | (0, 26));
+    state.used == 0 && state.dropped == 26 && third == 0 && last == 0 && once
 }
 
 // A stream in two chunks, all that is ready being taken after each and after the end.
@@ -119,19 +90,14 @@ fn cut(rt: &impl Print, one: &[u8], two: &[u8]) -> io::Result<()> {
     let third = frame_hunter::take(second.state, &mut store, &mut output);
     let ended = frame_hunter::end(third.state, &store);
     let last = frame_hunter::take(ended.state, &mut store, &mut output);
-    let state = last.state;
-    if right(
-        state,
+    let is_right = right(
+        last.state,
         first.length,
         second.length,
         third.length,
         last.length,
-    ) {
-        saying::say(rt, b".")?;
-    } else {
-        saying::say(rt, b"x")?;
-    }
-    Ok(())
+    );
+    print!(rt; "{}", if is_right { '.' } else { 'x' })
 }
 
 fn cut_at(rt: &impl Print, text: &[u8]) -> io::Result<()> {
@@ -149,7 +115,7 @@ fn cut_at(rt: &impl Print, text: &[u8]) -> io::Result<()> {
 fn call(rt: &impl Print, state: State, store: &mut [u8], piece: &[u8]) -> io::Result<State> {
     match sample_texts::first_byte(piece) {
         b'p' => return push(rt, state, store, piece),
-        b'e' => return told(rt, b"end", piece, frame_hunter::end(state, store)),
+        b'e' => return told(rt, "end", piece, frame_hunter::end(state, store)),
         b't' | b'm' => return take(rt, state, store, piece),
         b'T' => return take_short(rt, state, store, piece),
         b'c' => cut_at(rt, sample_texts::from(piece, 1))?,
@@ -167,12 +133,11 @@ fn fresh() -> Held {
 
 // What a word does to what is in hand, before its call.
 fn set(held: Held, piece: &[u8]) -> Held {
-    let state = held.state;
     match sample_texts::first_byte(piece) {
         b'R' => fresh(),
         b'l' => Held {
-            state,
             lent: sample_texts::number(sample_texts::from(piece, 1)) as usize,
+            ..held
         },
         b'x' => Held {
             state: State {
@@ -200,11 +165,8 @@ fn step(rt: &impl Print, before: Held, store: &mut [u8], piece: &[u8]) -> io::Re
 
 fn play(rt: &impl Print, script: &[u8], store: &mut [u8]) -> io::Result<()> {
     let mut held = fresh();
-    let mut from: usize = 0;
-    while from < script.len() {
-        let end = sample_texts::end_of(script, from, b'\n');
-        held = step(rt, held, store, &script[from..end])?;
-        from = end + 1;
+    for piece in script.split(|&byte| byte == b'\n') {
+        held = step(rt, held, store, piece)?;
     }
     Ok(())
 }

@@ -9,11 +9,9 @@ pub fn room() -> [u8; 60001] {
 fn little(out: &mut [u8], at: usize, n: u64, count: usize) -> usize {
     let mut next = at;
     let mut left = n;
-    let mut i: usize = 0;
-    while i < count {
+    for _ in 0..count {
         next = sample_texts::put(out, next, (left % 256) as u8);
-        left = left / 256;
-        i += 1;
+        left /= 256;
     }
     next
 }
@@ -27,10 +25,7 @@ fn kind(out: &mut [u8], at: usize, kind: u8, n: u64, count: usize) -> usize {
 fn message(out: &mut [u8], at: usize, kind: &[u8]) -> usize {
     let start = sample_texts::put(out, at, 3);
     let end = sample_texts::copy(out, start, kind);
-    if kind.len() < 8 {
-        return little(out, end, 0, 8 - kind.len());
-    }
-    end
+    little(out, end, 0, 8usize.saturating_sub(kind.len()))
 }
 
 // A required mark stands behind the bytes of its number.
@@ -40,7 +35,7 @@ const REQUIRED_ITEM: u64 = 65536;
 
 fn record(out: &mut [u8], at: usize, word: &[u8]) -> usize {
     let text = sample_texts::from(word, 1);
-    let n = sample_texts::number(text) as u64;
+    let n = u64::from(sample_texts::number(text));
     match sample_texts::first_byte(word) {
         b't' => kind(out, at, 1, n, 4),
         b'c' => kind(out, at, 2, n, 2),
@@ -60,11 +55,8 @@ fn record(out: &mut [u8], at: usize, word: &[u8]) -> usize {
 
 fn records(out: &mut [u8], at: usize, text: &[u8]) -> usize {
     let mut next = at;
-    let mut from: usize = 0;
-    while from < text.len() {
-        let end = sample_texts::end_of(text, from, b' ');
-        next = record(out, next, &text[from..end]);
-        from = end + 1;
+    for word in text.split(|&byte| byte == b' ') {
+        next = record(out, next, word);
     }
     next
 }
@@ -72,8 +64,6 @@ fn records(out: &mut [u8], at: usize, text: &[u8]) -> usize {
 // Spells the dictionary of a script's piece, `* RECORDS` or, behind the bytes that are there, `*+ RECORDS`; the size of the whole.
 pub fn spell(out: &mut [u8], size: usize, piece: &[u8]) -> usize {
     let text = sample_texts::behind(piece, b' ');
-    if sample_texts::byte_at(piece, 1) == b'+' {
-        return records(out, size, text);
-    }
-    records(out, 0, text)
+    let start = if piece.starts_with(b"*+") { size } else { 0 };
+    records(out, start, text)
 }

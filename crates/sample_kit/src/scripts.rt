@@ -3,18 +3,11 @@ use crate::reading;
 use std::io;
 use std::io::Read;
 
-fn number_before(n: u32) -> u32 {
-    if n == 0 {
-        return 0;
-    }
-    n - 1
-}
-
 // A byte of a repeated text at one of its numbers.
 fn numbered_byte(out: &mut [u8], at: usize, byte: u8, n: u32, space: u8) -> usize {
     match byte {
         b'@' => sample_texts::put_number(out, at, n),
-        b'<' => sample_texts::put_number(out, at, number_before(n)),
+        b'<' => sample_texts::put_number(out, at, n.saturating_sub(1)),
         b' ' => sample_texts::put(out, at, space),
         _ => sample_texts::put(out, at, byte),
     }
@@ -22,10 +15,8 @@ fn numbered_byte(out: &mut [u8], at: usize, byte: u8, n: u32, space: u8) -> usiz
 
 fn numbered(out: &mut [u8], at: usize, text: &[u8], n: u32, space: u8) -> usize {
     let mut next = at;
-    let mut i: usize = 0;
-    while i < text.len() {
-        next = numbered_byte(out, next, text[i], n, space);
-        i += 1;
+    for &byte in text {
+        next = numbered_byte(out, next, byte, n, space);
     }
     next
 }
@@ -34,28 +25,18 @@ fn numbered(out: &mut [u8], at: usize, text: &[u8], n: u32, space: u8) -> usize 
 fn repeated(out: &mut [u8], at: usize, text: &[u8], space: u8) -> usize {
     let piece = sample_texts::behind(text, b':');
     let last = sample_texts::number(sample_texts::piece(sample_texts::before(text, b':'), b'.', 2));
-    let mut n = sample_texts::number(sample_texts::before(sample_texts::from(text, 1), b'.'));
+    let first = sample_texts::number(sample_texts::before(sample_texts::from(text, 1), b'.'));
     let mut next = at;
-    while n < last {
+    for n in first..=last.max(first) {
         next = numbered(out, next, piece, n, space);
-        n += 1;
     }
-    numbered(out, next, piece, n, space)
-}
-
-fn spaced_byte(byte: u8, space: u8) -> u8 {
-    if byte == b' ' {
-        return space;
-    }
-    byte
+    next
 }
 
 fn spaced(out: &mut [u8], at: usize, text: &[u8], space: u8) -> usize {
     let mut next = at;
-    let mut i: usize = 0;
-    while i < text.len() {
-        next = sample_texts::put(out, next, spaced_byte(text[i], space));
-        i += 1;
+    for &byte in text {
+        next = sample_texts::put(out, next, if byte == b' ' { space } else { byte });
     }
     next
 }
@@ -63,6 +44,7 @@ fn spaced(out: &mut [u8], at: usize, text: &[u8], space: u8) -> usize {
 // A text with its repeats written out, another byte standing for its spaces.
 fn written_out(out: &mut [u8], at: usize, text: &[u8], space: u8) -> usize {
     let mut next = at;
+    // No index is counted, and no split does it: a repeat opens with one mark and closes with another.
     let mut from: usize = 0;
     while from < text.len() {
         let open = sample_texts::end_of(text, from, b'{');
@@ -76,7 +58,7 @@ fn written_out(out: &mut [u8], at: usize, text: &[u8], space: u8) -> usize {
 
 fn name_of(line: &[u8]) -> &[u8] {
     if sample_texts::first_byte(line) == b' ' {
-        return sample_texts::first(line, 0);
+        return &[];
     }
     sample_texts::before(line, b':')
 }
@@ -114,11 +96,8 @@ fn line(out: &mut [u8], at: usize, line: &[u8]) -> usize {
 // Lays the lines of a text out in pieces; the size of these.
 fn pieces(out: &mut [u8], text: &[u8]) -> usize {
     let mut next: usize = 0;
-    let mut from: usize = 0;
-    while from < text.len() {
-        let end = sample_texts::end_of(text, from, b'\n');
-        next = line(out, next, &text[from..end]);
-        from = end + 1;
+    for row in text.split(|&byte| byte == b'\n') {
+        next = line(out, next, row);
     }
     next
 }

@@ -16,7 +16,7 @@ pub fn part_of(letter: u8) -> Part {
 // `b38=600`, `b-38`
 fn change(rt: &impl Print, words: &mut [u32], values: &mut [u8], piece: &[u8]) -> io::Result<()> {
     let part = part_of(sample_texts::first_byte(piece));
-    if sample_texts::byte_at(piece, 1) == b'-' {
+    if sample_texts::from(piece, 1).starts_with(b"-") {
         let tag = sample_texts::number(sample_texts::from(piece, 2));
         showing::changed(rt, message::remove(words, values, part, tag))?;
     } else {
@@ -34,11 +34,10 @@ fn encode(
     separator: u8,
     room: usize,
 ) -> io::Result<()> {
-    let mut space = [b'_'; 8300];
-    let output = &mut space[..];
+    let mut output = [b'_'; 8300];
     if room <= output.len() {
         let encoded = encoder::encode(words, values, &mut output[..room], separator);
-        showing::encoded(rt, encoded, output)?;
+        showing::encoded(rt, encoded, &output)?;
     }
     Ok(())
 }
@@ -48,7 +47,7 @@ fn take(rt: &impl Print, words: &mut [u32], values: &mut [u8], text: &[u8]) -> i
     let mut records = [0u32; 24];
     let count = sample_texts::number(sample_texts::before(text, b':')) as usize;
     let size = laying::numbers(&mut records, sample_texts::behind(text, b':'));
-    let listed = laying::first(&records, size);
+    let listed = sample_texts::first(&records, size);
     showing::taken(
         rt,
         message_take_over::take_over(listed, count, b"ABCDEFGHIJ", words, values),
@@ -79,10 +78,8 @@ fn take_built(
     let config = build_config::config_of(1, 1);
     let mut records = [0u32; build_records::WORDS];
     let built = builder::build(message, config, dictionary, 1024, &mut records);
-    let answer = built.answer;
-    let count = built.records;
-    saying::marked(rt, b" ", build_answers::number_of(answer) as u64)?;
-    take_over(rt, words, values, message, &records, count)
+    print!(rt; " {}", build_answers::number_of(built.answer))?;
+    take_over(rt, words, values, message, &records, built.records)
 }
 
 fn build(
@@ -142,12 +139,12 @@ fn hang(
     aside: &[u32],
     bytes: &[u8],
 ) -> io::Result<()> {
-    if text.len() == 0 {
-        saying::say(rt, b" nested")?;
+    if text.is_empty() {
+        print!(rt; " nested")?;
         showing::changed(rt, message_runs::hang_last(words, values, aside, bytes))?;
     } else {
         let part = part_of(sample_texts::first_byte(text));
-        saying::say(rt, b" hung")?;
+        print!(rt; " hung")?;
         showing::changed(rt, message_runs::hang(words, values, part, aside, bytes))?;
     }
     Ok(())

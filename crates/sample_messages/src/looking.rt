@@ -1,19 +1,17 @@
 // Looks fields up.
 use crate::calls;
 use message_rules::{FoundMap, FoundValue};
-use sample_kit::saying;
 use std::io;
 
 fn found(rt: &impl Print, values: &[u8], found: FoundValue) -> io::Result<()> {
     match found {
-        FoundValue::NoMessage => saying::say(rt, b" 27")?,
-        FoundValue::Absent => saying::say(rt, b" none")?,
+        FoundValue::NoMessage => print!(rt; " 27"),
+        FoundValue::Absent => print!(rt; " none"),
         FoundValue::At(place) => {
-            saying::say(rt, b" =")?;
-            saying::say(rt, sample_texts::part(values, place.place, place.size))?;
+            print!(rt; " =")?;
+            rt.write_all(sample_texts::part(values, place.place, place.size))
         }
     }
-    Ok(())
 }
 
 fn in_map(
@@ -24,15 +22,14 @@ fn in_map(
     tag: u32,
 ) -> io::Result<()> {
     match map {
-        FoundMap::NoMessage => saying::say(rt, b" 27")?,
-        FoundMap::Absent => saying::say(rt, b" none")?,
+        FoundMap::NoMessage => print!(rt; " 27"),
+        FoundMap::Absent => print!(rt; " none"),
         FoundMap::At(head) => found(
             rt,
             values,
             message_look_ups::field_in(words, values, head, tag),
-        )?,
+        ),
     }
-    Ok(())
 }
 
 // `b58`
@@ -59,8 +56,7 @@ pub fn entry(rt: &impl Print, words: &[u32], values: &[u8], text: &[u8]) -> io::
         calls::part_of(sample_texts::first_byte(text)),
     );
     let FoundMap::At(head) = part else {
-        saying::say(rt, b" 27")?;
-        return Ok(());
+        return print!(rt; " 27");
     };
     let numbers = sample_texts::from(text, 1);
     let start = sample_texts::number_at(numbers, b',', 0);

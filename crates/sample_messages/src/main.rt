@@ -45,11 +45,10 @@ fn lent_after(lent: Lent, piece: &[u8]) -> Lent {
 }
 
 fn lay_aside(aside: &mut [u32], bytes: &mut [u8], words: &[u32], values: &[u8], piece: &[u8]) {
-    if sample_texts::first_byte(piece) != b';' {
-        return;
+    if piece.starts_with(b";") {
+        sample_texts::copy(aside, 0, words);
+        sample_texts::copy(bytes, 0, values);
     }
-    laying::copy(aside, words);
-    sample_texts::copy(bytes, 0, values);
 }
 
 // A call on as much of the words and value bytes in hand as is lent.
@@ -63,20 +62,16 @@ fn in_hand(
     script: &[u8],
     piece: &[u8],
 ) -> io::Result<()> {
-    let word_count = lent.words;
-    let byte_count = lent.bytes;
-    if word_count <= words.len() {
-        if byte_count <= values.len() {
-            calls::call(
-                rt,
-                &mut words[..word_count],
-                &mut values[..byte_count],
-                aside,
-                bytes,
-                script,
-                piece,
-            )?;
-        }
+    if lent.words <= words.len() && lent.bytes <= values.len() {
+        calls::call(
+            rt,
+            &mut words[..lent.words],
+            &mut values[..lent.bytes],
+            aside,
+            bytes,
+            script,
+            piece,
+        )?;
     }
     Ok(())
 }
@@ -106,20 +101,8 @@ fn play(
     script: &[u8],
 ) -> io::Result<()> {
     let mut lent = Lent { words: 0, bytes: 0 };
-    let mut from: usize = 0;
-    while from < script.len() {
-        let end = sample_texts::end_of(script, from, b'\n');
-        lent = step(
-            rt,
-            lent,
-            words,
-            values,
-            aside,
-            bytes,
-            script,
-            &script[from..end],
-        )?;
-        from = end + 1;
+    for piece in script.split(|&byte| byte == b'\n') {
+        lent = step(rt, lent, words, values, aside, bytes, script, piece)?;
     }
     Ok(())
 }

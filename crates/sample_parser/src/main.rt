@@ -24,63 +24,50 @@ struct Held {
 }
 
 fn shown(rt: &impl Print, state: State) -> io::Result<State> {
-    saying::marked(rt, b" used ", state.used as u64)?;
+    print!(rt; " used {}", state.used)?;
     if state.ended {
-        saying::say(rt, b" ended")?;
+        print!(rt; " ended")?;
     }
     if state.over {
-        saying::say(rt, b" over")?;
+        print!(rt; " over")?;
     }
-    saying::say(rt, b"\n")?;
+    println!(rt;)?;
     Ok(state)
 }
 
-fn told(rt: &impl Print, name: &[u8], outcome: Outcome) -> io::Result<State> {
-    let answer = outcome.answer;
-    let state = outcome.state;
-    saying::say(rt, name)?;
-    saying::marked(rt, b" ", frame_answers::parser_number(answer) as u64)?;
-    if let Answer::Message(length) = answer {
-        saying::marked(rt, b" length ", length as u64)?;
+fn told(rt: &impl Print, name: &str, outcome: Outcome) -> io::Result<State> {
+    print!(rt; "{name} {}", frame_answers::parser_number(outcome.answer))?;
+    if let Answer::Message(length) = outcome.answer {
+        print!(rt; " length {length}")?;
     }
-    shown(rt, state)
+    shown(rt, outcome.state)
 }
 
 fn push(rt: &impl Print, state: State, store: &mut [u8], text: &[u8]) -> io::Result<State> {
     let mut chunk = [0u8; 16385];
     let size = messages::spell(&mut chunk, 0, text, 1);
-    told(
-        rt,
-        b"push",
-        frame_parser::push(state, store, sample_texts::first(&chunk, size)),
-    )
+    let chunk = sample_texts::first(&chunk, size);
+    told(rt, "push", frame_parser::push(state, store, chunk))
 }
 
 fn take(rt: &impl Print, state: State, store: &mut [u8], shown: &[u8]) -> io::Result<State> {
     let mut output = [0u8; 8192];
-    let left = told(rt, b"take", frame_parser::take(state, store, &mut output))?;
-    if 0 < shown.len() {
-        saying::bytes(
-            rt,
-            sample_texts::first(&output, sample_texts::number_at(shown, b',', 0) as usize),
-        )?;
-        saying::say(rt, b"\n")?;
-        saying::bytes(
-            rt,
-            sample_texts::first(store, sample_texts::number_at(shown, b',', 1) as usize),
-        )?;
-        saying::say(rt, b"\n")?;
+    let left = told(rt, "take", frame_parser::take(state, store, &mut output))?;
+    if !shown.is_empty() {
+        let of_output = sample_texts::number_at(shown, b',', 0) as usize;
+        let of_store = sample_texts::number_at(shown, b',', 1) as usize;
+        saying::bytes(rt, sample_texts::first(&output, of_output))?;
+        println!(rt;)?;
+        saying::bytes(rt, sample_texts::first(store, of_store))?;
+        println!(rt;)?;
     }
     Ok(left)
 }
 
 fn take_short(rt: &impl Print, state: State, store: &mut [u8]) -> io::Result<State> {
     let mut output = [0u8; 8191];
-    told(
-        rt,
-        b"take into 8191",
-        frame_parser::take(state, store, &mut output),
-    )
+    let outcome = frame_parser::take(state, store, &mut output);
+    told(rt, "take into 8191", outcome)
 }
 
 // How much of a stream came out, message by message.
@@ -94,9 +81,8 @@ struct Came {
 fn take_next(came: Came, store: &mut [u8], stream: &[u8]) -> Came {
     let mut output = [0u8; 8192];
     let outcome = frame_parser::take(came.state, store, &mut output);
-    let answer = outcome.answer;
     let state = outcome.state;
-    let length = frame_answers::parser_length(answer);
+    let length = frame_answers::parser_length(outcome.answer);
     let mut bytes = came.bytes;
     if sample_texts::part(stream, bytes, length) == sample_texts::first(&output, length) {
         bytes = bytes % 8192 + length % 8193;
@@ -107,10 +93,11 @@ fn take_next(came: Came, store: &mut [u8], stream: &[u8]) -> Came {
 // A chunk, and takes enough for two messages and the answer 0.
 fn chunk(came: Came, store: &mut [u8], chunk: &[u8], stream: &[u8]) -> Came {
     let state = frame_parser::push(came.state, store, chunk).state;
-    let bytes = came.bytes;
-    let first = take_next(Came { state, bytes }, store, stream);
-    let second = take_next(first, store, stream);
-    take_next(second, store, stream)
+    let mut now = Came { state, ..came };
+    for _ in 0..3 {
+        now = take_next(now, store, stream);
+    }
+    now
 }
 
 fn cut(rt: &impl Print, text: &[u8]) -> io::Result<()> {
@@ -127,16 +114,14 @@ fn cut(rt: &impl Print, text: &[u8]) -> io::Result<()> {
         stream,
     );
     let all = chunk(some, &mut store, sample_texts::from(stream, at), stream);
-    saying::marked(rt, b"", some.bytes as u64)?;
-    saying::marked(rt, b" ", all.bytes as u64)?;
-    saying::say(rt, b"\n")
+    println!(rt; "{} {}", some.bytes, all.bytes)
 }
 
 fn call(rt: &impl Print, state: State, store: &mut [u8], piece: &[u8]) -> io::Result<State> {
     let text = sample_texts::from(piece, 1);
     match sample_texts::first_byte(piece) {
         b'p' => return push(rt, state, store, text),
-        b'e' => return told(rt, b"end", frame_parser::end(state, store)),
+        b'e' => return told(rt, "end", frame_parser::end(state, store)),
         b't' | b'm' => return take(rt, state, store, text),
         b'T' => return take_short(rt, state, store),
         b'c' => cut(rt, text)?,
@@ -148,21 +133,20 @@ fn call(rt: &impl Print, state: State, store: &mut [u8], piece: &[u8]) -> io::Re
 
 // What a word does to what is in hand, before its call.
 fn set(rt: &impl Print, held: Held, piece: &[u8]) -> io::Result<Held> {
-    let state = held.state;
     let fresh = Held {
         state: frame_parser::reset(),
         lent: STORE,
     };
     match sample_texts::first_byte(piece) {
         b'r' => {
-            saying::say(rt, b"reset")?;
+            print!(rt; "reset")?;
             shown(rt, frame_parser::reset())?;
             Ok(fresh)
         }
         b'R' => Ok(fresh),
         b'l' => Ok(Held {
-            state,
             lent: sample_texts::number(sample_texts::from(piece, 1)) as usize,
+            ..held
         }),
         b'x' => Ok(Held {
             state: State {
@@ -193,11 +177,8 @@ fn play(rt: &impl Print, script: &[u8], store: &mut [u8]) -> io::Result<()> {
         state: frame_parser::reset(),
         lent: STORE,
     };
-    let mut from: usize = 0;
-    while from < script.len() {
-        let end = sample_texts::end_of(script, from, b'\n');
-        held = step(rt, held, store, &script[from..end])?;
-        from = end + 1;
+    for piece in script.split(|&byte| byte == b'\n') {
+        held = step(rt, held, store, piece)?;
     }
     Ok(())
 }

@@ -2,25 +2,23 @@
 use crate::{encoded, hexadecimal};
 use build_answers::Answer;
 use build_records::Record;
-use sample_kit::saying;
 use std::io;
 
 // Keeps a dictionary and checks it; its size.
 pub fn keep(rt: &impl Print, dictionary: &mut [u8], text: &[u8]) -> io::Result<usize> {
     let size = hexadecimal::read(dictionary, text);
     let checked = dictionary_check::check(sample_texts::first(dictionary, size));
-    saying::marked(rt, b"", dictionary_check::number_of(checked) as u64)?;
-    saying::marked(rt, b" ", dictionary_check::value_of(checked) as u64)?;
+    let value = dictionary_check::value_of(checked);
+    print!(rt; "{} {value}", dictionary_check::number_of(checked))?;
     Ok(size)
 }
 
 // PART.DEPTH.ENTRY.TAG.VALUE
 fn record(rt: &impl Print, message: &[u8], record: Record) -> io::Result<()> {
-    saying::marked(rt, b" ", record.part as u64)?;
-    saying::marked(rt, b".", record.depth as u64)?;
-    saying::marked(rt, b".", record.number as u64)?;
-    saying::marked(rt, b".", record.tag as u64)?;
-    saying::say(rt, b".")?;
+    print!(rt;
+        " {}.{}.{}.{}.",
+        record.part, record.depth, record.number, record.tag
+    )?;
     hexadecimal::say(
         rt,
         sample_texts::part(message, record.place as usize, record.length as usize),
@@ -33,10 +31,8 @@ fn records_of(
     words: &[u32; build_records::WORDS],
     count: usize,
 ) -> io::Result<()> {
-    let mut i: usize = 0;
-    while i < count {
+    for i in 0..count {
         record(rt, message, build_records::record_at(&words[..], i))?;
-        i += 1;
     }
     Ok(())
 }
@@ -50,10 +46,8 @@ fn told(
     count: usize,
 ) -> io::Result<()> {
     let values = build_answers::values_of(answer);
-    saying::marked(rt, b"", build_answers::number_of(answer) as u64)?;
-    saying::marked(rt, b" ", values.first as u64)?;
-    saying::marked(rt, b" ", values.second as u64)?;
-    saying::marked(rt, b" ", count as u64)?;
+    print!(rt; "{}", build_answers::number_of(answer))?;
+    print!(rt; " {} {} {count}", values.first, values.second)?;
     records_of(rt, message, words, count)
 }
 
@@ -75,7 +69,7 @@ pub fn build(rt: &impl Print, text: &[u8], dictionary: &[u8], again: bool) -> io
     let mut space = [0u8; 2000];
     let mut words = [0u32; build_records::WORDS];
     let separator = hexadecimal::byte(sample_texts::piece(text, b' ', 1));
-    let settings = sample_texts::number(sample_texts::piece(text, b' ', 2)) as u32;
+    let settings = sample_texts::number_at(text, b' ', 2);
     let config = build_config::config_of(settings, separator);
     let further = sample_texts::piece(text, b' ', 3);
     let given = if again { 4 } else { 3 };
@@ -84,11 +78,8 @@ pub fn build(rt: &impl Print, text: &[u8], dictionary: &[u8], again: bool) -> io
     let built = builder::build(message, config, dictionary, 1024, &mut words);
     let answer = built.answer;
     let count = built.records;
-    if again {
-        if build_answers::number_of(answer) == 0 {
-            encode_built(rt, message, &words, count, hexadecimal::byte(further))?;
-            return Ok(());
-        }
+    if again && build_answers::number_of(answer) == 0 {
+        return encode_built(rt, message, &words, count, hexadecimal::byte(further));
     }
     told(rt, message, answer, &words, count)
 }

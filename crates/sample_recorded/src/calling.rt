@@ -1,11 +1,10 @@
 // Messages made by calls: a step for each, as `STEP STEP ..`.
 use crate::{drafts, encoded, hexadecimal};
 use message_rules::{Change, Part};
-use sample_kit::saying;
 use std::io;
 
 fn changed(rt: &impl Print, change: Change) -> io::Result<()> {
-    saying::marked(rt, b"", message_answers::change_number(change) as u64)
+    print!(rt; "{}", message_answers::change_number(change))
 }
 
 // `STEP.PART..`
@@ -60,14 +59,14 @@ fn hang(rt: &impl Print, words: &mut [u32], values: &mut [u8], text: &[u8]) -> i
             message_runs::hang(words, values, part_of(text), &run_words, &run_values),
         )?;
     } else {
-        saying::marked(rt, b"", made as u64)?;
+        print!(rt; "{made}")?;
     }
     Ok(())
 }
 
 // The third letters of the steps' names differ.
 fn step(rt: &impl Print, words: &mut [u32], values: &mut [u8], text: &[u8]) -> io::Result<()> {
-    match sample_texts::byte_at(text, 2) {
+    match sample_texts::at(text, 2) {
         b'p' => changed(rt, message::empty(words, values))?,
         b'w' => new_message(rt, words, values, text)?,
         b'o' => store(rt, words, values, text)?,
@@ -79,20 +78,17 @@ fn step(rt: &impl Print, words: &mut [u32], values: &mut [u8], text: &[u8]) -> i
             values,
             hexadecimal::byte(sample_texts::behind(text, b'.')),
         )?,
-        _ => saying::say(rt, b"unreadable")?,
+        _ => print!(rt; "unreadable")?,
     }
     Ok(())
 }
 
 fn steps(rt: &impl Print, words: &mut [u32], values: &mut [u8], text: &[u8]) -> io::Result<()> {
-    let mut from: usize = 0;
-    while from < text.len() {
-        let end = sample_texts::end_of(text, from, b' ');
-        if 0 < from {
-            saying::say(rt, b" ")?;
+    for (i, piece) in text.split_inclusive(|&byte| byte == b' ').enumerate() {
+        if 0 < i {
+            print!(rt; " ")?;
         }
-        step(rt, words, values, &text[from..end])?;
-        from = end + 1;
+        step(rt, words, values, sample_texts::before(piece, b' '))?;
     }
     Ok(())
 }

@@ -10,32 +10,20 @@ fn tag_of(row: &[u8]) -> u32 {
 
 // By how many levels a row lies deeper.
 fn deeper(row: &[u8], level: u32) -> u32 {
-    let own = sample_texts::number_at(row, b'.', 1);
-    if level < own {
-        return own - level;
-    }
-    0
+    sample_texts::number_at(row, b'.', 1).saturating_sub(level)
 }
 
 // The start tag of the nested run that a row starts, 0 where it starts none.
 fn nested_start(row: &[u8], level: u32) -> u32 {
-    if sample_texts::first_byte(row) == b'h' {
-        if deeper(row, level) == 1 {
-            return tag_of(row);
-        }
+    if row.starts_with(b"h") && deeper(row, level) == 1 {
+        return tag_of(row);
     }
     0
 }
 
 // Whether a row goes on with the nested run of a start tag.
 fn goes_on(row: &[u8], level: u32, start: u32) -> bool {
-    if start == 0 {
-        return false;
-    }
-    if 1 < deeper(row, level) {
-        return true;
-    }
-    nested_start(row, level) == start
+    start != 0 && (1 < deeper(row, level) || nested_start(row, level) == start)
 }
 
 // Where what starts at a place ends: with its row, or with the nested run that the row starts.
@@ -45,6 +33,7 @@ fn piece_end(rows: &[u8], from: usize, level: u32) -> usize
 {
     let mut end = sample_texts::end_of(rows, from, b',');
     let start = nested_start(&rows[from..end], level);
+    // No index is counted: it goes from the end of one row to that of the next, as long as they belong together.
     while end < rows.len() {
         let next = end + 1;
         let next_end = sample_texts::end_of(rows, next, b',');
@@ -60,7 +49,7 @@ fn add(words: &mut [u32], values: &mut [u8], row: &[u8]) -> u32 {
     let mut space = [0u8; 2000];
     let tag = tag_of(row);
     let last = sample_texts::piece(row, b'.', 3);
-    if sample_texts::first_byte(row) == b'h' {
+    if row.starts_with(b"h") {
         return message_answers::change_number(message_runs::add_entry(
             words,
             values,
@@ -99,9 +88,10 @@ fn piece(words: &mut [u32], values: &mut [u8], text: &[u8], level: u32) -> u32 {
 #[cycle(draft_piece)]
 pub fn draft(words: &mut [u32], values: &mut [u8], rows: &[u8], level: u32) -> u32 {
     let mut number = message_answers::change_number(message_runs::empty(words, values));
-    if sample_texts::first_byte(rows) == b'-' {
+    if rows.starts_with(b"-") {
         return number;
     }
+    // No index is counted, and no split does it: some commas part the rows of one piece.
     let mut from: usize = 0;
     while from < rows.len() {
         let end = piece_end(rows, from, level);

@@ -2,7 +2,6 @@
 ghost use Rattle.std.specs.Prelude.{◌<◌};
 
 use crate::hexadecimal;
-use sample_kit::saying;
 use std::io;
 
 // A row: `h.LEVEL.START.DELIMITER`, or `f.LEVEL.TAG.VALUE` with the value that starts at a place. Where the next value starts.
@@ -15,16 +14,14 @@ fn row(
 ) -> io::Result<usize>
     requires { from < 100000 }
 {
-    let extra = sample_texts::word_at(words, from + 3);
-    if sample_texts::word_at(words, from) == 2 {
-        saying::marked(rt, b"h.", sample_texts::word_at(words, from + 1) as u64)?;
-        saying::marked(rt, b".", sample_texts::word_at(words, from + 2) as u64)?;
-        saying::marked(rt, b".", extra as u64)?;
+    let level = sample_texts::at(words, from + 1);
+    let tag = sample_texts::at(words, from + 2);
+    let extra = sample_texts::at(words, from + 3);
+    if sample_texts::at(words, from) == 2 {
+        print!(rt; "h.{level}.{tag}.{extra}")?;
         return Ok(place);
     }
-    saying::marked(rt, b"f.", sample_texts::word_at(words, from + 1) as u64)?;
-    saying::marked(rt, b".", sample_texts::word_at(words, from + 2) as u64)?;
-    saying::say(rt, b".")?;
+    print!(rt; "f.{level}.{tag}.")?;
     hexadecimal::say(rt, sample_texts::part(values, place, extra as usize))?;
     Ok(place % 100000 + extra as usize)
 }
@@ -32,19 +29,16 @@ fn row(
 fn row_count(words: &[u32]) -> usize
     ensures { result < 3000 }
 {
-    (sample_texts::word_at(words, 0) % 3000) as usize
+    (sample_texts::at(words, 0) % 3000) as usize
 }
 
 fn rows(rt: &impl Print, words: &[u32], values: &[u8]) -> io::Result<()> {
-    let count = row_count(words);
     let mut place: usize = 0;
-    let mut i: usize = 0;
-    while i < count {
+    for i in 0..row_count(words) {
         if 0 < i {
-            saying::say(rt, b",")?;
+            print!(rt; ",")?;
         }
         place = row(rt, words, values, i * 4 + 1, place)?;
-        i += 1;
     }
     Ok(())
 }
@@ -58,14 +52,12 @@ pub fn encode(
     let mut output = [0u8; 2000];
     let encoding = encoder::encode(words, values, &mut output, separator);
     let number = message_answers::encoding_number(encoding);
-    saying::marked(rt, b"", number as u64)?;
+    print!(rt; "{number}")?;
     if number == 0 {
-        saying::say(rt, b":")?;
-        hexadecimal::say(
-            rt,
-            sample_texts::first(&output, message_answers::encoding_length(encoding)),
-        )?;
-        saying::say(rt, b":")?;
+        let length = message_answers::encoding_length(encoding);
+        print!(rt; ":")?;
+        hexadecimal::say(rt, sample_texts::first(&output, length))?;
+        print!(rt; ":")?;
         rows(rt, words, values)?;
     }
     Ok(())

@@ -1,12 +1,11 @@
 // Streams for the ported framer, as `CHUNK CHUNK ..`: after each chunk all that is ready is taken.
 use crate::hexadecimal;
 use frame_parser_rules::State;
-use sample_kit::saying;
 use std::io;
 
 fn comma(rt: &impl Print, frames: usize) -> io::Result<()> {
     if 0 < frames {
-        saying::say(rt, b",")?;
+        print!(rt; ",")?;
     }
     Ok(())
 }
@@ -15,9 +14,9 @@ fn comma(rt: &impl Print, frames: usize) -> io::Result<()> {
 fn last_word(rt: &impl Print, frames: usize, number: u32) -> io::Result<()> {
     if 0 < number {
         comma(rt, frames)?;
-        saying::marked(rt, b"!", number as u64)?;
+        print!(rt; "!{number}")?;
     } else if frames == 0 {
-        saying::say(rt, b"-")?;
+        print!(rt; "-")?;
     }
     Ok(())
 }
@@ -26,8 +25,7 @@ fn last_word(rt: &impl Print, frames: usize, number: u32) -> io::Result<()> {
 fn take_all(rt: &impl Print, fresh: State, store: &mut [u8]) -> io::Result<State> {
     let mut output = [0u8; 8192];
     let mut state = fresh;
-    let mut frames: usize = 0;
-    while frames < 16384 {
+    for frames in 0..16384 {
         let outcome = frame_parser::take(state, store, &mut output);
         let answer = outcome.answer;
         let length = frame_answers::parser_length(answer);
@@ -38,7 +36,6 @@ fn take_all(rt: &impl Print, fresh: State, store: &mut [u8]) -> io::Result<State
         }
         comma(rt, frames)?;
         hexadecimal::say(rt, sample_texts::first(&output, length))?;
-        frames += 1;
     }
     Ok(state)
 }
@@ -47,11 +44,10 @@ fn chunk(rt: &impl Print, state: State, store: &mut [u8], text: &[u8]) -> io::Re
     let mut space = [0u8; 2000];
     let size = hexadecimal::read(&mut space, text);
     let outcome = frame_parser::push(state, store, sample_texts::first(&space, size));
-    let answer = outcome.answer;
     let pushed = outcome.state;
-    let number = frame_answers::parser_number(answer);
+    let number = frame_answers::parser_number(outcome.answer);
     if 0 < number {
-        saying::marked(rt, b"!", number as u64)?;
+        print!(rt; "!{number}")?;
         return Ok(pushed);
     }
     take_all(rt, pushed, store)
@@ -59,14 +55,11 @@ fn chunk(rt: &impl Print, state: State, store: &mut [u8], text: &[u8]) -> io::Re
 
 fn chunks(rt: &impl Print, store: &mut [u8], text: &[u8]) -> io::Result<()> {
     let mut state = frame_parser::reset();
-    let mut from: usize = 0;
-    while from < text.len() {
-        let end = sample_texts::end_of(text, from, b' ');
-        if 0 < from {
-            saying::say(rt, b" ")?;
+    for (i, piece) in text.split_inclusive(|&byte| byte == b' ').enumerate() {
+        if 0 < i {
+            print!(rt; " ")?;
         }
-        state = chunk(rt, state, store, &text[from..end])?;
-        from = end + 1;
+        state = chunk(rt, state, store, sample_texts::before(piece, b' '))?;
     }
     Ok(())
 }

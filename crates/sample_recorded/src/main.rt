@@ -10,7 +10,7 @@ mod encoded;
 mod framing;
 mod hexadecimal;
 
-use sample_kit::{reading, saying, scripts};
+use sample_kit::{reading, scripts};
 use std::io;
 
 // Answers a request; the size of the dictionary that is kept from then on. One is kept at a time: all have the number 0.
@@ -22,19 +22,16 @@ fn answer(rt: &impl Print, text: &[u8], dictionary: &mut [u8], used: usize) -> i
         b'a' => building::build(rt, rest, sample_texts::first(dictionary, used), true)?,
         b'c' => calling::calls(rt, rest)?,
         b'f' => framing::frames(rt, rest)?,
-        _ => saying::say(rt, b"unreadable")?,
+        _ => print!(rt; "unreadable")?,
     }
     Ok(used)
 }
 
 fn answer_all(rt: &impl Print, requests: &[u8], dictionary: &mut [u8]) -> io::Result<()> {
     let mut used: usize = 0;
-    let mut from: usize = 0;
-    while from < requests.len() {
-        let end = sample_texts::end_of(requests, from, b'\n');
-        used = answer(rt, &requests[from..end], dictionary, used)?;
-        saying::say(rt, b"\n")?;
-        from = end + 1;
+    for line in requests.split_inclusive(|&byte| byte == b'\n') {
+        used = answer(rt, sample_texts::before(line, b'\n'), dictionary, used)?;
+        println!(rt;)?;
     }
     Ok(())
 }

@@ -9,7 +9,7 @@ fn byte_at(text: &[u8], at: usize, separator: u8) -> u8
         b'|' => separator,
         b'\\' => {
             let rest = &text[at..];
-            crate::byte_of(crate::byte_at(rest, 1), crate::byte_at(rest, 2))
+            crate::byte_of(crate::at(rest, 1), crate::at(rest, 2))
         }
         byte => byte,
     }
@@ -20,10 +20,8 @@ fn next_of(text: &[u8], at: usize) -> usize
     requires { at < length text.now }
     ensures { (at < result) × (result ≤ length text.now) }
 {
-    if text[at] == b'\\' {
-        if 2 < text.len() - at {
-            return at + 3;
-        }
+    if text[at] == b'\\' && 2 < text.len() - at {
+        return at + 3;
     }
     at + 1
 }
@@ -31,6 +29,7 @@ fn next_of(text: &[u8], at: usize) -> usize
 // The bytes of a text; the place behind them.
 pub fn spell(out: &mut [u8], at: usize, text: &[u8], separator: u8) -> usize {
     let mut next = at;
+    // No index is counted: a byte is spelled by one character or by three.
     let mut i: usize = 0;
     while i < text.len() {
         next = crate::put(out, next, byte_at(text, i, separator));

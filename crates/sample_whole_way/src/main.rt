@@ -6,9 +6,7 @@ mod sample;
 mod showing;
 
 use encode_rules::Encoding;
-use field_rules::FieldRead;
 use message_rules::Part;
-use sample_kit::saying;
 use std::io;
 
 const SEPARATOR: u8 = 1;
@@ -17,32 +15,30 @@ const SEPARATOR: u8 = 1;
 fn count_fields(message: &[u8]) -> usize {
     let mode = field_tagvalue::separated_by(SEPARATOR);
     let mut cursor = field_tagvalue::start_at(0);
-    let mut count: usize = 0;
-    while count < 1024 {
-        let FieldRead::Read(field) = field_tagvalue::next_field(cursor, message, mode) else {
+    for count in 0..1024 {
+        let Ok(field) = field_tagvalue::next_field(cursor, message, mode) else {
             return count;
         };
         cursor = field.next;
-        count += 1;
     }
-    count
+    1024
 }
 
 // The first frame of the stream, at the start of the output; answers its length.
 fn hunt(rt: &impl Print, output: &mut [u8]) -> io::Result<usize> {
     let mut store = [0u8; 16384];
-    showing::step(rt, b"1. The stream:", sample::STREAM.len())?;
-    saying::say(
-        rt,
-        b" bytes, two copies of one order. A byte of the first was damaged on the way:\n",
-    )?;
+    showing::step(rt, "1. The stream:", sample::STREAM.len())?;
+    println!(rt; " bytes, two copies of one order. A byte of the first was damaged on the way:")?;
     showing::line(rt, &sample::STREAM)?;
     let given = frame_hunter::push(frame_hunter::reset(), &mut store, &sample::STREAM);
     let taken = frame_hunter::take(given.state, &mut store, output);
-    let state = taken.state;
-    showing::step(rt, b"2. The hunting framer drops", state.dropped as usize)?;
-    showing::step(rt, b" places and hands out", taken.length)?;
-    saying::say(rt, b" bytes:\n")?;
+    showing::step(
+        rt,
+        "2. The hunting framer drops",
+        taken.state.dropped as usize,
+    )?;
+    showing::step(rt, " places and hands out", taken.length)?;
+    println!(rt; " bytes:")?;
     showing::line(rt, sample_texts::first(output, taken.length))?;
     Ok(taken.length)
 }
@@ -70,26 +66,22 @@ fn build(rt: &impl Print, frame: &[u8], words: &mut [u32], values: &mut [u8]) ->
         &mut memory[..],
     );
     let built = builder::build_prepared(frame, config, &copy[..], &memory[..], 1024, &mut records);
-    let answer = built.answer;
     let count = built.records;
     showing::step(
         rt,
-        b"3. The dictionary is prepared once, which answers",
+        "3. The dictionary is prepared once, which answers",
         dictionary_prepared::number_of(preparing) as usize,
     )?;
     showing::step(
         rt,
-        b". A build over it answers",
-        build_answers::number_of(answer) as usize,
+        ". A build over it answers",
+        build_answers::number_of(built.answer) as usize,
     )?;
-    showing::step(rt, b". Fields read:", count_fields(frame))?;
-    showing::step(rt, b", fields held:", count)?;
-    saying::say(rt, b"\n")?;
+    showing::step(rt, ". Fields read:", count_fields(frame))?;
+    showing::step(rt, ", fields held:", count)?;
+    println!(rt; "")?;
     showing::records(rt, frame, &records, count)?;
-    saying::say(
-        rt,
-        b"   38 came as 600 and again as 800. 800 took its place, as in the Rust.\n",
-    )?;
+    println!(rt; "   38 came as 600 and again as 800. 800 took its place, as in the Rust.")?;
     take_over(&records, count, frame, words, values);
     Ok(())
 }
@@ -104,9 +96,9 @@ fn encode(
         Encoding::Written(length) => {
             let written = sample_texts::first(output, length);
             showing::line(rt, written)?;
-            showing::step(rt, b"   Fields written:", count_fields(written))?;
+            showing::step(rt, "   Fields written:", count_fields(written))?;
         }
-        _ => saying::say(rt, b"   refused")?,
+        _ => print!(rt; "   refused")?,
     }
     Ok(())
 }
@@ -123,25 +115,15 @@ fn main(rt: HostRuntime) -> io::Result<()> {
         &mut words,
         &mut values,
     )?;
-    saying::say(
-        &rt,
-        b"4. Encoded as it is held, with its own BodyLength and CheckSum:\n",
-    )?;
+    println!(rt; "4. Encoded as it is held, with its own BodyLength and CheckSum:")?;
     encode(&rt, &mut words, &mut values, &mut encoded)?;
-    saying::say(
-        &rt,
-        b". Every check downstream passes, and nothing shows that it once said 600.\n",
-    )?;
-    saying::say(
-        &rt,
-        b"   The count of fields read against fields held does: here the gateway stops it.\n",
+    println!(rt; ". Every check downstream passes, and nothing shows that it once said 600.")?;
+    println!(rt;
+        "   The count of fields read against fields held does: here the gateway stops it."
     )?;
     message::store(&mut words, &mut values, Part::Body, 38, b"600");
     message::store(&mut words, &mut values, Part::Body, 58, b"38 came twice");
-    saying::say(
-        &rt,
-        b"5. Changed, 38 stored as 600 and 58 as a remark, and encoded again:\n",
-    )?;
+    println!(rt; "5. Changed, 38 stored as 600 and 58 as a remark, and encoded again:")?;
     encode(&rt, &mut words, &mut values, &mut encoded)?;
-    saying::say(&rt, b".\n")
+    println!(rt; ".")
 }

@@ -1,7 +1,7 @@
 -- The reader against the standard, as far as one field goes: a field of the standard is read with its tag and value.
 -- Its text has the digits, the `=` and the delimiter just where reading looks for them.
 use Rattle.std.specs.Prelude.{◌≡◌, refl, true, List, [], ◌∷◌, ◌++◌, ◌≢◌, ℕ, ◌+◌, ◌*◌, ◌-◌, ◌≤◌, length, drop}
-use Rattle.std.proofs.Common.{ap, ◌∙◌, arith, le-leb}
+use Rattle.std.proofs.Common.{ap, ◌∙◌, arith, le-leb, Some, Ok}
 use Rattle.std.proofs.Math.Seq.{drop-append_seam}
 use Rattle.field_rules.specs.Number.{is_digit, all_digits, worth, number_in, tag_of}
 use Rattle.field_rules.proofs.NumberLaws.{worth-least, number_good, tag_good}
@@ -12,11 +12,9 @@ use Rattle.field_rules.proofs.FieldTextLaws.{Spelled, spelt, spelled-read, bytes
 use Rattle.field_rules.proofs.FieldsLaws.{step_value}
 use Rattle.standard_rules.specs.Standard as standard
 use Rattle.standard_rules.specs.Standard.{All, Digit, SOH}
-use Rattle.field_rules.specs.declared.Number.TheVariants.{Worth}
 use Rattle.field_rules.specs.declared.Mode.{Mode}
 use Rattle.field_rules.specs.declared.Cursor.{Cursor}
 use Rattle.field_rules.specs.declared.Field.{Field}
-use Rattle.field_rules.specs.declared.FieldRead.TheVariants.{Read}
 
 pub digits_all : (text : List ℕ) → All Digit text → all_digits text ≡ true
 unfolding all_digits is_digit
@@ -33,7 +31,7 @@ absent_all [] h All.none = find.none
 absent_all (x ∷ s) h (All.also p a) = find.also (h x p) (absent_all s h a)
 
 -- an int of the standard is a number of the rules, where it is not too large
-pub int_read : (text : List ℕ) (n : ℕ) → standard.Int text n → n ≤ 4294967295 → number_in text ≡ Worth n
+pub int_read : (text : List ℕ) (n : ℕ) → standard.Int text n → n ≤ 4294967295 → number_in text ≡ Some n
 int_read text n i h = number_good text n (λ e. omega (arith, i.some)) (digits_all text i.digits) (worth-same 0 text ∙ i.worth) h
 
 not_nothing : (d : ℕ) (ds : List ℕ) → d ≢ 48 → All Digit (d ∷ ds) → 1 ≤ standard.worth_after 0 (d ∷ ds)
@@ -42,7 +40,7 @@ not_nothing d ds n (All.also digit a) =
     omega (arith, digit.0, worth-least ds (0 * 10 + (d - 48)), worth-same (0 * 10 + (d - 48)) ds)
 
 -- a tag number of the standard is a tag of the rules, where it is not too large
-pub tag_read : (text : List ℕ) (tag : ℕ) → standard.TagNum text tag → tag ≤ 4294967295 → tag_of text ≡ Worth tag
+pub tag_read : (text : List ℕ) (tag : ℕ) → standard.TagNum text tag → tag ≤ 4294967295 → tag_of text ≡ Some tag
 tag_read text tag t h =
     tag_good text tag (int_read text tag t.int h)
     (λ e. omega (
@@ -55,7 +53,7 @@ tag_read text tag t h =
 -- a field that was read at a place, with its tag, its value and where it ends
 pub record ReadAs (mode : Mode) (message : List ℕ) (at tag : ℕ) (value : List ℕ) (next : ℕ) : Type 0 where
   pub got : Field
-  pub reads : field_at mode message (start_at at) ≡ Read got
+  pub reads : field_at mode message (start_at at) ≡ Ok got
   pub starts : got.first ≡ at
   pub tag_is : got.tag ≡ tag
   pub value_is : value_of message got ≡ value

@@ -1,7 +1,7 @@
 -- Texts that are no messages of the standard, refused for their tags: a tag twice, a tag in another's place, a count that is not the number
 -- of entries, a part of the message within another. Each has the right BodyLength and CheckSum. In quotation marks: a row of the table
 -- "From the standard" of docs/DIFFERENCES.md.
-use Rattle.std.specs.Prelude.{◌≡◌, refl, Bool, true, false, List, [], ◌∷◌, ◌++◌, ◌≢◌, ℕ, ◌<◌}
+use Rattle.std.specs.Prelude.{◌≡◌, refl, Bool, true, false, List, [], ◌∷◌, ◌++◌, ℕ, ◌<◌}
 use Rattle.std.proofs.Common.{ap, subst, inl, inr, arith}
 use Prim.Native.String.{String}
 use Rattle.field_rules.specs.Choice.{pick}

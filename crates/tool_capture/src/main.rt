@@ -9,16 +9,10 @@ use std::io::Read;
 // Chunks of 8,192 bytes that are read at the most: the program ends on every input.
 const CHUNKS: u64 = 0x1_0000_0000;
 
-#[derive(Clone, Copy)]
+#[derive(Clone, Copy, Default)]
 struct Counts {
     frames: u64,
     bytes: u64,
-}
-
-fn line(rt: &impl Print, label: &[u8], n: u64) -> io::Result<()> {
-    rt.write_all(label)?;
-    rt.print(n)?;
-    rt.write_all(b"\n")
 }
 
 fn with_frame(counts: Counts, length: usize) -> Counts {
@@ -38,8 +32,7 @@ struct Hunting {
 fn hunted(hunting: Hunting, store: &mut [u8], output: &mut [u8]) -> Hunting {
     let mut state = hunting.state;
     let mut counts = hunting.counts;
-    let mut takes: usize = 0;
-    while takes < 16384 {
+    for _ in 0..16384 {
         let taken = frame_hunter::take(state, store, output);
         let length = taken.length;
         state = taken.state;
@@ -47,7 +40,6 @@ fn hunted(hunting: Hunting, store: &mut [u8], output: &mut [u8]) -> Hunting {
             break;
         }
         counts = with_frame(counts, length);
-        takes += 1;
     }
     Hunting { state, counts }
 }
@@ -55,24 +47,21 @@ fn hunted(hunting: Hunting, store: &mut [u8], output: &mut [u8]) -> Hunting {
 fn given(hunting: Hunting, chunk: &[u8], store: &mut [u8], output: &mut [u8]) -> Hunting {
     let reply = frame_hunter::push(hunting.state, store, chunk);
     let state = reply.state;
-    let counts = hunting.counts;
-    hunted(Hunting { state, counts }, store, output)
+    hunted(Hunting { state, ..hunting }, store, output)
 }
 
 fn finished(hunting: Hunting, store: &mut [u8], output: &mut [u8]) -> Hunting {
     let reply = frame_hunter::end(hunting.state, store);
     let state = reply.state;
-    let counts = hunting.counts;
-    hunted(Hunting { state, counts }, store, output)
+    hunted(Hunting { state, ..hunting }, store, output)
 }
 
 fn report(rt: &impl Print, hunting: Hunting) -> io::Result<()> {
-    let state = hunting.state;
-    let counts = hunting.counts;
-    line(rt, b"frames ", counts.frames)?;
-    line(rt, b"bytes in frames ", counts.bytes)?;
-    line(rt, b"places dropped ", state.dropped)?;
-    line(rt, b"bytes held ", state.used as u64)
+    let Hunting { state, counts } = hunting;
+    println!(rt; "frames {}", counts.frames)?;
+    println!(rt; "bytes in frames {}", counts.bytes)?;
+    println!(rt; "places dropped {}", state.dropped)?;
+    println!(rt; "bytes held {}", state.used)
 }
 
 // The stream, chunk by chunk, to its end.
@@ -82,23 +71,16 @@ fn hunt(
     store: &mut [u8],
     output: &mut [u8],
 ) -> io::Result<Hunting> {
-    let fresh = frame_hunter::reset();
-    let none = Counts {
-        frames: 0,
-        bytes: 0,
-    };
     let mut hunting = Hunting {
-        state: fresh,
-        counts: none,
+        state: frame_hunter::reset(),
+        counts: Counts::default(),
     };
-    let mut chunks: u64 = 0;
-    while chunks < CHUNKS {
+    for _ in 0..CHUNKS {
         let n = reading::full(input, chunk)?;
         if n == 0 {
-            return Ok(finished(hunting, store, output));
+            break;
         }
         hunting = given(hunting, &chunk[..n], store, output);
-        chunks += 1;
     }
     Ok(finished(hunting, store, output))
 }
@@ -107,8 +89,6 @@ fn main(rt: HostRuntime) -> io::Result<()> {
     let mut store = [0u8; 16384];
     let mut output = [0u8; 8192];
     let mut chunk = [0u8; 8192];
-    report(
-        &rt,
-        hunt(&mut rt.stdin(), &mut chunk, &mut store, &mut output)?,
-    )
+    let hunting = hunt(&mut rt.stdin(), &mut chunk, &mut store, &mut output)?;
+    report(&rt, hunting)
 }

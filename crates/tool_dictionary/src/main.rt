@@ -6,20 +6,15 @@ use sample_kit::reading;
 use std::{env, io};
 
 fn answered(dictionary: &[u8], n: usize) -> dictionary_rules::Checked {
-    if dictionary.len() < n {
-        return dictionary_check::check(dictionary);
-    }
-    dictionary_check::check(&dictionary[..n])
+    dictionary_check::check(&dictionary[..n.min(dictionary.len())])
 }
 
 // The byte that changes between two checks lies behind the dictionary: no check can be taken for the one before.
 fn again(dictionary: &mut [u8; 60001], n: usize, times: usize) -> u32 {
-    let mut i: usize = 0;
     let mut sum: u32 = 0;
-    while i < times {
+    for i in 0..times {
         dictionary[60000] = (i % 256) as u8;
         sum = sum.wrapping_add(dictionary_check::number_of(answered(dictionary, n)));
-        i += 1;
     }
     sum
 }
@@ -28,13 +23,11 @@ fn main(rt: HostRuntime) -> io::Result<()> {
     let mut dictionary = [0u8; 60001];
     let n = reading::full(&mut rt.stdin(), &mut dictionary)?;
     let checked = answered(&dictionary, n);
-    rt.print(dictionary_check::number_of(checked) as u64)?;
-    rt.write_all(b" ")?;
-    rt.print(dictionary_check::value_of(checked) as u64)?;
-    rt.write_all(b"\n")?;
+    let value = dictionary_check::value_of(checked);
+    println!(rt; "{} {value}", dictionary_check::number_of(checked))?;
     let times = env::args(&rt)?.count();
     if 0 < again(&mut dictionary, n, times) {
-        rt.write_all(b"refused each time\n")?;
+        println!(rt; "refused each time")?;
     }
     Ok(())
 }

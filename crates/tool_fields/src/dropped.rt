@@ -1,11 +1,10 @@
 // What the framer dropped: runs of bytes between messages, shown as far as they can be read.
-use crate::counting::sum;
 use crate::{fields, integrity, saying};
 use std::io;
 
 // A run goes from its first byte that is no line break to its last one. `leading` line breaks stand before it and `trailing` behind it so far.
 // Of its bytes, and those behind it, the first `kept` are in the lent memory.
-#[derive(Clone, Copy)]
+#[derive(Clone, Copy, Default)]
 pub struct Run {
     pub first: u64,
     pub length: u64,
@@ -25,36 +24,26 @@ struct Extent {
 pub fn none(place: u64) -> Run {
     Run {
         first: place,
-        length: 0,
-        leading: 0,
-        trailing: 0,
-        kept: 0,
+        ..Run::default()
     }
 }
 
 fn is_line_break(byte: u8) -> bool {
-    if byte == b'\r' {
-        return true;
-    }
-    byte == b'\n'
+    matches!(byte, b'\r' | b'\n')
 }
 
 fn with_line_break(run: Run, kept: usize) -> Run {
     if run.length == 0 {
         return Run {
-            first: sum(run.first, 1),
-            length: 0,
-            leading: sum(run.leading, 1),
-            trailing: 0,
-            kept: 0,
+            first: run.first.wrapping_add(1),
+            leading: run.leading.wrapping_add(1),
+            ..Run::default()
         };
     }
     Run {
-        first: run.first,
-        length: run.length,
-        leading: run.leading,
-        trailing: sum(run.trailing, 1),
+        trailing: run.trailing.wrapping_add(1),
         kept,
+        ..run
     }
 }
 
@@ -63,66 +52,49 @@ fn with_byte(run: Run, byte: u8, kept: usize) -> Run {
         return with_line_break(run, kept);
     }
     Run {
-        first: run.first,
-        length: sum(sum(run.length, run.trailing), 1),
-        leading: run.leading,
+        length: run.length.wrapping_add(run.trailing).wrapping_add(1),
         trailing: 0,
         kept,
+        ..run
     }
 }
 
 // The run with further bytes, kept as far as there is room.
 pub fn more(run: Run, bytes: &[u8], memory: &mut [u8]) -> Run {
     let mut longer = run;
-    let mut i: usize = 0;
-    while i < bytes.len() {
-        let byte = bytes[i];
+    for &byte in bytes {
         let kept = sample_texts::put(memory, longer.kept, byte);
         longer = with_byte(longer, byte, kept);
-        i += 1;
     }
     longer
 }
 
-fn is_digit(byte: u8) -> bool {
-    if byte < b'0' {
-        return false;
-    }
-    byte <= b'9'
-}
-
 // Whether `8=` stands at a place and is not the end of a longer tag; on a new line, if that is asked for.
 fn may_start(bytes: &[u8], place: usize, on_new_line: bool) -> bool {
-    if !integrity::begins(sample_texts::from(bytes, place), b"8=") {
+    if !sample_texts::from(bytes, place).starts_with(b"8=") {
         return false;
     }
     if place == 0 {
         return true;
     }
-    let before = sample_texts::byte_at(bytes, place - 1);
+    let before = sample_texts::at(bytes, place - 1);
     if on_new_line {
         return is_line_break(before);
     }
-    !is_digit(before)
+    !before.is_ascii_digit()
 }
 
 // The first place behind the first byte at which a message may start, or the end.
 fn next_start(bytes: &[u8], on_new_line: bool) -> usize {
-    let mut place: usize = 1;
-    while place < bytes.len() {
-        if may_start(bytes, place, on_new_line) {
-            return place;
-        }
-        place += 1;
-    }
-    bytes.len()
+    (1..bytes.len())
+        .find(|&place| may_start(bytes, place, on_new_line))
+        .unwrap_or(bytes.len())
 }
 
 // A text that starts with `8=` is read up to its first 10, up to the next 8, or to its end.
 fn fields_extent(bytes: &[u8]) -> Extent {
     let mut at: usize = 0;
-    let mut turns: usize = 0;
-    while turns < 8192 {
+    for _ in 0..8192 {
         if bytes.len() <= at {
             break;
         }
@@ -135,7 +107,6 @@ fn fields_extent(bytes: &[u8]) -> Extent {
             return Extent { last: end, end };
         }
         at = end;
-        turns += 1;
     }
     Extent {
         last: bytes.len(),
@@ -149,9 +120,8 @@ fn extent_of(bytes: &[u8]) -> Extent {
 }
 
 fn heading(rt: &impl Print, place: u64, size: usize) -> io::Result<()> {
-    saying::number(rt, b"  at ", place)?;
-    saying::say(rt, b", ")?;
-    saying::counted(rt, size as u64, b" byte", b" bytes")
+    print!(rt; "  at {place}, ")?;
+    saying::counted(rt, size as u64, " byte", " bytes")
 }
 
 // Shows a text that starts with `8=`, and answers where it ends. `whole`: it was kept to its end.
@@ -159,7 +129,7 @@ fn damaged(rt: &impl Print, bytes: &[u8], place: u64, whole: bool) -> io::Result
     let extent = extent_of(bytes);
     let message = sample_texts::first(bytes, extent.end);
     heading(rt, place, message.len())?;
-    saying::say(rt, b", read as a message:\n")?;
+    println!(rt; ", read as a message:")?;
     let ends = whole || extent.last < bytes.len();
     let repeated = fields::listed(rt, message, place, ends)?;
     integrity::judged(rt, message, extent.last, ends)?;
@@ -169,7 +139,7 @@ fn damaged(rt: &impl Print, bytes: &[u8], place: u64, whole: bool) -> io::Result
 
 // Shows the piece at the start of the bytes, and answers where it ends.
 fn piece(rt: &impl Print, bytes: &[u8], place: u64, whole: bool) -> io::Result<usize> {
-    if is_line_break(sample_texts::byte_at(bytes, 0)) {
+    if is_line_break(sample_texts::at(bytes, 0)) {
         return Ok(1);
     }
     if may_start(bytes, 0, false) {
@@ -177,22 +147,20 @@ fn piece(rt: &impl Print, bytes: &[u8], place: u64, whole: bool) -> io::Result<u
     }
     let end = next_start(bytes, false);
     heading(rt, place, end)?;
-    saying::say(rt, b", where no message starts: ")?;
+    print!(rt; ", where no message starts: ")?;
     saying::excerpt(rt, sample_texts::first(bytes, end))?;
-    saying::say(rt, b"\n")?;
+    println!(rt;)?;
     Ok(end)
 }
 
 fn pieces(rt: &impl Print, bytes: &[u8], first: u64, whole: bool) -> io::Result<()> {
     let mut at: usize = 0;
-    let mut turns: usize = 0;
-    while turns < 8192 {
+    for _ in 0..8192 {
         if bytes.len() <= at {
             return Ok(());
         }
-        let place = sum(first, at as u64);
+        let place = first.wrapping_add(at as u64);
         at = at.wrapping_add(piece(rt, sample_texts::from(bytes, at), place, whole)?);
-        turns += 1;
     }
     Ok(())
 }
@@ -202,20 +170,14 @@ pub fn show(rt: &impl Print, run: Run, memory: &[u8]) -> io::Result<()> {
     if run.length == 0 {
         return Ok(());
     }
-    saying::number(rt, b"dropped at ", run.first)?;
-    saying::say(rt, b", ")?;
-    saying::counted(rt, run.length, b" byte\n", b" bytes\n")?;
+    print!(rt; "dropped at {}, ", run.first)?;
+    saying::counted(rt, run.length, " byte\n", " bytes\n")?;
     if run.length <= run.kept as u64 {
-        pieces(
-            rt,
-            sample_texts::first(memory, run.length as usize),
-            run.first,
-            true,
-        )?;
-        return Ok(());
+        let kept = sample_texts::first(memory, run.length as usize);
+        return pieces(rt, kept, run.first, true);
     }
     pieces(rt, sample_texts::first(memory, run.kept), run.first, false)?;
-    saying::say(rt, b"  and ")?;
-    saying::counted(rt, run.length - run.kept as u64, b" byte", b" bytes")?;
-    saying::say(rt, b" more, which were not kept\n")
+    print!(rt; "  and ")?;
+    saying::counted(rt, run.length - run.kept as u64, " byte", " bytes")?;
+    println!(rt; " more, which were not kept")
 }

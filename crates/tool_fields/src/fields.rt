@@ -1,9 +1,8 @@
 // The fields of a message, one to a line, each with its place in the input.
 ghost use Rattle.std.specs.Prelude.{◌≤◌, length};
 
-use crate::counting::sum;
 use crate::saying;
-use field_rules::{Field, FieldRead, Found};
+use field_rules::Field;
 use std::io;
 
 const SEPARATOR: u8 = 1;
@@ -15,8 +14,15 @@ struct Standing {
     first: usize,
 }
 
-// How many tags stand more than once: of those that may stand in a repeating group, and of those that stand in none.
+// The tag of a line, 0 where it is no field, and where it stands.
 #[derive(Clone, Copy)]
+struct Row {
+    tag: u32,
+    place: usize,
+}
+
+// How many tags stand more than once: of those that may stand in a repeating group, and of those that stand in none.
+#[derive(Clone, Copy, Default)]
 pub struct Repeated {
     pub grouped: u64,
     pub ungrouped: u64,
@@ -48,7 +54,7 @@ fn text_at(message: &[u8], at: usize) -> Field
 pub fn field_at(message: &[u8], at: usize) -> Field {
     let mode = field_tagvalue::separated_by(SEPARATOR);
     let read = field_tagvalue::next_field(field_tagvalue::start_at(at), message, mode);
-    if let FieldRead::Read(field) = read {
+    if let Ok(field) = read {
         return field;
     }
     if message.len() < at {
@@ -59,8 +65,7 @@ pub fn field_at(message: &[u8], at: usize) -> Field {
 
 // Where the field behind a field starts.
 pub fn next_of(field: Field) -> usize {
-    let next = field.next;
-    next.at
+    field.next.at
 }
 
 // A field as it is written, without its separator. No separator stands before its `=`.
@@ -81,39 +86,30 @@ fn met(before: Standing, place: usize) -> Standing {
     }
 }
 
-// A tag among those of the first lines. Where a line is no field, its tag is 0.
-fn stood_before(tags: &[u32; 1024], places: &[usize; 1024], lines: usize, tag: u32) -> Standing {
+// A tag among those of the lines above.
+fn stood_before(rows: &[Row], tag: u32) -> Standing {
     let mut before = Standing { times: 0, first: 0 };
     if tag == 0 {
         return before;
     }
-    let mut i: usize = 0;
-    while i < 1024 {
-        if lines <= i {
-            return before;
+    for row in rows {
+        if row.tag == tag {
+            before = met(before, row.place);
         }
-        if tags[i] == tag {
-            before = met(before, places[i]);
-        }
-        i += 1;
     }
     before
 }
 
 // FIX has these in no repeating group.
 fn stands_in_no_group(tag: u32) -> bool {
-    match tag {
-        8 | 9 | 10 | 35 => true,
-        _ => false,
-    }
+    matches!(tag, 8 | 9 | 10 | 35)
 }
 
 // What can be known of a tag that was read before.
 fn again(rt: &impl Print, tag: u32, place: u64) -> io::Result<()> {
-    saying::number(rt, b"   <- ", field_numbers::wide(tag) as u64)?;
-    saying::number(rt, b" again, first at ", place)?;
+    print!(rt; "   <- {tag} again, first at {place}")?;
     if stands_in_no_group(tag) {
-        saying::say(rt, b": a repeat, for FIX has it in no group")?;
+        print!(rt; ": a repeat, for FIX has it in no group")?;
     }
     Ok(())
 }
@@ -124,19 +120,16 @@ fn unreadable(rt: &impl Print, message: &[u8], field: Field, whole: bool) -> io:
     saying::excerpt(rt, text)?;
     let rest = sample_texts::from(message, field.first);
     if text.len() < rest.len() {
-        if let Found::Nothing = field_tagvalue::find(text, b'=') {
-            saying::say(rt, b"   <- no field: no `=`")?;
-            return Ok(());
-        }
-        saying::say(rt, b"   <- no field: what stands before `=` is no tag")?;
-        return Ok(());
+        return match field_tagvalue::find(text, b'=') {
+            None => print!(rt; "   <- no field: no `=`"),
+            Some(_) => print!(rt; "   <- no field: what stands before `=` is no tag"),
+        };
     }
     if whole {
-        saying::say(rt, b"   <- no field: no separator behind it")?;
+        print!(rt; "   <- no field: no separator behind it")
     } else {
-        saying::say(rt, b"   <- not kept to its end")?;
+        print!(rt; "   <- not kept to its end")
     }
-    Ok(())
 }
 
 fn line(
@@ -147,17 +140,17 @@ fn line(
     before: Standing,
     whole: bool,
 ) -> io::Result<()> {
-    saying::column(rt, sum(place, field.first as u64))?;
+    // Places up to 999,999 stand in a column.
+    print!(rt; "  {:6}  ", place.wrapping_add(field.first as u64))?;
     if field.tag == 0 {
         unreadable(rt, message, field, whole)?;
-        saying::say(rt, b"\n")?;
-        return Ok(());
+        return println!(rt;);
     }
     saying::escaped(rt, text_of(message, field))?;
     if 0 < before.times {
-        again(rt, field.tag, sum(place, before.first as u64))?;
+        again(rt, field.tag, place.wrapping_add(before.first as u64))?;
     }
-    saying::say(rt, b"\n")
+    println!(rt;)
 }
 
 // A tag is counted when it is read for the second time.
@@ -167,46 +160,39 @@ fn with_line(repeated: Repeated, tag: u32, before: Standing) -> Repeated {
     }
     if stands_in_no_group(tag) {
         return Repeated {
-            grouped: repeated.grouped,
-            ungrouped: sum(repeated.ungrouped, 1),
+            ungrouped: repeated.ungrouped.wrapping_add(1),
+            ..repeated
         };
     }
     Repeated {
-        grouped: sum(repeated.grouped, 1),
-        ungrouped: repeated.ungrouped,
+        grouped: repeated.grouped.wrapping_add(1),
+        ..repeated
     }
 }
 
 fn more_follows(rt: &impl Print) -> io::Result<()> {
-    saying::say(
-        rt,
-        b"  more follows: the first 1,024 fields are listed, and tags that stand again",
-    )?;
-    saying::say(rt, b" are marked among them\n")
+    print!(rt; "  more follows: the first 1,024 fields are listed, and tags that stand again")?;
+    println!(rt; " are marked among them")
 }
 
 // Lists the fields of the message at a place of the input, and answers which tags stand there more than once.
 pub fn listed(rt: &impl Print, message: &[u8], place: u64, whole: bool) -> io::Result<Repeated> {
-    let mut tags = [0u32; 1024];
-    let mut places = [0usize; 1024];
-    let mut repeated = Repeated {
-        grouped: 0,
-        ungrouped: 0,
-    };
+    let mut rows = [Row { tag: 0, place: 0 }; 1024];
+    let mut repeated = Repeated::default();
     let mut at: usize = 0;
-    let mut i: usize = 0;
-    while i < 1024 {
+    for i in 0..1024 {
         if message.len() <= at {
             return Ok(repeated);
         }
         let field = field_at(message, at);
-        let before = stood_before(&tags, &places, i, field.tag);
+        let before = stood_before(&rows[..i], field.tag);
         line(rt, message, field, place, before, whole)?;
-        tags[i] = field.tag;
-        places[i] = at;
+        rows[i] = Row {
+            tag: field.tag,
+            place: at,
+        };
         repeated = with_line(repeated, field.tag, before);
         at = next_of(field);
-        i += 1;
     }
     if at < message.len() {
         more_follows(rt)?;
@@ -215,10 +201,7 @@ pub fn listed(rt: &impl Print, message: &[u8], place: u64, whole: bool) -> io::R
 }
 
 pub fn is_repeating(repeated: Repeated) -> bool {
-    if 0 < repeated.grouped {
-        return true;
-    }
-    0 < repeated.ungrouped
+    0 < repeated.grouped || 0 < repeated.ungrouped
 }
 
 // What can be known of tags that may stand in a group.
@@ -226,14 +209,8 @@ pub fn repeats(rt: &impl Print, repeated: Repeated) -> io::Result<()> {
     if repeated.grouped == 0 {
         return Ok(());
     }
-    saying::say(rt, b"  ")?;
-    saying::counted(rt, repeated.grouped, b" tag stands", b" tags stand")?;
-    saying::say(
-        rt,
-        b" more than once: each entry of a repeating group may have its own, elsewhere",
-    )?;
-    saying::say(
-        rt,
-        b" the later value takes the place of the earlier. A dictionary tells which\n",
-    )
+    print!(rt; "  ")?;
+    saying::counted(rt, repeated.grouped, " tag stands", " tags stand")?;
+    print!(rt; " more than once: each entry of a repeating group may have its own, elsewhere")?;
+    println!(rt; " the later value takes the place of the earlier. A dictionary tells which")
 }

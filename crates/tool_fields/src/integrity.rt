@@ -1,66 +1,35 @@
 // Whether BodyLength and CheckSum are right, from the bytes, and what else keeps a text from being a frame (RULES.md, Hunting framer).
-use crate::counting::sum;
 use crate::{fields, saying};
-use field_rules::{Field, Number};
+use field_rules::Field;
 use std::io;
 
-// Whether a text starts so.
-pub fn begins(text: &[u8], wanted: &[u8]) -> bool {
-    if text.len() < wanted.len() {
-        return false;
+fn settled(rt: &impl Print, says: Option<u32>, is: usize) -> io::Result<()> {
+    match says {
+        Some(n) if n as usize == is => println!(rt; ": right"),
+        _ => println!(rt; ": wrong"),
     }
-    let mut i: usize = 0;
-    while i < wanted.len() {
-        if text[i] != wanted[i] {
-            return false;
-        }
-        i += 1;
-    }
-    true
-}
-
-fn settled(rt: &impl Print, says: Number, is: usize) -> io::Result<()> {
-    if let Number::Worth(n) = says {
-        if field_numbers::wide(n) == is {
-            saying::say(rt, b": right\n")?;
-            return Ok(());
-        }
-    }
-    saying::say(rt, b": wrong\n")
 }
 
 // What a field says, the value alone.
-fn says(rt: &impl Print, name: &[u8], value: &[u8]) -> io::Result<()> {
-    saying::say(rt, b"  ")?;
-    saying::say(rt, name)?;
-    saying::say(rt, b" says ")?;
+fn says(rt: &impl Print, name: &str, value: &[u8]) -> io::Result<()> {
+    print!(rt; "  {name} says ")?;
     saying::excerpt(rt, value)
 }
 
-fn difference(from: usize, to: usize) -> usize {
-    if to < from {
-        return 0;
-    }
-    to - from
-}
-
 // Whether a message of this BodyLength, whose field ends before `body`, is longer than a frame may be.
-fn is_too_long(body: usize, says: Number) -> bool {
-    let Number::Worth(n) = says else {
+fn is_too_long(body: usize, says: Option<u32>) -> bool {
+    let Some(n) = says else {
         return false;
     };
-    8192 < sum(sum(body as u64, field_numbers::wide(n) as u64), 7)
+    8192 < body.wrapping_add(n as usize).wrapping_add(7)
 }
 
 fn limits(rt: &impl Print, body: usize, value: &[u8]) -> io::Result<()> {
     if is_too_long(body, field_numbers::number_of(value)) {
-        saying::say(
-            rt,
-            b"  a message of that BodyLength has more than 8,192 bytes\n",
-        )?;
+        println!(rt; "  a message of that BodyLength has more than 8,192 bytes")?;
     }
     if 5 < value.len() {
-        saying::say(rt, b"  BodyLength has more than five digits\n")?;
+        println!(rt; "  BodyLength has more than five digits")?;
     }
     Ok(())
 }
@@ -75,16 +44,15 @@ fn body_length(
 ) -> io::Result<()> {
     let value = field_tagvalue::value_of(message, field);
     let body = fields::next_of(field);
-    let is = difference(body, last);
-    says(rt, b"BodyLength", value)?;
+    let is = last.saturating_sub(body);
+    says(rt, "BodyLength", value)?;
     if last < message.len() {
-        saying::number(rt, b" and is ", is as u64)?;
+        print!(rt; " and is {is}")?;
         settled(rt, field_numbers::number_of(value), is)?;
     } else if whole {
-        saying::number(rt, b", and behind it stand ", is as u64)?;
-        saying::say(rt, b" bytes\n")?;
+        println!(rt; ", and behind it stand {is} bytes")?;
     } else {
-        saying::say(rt, b"\n")?;
+        println!(rt;)?;
     }
     limits(rt, body, value)
 }
@@ -94,35 +62,32 @@ fn checksum(rt: &impl Print, message: &[u8], last: usize) -> io::Result<()> {
     let field = fields::field_at(message, last);
     let value = field_tagvalue::value_of(message, field);
     let sum = field_numbers::sum_of(sample_texts::first(message, last));
-    says(rt, b"CheckSum", value)?;
-    saying::say(rt, b" and is ")?;
-    saying::say(rt, &field_numbers::checksum_digits(sum))?;
-    settled(rt, field_numbers::checksum_of(value), sum as usize)?;
+    says(rt, "CheckSum", value)?;
+    print!(rt; " and is ")?;
+    rt.write_all(&field_numbers::checksum_digits(sum))?;
+    settled(rt, field_numbers::checksum_of(value), usize::from(sum))?;
     if !is_written(message, field, b"10=") {
-        saying::say(rt, b"  CheckSum is not written `10=`\n")?;
+        println!(rt; "  CheckSum is not written `10=`")?;
     }
     Ok(())
 }
 
 // Whether a field is one, and written with this tag.
 fn is_written(message: &[u8], field: Field, tag: &[u8]) -> bool {
-    if field.tag == 0 {
-        return false;
-    }
-    begins(fields::text_of(message, field), tag)
+    field.tag != 0 && fields::text_of(message, field).starts_with(tag)
 }
 
 fn begin_string(rt: &impl Print, message: &[u8], field: Field) -> io::Result<()> {
     if !is_written(message, field, b"8=") {
-        saying::say(rt, b"  no BeginString (`8=`) as the first field\n")?;
+        println!(rt; "  no BeginString (`8=`) as the first field")?;
         return Ok(());
     }
     let size = field_tagvalue::value_of(message, field).len();
     if size == 0 {
-        saying::say(rt, b"  BeginString is empty\n")?;
+        println!(rt; "  BeginString is empty")?;
     }
     if 16 < size {
-        saying::say(rt, b"  BeginString has more than 16 bytes\n")?;
+        println!(rt; "  BeginString has more than 16 bytes")?;
     }
     Ok(())
 }
@@ -135,10 +100,10 @@ fn first_fields(rt: &impl Print, message: &[u8], last: usize, whole: bool) -> io
     if is_written(message, second, b"9=") {
         body_length(rt, message, second, last, whole)?;
     } else {
-        saying::say(rt, b"  no BodyLength (`9=`) as the second field\n")?;
+        println!(rt; "  no BodyLength (`9=`) as the second field")?;
     }
     if !is_written(message, third, b"35=") {
-        saying::say(rt, b"  no MsgType (`35=`) as the third field\n")?;
+        println!(rt; "  no MsgType (`35=`) as the third field")?;
     }
     Ok(())
 }
@@ -149,9 +114,9 @@ pub fn judged(rt: &impl Print, message: &[u8], last: usize, whole: bool) -> io::
     if last < message.len() {
         checksum(rt, message, last)?;
     } else if whole {
-        saying::say(rt, b"  no CheckSum field (10) up to here: cut off\n")?;
+        println!(rt; "  no CheckSum field (10) up to here: cut off")?;
     } else {
-        saying::say(rt, b"  not kept up to its CheckSum field (10)\n")?;
+        println!(rt; "  not kept up to its CheckSum field (10)")?;
     }
     Ok(())
 }

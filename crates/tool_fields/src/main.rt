@@ -29,21 +29,16 @@ struct Showing {
 
 // The field with which a frame ends is `10=`, three digits and the separator.
 fn checksum_place(frame: &[u8]) -> usize {
-    if frame.len() < 7 {
-        return frame.len();
-    }
-    frame.len() - 7
+    frame.len().checked_sub(7).unwrap_or(frame.len())
 }
 
 fn message(rt: &impl Print, frame: &[u8], place: u64, counts: Counts) -> io::Result<Counts> {
-    saying::number(rt, b"message ", counting::sum(counts.messages, 1))?;
-    saying::number(rt, b" at ", place)?;
-    saying::number(rt, b", ", frame.len() as u64)?;
-    saying::say(rt, b" bytes\n")?;
+    let number = counts.messages.wrapping_add(1);
+    println!(rt; "message {number} at {place}, {} bytes", frame.len())?;
     let repeated = fields::listed(rt, frame, place, true)?;
     integrity::judged(rt, frame, checksum_place(frame), true)?;
     fields::repeats(rt, repeated)?;
-    Ok(counting::with_message(counts, fields::is_repeating(repeated)))
+    Ok(counts.with_message(fields::is_repeating(repeated)))
 }
 
 // What a take passed, and the frame that it handed out behind that; none, where that is empty.
@@ -56,9 +51,9 @@ fn taken_over(
     memory: &mut [u8],
 ) -> io::Result<Showing> {
     let run = dropped::more(showing.run, passed, memory);
-    let place = counting::sum(showing.place, passed.len() as u64);
+    let place = showing.place.wrapping_add(passed.len() as u64);
     let counts = showing.counts;
-    if frame.len() == 0 {
+    if frame.is_empty() {
         return Ok(Showing {
             state,
             place,
@@ -67,8 +62,8 @@ fn taken_over(
         });
     }
     dropped::show(rt, run, memory)?;
-    let counts = message(rt, frame, place, counting::with_run(counts, run))?;
-    let place = counting::sum(place, frame.len() as u64);
+    let counts = message(rt, frame, place, counts.with_run(run))?;
+    let place = place.wrapping_add(frame.len() as u64);
     let run = dropped::none(place);
     Ok(Showing {
         state,
@@ -88,10 +83,9 @@ fn told(
     output: &[u8],
     memory: &mut [u8],
 ) -> io::Result<Showing> {
-    let before = showing.state;
     let state = taken.state;
     let at = showing.place.wrapping_sub(first);
-    let size = state.dropped.wrapping_sub(before.dropped);
+    let size = state.dropped.wrapping_sub(showing.state.dropped);
     let passed = sample_texts::part(held, at as usize, size as usize);
     let frame = sample_texts::first(output, taken.length);
     taken_over(rt, showing, passed, frame, state, memory)
@@ -108,14 +102,12 @@ fn taken(
     let mut output = [0u8; 8192];
     let first = showing.place;
     let mut now = showing;
-    let mut takes: usize = 0;
-    while takes < 16384 {
+    for _ in 0..16384 {
         let taken = frame_hunter::take(now.state, store, &mut output);
         now = told(rt, now, taken, held, first, &output, memory)?;
         if taken.length == 0 {
             break;
         }
-        takes += 1;
     }
     Ok(now)
 }
@@ -130,16 +122,7 @@ fn drained(
 ) -> io::Result<Showing> {
     let mut held = [0u8; 16384];
     sample_texts::copy(&mut held, 0, store);
-    let place = showing.place;
-    let run = showing.run;
-    let counts = showing.counts;
-    let next = Showing {
-        state,
-        place,
-        run,
-        counts,
-    };
-    taken(rt, next, &held, store, memory)
+    taken(rt, Showing { state, ..showing }, &held, store, memory)
 }
 
 fn given(
@@ -162,9 +145,8 @@ fn finished(
 ) -> io::Result<Counts> {
     let reply = frame_hunter::end(showing.state, store);
     let last = drained(rt, showing, reply.state, store, memory)?;
-    let run = last.run;
-    dropped::show(rt, run, memory)?;
-    Ok(counting::with_run(last.counts, run))
+    dropped::show(rt, last.run, memory)?;
+    Ok(last.counts.with_run(last.run))
 }
 
 // The stream, chunk by chunk, to its end.
@@ -179,16 +161,14 @@ fn shown(
         state: frame_hunter::reset(),
         place: 0,
         run: dropped::none(0),
-        counts: counting::nothing(),
+        counts: Counts::default(),
     };
-    let mut chunks: u64 = 0;
-    while chunks < CHUNKS {
+    for _ in 0..CHUNKS {
         let n = reading::full(input, &mut chunk)?;
         if n == 0 {
             break;
         }
         showing = given(rt, showing, &chunk[..n], store, memory)?;
-        chunks += 1;
     }
     finished(rt, showing, store, memory)
 }

@@ -9,10 +9,10 @@ use Rattle.build_body.proofs.keep.Goals as goal
 pub store-requires : goal.store-requires
 store-requires c = record { records_in_bounds = (omega arith, c.requires.from_le_records.2); covers = c.requires.covers }
 
-pub returns-in-At : goal.returns-in-At
+pub returns-in-Some : goal.returns-in-Some
 unfolding part_of
-returns-in-At c = record { kept = rw c.store.ensures.words_after (keep-held _ _ _ _ (omega arith) (omega arith) _ (sym c.store.ensures.value ∙ c.in-At.is)); seen_after = c.store.ensures.seen_after }
+returns-in-Some c = record { kept = rw c.store.ensures.words_after (keep-held _ _ _ _ (omega arith) (omega arith) _ (sym c.store.ensures.value ∙ c.in-Some.is)); seen_after = c.store.ensures.seen_after }
 
-pub returns-in-Nowhere : goal.returns-in-Nowhere
+pub returns-in-None : goal.returns-in-None
 unfolding part_of
-returns-in-Nowhere c = record { kept = rw c.store.ensures.words_after (keep-new _ _ _ _ (omega arith) (omega arith) (sym c.store.ensures.value ∙ c.in-Nowhere.is)); seen_after = c.store.ensures.seen_after }
+returns-in-None c = record { kept = rw c.store.ensures.words_after (keep-new _ _ _ _ (omega arith) (omega arith) (sym c.store.ensures.value ∙ c.in-None.is)); seen_after = c.store.ensures.seen_after }

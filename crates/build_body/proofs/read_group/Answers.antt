@@ -28,13 +28,13 @@ pub check_run-requires : goal.check_run-requires
 check_run-requires c =
     let fits : Fits c.args.message.now (record { room = c.args.progress.room; records = c.open_run-opening.result.records; place = c.open_run-opening.result.place }) = record { short = c.requires.message_len_bound.0; counted = omega (arith, c.open_run-opening.ensures.opened.by_one, c.requires.message_len_bound.3, c.requires.message_len_bound.4); placed = omega (arith, c.open_run-opening.ensures.opened.by_one, c.open_run-opening.ensures.opened.within, c.requires.message_len_bound.3, c.requires.message_len_bound.4) } in
     let words_left : c.open_run-opening.result.records + c.args.progress.room ≤ length c.open_run-opening.new.words / stride = omega (arith, c.open_run-opening.ensures.opened.by_one, c.open_run-opening.auto.words, c.requires.message_len_bound.3) in
-    run_fits _ _ _ _ _ _ _ _ _ _ _ _ _ _ _ c.open_run-opening.ensures.opened c.open_run-opening.auto.words c.read_run.auto.words (words_left) (fits) _ _ _ c.in-At.is c.read_run.ensures
+    run_fits _ _ _ _ _ _ _ _ _ _ _ _ _ _ _ c.open_run-opening.ensures.opened c.open_run-opening.auto.words c.read_run.auto.words (words_left) (fits) _ _ _ c.in-Ok.is c.read_run.ensures
 
-pub returns-in-Refused : goal.returns-in-Refused
-returns-in-Refused c =
+pub returns-in-Err : goal.returns-in-Err
+returns-in-Err c =
     let seen : c.open_run-opening.new.seen ≡ noted c.args.count.tag c.args.seen.now = unfold part_record in c.open_run-opening.ensures.seen_after ∙ ap (λ (r : Record). noted r.tag c.args.seen.now) c.record_of.ensures in
     let words_left : c.open_run-opening.result.records + c.args.progress.room ≤ length c.open_run-opening.new.words / stride = omega (arith, c.open_run-opening.ensures.opened.by_one, c.open_run-opening.auto.words, c.requires.message_len_bound.3) in
-    let a = answers-stopped _ _ _ _ _ _ _ _ _ _ _ _ _ _ _ c.open_run-opening.ensures.opened c.open_run-opening.auto.words c.read_run.auto.words (words_left) _ c.record_of.ensures _ _ c.in-Refused.is c.read_run.ensures in
+    let a = answers-stopped _ _ _ _ _ _ _ _ _ _ _ _ _ _ _ c.open_run-opening.ensures.opened c.open_run-opening.auto.words c.read_run.auto.words (words_left) _ c.record_of.ensures _ _ c.in-Err.is c.read_run.ensures in
     record { words_after = rw c.answer_of.ensures (a.0); stays = rw c.answer_of.ensures (a.1); seen_after = seen }
 
 pub returns-in-Missing : goal.returns-in-Missing
@@ -42,7 +42,7 @@ returns-in-Missing c =
     let seen : c.open_run-opening.new.seen ≡ noted c.args.count.tag c.args.seen.now = unfold part_record in c.open_run-opening.ensures.seen_after ∙ ap (λ (r : Record). noted r.tag c.args.seen.now) c.record_of.ensures in
     let fits : Fits c.args.message.now (record { room = c.args.progress.room; records = c.open_run-opening.result.records; place = c.open_run-opening.result.place }) = record { short = c.requires.message_len_bound.0; counted = omega (arith, c.open_run-opening.ensures.opened.by_one, c.requires.message_len_bound.3, c.requires.message_len_bound.4); placed = omega (arith, c.open_run-opening.ensures.opened.by_one, c.open_run-opening.ensures.opened.within, c.requires.message_len_bound.3, c.requires.message_len_bound.4) } in
     let words_left : c.open_run-opening.result.records + c.args.progress.room ≤ length c.open_run-opening.new.words / stride = omega (arith, c.open_run-opening.ensures.opened.by_one, c.open_run-opening.auto.words, c.requires.message_len_bound.3) in
-    let a = answers_lack _ _ _ _ _ _ _ _ _ _ _ _ _ _ _ c.open_run-opening.ensures.opened c.open_run-opening.auto.words c.read_run.auto.words (words_left) (fits) _ _ _ c.in-At.is c.read_run.ensures _ c.record_of.ensures _ c.check_run.ensures _ _ c.in-Missing.is in
+    let a = answers_lack _ _ _ _ _ _ _ _ _ _ _ _ _ _ _ c.open_run-opening.ensures.opened c.open_run-opening.auto.words c.read_run.auto.words (words_left) (fits) _ _ _ c.in-Ok.is c.read_run.ensures _ c.record_of.ensures _ c.check_run.ensures _ _ c.in-Missing.is in
     record { words_after = a.0; stays = a.1; seen_after = seen }
 
 pub returns-in-Complete : goal.returns-in-Complete
@@ -50,5 +50,5 @@ returns-in-Complete c =
     let seen : c.open_run-opening.new.seen ≡ noted c.args.count.tag c.args.seen.now = unfold part_record in c.open_run-opening.ensures.seen_after ∙ ap (λ (r : Record). noted r.tag c.args.seen.now) c.record_of.ensures in
     let fits : Fits c.args.message.now (record { room = c.args.progress.room; records = c.open_run-opening.result.records; place = c.open_run-opening.result.place }) = record { short = c.requires.message_len_bound.0; counted = omega (arith, c.open_run-opening.ensures.opened.by_one, c.requires.message_len_bound.3, c.requires.message_len_bound.4); placed = omega (arith, c.open_run-opening.ensures.opened.by_one, c.open_run-opening.ensures.opened.within, c.requires.message_len_bound.3, c.requires.message_len_bound.4) } in
     let words_left : c.open_run-opening.result.records + c.args.progress.room ≤ length c.open_run-opening.new.words / stride = omega (arith, c.open_run-opening.ensures.opened.by_one, c.open_run-opening.auto.words, c.requires.message_len_bound.3) in
-    let a = answers-complete _ _ _ _ _ _ _ _ _ _ _ _ _ _ _ c.open_run-opening.ensures.opened c.open_run-opening.auto.words c.read_run.auto.words (words_left) (fits) _ _ _ c.in-At.is c.read_run.ensures _ c.record_of.ensures _ c.check_run.ensures c.in-Complete.is in
+    let a = answers-complete _ _ _ _ _ _ _ _ _ _ _ _ _ _ _ c.open_run-opening.ensures.opened c.open_run-opening.auto.words c.read_run.auto.words (words_left) (fits) _ _ _ c.in-Ok.is c.read_run.ensures _ c.record_of.ensures _ c.check_run.ensures c.in-Complete.is in
     record { words_after = a.0; stays = a.1; seen_after = seen }

@@ -1,13 +1,8 @@
 -- `run_end` meets its contract. The loop's invariant: what stands behind the run from here on is what stands behind it from its place on.
--- The measure is how many records are left.
 use mathlib.Core.Path.{◌≡◌}
-use Prim.Native.Nat.{◌-◌, ◌≤◌}
 use Rattle.build_parts.specs.Parts.{part_of}
 use Rattle.build_body_rules.specs.Body.{behind_run}
 use Rattle.build_body.proofs.run_end.Given as goal
 
 abbrev pub invariant-loop-end : goal.invariant-loop-end
-invariant-loop-end l = (l.place ≤ l.end) × (l.end ≤ l.records) × (behind_run (part_of l.place l.records l.words) ≡ behind_run (part_of l.end l.records l.words))
-
-abbrev pub decreases-loop-end : goal.decreases-loop-end
-decreases-loop-end l = l.records - l.end
+invariant-loop-end l = behind_run (part_of l.place l.records l.words) ≡ behind_run (part_of l.end l.records l.words)

@@ -4,12 +4,12 @@ use Rattle.build_group_rules.specs.Reading.{further, standing_in}
 use Rattle.build_group_rules.proofs.ReadingLaws.{further-held, further-new}
 use Rattle.build_groups.proofs.join.Goals as goal
 
-pub returns-in-At : goal.returns-in-At
+pub returns-in-Some : goal.returns-in-Some
 unfolding standing_in
-returns-in-At c = let e = sym c.store.ensures.value ∙ c.in-At.is in
+returns-in-Some c = let e = sym c.store.ensures.value ∙ c.in-Some.is in
     record { value = further-held _ _ _ e; words_after = c.store.ensures.words_after }
 
-pub returns-in-Nowhere : goal.returns-in-Nowhere
+pub returns-in-None : goal.returns-in-None
 unfolding standing_in further
-returns-in-Nowhere c = let e = sym c.store.ensures.value ∙ c.in-Nowhere.is in
+returns-in-None c = let e = sym c.store.ensures.value ∙ c.in-None.is in
     record { value = further-new _ _ e; words_after = c.store.ensures.words_after }

@@ -21,19 +21,19 @@ returns-in_default c =
 pub returns-then-position-last : goal.returns-then-position-last
 unfolding meant
 returns-then-position-last c =
-    sym (kind_wrong _ _ _ _ _ _ (sym c.opens.ensures ∙ c.if-opens.false) _ _ (sym c.item_of.ensures ∙ c.in-At.is) c.if-position-last.true)
+    sym (kind_wrong _ _ _ _ _ _ (sym c.opens.ensures ∙ c.if-opens.false) _ _ (sym c.item_of.ensures ∙ c.in-Some.is) c.if-position-last.true)
 
 pub returns-then-inner-eq0 : goal.returns-then-inner-eq0
 unfolding meant
 returns-then-inner-eq0 c =
-    sym (kind_plain _ _ _ _ _ _ (sym c.opens.ensures ∙ c.if-opens.false) _ _ (sym c.item_of.ensures ∙ c.in-At.is) c.if-position-last.false c.if-inner-eq0.true)
+    sym (kind_plain _ _ _ _ _ _ (sym c.opens.ensures ∙ c.if-opens.false) _ _ (sym c.item_of.ensures ∙ c.in-Some.is) c.if-position-last.false c.if-inner-eq0.true)
 
 pub returns-then-group-lt-LEVELS : goal.returns-then-group-lt-LEVELS
 unfolding meant
 returns-then-group-lt-LEVELS c =
-    sym (kind_count _ _ _ _ _ _ (sym c.opens.ensures ∙ c.if-opens.false) _ _ (sym c.item_of.ensures ∙ c.in-At.is) c.if-position-last.false c.if-inner-eq0.false c.if-group-lt-LEVELS.true)
+    sym (kind_count _ _ _ _ _ _ (sym c.opens.ensures ∙ c.if-opens.false) _ _ (sym c.item_of.ensures ∙ c.in-Some.is) c.if-position-last.false c.if-inner-eq0.false c.if-group-lt-LEVELS.true)
 
 pub returns : goal.returns
 unfolding meant
 returns c =
-    sym (kind_deep _ _ _ _ _ _ (sym c.opens.ensures ∙ c.if-opens.false) _ _ (sym c.item_of.ensures ∙ c.in-At.is) c.if-position-last.false c.if-inner-eq0.false c.if-group-lt-LEVELS.false)
+    sym (kind_deep _ _ _ _ _ _ (sym c.opens.ensures ∙ c.if-opens.false) _ _ (sym c.item_of.ensures ∙ c.in-Some.is) c.if-position-last.false c.if-inner-eq0.false c.if-group-lt-LEVELS.false)

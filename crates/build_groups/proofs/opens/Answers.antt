@@ -7,4 +7,4 @@ pub returns-in_default : goal.returns-in_default
 returns-in_default c = sym (no_delimiter _ _ _ (sym c.delimiter.ensures ∙ c.in_default.is))
 
 pub returns : goal.returns
-returns c = sym (one_delimiter _ _ _ _ (sym c.delimiter.ensures ∙ c.in-First.is))
+returns c = sym (one_delimiter _ _ _ _ (sym c.delimiter.ensures ∙ c.in-Some.is))

@@ -5,8 +5,8 @@ use native.Mathlib.Omega.{arith}
 use Rattle.build_parts.specs.PartLaws.{keep-held, keep-new}
 use Rattle.build_parts.proofs.keep.Goals as goal
 
-pub returns-in-At : goal.returns-in-At
-returns-in-At c = rw c.store.ensures.words_after (keep-held _ _ _ _ (omega arith) (omega arith) _ (sym c.store.ensures.value ∙ c.in-At.is))
+pub returns-in-Some : goal.returns-in-Some
+returns-in-Some c = rw c.store.ensures.words_after (keep-held _ _ _ _ (omega arith) (omega arith) _ (sym c.store.ensures.value ∙ c.in-Some.is))
 
-pub returns-in-Nowhere : goal.returns-in-Nowhere
-returns-in-Nowhere c = rw c.store.ensures.words_after (keep-new _ _ _ _ (omega arith) (omega arith) (sym c.store.ensures.value ∙ c.in-Nowhere.is))
+pub returns-in-None : goal.returns-in-None
+returns-in-None c = rw c.store.ensures.words_after (keep-new _ _ _ _ (omega arith) (omega arith) (sym c.store.ensures.value ∙ c.in-None.is))

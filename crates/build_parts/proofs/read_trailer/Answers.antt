@@ -36,7 +36,7 @@ unfolding trailer_told trailer_counts
 returns-in_default c = record { words_after = sym (c.loop-config.invariant.5 ∙ trailer-ends _ _ _ _ _ c.if-tag-eq-CHECKSUM.false (omega arith) _ _ (sym c.next_field.ensures ∙ c.in_default.is) ∙ rw (c.keep-records.ensures.part, c.record_of.ensures)); from_bound = (omega (arith, c.keep-records.ensures.grows), omega (arith, c.keep-records.ensures.by_one)); words_unchanged = c.keep-records.ensures.before ∙ c.loop-config.invariant.4 }
 
 pub loop-config-preserved : goal.loop-config-preserved
-loop-config-preserved c = let r = sym c.next_field.ensures ∙ c.in-Read.is in (
+loop-config-preserved c = let r = sym c.next_field.ensures ∙ c.in-Ok.is in (
   c.keep-records.auto.words ∙ c.loop-config.invariant.0,
   omega (arith, c.keep-records.ensures.by_one),
   omega (arith, c.keep-records.ensures.grows),

@@ -1,13 +1,12 @@
 -- `entry_end` meets its contract. The loop's invariant: the end that is found from here on is the one that is found from the start.
--- The measure is how many records are left.
 use mathlib.Core.Path.{◌≡◌}
-use Prim.Native.Nat.{◌-◌}
+use Prim.Native.Nat.{max, ◌≤◌}
 use Rattle.build_records.specs.Records.{records_of, between}
 use Rattle.build_required_rules.specs.Checking.{starts_at, end_from}
 use Rattle.build_required.proofs.entry_end.Given as goal
 
 abbrev pub invariant-loop-at : goal.invariant-loop-at
-invariant-loop-at l = end_from (starts_at l.table l.group) l.from (between l.from l.to (records_of l.words)) ≡ end_from (starts_at l.table l.group) l.at (between l.at l.to (records_of l.words))
-
-abbrev pub decreases-loop-at : goal.decreases-loop-at
-decreases-loop-at l = l.to - l.at
+invariant-loop-at l = record {
+  within : l.at ≤ max l.from l.to;
+  end : end_from (starts_at l.table l.group) l.from (between l.from l.to (records_of l.words)) ≡ end_from (starts_at l.table l.group) l.at (between l.at l.to (records_of l.words));
+}

@@ -52,7 +52,7 @@ slice_bounds-tables-start c =
 pub slice_bounds-read_message-end : goal.slice_bounds-read_message-end
 slice_bounds-read_message-end c =
     let stands : is_prepared c.args.copy.now c.args.memory.now ≡ true = sym c.is_prepared.ensures ∙ c.if-not-is_prepared.false in
-    sym (length-take-le _ _ (omega (arith, c.wide-size.ensures, prepared_copy _ _ (stands))))
+    sym (length-take-le _ _ (omega (arith, c.from-size.ensures, prepared_copy _ _ (stands))))
 
 pub read_message-read-requires : goal.read_message-read-requires
 unfolding index_in
@@ -71,7 +71,7 @@ returns c =
     let tables : List ℕ = drop head_words c.args.memory.now in record {
       words_after = told-read _ _ _ _ c.answered.ensures (reads-lent _ _ _ _ first (sym none ∙ c.if-number_of-ne0.false)) c.read_message-read.ensures.records_le_record_room size
           ∙ ap (shown _) (c.read_message-read.ensures.words_after
-          ∙ ap (λ (k : ℕ). message_through (take k c.args.copy.now) index (take (length c.args.memory.now - head_words) tables) c.args.config c.args.message.now) c.wide-size.ensures
+          ∙ ap (λ (k : ℕ). message_through (take k c.args.copy.now) index (take (length c.args.memory.now - head_words) tables) c.args.config c.args.message.now) c.from-size.ensures
           ∙ ap (λ (t : List ℕ). message_through (take (get_or c.args.memory.now 2 0) c.args.copy.now) index t c.args.config c.args.message.now) (take_all (length c.args.memory.now - head_words) tables (omega (arith, length-drop head_words c.args.memory.now))))
           ∙ sym (over-some _ _ _ _ _ _ (stands) ∙ judged-reads _ _ _ _ _ _ first _ none c.if-number_of-ne0.false);
       records_le_record_room = (rw c.answered.ensures c.read_message-read.ensures.records_le_record_room, size);

@@ -1,15 +1,13 @@
-use mathlib.Core.Path.{◌≡◌, refl}
-use native.Mathlib.Omega.{arith}
-use lib.ListN.{length-set}
+-- `clear` meets its contract: the heads are filled with zero, and what stands behind them stays.
+use Rattle.std.proofs.Common.{◌≡◌, ◌++◌, length, take, drop, replicate, ap, ◌∙◌, arith, length-take}
 use Rattle.dictionary_chains.specs.Chain.{head_words}
-use Rattle.dictionary_chains.proofs.ChainLaws.{clear_step}
 use Rattle.dictionary_chains.proofs.clear.Goals as goal
 
-pub loop-i-init : goal.loop-i-init
-loop-i-init c = (omega arith, omega arith, refl)
-
-pub loop-i-preserved : goal.loop-i-preserved
-loop-i-preserved c = (omega arith, simp length-set (omega arith), rw c.loop-i.invariant.2 (clear_step c.args.index.now c.loop-i.i (omega arith)))
+pub slice_bounds-fill-end-2 : goal.slice_bounds-fill-end-2
+slice_bounds-fill-end-2 c = simp length-take (omega arith)
 
 pub returns : goal.returns
-returns c = let e : c.loop-i.i ≡ head_words = omega arith in rw e at c.loop-i.invariant.2
+returns c =
+    let heads : length (take head_words c.args.index.now) ≡ head_words = simp length-take (omega arith) in
+    let filled : c.fill.new.self ≡ replicate head_words 0 = c.fill.ensures.after (λ y h. h) ∙ ap (λ n. replicate n 0) heads in
+    ap (λ words. words ++ drop head_words c.args.index.now) filled

@@ -9,7 +9,7 @@ use Rattle.dictionary_chains.proofs.ChainLaws.{way_small, entered-late, entered-
 use Rattle.dictionary_chains.proofs.enter.Goals as goal
 
 pub returns-then-place-ge60000 : goal.returns-then-place-ge60000
-returns-then-place-ge60000 c = sym (entered-late _ _ _ (omega (arith, c.wide-place.ensures)))
+returns-then-place-ge60000 c = sym (entered-late _ _ _ (omega (arith, c.from-place.ensures)))
 
 -- the entry's key is made of words, so it is one of the table
 pub way_of-way-requires : goal.way_of-way-requires
@@ -49,6 +49,6 @@ unfolding branched number_at
 returns c =
     let way : way_of c.args.table c.args.index.now (key_of c.args.table c.args.entry) ≡ c.way_of-way.result = ap (way_of c.args.table c.args.index.now) (sym c.key_of.ensures) ∙ sym c.way_of-way.ensures in
     c.write.ensures
-    ∙ sym (entered-new c.args.table c.args.index.now c.args.entry (omega (arith, c.wide-place.ensures))
+    ∙ sym (entered-new c.args.table c.args.index.now c.args.entry (omega (arith, c.from-place.ensures))
     c.way_of-way.result (way) (omega (arith, c.if-way-ne0.false))
-    ∙ rw c.wide-place.ensures)
+    ∙ rw c.from-place.ensures)

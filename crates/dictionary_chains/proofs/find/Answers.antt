@@ -5,4 +5,4 @@ use Rattle.dictionary_chains.proofs.WayLaws.{number_of}
 use Rattle.dictionary_chains.proofs.find.Goals as goal
 
 pub returns : goal.returns
-returns c = unfold found in ap number_of c.way_of-way.ensures
+returns c = unfold found in ap number_of c.way_of.ensures

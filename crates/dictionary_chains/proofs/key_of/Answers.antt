@@ -4,12 +4,12 @@ use Rattle.dictionary_chains.proofs.key_of.Goals as goal
 
 pub returns-in-Components : goal.returns-in-Components
 unfolding key_of
-returns-in-Components c = rw c.in-Components.is c.wide-low.ensures
+returns-in-Components c = rw c.in-Components.is c.from-low.ensures
 
 pub returns-in-Tags : goal.returns-in-Tags
 unfolding key_of
-returns-in-Tags c = rw (c.in-Tags.is, c.wide.ensures, c.wide-low.ensures)
+returns-in-Tags c = rw (c.in-Tags.is, c.from.ensures, c.from-low.ensures)
 
 pub returns-in-MsgTypes : goal.returns-in-MsgTypes
 unfolding key_of
-returns-in-MsgTypes c = rw (c.in-MsgTypes.is, c.wide-in-MsgTypes-3.ensures, c.wide-in-MsgTypes-2.ensures, c.wide-in-MsgTypes.ensures, c.wide-low.ensures)
+returns-in-MsgTypes c = rw (c.in-MsgTypes.is, c.from-in-MsgTypes-3.ensures, c.from-in-MsgTypes-2.ensures, c.from-in-MsgTypes.ensures, c.from-low.ensures)

@@ -5,7 +5,7 @@ use Rattle.dictionary_chains.proofs.WayLaws.{link-none, link-some}
 use Rattle.dictionary_chains.proofs.link_at.Goals as goal
 
 pub returns-then-link-low : goal.returns-then-link-low
-returns-then-link-low c = sym (link-none _ _ _ (omega (arith, c.wide-link.ensures)))
+returns-then-link-low c = sym (link-none _ _ _ (omega (arith, c.from-link.ensures)))
 
 pub returns : goal.returns
-returns c = c.wide-link.ensures ∙ sym (link-some _ _ _ (omega (arith, c.wide-link.ensures)))
+returns c = c.from-link.ensures ∙ sym (link-some _ _ _ (omega (arith, c.from-link.ensures)))

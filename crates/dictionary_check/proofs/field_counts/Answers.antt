@@ -9,12 +9,12 @@ use Rattle.dictionary_check.proofs.field_counts.Goals as goal
 refuses : {A : Type 0} → false ≡ true → A
 refuses h = let z : ◌≡◌ {A = ℕ} 0 1 = cc in absurd (omega arith)
 
-pub returns : goal.returns
-returns c known = let few = c.if-thing-ge1024.false in
-    (few, passed-field _ (c.field_item_at-tag.ensures c.if-tag-eq0.false) (sym c.tag_known.ensures ∙ known) few)
+pub returns-in-Some : goal.returns-in-Some
+returns-in-Some c known = let few = c.if-thing-ge1024.false in
+    (few, passed-field _ c.in-Some.ensures (sym c.tag_known.ensures ∙ known) few)
 
 pub returns-then-thing-ge1024 : goal.returns-then-thing-ge1024
 returns-then-thing-ge1024 c h = refuses h
 
-pub returns-then-tag-eq0 : goal.returns-then-tag-eq0
-returns-then-tag-eq0 c h = refuses h
+pub returns-in-None : goal.returns-in-None
+returns-in-None c h = refuses h

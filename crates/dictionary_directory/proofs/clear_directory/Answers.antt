@@ -1,24 +1,13 @@
-use mathlib.Core.Path.{◌≡◌, refl, ◌∙◌}
-use native.Mathlib.Omega.{arith}
-use lib.ListN.{length-set}
-use Rattle.dictionary_chains.proofs.ChainLaws.{clear_step}
+-- `clear_directory` meets its contract: its words are filled with zero, and those behind them stay.
+use Rattle.std.proofs.Common.{◌≡◌, ◌++◌, drop, replicate, sym, ap, ◌∙◌, length-take-le}
 use Rattle.dictionary_directory.specs.Directory.{directory_words, clear_directory}
 use Rattle.dictionary_directory.proofs.clear_directory.Goals as goal
 
-pub loop-i-init : goal.loop-i-init
-loop-i-init c = (omega arith, refl, c.requires, refl)
-
-pub loop-i-preserved : goal.loop-i-preserved
-loop-i-preserved c = (
-  omega arith,
-  length-set c.loop-i.tables _ _ ∙ c.loop-i.invariant.1,
-  c.loop-i.invariant.2,
-  rw c.loop-i.invariant.3 (clear_step c.args.tables.now c.loop-i.i (omega arith)),
-)
-
-pub shape_of-tables : goal.shape_of-tables
-shape_of-tables c = c.loop-i.invariant.1
+pub slice_bounds-fill-end-2 : goal.slice_bounds-fill-end-2
+slice_bounds-fill-end-2 c = sym (length-take-le directory_words c.args.tables.now c.requires)
 
 pub returns : goal.returns
 unfolding clear_directory
-returns c = let e : c.loop-i.i ≡ directory_words = omega arith in rw e at c.loop-i.invariant.3
+returns c =
+    let filled : c.fill.new.self ≡ replicate directory_words 0 = c.fill.ensures.after (λ y h. h) ∙ ap (λ n. replicate n 0) (length-take-le directory_words c.args.tables.now c.requires) in
+    ap (λ words. words ++ drop directory_words c.args.tables.now) filled

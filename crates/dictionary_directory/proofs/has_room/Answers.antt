@@ -1,10 +1,10 @@
--- `has_room` meets its contract: each return cites the law of its way.
-use mathlib.Core.Path.{sym}
+-- `has_room` meets its contract: each way cites its law.
+use Rattle.std.proofs.Common.{sym, ◌∙◌, le-ltb}
 use Rattle.dictionary_directory.proofs.LayingFacts.{room_far, room_near}
 use Rattle.dictionary_directory.proofs.has_room.Goals as goal
 
-pub returns-then-free-ge65536 : goal.returns-then-free-ge65536
-returns-then-free-ge65536 c = sym (room_far _ _ _ c.if-free-ge65536.true)
+pub returns-then-free-lt65536 : goal.returns-then-free-lt65536
+returns-then-free-lt65536 c = sym (room_near _ _ _ c.if-free-lt65536.true)
 
-pub returns : goal.returns
-returns c = sym (room_near _ _ _ c.if-free-ge65536.false)
+pub returns-else-free-lt65536 : goal.returns-else-free-lt65536
+returns-else-free-lt65536 c = le-ltb _ _ c.if-free-lt65536.false ∙ sym (room_far _ _ _ c.if-free-lt65536.false)

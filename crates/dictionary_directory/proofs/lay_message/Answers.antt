@@ -3,7 +3,6 @@ use mathlib.Core.Path.{◌≡◌, sym}
 use Prim.Native.Nat.{ℕ}
 use native.Mathlib.Omega.{arith}
 use lib.ListN.{replicate, length-replicate}
-use Rattle.dictionary_rules.specs.declared.Placed.TheVariants.{At}
 use Rattle.dictionary_meaning_rules.specs.MessageTable.{tabling, placed_table}
 use Rattle.dictionary_meaning_rules.proofs.LaidLayoutLaws.{placed_layout}
 use Rattle.dictionary_meaning_rules.specs.declared.MessageTable.TheVariants.{Rows}
@@ -11,6 +10,7 @@ use Rattle.dictionary_directory.proofs.LayingFacts.{message-beyond, message_rows
 use Rattle.dictionary_directory.proofs.Arms.{made_as, unlaid}
 use Rattle.dictionary_directory.proofs.lay_message.Goals as goal
 use Rattle.dictionary_directory.proofs.lay_message.Goals.{In-Rows}
+use Rattle.std.proofs.Common.{Some}
 
 pub returns-then-place-ge-LONGEST : goal.returns-then-place-ge-LONGEST
 returns-then-place-ge-LONGEST c = sym (message-beyond _ _ _ _ _ c.if-place-ge-LONGEST.true)
@@ -19,7 +19,7 @@ pub returns-in_default : goal.returns-in_default
 returns-in_default c = sym (unlaid _ _ _ _ _ c.if-place-ge-LONGEST.false _ _ c.placed_table.ensures c.in_default.not-Rows)
 
 made-here : (c : In-Rows) → tabling (Rows c.in-Rows.count) c.placed_table.new.table ≡
-    placed_table c.args.dictionary.now c.args.index.now (At c.args.place) (replicate 4096 0)
+    placed_table c.args.dictionary.now c.args.index.now (Some c.args.place) (replicate 4096 0)
 made-here c = made_as c.placed_table.ensures c.in-Rows.is
 
 pub put_block-requires : goal.put_block-requires

@@ -5,7 +5,6 @@ use Prim.Native.Nat.{ℕ}
 use native.Mathlib.Omega.{arith}
 use lib.ListN.{length, take, drop, replicate, length-append, length-drop, length-replicate}
 use lib.Seq.{length-take-le}
-use Rattle.dictionary_rules.specs.declared.Placed.TheVariants.{At}
 use Rattle.dictionary_meaning_rules.proofs.Kept.{table_kept}
 use Rattle.dictionary_meaning_rules.specs.LaidLayout.{LaidAs}
 use Rattle.dictionary_meaning_rules.proofs.LaidLayoutLaws.{placed_layout}
@@ -17,6 +16,7 @@ use Rattle.dictionary_directory.proofs.LayingFacts.{held_tabled, held-few, held_
 use Rattle.dictionary_directory.proofs.Arms.{made_as, unlaid_alone}
 use Rattle.dictionary_directory.proofs.lay_table.Goals as goal
 use Rattle.dictionary_directory.proofs.lay_table.Goals.{In-Rows}
+use Rattle.std.proofs.Common.{Some}
 
 pub returns-in_default : goal.returns-in_default
 returns-in_default c =
@@ -42,7 +42,7 @@ placed_table-requires c = (c.requires.0, ap (take 4096) c.requires.1 ∙ refl)
 
 -- the rows that were made, and that they hold a layout
 made-here : (c : In-Rows) → tabling (Rows c.in-Rows.count) c.placed_table.new.table ≡ placed_table c.args.dictionary.now c.args.index.now
-    (At c.args.opening) (replicate 4096 0)
+    (Some c.args.opening) (replicate 4096 0)
 made-here c = made_as c.placed_table.ensures c.in-Rows.is
 
 holds : (c : In-Rows) → LaidAs c.placed_table.new.table c.in-Rows.count

@@ -53,23 +53,23 @@ pub returns-then-end-row-clause-table_after : goal.returns-then-end-row-clause-t
 returns-then-end-row-clause-table_after t c =
     let here = read_as (sym c.in-Whole.ensures) c.in-OpensGroup.is in
     sym (c.loop-record.invariant.3 ∙ lay_group-empty _ _ _ (lay_advances _ _ _) _ _ _ _ _ _ _ _ _ here c.if-row-ge1024-2.false
-    (sym c.in-Upto.ensures.table_after) c.if-end-row.true)
+    (sym c.in-Some.ensures.table_after) c.if-end-row.true)
 
 pub put_row-requires-in-OpensGroup : goal.put_row-requires-in-OpensGroup
 put_row-requires-in-OpensGroup t c =
-    let r = reached (lay_advances _ _ _ _ _ _ (omega (arith, c.if-row-ge1024-2.false))) (sym c.in-Upto.ensures.table_after) in
+    let r = reached (lay_advances _ _ _ _ _ _ (omega (arith, c.if-row-ge1024-2.false))) (sym c.in-Some.ensures.table_after) in
     (c.if-row-ge1024-2.false, r.3)
 
 pub loop-record-smaller-in-OpensGroup : goal.loop-record-smaller-in-OpensGroup
 loop-record-smaller-in-OpensGroup t c =
-    let r = reached (lay_advances _ _ _ _ _ _ (omega (arith, c.if-row-ge1024-2.false))) (sym c.in-Upto.ensures.table_after) in
+    let r = reached (lay_advances _ _ _ _ _ _ (omega (arith, c.if-row-ge1024-2.false))) (sym c.in-Some.ensures.table_after) in
     omega (arith, r, record_falls _ _ _ _ (sym c.in-Whole.ensures))
 
 pub loop-record-preserved-in-OpensGroup : goal.loop-record-preserved-in-OpensGroup
 loop-record-preserved-in-OpensGroup t c =
     let i = c.loop-record.invariant in
     let here = read_as (sym c.in-Whole.ensures) c.in-OpensGroup.is in
-    let laid = sym c.in-Upto.ensures.table_after in
+    let laid = sym c.in-Some.ensures.table_after in
     let r = reached (lay_advances _ _ _ _ _ _ (omega (arith, c.if-row-ge1024-2.false))) laid in (
       r.3,
       c.lay_items.auto.leaps ∙ i.1,
@@ -82,27 +82,27 @@ loop-record-preserved-in-OpensGroup t c =
 pub returns-in_default-lay_items-2-clause-table_after : goal.returns-in_default-lay_items-2-clause-table_after
 returns-in_default-lay_items-2-clause-table_after t c =
     let here = read_as (sym c.in-Whole.ensures) c.in-ComponentItem.is in
-    sym (c.loop-record.invariant.3 ∙ lay_component_broken _ _ _ (lay_advances _ _ _) _ _ _ _ _ _ here _ _ (sym c.in-ItemsAt.ensures)
-    (laid_as c.lay_items-in-ItemsAt.ensures.table_after c.in_default-lay_items-2.is))
+    sym (c.loop-record.invariant.3 ∙ lay_component_broken _ _ _ (lay_advances _ _ _) _ _ _ _ _ _ here _ _ (sym c.in-Some-stands_at.ensures)
+    (laid_as c.lay_items-in-Some-stands_at.ensures.table_after c.in_default-lay_items-2.is))
 
 pub returns-then-end-row-2-clause-table_after : goal.returns-then-end-row-2-clause-table_after
 returns-then-end-row-2-clause-table_after t c =
     let here = read_as (sym c.in-Whole.ensures) c.in-ComponentItem.is in
-    sym (c.loop-record.invariant.3 ∙ lay_component_still _ _ _ (lay_advances _ _ _) _ _ _ _ _ _ here _ _ _ _ (sym c.in-ItemsAt.ensures)
-    (sym c.in-Upto-lay_items.ensures.table_after) c.if-end-row-2.true)
+    sym (c.loop-record.invariant.3 ∙ lay_component_still _ _ _ (lay_advances _ _ _) _ _ _ _ _ _ here _ _ _ _ (sym c.in-Some-stands_at.ensures)
+    (sym c.in-Some-lay_items.ensures.table_after) c.if-end-row-2.true)
 
-pub loop-record-smaller-in-ItemsAt : goal.loop-record-smaller-in-ItemsAt
-loop-record-smaller-in-ItemsAt t c = omega (arith, record_falls _ _ _ _ (sym c.in-Whole.ensures))
+pub loop-record-smaller-in-Some-stands_at : goal.loop-record-smaller-in-Some-stands_at
+loop-record-smaller-in-Some-stands_at t c = omega (arith, record_falls _ _ _ _ (sym c.in-Whole.ensures))
 
-pub loop-record-preserved-in-ItemsAt : goal.loop-record-preserved-in-ItemsAt
-loop-record-preserved-in-ItemsAt t c =
+pub loop-record-preserved-in-Some-stands_at : goal.loop-record-preserved-in-Some-stands_at
+loop-record-preserved-in-Some-stands_at t c =
     let i = c.loop-record.invariant in
     let here = read_as (sym c.in-Whole.ensures) c.in-ComponentItem.is in
-    let laid = sym c.in-Upto-lay_items.ensures.table_after in (
+    let laid = sym c.in-Some-lay_items.ensures.table_after in (
       (reached (lay_advances _ _ _ _ _ _ i.0) laid).3,
-      c.lay_items-in-ItemsAt.auto.leaps ∙ i.1,
-      c.lay_items-in-ItemsAt.ensures.leaps,
-      i.3 ∙ lay_component _ _ _ (lay_advances _ _ _) _ _ _ _ _ _ here _ _ _ _ (sym c.in-ItemsAt.ensures) laid c.if-end-row-2.false,
+      c.lay_items-in-Some-stands_at.auto.leaps ∙ i.1,
+      c.lay_items-in-Some-stands_at.ensures.leaps,
+      i.3 ∙ lay_component _ _ _ (lay_advances _ _ _) _ _ _ _ _ _ here _ _ _ _ (sym c.in-Some-stands_at.ensures) laid c.if-end-row-2.false,
     )
 
 -- behind an item that stands for nothing, at the end of their row
@@ -112,7 +112,7 @@ loop-record-smaller t c = omega (arith, record_falls _ _ _ _ (sym c.in-Whole.ens
 pub loop-record-preserved : goal.loop-record-preserved
 loop-record-preserved t c =
     let i = c.loop-record.invariant in
-    let past = leads_past (read_as (sym c.in-Whole.ensures) c.in-ComponentItem.is) (sym c.in-NoItems.ensures) in
+    let past = leads_past (read_as (sym c.in-Whole.ensures) c.in-ComponentItem.is) (sym c.in-None.ensures) in
     (i.0, c.pass-at.auto.leaps ∙ i.1, c.pass-at.ensures.leaps, i.3 ∙ (leads_on past c.pass-at.ensures.leads).same _ (lay_advances _ _ _) _ _)
 
 -- the close, and what is none of the items

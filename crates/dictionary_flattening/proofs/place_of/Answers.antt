@@ -7,4 +7,4 @@ pub returns-in_default : goal.returns-in_default
 returns-in_default c = sym (place_unnamed _ _ (sym c.name_of.ensures ∙ c.in_default.is))
 
 pub returns : goal.returns
-returns c = c.message_of.ensures ∙ sym (place_named_lem _ _ _ (sym c.name_of.ensures ∙ c.in-Named.is))
+returns c = c.message_of.ensures ∙ sym (place_named_lem _ _ _ (sym c.name_of.ensures ∙ c.in-Some.is))

@@ -20,7 +20,7 @@ pub returns-in_default : goal.returns-in_default
 unfolding placed_table as_table
 returns-in_default c =
     let laid-here : laying c.lay_items.result c.lay_items.new.table ≡ lay_items most_calls c.args.dictionary.now (component_at c.args.index.now)
-    (c.args.opening + 9) 0 c.args.table.now = let behind : c.wide.result + 9 ≡ c.args.opening + 9 = rw c.wide.ensures in
+    (c.args.opening + 9) 0 c.args.table.now = let behind : c.from.result + 9 ≡ c.args.opening + 9 = rw c.from.ensures in
     c.lay_items.ensures.table_after ∙ sym (leads_items c.pass-items.ensures.leads most_calls 0 c.args.table.now (λ z. absurd (omega arith)))
     ∙ ap (λ (n : ℕ). lay_items most_calls c.args.dictionary.now (component_at c.args.index.now) n 0 c.args.table.now) behind in
     rw (laid_as (laid-here) c.in_default.is)
@@ -29,7 +29,7 @@ pub returns : goal.returns
 unfolding placed_table as_table
 returns c =
     let laid-here : laying c.lay_items.result c.lay_items.new.table ≡ lay_items most_calls c.args.dictionary.now (component_at c.args.index.now)
-    (c.args.opening + 9) 0 c.args.table.now = let behind : c.wide.result + 9 ≡ c.args.opening + 9 = rw c.wide.ensures in
+    (c.args.opening + 9) 0 c.args.table.now = let behind : c.from.result + 9 ≡ c.args.opening + 9 = rw c.from.ensures in
     c.lay_items.ensures.table_after ∙ sym (leads_items c.pass-items.ensures.leads most_calls 0 c.args.table.now (λ z. absurd (omega arith)))
     ∙ ap (λ (n : ℕ). lay_items most_calls c.args.dictionary.now (component_at c.args.index.now) n 0 c.args.table.now) behind in
-    rw (laid_as (laid-here) c.in-Upto.is)
+    rw (laid_as (laid-here) c.in-Some.is)

@@ -16,15 +16,15 @@ find-at-requires c = search rules
 
 pub returns-then-at-eq0 : goal.returns-then-at-eq0
 returns-then-at-eq0 c =
-    let at_of : found Components c.args.index.now c.args.number ≡ c.find-at.result = ap (λ (k : ℕ). found Components c.args.index.now k) (sym c.wide.ensures) ∙ sym c.find-at.ensures in
+    let at_of : found Components c.args.index.now c.args.number ≡ c.find-at.result = ap (λ (k : ℕ). found Components c.args.index.now k) (sym c.from.ensures) ∙ sym c.find-at.ensures in
     sym (component_missing _ _ (at_of ∙ c.if-at-eq0.true))
 
 pub entry_at-entry-requires : goal.entry_at-entry-requires
 entry_at-entry-requires c =
-    let at_of : found Components c.args.index.now c.args.number ≡ c.find-at.result = ap (λ (k : ℕ). found Components c.args.index.now k) (sym c.wide.ensures) ∙ sym c.find-at.ensures in
+    let at_of : found Components c.args.index.now c.args.number ≡ c.find-at.result = ap (λ (k : ℕ). found Components c.args.index.now k) (sym c.from.ensures) ∙ sym c.find-at.ensures in
     (c.requires, rw (sym (at_of)) (found_small Components _ _))
 
 pub returns : goal.returns
 returns c =
-    let at_of : found Components c.args.index.now c.args.number ≡ c.find-at.result = ap (λ (k : ℕ). found Components c.args.index.now k) (sym c.wide.ensures) ∙ sym c.find-at.ensures in
+    let at_of : found Components c.args.index.now c.args.number ≡ c.find-at.result = ap (λ (k : ℕ). found Components c.args.index.now k) (sym c.from.ensures) ∙ sym c.find-at.ensures in
     sym (component-closed _ _ _ (at_of) c.if-at-eq0.false ∙ unfold component_of in rw c.entry_at-entry.ensures)

@@ -1,20 +1,19 @@
 -- `tag_known` meets its contract: an entry is found, or none is.
-use mathlib.Core.Path.{sym, ◌∙◌}
-use borrow.Author.Rules.{rules}
-use borrow.Author.Tests.{eq-eqb, ne_eqb}
-use Rattle.dictionary_chains.specs.Chain.{key_room}
+use Rattle.std.proofs.Common.{◌≡◌, refl, ℕ, List, Bool, true, false, not, eqb, arith}
+use Rattle.dictionary_chains.specs.Chain.{key_room, found}
+use Rattle.dictionary_chains.specs.declared.Table.TheVariants.{Tags}
 use Rattle.dictionary_rules.specs.Index.{tag_at}
 use Rattle.dictionary_names.proofs.tag_known.Goals as goal
 
 -- the key is of 32 bits, as a tag's must be
 pub find-requires : goal.find-requires
 unfolding key_room
-find-requires c = search rules
+find-requires c = (c.requires, omega (arith, c.from.ensures))
 
-pub returns-then-find-eq0 : goal.returns-then-find-eq0
+known : (index : List ℕ) (tag : ℕ) (none : Bool) → eqb (found Tags index tag) 0 ≡ none → not (eqb (found Tags index tag) 0) ≡ tag_at index tag
 unfolding tag_at
-returns-then-find-eq0 c = rw (eq-eqb _ _ (sym c.find.ensures ∙ c.if-find-eq0.true))
+known index tag true e = rw e
+known index tag false e = rw e
 
 pub returns : goal.returns
-unfolding tag_at
-returns c = rw (ne_eqb _ _ (λ e. c.if-find-eq0.false (c.find.ensures ∙ e)))
+returns c = rw (c.find.ensures, c.from.ensures) (known c.args.index.now c.args.tag _ refl)

@@ -50,21 +50,21 @@ put_item-requires-else-rows-at-eq1 t c =
 pub press_level-free-requires : goal.press_level-free-requires
 press_level-free-requires t c =
     let forward = c.loop-at.invariant.0 c.requires in
-    let link = forward_link _ _ _ _ _ _ _ _ _ _ forward c.loop-at-test.true c.if-rows-at-eq1.true _ c.word-next.ensures in
+    let link = forward_link _ _ _ _ _ _ _ _ _ _ forward c.loop-at-test.true c.if-rows-at-eq1.true _ c.from-next.ensures in
     let same : length c.put_item.new.table ≡ length c.args.table.now = c.put_item.auto.table ∙ c.loop-at.invariant.2 in (
       omega (arith, link, forward.since, c.decreases),
-      forward_inside _ _ _ _ _ _ _ _ _ _ forward c.loop-at-test.true c.if-rows-at-eq1.true _ c.word-next.ensures _
+      forward_inside _ _ _ _ _ _ _ _ _ _ forward c.loop-at-test.true c.if-rows-at-eq1.true _ c.from-next.ensures _
           (omega (arith, c.requires.room, same)) c.requires.small,
     )
 
 pub loop-at-smaller-then-rows-at-eq1 : goal.loop-at-smaller-then-rows-at-eq1
 loop-at-smaller-then-rows-at-eq1 t c =
     let forward = c.loop-at.invariant.0 c.requires in
-    omega (arith, forward_link _ _ _ _ _ _ _ _ _ _ forward c.loop-at-test.true c.if-rows-at-eq1.true _ c.word-next.ensures)
+    omega (arith, forward_link _ _ _ _ _ _ _ _ _ _ forward c.loop-at-test.true c.if-rows-at-eq1.true _ c.from-next.ensures)
 
 pub loop-at-preserved-then-rows-at-eq1 : goal.loop-at-preserved-then-rows-at-eq1
 loop-at-preserved-then-rows-at-eq1 t c = (
-  (λ x. forward_group _ _ _ _ _ _ _ _ _ _ (c.loop-at.invariant.0 x) c.loop-at-test.true c.if-rows-at-eq1.true _ c.word-next.ensures
+  (λ x. forward_group _ _ _ _ _ _ _ _ _ _ (c.loop-at.invariant.0 x) c.loop-at-test.true c.if-rows-at-eq1.true _ c.from-next.ensures
       c.put_item.new.table c.press_level-free.new.table c.press_level-free.result x.room x.small c.put_item.ensures c.press_level-free.ensures),
   c.loop-at.invariant.1,
   c.press_level-free.auto.table ∙ c.put_item.auto.table ∙ c.loop-at.invariant.2,
@@ -73,13 +73,13 @@ loop-at-preserved-then-rows-at-eq1 t c = (
 -- a field's row
 pub loop-at-smaller : goal.loop-at-smaller
 loop-at-smaller t c =
-    let plain = forward_field _ _ _ _ _ _ _ _ _ _ (c.loop-at.invariant.0 c.requires) c.loop-at-test.true c.if-rows-at-eq1.false _ _ c.word-next.ensures
+    let plain = forward_field _ _ _ _ _ _ _ _ _ _ (c.loop-at.invariant.0 c.requires) c.loop-at-test.true c.if-rows-at-eq1.false _ _ c.from-next.ensures
     c.put_item-else-rows-at-eq1.ensures in
     omega (arith, plain.0, c.loop-at-test.true)
 
 pub loop-at-preserved : goal.loop-at-preserved
 loop-at-preserved t c = (
-  (λ x. (forward_field _ _ _ _ _ _ _ _ _ _ (c.loop-at.invariant.0 x) c.loop-at-test.true c.if-rows-at-eq1.false _ _ c.word-next.ensures
+  (λ x. (forward_field _ _ _ _ _ _ _ _ _ _ (c.loop-at.invariant.0 x) c.loop-at-test.true c.if-rows-at-eq1.false _ _ c.from-next.ensures
       c.put_item-else-rows-at-eq1.ensures).1),
   c.loop-at.invariant.1,
   c.put_item-else-rows-at-eq1.auto.table ∙ c.loop-at.invariant.2,

@@ -9,6 +9,3 @@ use Rattle.dictionary_pressing.proofs.link_items.Given as goal
 
 abbrev pub invariant-loop-i : goal.invariant-loop-i
 invariant-loop-i l = Linking l.initial.table l.table l.level l.count l.i l.marked × (l.level + 1 + l.heads + 5 * l.count ≤ length l.initial.table) × (l.heads ≡ heads_for l.count) × (0 < l.heads)
-
-abbrev pub decreases-loop-i : goal.decreases-loop-i
-decreases-loop-i l = l.i

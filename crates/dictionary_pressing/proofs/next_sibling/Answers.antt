@@ -5,7 +5,7 @@ use Rattle.dictionary_layout_rules.proofs.TableLaws.{sibling_link, sibling_stop}
 use Rattle.dictionary_pressing.proofs.next_sibling.Goals as goal
 
 pub returns-then-at-link : goal.returns-then-at-link
-returns-then-at-link c = c.word-link.ensures ∙ sym (sibling_link _ _ _ (omega (arith, c.if-at-link.true, c.word-link.ensures)))
+returns-then-at-link c = c.from-link.ensures ∙ sym (sibling_link _ _ _ (omega (arith, c.if-at-link.true, c.from-link.ensures)))
 
 pub returns : goal.returns
-returns c = sym (sibling_stop _ _ _ (omega (arith, c.if-at-link.false, c.word-link.ensures)))
+returns c = sym (sibling_stop _ _ _ (omega (arith, c.if-at-link.false, c.from-link.ensures)))

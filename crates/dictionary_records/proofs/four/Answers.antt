@@ -1,8 +1,9 @@
--- `four` meets its contract: two bytes and two, low half first.
-use mathlib.Core.Path.{sym}
-use native.Mathlib.Omega.{arith}
-use Rattle.dictionary_rules.specs.RecordLaws.{low_halves}
+-- `four` meets its contract: four bytes, low byte first.
+use Rattle.std.proofs.Common.{◌≡◌, ◌+◌, arith}
+use Rattle.dictionary_rules.specs.RecordLaws.{low-four}
 use Rattle.dictionary_records.proofs.four.Goals as goal
 
 pub returns : goal.returns
-returns c = rw (c.wider-2.ensures, c.wider.ensures, c.two-high.ensures, c.two-low.ensures) (sym (low_halves c.args.bytes.now c.args.at (omega arith)))
+returns c =
+    let last : c.args.at + 2 + 1 ≡ c.args.at + 3 = omega arith in
+    omega (arith, c.from_le_bytes.ensures, rw last at (low-four c.args.bytes.now c.args.at (omega arith)))

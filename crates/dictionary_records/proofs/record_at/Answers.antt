@@ -26,4 +26,4 @@ returns c =
     let body-read : let kind = get_or c.args.dictionary.now c.args.place 0 in
     c.body_of.result ≡ record_body kind (take (record_body_length kind) (drop (c.args.place + 1) c.args.dictionary.now)) = rw (add-sub_cancel_left, c.body_length-size.ensures) at c.body_of.ensures in
     let fits : record_body_length (get_or c.args.dictionary.now c.args.place 0) ≤ length c.args.dictionary.now - (c.args.place + 1) = rw c.body_length-size.ensures at c.if-dictionary-start.false in
-    sym (at-whole _ _ _ c.if-dictionary-place.false (fits) (sym (body-read) ∙ c.in-Good.is) ∙ ap (λ (n : ℕ). Whole c.in-Good.read (c.args.place + 1 + n)) (sym c.body_length-size.ensures))
+    sym (at-whole _ _ _ c.if-dictionary-place.false (fits) (sym (body-read) ∙ c.in-Some.is) ∙ ap (λ (n : ℕ). Whole c.in-Some.read (c.args.place + 1 + n)) (sym c.body_length-size.ensures))

@@ -19,7 +19,7 @@ pub returns-in_default-component_of-2 : goal.returns-in_default-component_of-2
 unfolding at_end present looks_at
 returns-in_default-component_of-2 c = rw (
   c.in-TopLevel.is,
-  sym c.component_of.ensures ∙ c.in-Closed.is,
+  sym c.component_of.ensures ∙ c.in-Some.is,
   sym c.component_of-2.ensures ∙ c.in_default-component_of-2.is,
 )
 
@@ -27,6 +27,6 @@ pub returns : goal.returns
 unfolding at_end present looks_at
 returns c = rw (
   c.in-TopLevel.is,
-  sym c.component_of.ensures ∙ c.in-Closed.is,
-  sym c.component_of-2.ensures ∙ c.in-Closed-component_of.is,
+  sym c.component_of.ensures ∙ c.in-Some.is,
+  sym c.component_of-2.ensures ∙ c.in-Some-component_of.is,
 )

@@ -14,4 +14,4 @@ returns-in_default-component_of c = rw (c.in-TopLevel.is, sym c.component_of.ens
 
 pub returns : goal.returns
 unfolding on_component at_top_lem once_component looks_at
-returns c = rw (c.in-TopLevel.is, sym c.component_of.ensures ∙ c.in-Missing.is, c.fresh.ensures)
+returns c = rw (c.in-TopLevel.is, sym c.component_of.ensures ∙ c.in-None.is, c.fresh.ensures)

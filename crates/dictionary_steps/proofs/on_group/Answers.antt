@@ -4,6 +4,7 @@ use Prim.Native.Nat.{ℕ, ◌+◌, ◌≤◌, ◌<◌}
 use native.Mathlib.Omega.{arith}
 use Rattle.dictionary_rules.specs.Step.{on_group, inside}
 use Rattle.dictionary_rules.specs.StepLaws.{looks_known, depth_small, group_unknown, group-deep, group-many, group-goes}
+use Rattle.dictionary_steps.proofs.Deepest.{deeper_max}
 use Rattle.dictionary_steps.proofs.on_group.Goals as goal
 
 many : {n : ℕ} → 1024 ≤ n → 1024 < n + 1
@@ -34,4 +35,10 @@ returns-then-thing-ge1024 c = sym (group-many _ _ _ c.in-Inside.is _ _ (looks_kn
 pub returns : goal.returns
 returns c = sym (group-goes _ _ _ c.in-Inside.is _ _ (looks_known _ _ ∙ sym c.tag_known.ensures ∙ c.if-not-tag_known.false) (rw c.depth_of-depth.ensures at c.if-depth-gt4.false)
     (few c.if-thing-ge1024.false)
-    ∙ rw (c.grow.ensures, c.open_group-inner.ensures, c.deeper_of-deepest.ensures, c.depth_of-depth.ensures))
+    ∙ rw (
+      c.grow.ensures,
+      c.open_group-inner.ensures,
+      c.max-deepest.ensures,
+      deeper_max,
+      c.depth_of-depth.ensures,
+    ))

@@ -14,4 +14,4 @@ returns-in_default-message_of c = rw (c.in-TopLevel.is, sym c.message_of.ensures
 
 pub returns : goal.returns
 unfolding on_message at_top_lem once_message looks_at
-returns c = rw (c.in-TopLevel.is, sym c.message_of.ensures ∙ c.in-Nowhere.is, c.fresh.ensures)
+returns c = rw (c.in-TopLevel.is, sym c.message_of.ensures ∙ c.in-None.is, c.fresh.ensures)

@@ -3,11 +3,11 @@ use mathlib.Core.Path.{◌≡◌, sym, ap, ◌∙◌}
 use Prim.Native.Nat.{◌+◌}
 use native.Mathlib.Omega.{arith}
 use lib.ListN.{get_or-eq_default}
-use Rattle.dictionary_layout_rules.specs.declared.FirstTag.TheVariants.{First}
 use Rattle.dictionary_tables_rules.specs.Table.{items_at, tag_at}
 use Rattle.dictionary_tables_rules.proofs.TableLaws.{heads_at_bounds, items_from, delimiter_empty, delimiter_none, delimiter_some}
 use Rattle.dictionary_tables.proofs.delimiter.Goals as goal
 use Rattle.dictionary_tables.proofs.delimiter.Goals.{After-heads_at}
+use Rattle.std.proofs.Common.{Some}
 
 -- the items of the level start where the code says
 from : (c : After-heads_at) → c.args.level + 1 + c.heads_at.result ≡ items_at c.args.table.now c.args.level
@@ -30,4 +30,4 @@ returns-then-table-from c = sym (delimiter_none _ _ (omega (arith, from (goal.at
 
 pub returns : goal.returns
 returns c = let f = from (goal.at.returns c).After-heads_at in
-    ap First (c.tag_at.ensures ∙ ap (tag_at _) f) ∙ sym (delimiter_some _ _ c.if-table-level-eq0.false (omega (arith, f, c.if-table-from.false)))
+    ap Some (c.tag_at.ensures ∙ ap (tag_at _) f) ∙ sym (delimiter_some _ _ c.if-table-level-eq0.false (omega (arith, f, c.if-table-from.false)))

@@ -4,10 +4,10 @@ use Rattle.dictionary_tables_rules.specs.Tags.{is_item}
 use Rattle.dictionary_tables_rules.proofs.TagsLaws.{found-holds}
 use Rattle.dictionary_tables.proofs.holds.Goals as goal
 
-pub returns-in-At : goal.returns-in-At
+pub returns-in-Some : goal.returns-in-Some
 unfolding is_item
-returns-in-At c = sym (found-holds _ _ ∙ ap is_item (sym c.item_of.ensures ∙ c.in-At.is))
+returns-in-Some c = sym (found-holds _ _ ∙ ap is_item (sym c.item_of.ensures ∙ c.in-Some.is))
 
-pub returns-in-Nowhere : goal.returns-in-Nowhere
+pub returns-in-None : goal.returns-in-None
 unfolding is_item
-returns-in-Nowhere c = sym (found-holds _ _ ∙ ap is_item (sym c.item_of.ensures ∙ c.in-Nowhere.is))
+returns-in-None c = sym (found-holds _ _ ∙ ap is_item (sym c.item_of.ensures ∙ c.in-None.is))

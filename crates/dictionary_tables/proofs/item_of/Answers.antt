@@ -33,8 +33,8 @@ overflow_add-from-2 c = omega (arith, (heads (goal.at.overflow_add-from-2 c).Aft
 pub loop-link-init : goal.loop-link-init
 loop-link-init c = (
   omega (arith, (heads (goal.at.loop-link-init c).After-heads_at-heads).1, c.if-table-level.false),
-  omega (arith, c.wide-link.ensures, c.shared_slice_known-2-1.given (c.args.level + 1 + c.args.tag % c.heads_at-heads.result)),
-  unfold item_of items_at in rw (c.wide-link.ensures, c.heads_at-heads.ensures),
+  omega (arith, c.from-link.ensures, c.shared_slice_known-2-1.given (c.args.level + 1 + c.args.tag % c.heads_at-heads.result)),
+  unfold item_of items_at in rw (c.from-link.ensures, c.heads_at-heads.ensures),
 )
 
 pub overflow_mul-at : goal.overflow_mul-at
@@ -56,7 +56,7 @@ returns-then-tag_at-tag c =
     let within : c.args.level + 1 + c.heads_at-heads.result + 5 * (c.loop-link.link - 1) + 5 ≤ length c.args.table.now = omega (arith, c.if-table-at.false) in
     sym (c.loop-link.invariant.2
     ∙ follow_hit _ _ _ _ (λ z. omega arith) (within) (sym c.tag_at.ensures ∙ c.if-tag_at-tag.true)
-    ∙ rw c.wide.ensures)
+    ∙ rw c.from.ensures)
 
 pub returns-then-later-link : goal.returns-then-later-link
 unfolding item_at later_at
@@ -64,12 +64,12 @@ returns-then-later-link c =
     let within : c.args.level + 1 + c.heads_at-heads.result + 5 * (c.loop-link.link - 1) + 5 ≤ length c.args.table.now = omega (arith, c.if-table-at.false) in
     let other : tag_at c.args.table.now (c.args.level + 1 + c.heads_at-heads.result + 5 * (c.loop-link.link - 1)) ≡ c.args.tag → ⊥ = λ e. c.if-tag_at-tag.false (c.tag_at.ensures ∙ e) in
     sym (c.loop-link.invariant.2
-    ∙ follow_stop _ _ _ _ (λ z. omega arith) (within) (other) (omega (arith, c.if-later-link.true, c.wide-later.ensures)))
+    ∙ follow_stop _ _ _ _ (λ z. omega arith) (within) (other) (omega (arith, c.if-later-link.true, c.from-later.ensures)))
 
 pub loop-link-smaller : goal.loop-link-smaller
 loop-link-smaller c =
-    let word : c.wide-later.result ≤ 65535 = let level = c.args.level in
-    omega (arith, c.wide-later.ensures, c.shared_slice_known-in-loop-link-1.given (level + 1 + c.heads_at-heads.result + 5 * (c.loop-link.link - 1) + 4)) in
+    let word : c.from-later.result ≤ 65535 = let level = c.args.level in
+    omega (arith, c.from-later.ensures, c.shared_slice_known-in-loop-link-1.given (level + 1 + c.heads_at-heads.result + 5 * (c.loop-link.link - 1) + 4)) in
     omega (arith, word, c.if-later-link.false)
 
 pub loop-link-preserved : goal.loop-link-preserved
@@ -77,13 +77,13 @@ unfolding item_at later_at
 loop-link-preserved c =
     let within : c.args.level + 1 + c.heads_at-heads.result + 5 * (c.loop-link.link - 1) + 5 ≤ length c.args.table.now = omega (arith, c.if-table-at.false) in
     let other : tag_at c.args.table.now (c.args.level + 1 + c.heads_at-heads.result + 5 * (c.loop-link.link - 1)) ≡ c.args.tag → ⊥ = λ e. c.if-tag_at-tag.false (c.tag_at.ensures ∙ e) in
-    let word : c.wide-later.result ≤ 65535 = let level = c.args.level in
-    omega (arith, c.wide-later.ensures, c.shared_slice_known-in-loop-link-1.given (level + 1 + c.heads_at-heads.result + 5 * (c.loop-link.link - 1) + 4)) in (
+    let word : c.from-later.result ≤ 65535 = let level = c.args.level in
+    omega (arith, c.from-later.ensures, c.shared_slice_known-in-loop-link-1.given (level + 1 + c.heads_at-heads.result + 5 * (c.loop-link.link - 1) + 4)) in (
       c.loop-link.invariant.0,
       word,
       c.loop-link.invariant.2
-          ∙ follow_on _ _ _ _ (λ z. omega arith) (within) (other) (omega (arith, c.if-later-link.false, c.wide-later.ensures))
-          ∙ rw c.wide-later.ensures,
+          ∙ follow_on _ _ _ _ (λ z. omega arith) (within) (other) (omega (arith, c.if-later-link.false, c.from-later.ensures))
+          ∙ rw c.from-later.ensures,
     )
 
 pub returns : goal.returns

@@ -6,7 +6,7 @@ use Rattle.dictionary_tables_rules.specs.Table.{items_at, item_at, mark_at}
 use Rattle.dictionary_tables_rules.proofs.TableLaws.{heads_at_bounds, items_from}
 use Rattle.dictionary_tables_rules.proofs.MarkLaws.{links_fall, mark-empty, mark-none, mark_past, mark_hit, mark_on}
 use Rattle.dictionary_tables.proofs.next_required.Goals as goal
-use Rattle.dictionary_tables.proofs.next_required.Goals.{After-heads_at, After-wide-word}
+use Rattle.dictionary_tables.proofs.next_required.Goals.{After-heads_at, After-from-word}
 
 pub returns-then-table-level : goal.returns-then-table-level
 returns-then-table-level c = sym (mark-empty _ _ (get_or-eq_default c.args.table.now 0 c.if-table-level.true) _)
@@ -45,24 +45,24 @@ pub bounds-table-at : goal.bounds-table-at
 bounds-table-at c = omega (arith, c.if-table-from.false, c.if-room-link.false, c.loop-link-test.true)
 
 -- the item of the link starts where the code says, and lies in the table
-place : (c : After-wide-word) → c.args.level + 1 + c.heads_at.result + 5 * (c.loop-link.link - 1) ≡ item_at (items_at c.args.table.now c.args.level) c.loop-link.link
+place : (c : After-from-word) → c.args.level + 1 + c.heads_at.result + 5 * (c.loop-link.link - 1) ≡ item_at (items_at c.args.table.now c.args.level) c.loop-link.link
 unfolding item_at
 place c = ap (λ (start : ℕ). start + 5 * (c.loop-link.link - 1)) (items_from _ _ _ c.heads_at.ensures)
 
-within : (c : After-wide-word) → c.args.level + 1 + c.heads_at.result + 5 * (c.loop-link.link - 1) + 5 ≤ length c.args.table.now
+within : (c : After-from-word) → c.args.level + 1 + c.heads_at.result + 5 * (c.loop-link.link - 1) + 5 ≤ length c.args.table.now
 within c = omega (arith, c.if-table-from.false, c.if-room-link.false, c.loop-link-test.true)
 
 pub tag_at-requires : goal.tag_at-requires
-tag_at-requires c = within (goal.at.tag_at-requires c).After-wide-word
+tag_at-requires c = within (goal.at.tag_at-requires c).After-from-word
 
 -- the word of marks that was read is the item's, and so is where they go on
-read : (c : After-wide-word) → c.wide-word.result ≡ mark_at c.args.table.now (item_at (items_at c.args.table.now c.args.level) c.loop-link.link)
+read : (c : After-from-word) → c.from-word.result ≡ mark_at c.args.table.now (item_at (items_at c.args.table.now c.args.level) c.loop-link.link)
 unfolding mark_at
-read c = c.wide-word.ensures ∙ ap (mark_at c.args.table.now) (place c)
+read c = c.from-word.ensures ∙ ap (mark_at c.args.table.now) (place c)
 
 pub returns-then-word-eq1 : goal.returns-then-word-eq1
 returns-then-word-eq1 c =
-    let w = (goal.at.returns-then-word-eq1 c).After-wide-word in
+    let w = (goal.at.returns-then-word-eq1 c).After-from-word in
     let filled : get_or c.args.table.now c.args.level 0 ≡ 0 → ⊥ = c.if-table-level-eq0.false in
     sym (c.loop-link.invariant
     ∙ mark_hit _ _ filled _ (λ z. omega arith) (rw (place w) at (within w)) (ap (λ (word : ℕ). word % 2) (sym (read w)) ∙ c.if-word-eq1.true)
@@ -73,7 +73,7 @@ loop-link-smaller c = rw c.marked_behind-behind.ensures (links_fall _ _ _ c.loop
 
 pub loop-link-preserved : goal.loop-link-preserved
 loop-link-preserved c =
-    let w = (goal.at.loop-link-preserved c).After-wide-word in
+    let w = (goal.at.loop-link-preserved c).After-from-word in
     let filled : get_or c.args.table.now c.args.level 0 ≡ 0 → ⊥ = c.if-table-level-eq0.false in
     c.loop-link.invariant
     ∙ mark_on _ _ filled _ (λ z. omega arith) (rw (place w) at (within w)) (λ m. c.if-word-eq1.false (ap (λ (word : ℕ). word % 2) (read w) ∙ m))

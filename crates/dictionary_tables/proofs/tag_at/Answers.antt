@@ -1,23 +1,7 @@
 -- `tag_at` meets its contract: it reads both halves, each of which is a word, so that the tag fits.
-use mathlib.Core.Path.{refl}
-use Prim.Native.Nat.{◌+◌}
-use native.Mathlib.Omega.{arith}
 use Rattle.dictionary_tables_rules.specs.Table.{tag_at}
 use Rattle.dictionary_tables.proofs.tag_at.Goals as goal
 
-pub overflow_cast-result : goal.overflow_cast-result
-overflow_cast-result c = omega (arith, c.shared_slice_known-1.given c.args.at)
-
-pub overflow_cast-result-2 : goal.overflow_cast-result-2
-overflow_cast-result-2 c = omega (arith, c.shared_slice_known-2-1.given (c.args.at + 1))
-
-pub overflow_mul-result : goal.overflow_mul-result
-overflow_mul-result c = omega (arith, c.shared_slice_known-2-1.given (c.args.at + 1))
-
-pub overflow_add-result-2 : goal.overflow_add-result-2
-overflow_add-result-2 c = let at = c.args.at in
-    omega (arith, c.shared_slice_known-2-1.given at, c.shared_slice_known-2-1.given (at + 1))
-
 pub returns : goal.returns
 unfolding tag_at
-returns c = refl
+returns c = rw (c.from.ensures, c.from-2.ensures)

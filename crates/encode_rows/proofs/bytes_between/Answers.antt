@@ -1,26 +1,20 @@
-use mathlib.Core.Bool.{true, false}
 use native.Mathlib.Omega.{arith}
 use Rattle.encode_rows.specs.WritingLaws.{bytes_on, bytes-end}
 use Rattle.encode_rows.proofs.bytes_between.Goals as goal
-
-pub loop-i-init : goal.loop-i-init
-loop-i-init c = (omega arith, omega arith, omega arith, omega arith)
 
 pub overflow_add-size : goal.overflow_add-size
 overflow_add-size c = omega (arith, c.row_bytes-size.ensures.upper_bound)
 
 pub loop-i-preserved : goal.loop-i-preserved
 loop-i-preserved c = (
-  omega arith,
-  omega arith,
   omega (
     arith,
-    c.loop-i.invariant.2,
+    c.loop-i.invariant.0,
     c.row_bytes-size.ensures.value,
     bytes_on c.args.words.now c.loop-i.i c.args.to c.loop-i-test.true,
   ),
-  omega (arith, c.loop-i.invariant.3, c.row_bytes-size.ensures.upper_bound),
+  omega (arith, c.loop-i.invariant.1, c.row_bytes-size.ensures.upper_bound),
 )
 
 pub returns : goal.returns
-returns c = record { value = omega (arith, c.loop-i.invariant.2, bytes-end c.args.words.now c.loop-i.i c.args.to c.loop-i-test.false); upper_bound = omega (arith, c.loop-i.invariant.3, c.loop-i.invariant.1, c.requires.1) }
+returns c = record { value = omega (arith, c.loop-i.invariant.0, bytes-end c.args.words.now c.loop-i.i c.args.to c.loop-i-test.false); upper_bound = omega (arith, c.loop-i.invariant.1, c.requires.1) }

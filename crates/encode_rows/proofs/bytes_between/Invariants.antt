@@ -6,7 +6,4 @@ use Rattle.encode_rows.specs.Writing.{bytes_in}
 use Rattle.encode_rows.proofs.bytes_between.Given as goal
 
 abbrev pub invariant-loop-i : goal.invariant-loop-i
-invariant-loop-i l = (l.from ≤ l.i) × (l.i ≤ l.to) × (l.size + bytes_in (rows_from (l.to - l.i) l.i l.words) ≡ bytes_in (rows_from (l.to - l.from) l.from l.words)) × (l.size ≤ (l.i - l.from) * 8589934592)
-
-abbrev pub decreases-loop-i : goal.decreases-loop-i
-decreases-loop-i l = l.to - l.i
+invariant-loop-i l = (l.size + bytes_in (rows_from (l.to - l.i) l.i l.words) ≡ bytes_in (rows_from (l.to - l.from) l.from l.words)) × (l.size ≤ (l.i - l.from) * 8589934592)

@@ -1,6 +1,5 @@
 -- `row_bytes` meets its contract: only a field is written.
 use mathlib.Core.Path.{sym, ◌∙◌}
-use mathlib.Core.Bool.{true, false}
 use Prim.Native.Nat.{◌≤◌}
 use native.Mathlib.Omega.{arith}
 use borrow.Author.Tests.{eq-eqb, ne_eqb}
@@ -27,9 +26,8 @@ returns-then-kind_of-eq1 c = let d = digits-at (goal.at.returns-then-kind_of-eq1
     ← c.tag_of.ensures,
     ← c.digit_count.ensures,
     ← c.extra_of.ensures,
-    c.wide.ensures,
   );
-  upper_bound = omega (arith, d, c.wide.ensures);
+  upper_bound = omega (arith, d);
 }
 
 pub returns : goal.returns

@@ -1,51 +1,36 @@
 use mathlib.Core.Path.{ap}
-use mathlib.Core.Bool.{true, false}
 use Prim.Native.Nat.{ℕ, ◌+◌}
 use native.Mathlib.Omega.{arith}
 use Rattle.message_rules.specs.RowChanges.{place_of}
 use Rattle.encode_rows.specs.WritingLaws.{going_start, going_on, going_done, going-room, going-place}
 use Rattle.encode_rows.proofs.write_items.Goals as goal
 
-pub size_between-place-requires : goal.size_between-place-requires
-size_between-place-requires c = (omega arith, omega (arith, c.requires.0, c.requires.1), c.requires.2)
-
 pub loop-i-init : goal.loop-i-init
 unfolding place_of
-loop-i-init c = (omega arith, going_start _ _ _ _ _ _ _ _ _ c.requires.0 c.size_between-place.ensures)
-
-pub row_on-on-requires : goal.row_on-on-requires
-row_on-on-requires c = (omega (arith, c.requires.1), c.requires.2)
+loop-i-init c = going_start _ _ _ _ _ _ _ _ _ c.requires.0 c.size_between-place.ensures
 
 pub write_row-next-requires : goal.write_row-next-requires
 write_row-next-requires c = (
   omega (arith, c.requires.1),
   c.requires.2,
-  going-place _ _ _ _ _ _ _ _ _ _ _ _ _ c.requires.4 c.loop-i-test.true c.loop-i.invariant.1 c.requires.3,
-  going-room _ _ _ _ _ _ _ _ _ _ _ _ _ c.requires.4 c.loop-i-test.true c.loop-i.invariant.1 _ c.row_on-on.ensures,
+  going-place _ _ _ _ _ _ _ _ _ _ _ _ _ c.requires.4 c.loop-i-test.true c.loop-i.invariant c.requires.3,
+  going-room _ _ _ _ _ _ _ _ _ _ _ _ _ c.requires.4 c.loop-i-test.true c.loop-i.invariant _ c.row_on-on.ensures,
 )
 
 pub size_of-place-requires : goal.size_of-place-requires
 size_of-place-requires c = (omega (arith, c.requires.1, c.loop-i-test.true), c.requires.2)
 
 pub overflow_add-place : goal.overflow_add-place
-overflow_add-place c = let g = going-place _ _ _ _ _ _ _ _ _ _ _ _ _ c.requires.4 c.loop-i-test.true c.loop-i.invariant.1 c.requires.3 in omega (arith, g, c.size_of-place.ensures.value)
-
-pub overflow_add-i : goal.overflow_add-i
-overflow_add-i c = omega (arith, c.requires.1, c.loop-i-test.true)
-
-pub loop-i-smaller : goal.loop-i-smaller
-loop-i-smaller c = omega (arith, c.loop-i-test.true)
+overflow_add-place c = let g = going-place _ _ _ _ _ _ _ _ _ _ _ _ _ c.requires.4 c.loop-i-test.true c.loop-i.invariant c.requires.3 in omega (arith, g, c.size_of-place.ensures.value)
 
 pub loop-i-preserved : goal.loop-i-preserved
-loop-i-preserved c = (
-  omega (arith, c.loop-i.invariant.0),
-  going_on _ _ _ _ _ _ _ _ _ _ _ _ _ c.requires.4 c.loop-i-test.true c.loop-i.invariant.1 _ _ _ _ c.row_on-on.ensures
-      c.write_row-next.ensures.value c.write_row-next.ensures.output_after
-      (ap (λ (n : ℕ). c.loop-i.place + n) c.size_of-place.ensures.value),
-)
+loop-i-preserved c =
+    going_on _ _ _ _ _ _ _ _ _ _ _ _ _ c.requires.4 c.loop-i-test.true c.loop-i.invariant _ _ _ _ c.row_on-on.ensures
+    c.write_row-next.ensures.value c.write_row-next.ensures.output_after
+    (ap (λ (n : ℕ). c.loop-i.place + n) c.size_of-place.ensures.value)
 
 pub shape_of-output : goal.shape_of-output
-shape_of-output c = c.loop-i.invariant.1.size
+shape_of-output c = c.loop-i.invariant.size
 
 pub returns : goal.returns
-returns c = record { value = (going_done _ _ _ _ _ _ _ _ _ _ _ _ _ c.requires.4 c.loop-i-test.false c.loop-i.invariant.1).0; output_after = (going_done _ _ _ _ _ _ _ _ _ _ _ _ _ c.requires.4 c.loop-i-test.false c.loop-i.invariant.1).1 }
+returns c = record { value = (going_done _ _ _ _ _ _ _ _ _ _ _ _ _ c.requires.4 c.loop-i-test.false c.loop-i.invariant).0; output_after = (going_done _ _ _ _ _ _ _ _ _ _ _ _ _ c.requires.4 c.loop-i-test.false c.loop-i.invariant).1 }

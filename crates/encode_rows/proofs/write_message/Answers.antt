@@ -12,15 +12,6 @@ use Rattle.encode_rows.specs.Writing.{text_at}
 use Rattle.encode_rows.specs.MessageLaws.{text_at_is, spans_of, tail_written}
 use Rattle.encode_rows.proofs.write_message.Goals as goal
 
-pub span_of-head-requires : goal.span_of-head-requires
-span_of-head-requires c = c.requires.values_value
-
-pub span_of-middle-requires : goal.span_of-middle-requires
-span_of-middle-requires c = c.requires.values_value
-
-pub span_of-tail-requires : goal.span_of-tail-requires
-span_of-tail-requires c = c.requires.values_value
-
 pub write_text-at-requires : goal.write_text-at-requires
 write_text-at-requires c = rw (c.span_of-head.ensures, c.span_of-middle.ensures, c.span_of-tail.ensures)
     (spans_of _ _ c.requires.values_value _ _ (omega (arith, c.requires.values_len_bound.1)))

@@ -1,10 +1,9 @@
 -- `write_row` meets its contract: a field that is to be written is written, anything else is nothing.
 use mathlib.Core.Path.{◌≡◌, sym, ap, ◌∙◌}
-use mathlib.Core.Bool.{true, false}
 use Prim.Native.Nat.{ℕ, ◌+◌, ◌-◌, ◌*◌}
 use native.Mathlib.Omega.{arith}
 use lib.ListN.{length, get_or, take, drop}
-use Rattle.message_maps.specs.Rows.{row_at, size_of}
+use Rattle.message_maps.specs.Rows.{row_at}
 use Rattle.field_rules.specs.Decimal.{decimal}
 use Rattle.field_rules.specs.Field.{field_bytes}
 use Rattle.encode_rows.specs.Writing.{row_text}

@@ -11,9 +11,6 @@ use Rattle.encode_rows.specs.Writing.{tail_of}
 use Rattle.encode_rows.specs.WritingLaws.{Rest, rest-start, rest-step, rest-room, rest-last, rest-done}
 use Rattle.encode_rows.proofs.write_tail.Goals as goal
 
-pub write_bytes-first-requires : goal.write_bytes-first-requires
-write_bytes-first-requires c = omega (arith, c.requires)
-
 pub write_bytes-second-requires : goal.write_bytes-second-requires
 unfolding tail_of
 write_bytes-second-requires c =

@@ -4,8 +4,8 @@ use native.Mathlib.Omega.{arith}
 use Rattle.encoder.specs.JudgingLaws.{size-there, size_none}
 use Rattle.encoder.proofs.field_bytes.Goals as goal
 
-pub returns-then-at-to : goal.returns-then-at-to
-returns-then-at-to c = record { value = c.row_bytes.ensures.value ∙ size-there _ _ _ _ c.find_row-at.ensures c.if-at-to.true; upper_bound = c.row_bytes.ensures.upper_bound }
+pub returns-then-at-span : goal.returns-then-at-span
+returns-then-at-span c = record { value = c.row_bytes.ensures.value ∙ size-there _ _ _ _ c.find_row-at.ensures c.if-at-span.true; upper_bound = c.row_bytes.ensures.upper_bound }
 
 pub returns : goal.returns
-returns c = record { value = sym (size_none _ _ _ _ c.find_row-at.ensures c.if-at-to.false); upper_bound = omega arith }
+returns c = record { value = sym (size_none _ _ _ _ c.find_row-at.ensures c.if-at-span.false); upper_bound = omega arith }

@@ -14,15 +14,9 @@ use Rattle.encode_rules.specs.Encoding.{dropped, body_length, encoding, encoded_
 use Rattle.encode_rules.specs.Encode.{is_incomplete}
 use Rattle.encoder.specs.VerdictLaws.{Parts, both-within, loose_at, taken_fits, judged_incomplete, judged-body, judged-length, judged-fields}
 use Rattle.encoder.specs.VerdictLaws.{refused-separator, refused_incomplete, refused_long, refused-many, refused-room, found_fit}
-use Rattle.encode_rules.specs.declared.Verdict.TheVariants.{Measured}
 use Rattle.encoder.proofs.measure.Goals as goal
 use Rattle.encoder.proofs.measure.Goals.{After-digit_count, After-span_of-tail}
-
-pub span_of-head-requires : goal.span_of-head-requires
-span_of-head-requires c = c.requires.values_value
-
-pub span_of-tail-requires : goal.span_of-tail-requires
-span_of-tail-requires c = c.requires.values_value
+use Rattle.std.proofs.Common.{Ok}
 
 known : (c : After-span_of-tail) → Parts c.args.words.now c.args.values.now c.span_of-head.result c.span_of-tail.result
 known c = record { lent = c.requires.values_value; head_is = c.span_of-head.ensures; tail_is = c.span_of-tail.ensures }
@@ -117,6 +111,6 @@ returns c =
     let short : length (encoding c.args.separator (message_in c.args.words.now c.args.values.now)) ≤ 8192 = omega (arith, length-is, c.if-length-gt8192.false) in
     let fields-are : c.passes_limit.result ≡ ltb 1024 (field_total (encoded_message c.args.separator (message_in c.args.words.now c.args.values.now))) = c.passes_limit.ensures ∙ ap (ltb 1024) (judged-fields _ _ _ _ (known (goal.at.returns c).After-span_of-tail) c.args.separator) in
     let few : field_total (encoded_message c.args.separator (message_in c.args.words.now c.args.values.now)) ≤ 1024 = ltb-false _ _ (sym (fields-are) ∙ c.if-passes_limit.false) in
-    ap Measured (body_is)
+    ap Ok (body_is)
     ∙ sym (found_fit _ _ (known (goal.at.returns c).After-span_of-tail).lent _ _ (separates) (complete) (short) (few)
     (omega (arith, length-is, c.if-room-length.false)))

@@ -11,9 +11,6 @@ use Rattle.encoder.specs.SizeLaws.{encoding_length}
 use Rattle.encoder.specs.LeavingLaws.{after-drop, blank-drop, after-length, blank-length, has_room, writes, sum-read, after-sum, all_left}
 use Rattle.encoder.proofs.write_encoding.Goals as goal
 
-pub remove_in-requires : goal.remove_in-requires
-remove_in-requires c = c.requires.message
-
 pub set_body_length-requires : goal.set_body_length-requires
 set_body_length-requires c =
     let dropped-left : Lends c.remove_in.new.words c.remove_in.new.values (dropped (message_in c.args.words.now c.args.values.now)) = after-drop _ _ _ _ _ c.requires _ _ _ c.remove_in.ensures in

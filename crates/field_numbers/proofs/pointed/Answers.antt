@@ -11,4 +11,4 @@ pub overflow_add-result : goal.overflow_add-result
 overflow_add-result c = omega (arith, div-le_self (c.args.n * 4294967296) c.args.power)
 
 pub returns : goal.returns
-returns c = (c.requires.count_value, ahead-start _ _ _ (omega arith) c.requires.count_value c.requires.power_value)
+returns c = rw c.from.ensures (c.requires.count_value, ahead-start _ _ _ (omega arith) c.requires.count_value c.requires.power_value)

@@ -1,9 +1,6 @@
-use mathlib.Core.Path.{refl, sym, ◌∙◌}
+use mathlib.Core.Path.{sym, ◌∙◌}
 use Rattle.field_rules.proofs.FindLaws.{find_hit, find_miss, find_end}
 use Rattle.field_tagvalue.proofs.find_from.Goals as goal
-
-pub loop-i-init : goal.loop-i-init
-loop-i-init c = refl
 
 pub returns-then-bytes-i : goal.returns-then-bytes-i
 returns-then-bytes-i c = sym (c.loop-i.invariant ∙ find_hit _ _ _ c.loop-i-test.true c.if-bytes-i.true)

@@ -7,6 +7,6 @@ pub returns-then-n-lt4 : goal.returns-then-n-lt4
 unfolding may_become
 returns-then-n-lt4 c = rw (lt-ltb _ _ c.if-n-lt4.true)
 
-pub returns : goal.returns
+pub returns-else-n-lt4 : goal.returns-else-n-lt4
 unfolding may_become
-returns c = rw (le-ltb _ _ c.if-n-lt4.false)
+returns-else-n-lt4 c = rw (le-ltb _ _ c.if-n-lt4.false)

@@ -14,7 +14,7 @@ use Rattle.frame_verdict.proofs.Places.{refused}
 use Rattle.frame_verdict.proofs.BodyStages.{all, type-refused, middle-short, end_refused, end-inside, summed, tag-refused, tag-inside, sum-refused}
 use Rattle.frame_verdict.proofs.BodyStages.{sum_inside, closed}
 use Rattle.frame_verdict.proofs.verdict_of_body.Goals as goal
-use Rattle.frame_verdict.proofs.verdict_of_body.Goals.{In-On, In-On-ended, In-On-tagged}
+use Rattle.frame_verdict.proofs.verdict_of_body.Goals.{In-On, In-On-ended, In-On-tagged, After-literal_at-summed}
 
 pub returns-in_default : goal.returns-in_default
 returns-in_default c = c.verdict_from.ensures ∙ ap as_verdict (type-refused _ _ _ c.requires.0 c.requires.2 _ c.literal_at-typed.ensures
@@ -52,36 +52,25 @@ slice_bounds-sum_of-end c = simp length-take (omega (arith, end-inside _ _ _ c.r
 pub literal_at-summed-requires : goal.literal_at-summed-requires
 literal_at-summed-requires c = tag-inside _ _ _ c.requires.0 c.requires.2 _ (type-on (goal.at.literal_at-summed-requires c).In-On) (omega arith) _ (end_on (goal.at.literal_at-summed-requires c).In-On-ended) _ (tag-on (goal.at.literal_at-summed-requires c).In-On-tagged)
 
+-- the digits that are wanted are those of the sum
+summed_lem : (c : After-literal_at-summed) → c.literal_at-summed.result ≡ stage_of c.args.bytes.now (literal (checksum_for (all c.args.bytes.now c.args.body c.args.n)) (drop c.in-On-tagged.sum c.args.bytes.now))
+unfolding checksum_for
+summed_lem c =
+    let bytes = summed _ _ _ c.requires.0 c.requires.2 _ (sym c.in-On.is ∙ c.literal_at-typed.ensures) (omega arith) _ (sym c.in-On-ended.is ∙ c.literal_at-ended.ensures) in
+    let digits = c.checksum_digits-digits.ensures ∙ ap checksum_digits (c.sum_of.ensures ∙ ap (λ (x : List ℕ). sum_of x % 256) bytes) in
+    c.literal_at-summed.ensures ∙ ap (λ (wanted : List ℕ). stage_of c.args.bytes.now (literal wanted (drop c.in-On-tagged.sum c.args.bytes.now))) digits
+
 pub returns-in_default-summed : goal.returns-in_default-summed
 returns-in_default-summed c =
-    let digits_are : c.checksum_digits-digits.result ≡ checksum_for (all c.args.bytes.now c.args.body c.args.n) = unfold checksum_for in c.checksum_digits-digits.ensures ∙ ap checksum_digits (c.sum_of.ensures
-    ∙ ap (λ (x : List ℕ). sum_of x % 256) (summed _ _ _ c.requires.0 c.requires.2 _ (type-on (goal.at.returns-in_default-summed c).In-On) (omega arith) _ (end_on (goal.at.returns-in_default-summed c).In-On-ended))) in
-    let sum-stage : c.literal_at-summed.result ≡ stage_of c.args.bytes.now (literal (checksum_for (all c.args.bytes.now c.args.body c.args.n))
-    (drop c.in-On-tagged.sum c.args.bytes.now)) = c.literal_at-summed.ensures ∙ ap (λ (wanted : List ℕ). stage_of c.args.bytes.now (literal wanted (drop c.in-On-tagged.sum c.args.bytes.now)))
-    (digits_are) in
     c.verdict_from-in_default-summed.ensures ∙ ap as_verdict (sum-refused _ _ _ c.requires.0 c.requires.2 _ (type-on (goal.at.returns-in_default-summed c).In-On) (omega arith) _
-    (end_on (goal.at.returns-in_default-summed c).In-On-ended) _ (tag-on (goal.at.returns-in_default-summed c).In-On-tagged) _ (sum-stage) (refused _ c.in_default-summed.not-On))
+    (end_on (goal.at.returns-in_default-summed c).In-On-ended) _ (tag-on (goal.at.returns-in_default-summed c).In-On-tagged) _ (summed_lem (goal.at.returns-in_default-summed c).After-literal_at-summed) (refused _ c.in_default-summed.not-On))
 
 pub literal_at-requires : goal.literal_at-requires
 literal_at-requires c =
-    let digits_are : c.checksum_digits-digits.result ≡ checksum_for (all c.args.bytes.now c.args.body c.args.n) = unfold checksum_for in c.checksum_digits-digits.ensures ∙ ap checksum_digits (c.sum_of.ensures
-    ∙ ap (λ (x : List ℕ). sum_of x % 256) (summed _ _ _ c.requires.0 c.requires.2 _ (type-on (goal.at.literal_at-requires c).In-On) (omega arith) _ (end_on (goal.at.literal_at-requires c).In-On-ended))) in
-    let sum-stage : c.literal_at-summed.result ≡ stage_of c.args.bytes.now (literal (checksum_for (all c.args.bytes.now c.args.body c.args.n))
-    (drop c.in-On-tagged.sum c.args.bytes.now)) = c.literal_at-summed.ensures ∙ ap (λ (wanted : List ℕ). stage_of c.args.bytes.now (literal wanted (drop c.in-On-tagged.sum c.args.bytes.now)))
-    (digits_are) in
-    let sum-on : On c.in-On-summed.end
-    ≡ stage_of c.args.bytes.now (literal (checksum_for (all c.args.bytes.now c.args.body c.args.n)) (drop c.in-On-tagged.sum c.args.bytes.now)) = sym c.in-On-summed.is ∙ sum-stage in
     sum_inside _ _ _ c.requires.0 c.requires.2 _ (type-on (goal.at.literal_at-requires c).In-On) (omega arith) _ (end_on (goal.at.literal_at-requires c).In-On-ended) _ (tag-on (goal.at.literal_at-requires c).In-On-tagged) _
-    (sum-on)
+    (sym c.in-On-summed.is ∙ summed_lem (goal.at.literal_at-requires c).After-literal_at-summed)
 
 pub returns : goal.returns
 returns c =
-    let digits_are : c.checksum_digits-digits.result ≡ checksum_for (all c.args.bytes.now c.args.body c.args.n) = unfold checksum_for in c.checksum_digits-digits.ensures ∙ ap checksum_digits (c.sum_of.ensures
-    ∙ ap (λ (x : List ℕ). sum_of x % 256) (summed _ _ _ c.requires.0 c.requires.2 _ (type-on (goal.at.returns c).In-On) (omega arith) _ (end_on (goal.at.returns c).In-On-ended))) in
-    let sum-stage : c.literal_at-summed.result ≡ stage_of c.args.bytes.now (literal (checksum_for (all c.args.bytes.now c.args.body c.args.n))
-    (drop c.in-On-tagged.sum c.args.bytes.now)) = c.literal_at-summed.ensures ∙ ap (λ (wanted : List ℕ). stage_of c.args.bytes.now (literal wanted (drop c.in-On-tagged.sum c.args.bytes.now)))
-    (digits_are) in
-    let sum-on : On c.in-On-summed.end
-    ≡ stage_of c.args.bytes.now (literal (checksum_for (all c.args.bytes.now c.args.body c.args.n)) (drop c.in-On-tagged.sum c.args.bytes.now)) = sym c.in-On-summed.is ∙ sum-stage in
     c.verdict_from-2.ensures ∙ ap as_verdict (closed _ _ _ c.requires.0 c.requires.2 _ (type-on (goal.at.returns c).In-On) (omega arith) _
-    (end_on (goal.at.returns c).In-On-ended) _ (tag-on (goal.at.returns c).In-On-tagged) _ (sum-on) _ c.literal_at.ensures)
+    (end_on (goal.at.returns c).In-On-ended) _ (tag-on (goal.at.returns c).In-On-tagged) _ (sym c.in-On-summed.is ∙ summed_lem (goal.at.returns c).After-literal_at-summed) _ c.literal_at.ensures)

@@ -1,6 +1,6 @@
 -- `cut_rows` meets its contract: the sizes of rows are places of values, and both splices are the cut.
 use mathlib.Core.Path.{◌≡◌, sym, ◌∙◌}
-use mathlib.Core.Bool.{true, false}
+use mathlib.Core.Bool.{true}
 use Prim.Native.Nat.{◌+◌, ◌-◌, ◌≤◌}
 use native.Mathlib.Omega.{arith}
 use lib.ListN.{length}
@@ -10,9 +10,6 @@ use Rattle.message_rules.specs.RowChanges.{BlankFrom, cut_rows, cut_size, cut_wo
 use Rattle.message_rules.specs.ChangeLaws.{change_large, change_run, change_many, change_made, Places, places_of}
 use Rattle.message.proofs.cut_rows.Goals as goal
 use Rattle.message.proofs.cut_rows.Goals.{After-places_of-places}
-
-pub places_of-places-requires : goal.places_of-places-requires
-places_of-places-requires c = (c.requires.cuttable.forwards, c.requires.cuttable.back, c.requires.cuttable.on, c.requires.cuttable.last, c.requires.cuttable.few, c.requires.cuttable.whole, c.requires.cuttable.within)
 
 places-at : (c : After-places_of-places) → Places c.args.words.now c.args.cut c.places_of-places.result.from c.places_of-places.result.to c.places_of-places.result.kept c.places_of-places.result.until
     c.places_of-places.result.used
@@ -51,54 +48,6 @@ returns-then-fields-gt1024 c =
     let size-at : leb (cut_size c.args.words.now c.args.cut + length c.args.bytes.now) 8192 ≡ c.fits.result = unfold cut_size in sym (rw (c.places_of-places.ensures.0, c.places_of-places.ensures.1, c.places_of-places.ensures.2, c.places_of-places.ensures.3, c.places_of-places.ensures.4) at c.fits.ensures) in
     sym (change_many _ _ _ _ _ _ _ _ (size-at ∙ c.if-not-fits.false) (c.if-not-whole.false)
     c.if-fields-gt1024.true)
-
-pub overflow_sub-left : goal.overflow_sub-left
-overflow_sub-left c = omega (arith, c.requires.cuttable.forwards, c.requires.cuttable.back, c.requires.cuttable.on, c.requires.cuttable.last, c.requires.cuttable.few)
-
-pub overflow_add-left : goal.overflow_add-left
-overflow_add-left c = omega (arith, c.requires.cuttable.forwards, c.requires.cuttable.back, c.requires.cuttable.on, c.requires.cuttable.last, c.requires.cuttable.few)
-
-pub overflow_sub-left-2 : goal.overflow_sub-left-2
-overflow_sub-left-2 c = omega (arith, c.requires.cuttable.forwards, c.requires.cuttable.back, c.requires.cuttable.on, c.requires.cuttable.last, c.requires.cuttable.few)
-
-pub overflow_add-left-2 : goal.overflow_add-left-2
-overflow_add-left-2 c = omega (arith, c.requires.cuttable.forwards, c.requires.cuttable.back, c.requires.cuttable.on, c.requires.cuttable.last, c.requires.cuttable.few)
-
-pub overflow_sub-left-3 : goal.overflow_sub-left-3
-overflow_sub-left-3 c = omega (arith, c.requires.cuttable.forwards, c.requires.cuttable.back, c.requires.cuttable.on, c.requires.cuttable.last, c.requires.cuttable.few)
-
-pub overflow_add-left-3 : goal.overflow_add-left-3
-overflow_add-left-3 c = omega (arith, c.requires.cuttable.forwards, c.requires.cuttable.back, c.requires.cuttable.on, c.requires.cuttable.last, c.requires.cuttable.few)
-
-pub overflow_mul-from : goal.overflow_mul-from
-overflow_mul-from c = omega (arith, c.requires.cuttable.forwards, c.requires.cuttable.back, c.requires.cuttable.on, c.requires.cuttable.last, c.requires.cuttable.few)
-
-pub overflow_add-from : goal.overflow_add-from
-overflow_add-from c = omega (arith, c.requires.cuttable.forwards, c.requires.cuttable.back, c.requires.cuttable.on, c.requires.cuttable.last, c.requires.cuttable.few)
-
-pub overflow_mul-to : goal.overflow_mul-to
-overflow_mul-to c = omega (arith, c.requires.cuttable.forwards, c.requires.cuttable.back, c.requires.cuttable.on, c.requires.cuttable.last, c.requires.cuttable.few)
-
-pub overflow_add-to : goal.overflow_add-to
-overflow_add-to c = omega (arith, c.requires.cuttable.forwards, c.requires.cuttable.back, c.requires.cuttable.on, c.requires.cuttable.last, c.requires.cuttable.few)
-
-pub overflow_mul-kept : goal.overflow_mul-kept
-overflow_mul-kept c = omega (arith, c.requires.cuttable.forwards, c.requires.cuttable.back, c.requires.cuttable.on, c.requires.cuttable.last, c.requires.cuttable.few)
-
-pub overflow_add-kept : goal.overflow_add-kept
-overflow_add-kept c = omega (arith, c.requires.cuttable.forwards, c.requires.cuttable.back, c.requires.cuttable.on, c.requires.cuttable.last, c.requires.cuttable.few)
-
-pub overflow_mul-until : goal.overflow_mul-until
-overflow_mul-until c = omega (arith, c.requires.cuttable.forwards, c.requires.cuttable.back, c.requires.cuttable.on, c.requires.cuttable.last, c.requires.cuttable.few)
-
-pub overflow_add-until : goal.overflow_add-until
-overflow_add-until c = omega (arith, c.requires.cuttable.forwards, c.requires.cuttable.back, c.requires.cuttable.on, c.requires.cuttable.last, c.requires.cuttable.few)
-
-pub overflow_mul-count : goal.overflow_mul-count
-overflow_mul-count c = omega (arith, c.requires.cuttable.forwards, c.requires.cuttable.back, c.requires.cuttable.on, c.requires.cuttable.last, c.requires.cuttable.few)
-
-pub overflow_add-count : goal.overflow_add-count
-overflow_add-count c = omega (arith, c.requires.cuttable.forwards, c.requires.cuttable.back, c.requires.cuttable.on, c.requires.cuttable.last, c.requires.cuttable.few)
 
 pub splice_words-requires : goal.splice_words-requires
 unfolding BlankFrom

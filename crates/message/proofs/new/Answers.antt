@@ -1,6 +1,5 @@
 -- `new` meets its contract: what has no room is refused first, so that each of the three calls is done.
 use mathlib.Core.Path.{sym, ◌∙◌}
-use mathlib.Core.Bool.{true, false}
 use borrow.Author.Tests.{leb-true}
 use Rattle.message_rules.proofs.NewLaws.{new-short, new-store, new_large, new-done}
 use Rattle.message.proofs.new.Goals as goal

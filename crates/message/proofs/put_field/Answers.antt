@@ -1,26 +1,10 @@
 -- `put_field` meets its contract: the row that is found is cut out for the new one, or the run moves behind it.
 use mathlib.Core.Path.{◌≡◌, ◌∙◌}
-use mathlib.Core.Bool.{true, false}
 use native.Mathlib.Omega.{arith}
 use Rattle.message_rules.specs.RowChanges.{field_place}
 use Rattle.message_rules.specs.ChangeLaws.{put-place, able_place, put_last, able_last}
 use Rattle.message_rules.specs.FrameLaws.{find_within}
 use Rattle.message.proofs.put_field.Goals as goal
-
-pub overflow_cast-row : goal.overflow_cast-row
-overflow_cast-row c = omega (arith, c.requires.ready.small)
-
-pub find_row-at-requires : goal.find_row-at-requires
-find_row-at-requires c = (c.requires.ready.forwards, omega (arith, c.requires.ready.last, c.requires.ready.few), c.requires.ready.whole)
-
-pub overflow_add-place : goal.overflow_add-place
-overflow_add-place c = omega (arith, c.requires.ready.last, c.requires.ready.few)
-
-pub overflow_add-place-then-at-to : goal.overflow_add-place-then-at-to
-overflow_add-place-then-at-to c = omega (arith, c.requires.ready.last, c.requires.ready.few)
-
-pub overflow_add-place-then-at-to-2 : goal.overflow_add-place-then-at-to-2
-overflow_add-place-then-at-to-2 c = omega (arith, c.requires.ready.last, c.requires.ready.few)
 
 pub cut_rows-requires : goal.cut_rows-requires
 cut_rows-requires c =
@@ -32,9 +16,6 @@ returns-then-at-to c =
     let at-is : c.find_row-at.result ≡ field_place c.args.span c.args.tag c.args.words.now = unfold field_place in c.find_row-at.ensures in
     c.cut_rows.ensures ∙ put-place _ _ _ _ _ _ _ (at-is) c.if-at-to.true
 
-pub find_row-first-requires : goal.find_row-first-requires
-find_row-first-requires c = (c.requires.ready.forwards, omega (arith, c.requires.ready.last, c.requires.ready.few), c.requires.ready.whole)
-
 pub run_end-last-requires : goal.run_end-last-requires
 run_end-last-requires c = (
   omega (
@@ -45,9 +26,6 @@ run_end-last-requires c = (
   omega (arith, c.requires.ready.last, c.requires.ready.few),
   c.requires.ready.whole,
 )
-
-pub overflow_add-fields : goal.overflow_add-fields
-overflow_add-fields c = omega (arith, c.requires.ready.counted)
 
 pub cut_rows-requires-2 : goal.cut_rows-requires-2
 cut_rows-requires-2 c =

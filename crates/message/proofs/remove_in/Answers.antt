@@ -16,9 +16,6 @@ use Rattle.message_rules.specs.BlankLaws.{not_blank}
 use Rattle.message.proofs.remove_in.Goals as goal
 use Rattle.message.proofs.remove_in.Goals.{After-find_row-at, After-held_rows-held}
 
-pub span_of-span-requires : goal.span_of-span-requires
-span_of-span-requires c = c.requires
-
 pub find_row-at-requires : goal.find_row-at-requires
 find_row-at-requires c = let i = lent_in _ _ _ c.requires in
     let g = span_grows _ _ _ _ i in

@@ -1,6 +1,5 @@
 -- `store` meets its contract: no message is refused first.
 use mathlib.Core.Path.{sym, ◌∙◌}
-use mathlib.Core.Bool.{true}
 use Rattle.message_rules.specs.Changes.{storing}
 use Rattle.message_rules.specs.ChangeLaws.{no_message}
 use Rattle.message_rules.specs.BlankLaws.{never_blank}

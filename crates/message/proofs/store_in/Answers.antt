@@ -1,6 +1,5 @@
 -- `store_in` meets its contract: the part is judged by the message that would be left.
 use mathlib.Core.Path.{◌≡◌, sym, ◌∙◌}
-use mathlib.Core.Bool.{true}
 use Rattle.message_lent_rules.specs.Meaning.{message_in}
 use Rattle.message_rules.specs.RowChanges.{span_of, counted_fields}
 use Rattle.message_rules.specs.ChangeLaws.{store_zero, store-on}
@@ -15,9 +14,6 @@ returns-then-tag-eq0 c = sym (store_zero _ _ _ _ _ c.requires.values_value c.if-
 pub returns-then-value-gt8192 : goal.returns-then-value-gt8192
 returns-then-value-gt8192 c = let lent = c.requires.values_value in
     sym (store-on _ _ _ _ _ lent c.if-tag-eq0.false ∙ put_large _ _ _ _ (lent_in _ _ _ lent) _ _ c.if-value-gt8192.true)
-
-pub span_of-span-requires : goal.span_of-span-requires
-span_of-span-requires c = c.requires.values_value
 
 pub counted_fields-fields-requires : goal.counted_fields-fields-requires
 counted_fields-fields-requires c = let i = lent_in _ _ _ c.requires.values_value in

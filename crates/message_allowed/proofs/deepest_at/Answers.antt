@@ -1,7 +1,6 @@
 -- `deepest_at` meets its contract, by the row before.
 use mathlib.Core.Path.{sym, ◌∙◌}
 use native.Mathlib.Omega.{arith}
-use borrow.Author.Rules.{rules}
 use borrow.Author.Tests.{eq-eqb, ne_eqb}
 use Rattle.message_maps.specs.Rows.{row_at, rows_before, level_of}
 use Rattle.message_maps.specs.RowsLaws.{before-step}
@@ -12,30 +11,12 @@ pub returns-then-row-eq0 : goal.returns-then-row-eq0
 unfolding deepest rows_before
 returns-then-row-eq0 c = let e = c.if-row-eq0.true in rw e
 
-pub overflow_sub-row : goal.overflow_sub-row
-overflow_sub-row c = search rules
-
-pub level_of-requires : goal.level_of-requires
-level_of-requires c = search rules
-
-pub wide-outer-requires : goal.wide-outer-requires
-wide-outer-requires c = search rules
-
-pub overflow_sub-row-2 : goal.overflow_sub-row-2
-overflow_sub-row-2 c = search rules
-
-pub kind_of-requires : goal.kind_of-requires
-kind_of-requires c = search rules
-
-pub overflow_add-result : goal.overflow_add-result
-overflow_add-result c = search rules
-
 pub returns-then-kind_of-eq2 : goal.returns-then-kind_of-eq2
 unfolding deepest row_at level_of
 returns-then-kind_of-eq2 c = rw (before-step c.args.words.now c.args.row (omega arith), eq-eqb _ 2 (sym c.kind_of.ensures ∙ c.if-kind_of-eq2.true))
-    (omega (arith, c.wide-outer.ensures, c.level_of.ensures))
+    (omega (arith, c.level_of-outer.ensures))
 
 pub returns : goal.returns
 unfolding deepest row_at level_of
 returns c = rw (before-step c.args.words.now c.args.row (omega arith), ne_eqb _ 2 (λ e. c.if-kind_of-eq2.false (c.kind_of.ensures ∙ e)))
-    (omega (arith, c.wide-outer.ensures, c.level_of.ensures))
+    (omega (arith, c.level_of-outer.ensures))

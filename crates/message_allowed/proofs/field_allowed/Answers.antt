@@ -1,5 +1,4 @@
 -- `field_allowed` meets its contract, by its three cases.
-use borrow.Author.Rules.{rules}
 use borrow.Author.Tests.{eq-eqb, ne_eqb}
 use Rattle.message_maps.specs.Rows.{rows_before}
 use Rattle.message_allowed.specs.Distinct.{held}
@@ -15,9 +14,6 @@ returns-then-tag-eq0 c = rw (
   ne_eqb _ 0 c.if-level-eq0.false,
   eq-eqb _ 0 c.if-tag-eq0.true,
 )
-
-pub is_held-requires : goal.is_held-requires
-is_held-requires c = search rules
 
 pub returns : goal.returns
 returns c = rw (

@@ -1,6 +1,5 @@
 -- `head_allowed` meets its contract, by its five cases.
 use mathlib.Core.Path.{sym, ◌∙◌}
-use borrow.Author.Rules.{rules}
 use borrow.Author.Tests.{eq-eqb, ne_eqb}
 use Rattle.message_maps.specs.Rows.{rows_before}
 use Rattle.message_allowed.specs.DistinctLaws.{held-within, head_held}
@@ -26,9 +25,6 @@ returns-then-delimiter-eq0 c = rw (
   ne_eqb _ 0 c.if-start-eq0.false,
   eq-eqb _ 0 c.if-delimiter-eq0.true,
 )
-
-pub is_held-requires : goal.is_held-requires
-is_held-requires c = search rules
 
 pub follows_on-requires : goal.follows_on-requires
 follows_on-requires c = (c.requires.0, c.requires.1, c.requires.2, c.requires.3, held-within c.args.level c.args.start _ (sym c.is_held.ensures ∙ c.if-is_held.true))

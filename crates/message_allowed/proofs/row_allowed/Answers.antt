@@ -1,31 +1,15 @@
 -- `row_allowed` meets its contract, by what the row is.
 use mathlib.Core.Path.{sym, ◌∙◌}
 use native.Mathlib.Omega.{arith}
-use borrow.Author.Rules.{rules}
 use Rattle.message_maps.specs.Rows.{row_at, rows_before, level_of}
 use Rattle.message_lent_rules.specs.LentLaws.{too_deep, as_field, as_head, as_none}
 use Rattle.message_allowed.specs.Branch.{tag_of}
 use Rattle.message_allowed.specs.DistinctLaws.{same-latest, deepest-reach}
 use Rattle.message_allowed.proofs.row_allowed.Goals as goal
 
-pub level_of-level-requires : goal.level_of-level-requires
-level_of-level-requires c = search rules
-
-pub deepest_at-requires : goal.deepest_at-requires
-deepest_at-requires c = search rules
-
-pub wide-requires : goal.wide-requires
-wide-requires c = search rules
-
-pub returns-then-deepest_at-wide : goal.returns-then-deepest_at-wide
+pub returns-then-deepest_at-level : goal.returns-then-deepest_at-level
 unfolding row_at level_of
-returns-then-deepest_at-wide c = sym (too_deep _ _ _ _ _ (omega (arith, c.wide.ensures, c.deepest_at.ensures, c.level_of-level.ensures)))
-
-pub kind_of-kind-requires : goal.kind_of-kind-requires
-kind_of-kind-requires c = search rules
-
-pub tag_of-tag-requires : goal.tag_of-tag-requires
-tag_of-tag-requires c = search rules
+returns-then-deepest_at-level c = sym (too_deep _ _ _ _ _ (omega (arith, c.deepest_at.ensures, c.level_of-level.ensures)))
 
 pub field_allowed-requires : goal.field_allowed-requires
 unfolding tag_of row_at
@@ -36,8 +20,7 @@ field_allowed-requires c = (
   c.requires.3,
   omega (
     arith,
-    c.if-deepest_at-wide.false,
-    c.wide.ensures,
+    c.if-deepest_at-level.false,
     c.deepest_at.ensures,
     deepest-reach (rows_before c.args.row c.args.words.now),
   ),
@@ -47,11 +30,8 @@ field_allowed-requires c = (
 pub returns-then-kind-eq1 : goal.returns-then-kind-eq1
 unfolding row_at level_of
 returns-then-kind-eq1 c = (rw (c.level_of-level.ensures, c.tag_of-tag.ensures) at c.field_allowed.ensures)
-    ∙ sym (as_field _ _ _ _ _ (omega (arith, c.wide.ensures, c.deepest_at.ensures, c.level_of-level.ensures))
+    ∙ sym (as_field _ _ _ _ _ (omega (arith, c.deepest_at.ensures, c.level_of-level.ensures))
     (sym c.kind_of-kind.ensures ∙ c.if-kind-eq1.true))
-
-pub extra_of-requires : goal.extra_of-requires
-extra_of-requires c = search rules
 
 pub head_allowed-requires : goal.head_allowed-requires
 unfolding tag_of row_at
@@ -60,17 +40,17 @@ head_allowed-requires c = (
   c.requires.1,
   c.requires.2,
   c.requires.3,
-  omega (arith, c.if-deepest_at-wide.false, c.wide.ensures, c.deepest_at.ensures, deepest-reach (rows_before c.args.row c.args.words.now)),
+  omega (arith, c.if-deepest_at-level.false, c.deepest_at.ensures, deepest-reach (rows_before c.args.row c.args.words.now)),
   c.requires.4 ∙ sym (same-latest (rows_before c.args.row c.args.words.now) c.level_of-level.ensures c.tag_of-tag.ensures),
 )
 
 pub returns-then-kind-eq2 : goal.returns-then-kind-eq2
 unfolding row_at level_of
 returns-then-kind-eq2 c = (rw (c.level_of-level.ensures, c.tag_of-tag.ensures, c.extra_of.ensures) at c.head_allowed.ensures)
-    ∙ sym (as_head _ _ _ _ _ (omega (arith, c.wide.ensures, c.deepest_at.ensures, c.level_of-level.ensures))
+    ∙ sym (as_head _ _ _ _ _ (omega (arith, c.deepest_at.ensures, c.level_of-level.ensures))
     (λ e. c.if-kind-eq1.false (c.kind_of-kind.ensures ∙ e)) (sym c.kind_of-kind.ensures ∙ c.if-kind-eq2.true))
 
 pub returns : goal.returns
 unfolding row_at level_of
-returns c = sym (as_none _ _ _ _ _ (omega (arith, c.wide.ensures, c.deepest_at.ensures, c.level_of-level.ensures))
+returns c = sym (as_none _ _ _ _ _ (omega (arith, c.deepest_at.ensures, c.level_of-level.ensures))
     (λ e. c.if-kind-eq1.false (c.kind_of-kind.ensures ∙ e)) (λ e. c.if-kind-eq2.false (c.kind_of-kind.ensures ∙ e)))

@@ -2,29 +2,19 @@
 use mathlib.Core.Path.{sym, ap, ◌∙◌}
 use mathlib.Core.Bool.{not}
 use native.Mathlib.Omega.{arith}
-use borrow.Author.Rules.{rules}
 use Rattle.message_maps.specs.Rows.{row_at, rows_before, level_of}
 use Rattle.message_allowed.specs.Branch.{tag_of}
 use Rattle.message_allowed.specs.DistinctLaws.{same-latest, starts_none, starts-part, starts-held}
 use Rattle.message_allowed.proofs.starts_run.Goals as goal
 
-pub kind_of-requires : goal.kind_of-requires
-kind_of-requires c = search rules
-
 pub returns-then-kind_of-ne2 : goal.returns-then-kind_of-ne2
 unfolding row_at
 returns-then-kind_of-ne2 c = sym (starts_none _ _ _ _ _ (λ e. c.if-kind_of-ne2.true (c.kind_of.ensures ∙ e)))
-
-pub level_of-level-requires : goal.level_of-level-requires
-level_of-level-requires c = search rules
 
 pub returns-then-level-eq0 : goal.returns-then-level-eq0
 unfolding row_at level_of
 returns-then-level-eq0 c = sym (starts-part _ _ _ _ _ (sym c.kind_of.ensures ∙ c.if-kind_of-ne2.false)
     (sym c.level_of-level.ensures ∙ c.if-level-eq0.true))
-
-pub tag_of-tag-requires : goal.tag_of-tag-requires
-tag_of-tag-requires c = search rules
 
 pub is_held-requires : goal.is_held-requires
 unfolding tag_of row_at

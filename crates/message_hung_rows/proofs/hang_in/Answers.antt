@@ -1,6 +1,5 @@
 -- `hang_in` meets its contract: the rows between its place and where the run on its start tag ends are cut out for it.
 use mathlib.Core.Path.{◌≡◌, refl, sym, ap, ◌∙◌}
-use mathlib.Core.Bool.{true, false}
 use Prim.Native.Nat.{ℕ, ◌+◌, ◌-◌, ◌≤◌}
 use native.Mathlib.Omega.{arith}
 use lib.ListN.{take}
@@ -13,23 +12,11 @@ use Rattle.message_hung_rows.specs.RowLaws.{hang-none, hang-some}
 use Rattle.message_hung_rows.proofs.hang_in.Goals as goal
 use Rattle.message_hung_rows.proofs.hang_in.Goals.{After-hung_place-from, After-tag_of-start}
 
-pub row_count-run_count-requires : goal.row_count-run_count-requires
-row_count-run_count-requires c = c.requires.run.whole
-
 pub returns-then-run_count-eq0 : goal.returns-then-run_count-eq0
 returns-then-run_count-eq0 c = sym (hang-none _ _ _ _ _ _ (sym c.row_count-run_count.ensures ∙ c.if-run_count-eq0.true))
 
-pub tag_of-start-requires : goal.tag_of-start-requires
-tag_of-start-requires c = (omega arith, c.requires.run.whole)
-
-pub extra_of-delimiter-requires : goal.extra_of-delimiter-requires
-extra_of-delimiter-requires c = (omega arith, c.requires.run.whole)
-
 pub all_of-whole-requires : goal.all_of-whole-requires
 all_of-whole-requires c = (omega (arith, c.row_count-run_count.ensures, c.requires.run.counted), c.requires.run.whole)
-
-pub hung_place-from-requires : goal.hung_place-from-requires
-hung_place-from-requires c = (c.requires.forwards, omega (arith, c.requires.last, c.requires.few), c.requires.whole)
 
 start-at : (c : After-tag_of-start) → c.tag_of-start.result ≡ start_of c.args.run_words.now
 unfolding start_of

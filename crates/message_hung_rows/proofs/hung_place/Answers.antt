@@ -1,6 +1,5 @@
 -- `hung_place` meets its contract: behind the count where there is one.
 use mathlib.Core.Path.{◌≡◌, sym}
-use mathlib.Core.Bool.{true, false}
 use Rattle.message_rules.specs.RowChanges.{field_place, run_place}
 use Rattle.message_hung_rows.specs.RowLaws.{place-count, place-run}
 use Rattle.message_hung_rows.proofs.hung_place.Goals as goal

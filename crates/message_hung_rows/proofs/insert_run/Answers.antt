@@ -18,9 +18,6 @@ use Rattle.message_rules.specs.BlankLaws.{not_blank}
 use Rattle.message_hung_rows.proofs.insert_run.Goals as goal
 use Rattle.message_hung_rows.proofs.insert_run.Goals.{After-row_count-count, After-size_between-size}
 
-pub row_count-count-requires : goal.row_count-count-requires
-row_count-count-requires c = c.requires.0.whole
-
 pub size_between-size-requires : goal.size_between-size-requires
 size_between-size-requires c = (omega arith, omega (arith, c.row_count-count.ensures, c.requires.0.counted), c.requires.0.whole)
 

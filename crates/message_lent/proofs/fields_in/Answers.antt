@@ -3,9 +3,6 @@ use native.Mathlib.Omega.{arith}
 use Rattle.message_lent_rules.specs.LentLaws.{fields-on, fields-end}
 use Rattle.message_lent.proofs.fields_in.Goals as goal
 
-pub loop-i-init : goal.loop-i-init
-loop-i-init c = (omega arith, omega arith, omega arith, omega arith)
-
 pub overflow_add-fields : goal.overflow_add-fields
 overflow_add-fields c =
     let known : c.quick_weight-weight.result ≤ 1 = omega (arith, c.quick_weight-weight.ensures.few, c.if-weight-eq-UNTOLD.false) in
@@ -14,17 +11,15 @@ overflow_add-fields c =
 pub loop-i-preserved : goal.loop-i-preserved
 loop-i-preserved c =
     let known : c.quick_weight-weight.result ≤ 1 = omega (arith, c.quick_weight-weight.ensures.few, c.if-weight-eq-UNTOLD.false) in (
-      omega arith,
-      omega arith,
       omega (
         arith,
-        c.loop-i.invariant.2,
+        c.loop-i.invariant.0,
         c.quick_weight-weight.ensures.told (known),
         fields-on c.args.words.now c.loop-i.i c.args.to
             c.loop-i-test.true c.args.floor,
       ),
-      omega (arith, c.loop-i.invariant.3, known),
+      omega (arith, c.loop-i.invariant.1, known),
     )
 
 pub returns : goal.returns
-returns c = omega (arith, c.loop-i.invariant.2, fields-end c.args.words.now c.loop-i.i c.args.to c.loop-i-test.false c.args.floor)
+returns c = omega (arith, c.loop-i.invariant.0, fields-end c.args.words.now c.loop-i.i c.args.to c.loop-i-test.false c.args.floor)

@@ -6,7 +6,4 @@ use Rattle.message_lent_rules.specs.Lent.{fields_in}
 use Rattle.message_lent.proofs.fields_in.Given as goal
 
 abbrev pub invariant-loop-i : goal.invariant-loop-i
-invariant-loop-i l = (l.from ≤ l.i) × (l.i ≤ l.to) × (l.fields + fields_in l.floor (rows_from (l.to - l.i) l.i l.words) ≡ fields_in l.floor (rows_from (l.to - l.from) l.from l.words)) × (l.fields ≤ l.i - l.from)
-
-abbrev pub decreases-loop-i : goal.decreases-loop-i
-decreases-loop-i l = l.to - l.i
+invariant-loop-i l = (l.fields + fields_in l.floor (rows_from (l.to - l.i) l.i l.words) ≡ fields_in l.floor (rows_from (l.to - l.from) l.from l.words)) × (l.fields ≤ l.i - l.from)

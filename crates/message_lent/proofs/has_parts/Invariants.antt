@@ -6,7 +6,4 @@ use Rattle.message_lent_rules.specs.Lent.{parts_from}
 use Rattle.message_lent.proofs.has_parts.Given as goal
 
 abbrev pub invariant-loop-i : goal.invariant-loop-i
-invariant-loop-i l = (l.i ≤ l.to) × (l.part ≤ l.i + 1) × (parts_from 1 (rows_from (l.to - 0) 0 l.words) ≡ parts_from l.part (rows_from (l.to - l.i) l.i l.words))
-
-abbrev pub decreases-loop-i : goal.decreases-loop-i
-decreases-loop-i l = l.to - l.i
+invariant-loop-i l = (l.part ≤ l.i + 1) × (parts_from 1 (rows_from (l.to - 0) 0 l.words) ≡ parts_from l.part (rows_from (l.to - l.i) l.i l.words))

@@ -1,10 +1,8 @@
 -- `next_part` meets its contract, by its three cases.
 use mathlib.Core.Path.{sym, ◌∙◌}
-use mathlib.Core.Bool.{true, false}
 use native.Mathlib.Omega.{arith}
 use borrow.Author.Tests.{eq-eqb, ne_eqb}
-use Rattle.message_maps.specs.Rows.{level_of}
-use Rattle.message_lent_rules.specs.Lent.{next_part, is_part}
+use Rattle.message_lent_rules.specs.Lent.{next_part}
 use Rattle.message_lent.proofs.next_part.Goals as goal
 
 pub returns-then-level_of-ne0 : goal.returns-then-level_of-ne0

@@ -1,21 +1,8 @@
-use mathlib.Core.Path.{◌≡◌, refl, sym, ◌∙◌}
-use Prim.Native.Nat.{◌+◌, ◌-◌}
+use mathlib.Core.Path.{sym, ◌∙◌}
 use native.Mathlib.Omega.{arith}
-use Rattle.message_maps.specs.Rows.{row_at, rows_from, level_of, end_from}
 use Rattle.message_lent_rules.specs.LentLaws.{own-none, own-here, own-end}
-use Rattle.message_lent.specs.Counted.{Ended}
-use Rattle.message_lent.specs.CountedLaws.{link_bounds, own-link}
+use Rattle.message_lent.specs.CountedLaws.{link, link_bounds, own-link}
 use Rattle.message_lent.proofs.own_below.Goals as goal
-use Rattle.message_lent.proofs.own_below.Goals.{After-place-i}
-
--- the next place is where the rows below this one end
-link : (c : After-place-i) → c.place-i.result ≡ end_from (level_of (row_at c.args.words.now c.loop-i.i)) (c.loop-i.i + 1)
-    (rows_from (c.args.to - (c.loop-i.i + 1)) (c.loop-i.i + 1) c.args.words.now)
-unfolding Ended
-link c = c.place-i.ensures ∙ c.requires.4 c.loop-i.i c.loop-i.invariant.0 c.loop-i-test.true
-
-pub loop-i-init : goal.loop-i-init
-loop-i-init c = (omega arith, omega arith, refl)
 
 pub returns-then-level_of-level : goal.returns-then-level_of-level
 returns-then-level_of-level c = sym (c.loop-i.invariant.2 ∙ own-none c.args.words.now c.loop-i.i c.args.to c.loop-i-test.true c.args.level
@@ -23,17 +10,17 @@ returns-then-level_of-level c = sym (c.loop-i.invariant.2 ∙ own-none c.args.wo
 
 pub returns-then-is_own : goal.returns-then-is_own
 returns-then-is_own c = sym (c.loop-i.invariant.2 ∙ own-here c.args.words.now c.loop-i.i c.args.to c.loop-i-test.true c.args.level
-    (omega (arith, c.level_of.ensures)) (sym (rw c.wide-below.ensures at c.is_own.ensures) ∙ c.if-is_own.true))
+    (omega (arith, c.level_of.ensures)) (sym c.is_own.ensures ∙ c.if-is_own.true))
 
 pub loop-i-smaller : goal.loop-i-smaller
-loop-i-smaller c = omega (arith, (link_bounds c.args.words.now c.args.to c.loop-i.i _ c.loop-i-test.true (link c)).0, c.loop-i-test.true)
+loop-i-smaller c = omega (arith, (link_bounds c.args.words.now c.args.to c.loop-i.i _ c.loop-i-test.true (link _ _ _ _ c.loop-i.i c.requires.4 c.loop-i.invariant.0 c.loop-i-test.true)).0, c.loop-i-test.true)
 
 pub loop-i-preserved : goal.loop-i-preserved
-loop-i-preserved c = let bound = link_bounds c.args.words.now c.args.to c.loop-i.i _ c.loop-i-test.true (link c) in (
+loop-i-preserved c = let bound = link_bounds c.args.words.now c.args.to c.loop-i.i _ c.loop-i-test.true (link _ _ _ _ c.loop-i.i c.requires.4 c.loop-i.invariant.0 c.loop-i-test.true) in (
   omega (arith, bound.0, c.loop-i.invariant.0),
   bound.1,
-  c.loop-i.invariant.2 ∙ own-link c.args.words.now c.args.to c.loop-i.i _ c.loop-i-test.true (link c) c.args.level
-      (omega (arith, c.level_of.ensures, c.if-level_of-level.false)) (sym (rw c.wide-below.ensures at c.is_own.ensures)
+  c.loop-i.invariant.2 ∙ own-link c.args.words.now c.args.to c.loop-i.i _ c.loop-i-test.true (link _ _ _ _ c.loop-i.i c.requires.4 c.loop-i.invariant.0 c.loop-i-test.true) c.args.level
+      (omega (arith, c.level_of.ensures, c.if-level_of-level.false)) (sym c.is_own.ensures
       ∙ c.if-is_own.false),
 )
 

@@ -6,7 +6,4 @@ use Rattle.message_look_ups.specs.Opening.{value_from}
 use Rattle.message_look_ups.proofs.value_from.Given as goal
 
 abbrev pub invariant-loop-i : goal.invariant-loop-i
-invariant-loop-i l = (l.initial.i ≤ l.i) × (l.i ≤ l.to) × (value_from l.level l.tag l.initial.place (rows_from (l.to - l.initial.i) l.initial.i l.words) ≡ value_from l.level l.tag l.place (rows_from (l.to - l.i) l.i l.words)) × (l.place ≤ l.initial.place + (l.i - l.initial.i) * 4294967296)
-
-abbrev pub decreases-loop-i : goal.decreases-loop-i
-decreases-loop-i l = l.to - l.i
+invariant-loop-i l = (value_from l.level l.tag l.initial.place (rows_from (l.to - l.from) l.from l.words) ≡ value_from l.level l.tag l.place (rows_from (l.to - l.i) l.i l.words)) × (l.place ≤ l.initial.place + (l.i - l.from) * 4294967296)

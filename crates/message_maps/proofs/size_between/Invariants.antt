@@ -5,7 +5,4 @@ use Rattle.message_maps.specs.Rows.{rows_from, sizes}
 use Rattle.message_maps.proofs.size_between.Given as goal
 
 abbrev pub invariant-loop-i : goal.invariant-loop-i
-invariant-loop-i l = (l.from ≤ l.i) × (l.i ≤ l.to) × (l.size + sizes (rows_from (l.to - l.i) l.i l.words) ≡ sizes (rows_from (l.to - l.from) l.from l.words)) × (l.size ≤ (l.i - l.from) * 4294967296)
-
-abbrev pub decreases-loop-i : goal.decreases-loop-i
-decreases-loop-i l = l.to - l.i
+invariant-loop-i l = (l.size + sizes (rows_from (l.to - l.i) l.i l.words) ≡ sizes (rows_from (l.to - l.from) l.from l.words)) × (l.size ≤ (l.i - l.from) * 4294967296)

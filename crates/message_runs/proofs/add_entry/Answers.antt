@@ -1,6 +1,6 @@
 -- `add_entry` meets its contract: the head of the entry is inserted behind all rows.
 use mathlib.Core.Path.{◌≡◌, sym, ap, ◌∙◌}
-use mathlib.Core.Bool.{true, false}
+use mathlib.Core.Bool.{true}
 use Prim.Native.Nat.{ℕ, ◌+◌}
 use native.Mathlib.Omega.{arith}
 use Rattle.message_maps.specs.Map.{end, entry, joined, field_count}

@@ -1,6 +1,6 @@
 -- `store_last` meets its contract: the map of the last entry is judged by what would be left of its run.
 use mathlib.Core.Path.{◌≡◌, sym, ap, ◌∙◌}
-use mathlib.Core.Bool.{true, false}
+use mathlib.Core.Bool.{true}
 use Prim.Native.Nat.{◌+◌, ◌≤◌}
 use native.Mathlib.Omega.{arith}
 use Rattle.message_maps.specs.Rows.{message_rows}

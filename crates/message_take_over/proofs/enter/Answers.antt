@@ -4,8 +4,8 @@ use native.Mathlib.Omega.{arith}
 use Rattle.build_records.specs.declared.Record.{Record}
 use Rattle.message_take_over.proofs.enter.Goals as goal
 
-pub bounds-last-wide : goal.bounds-last-wide
-bounds-last-wide c = let e = ap (λ (q : Record). q.depth) c.record_at-entered.ensures in omega (arith, e, c.wide.ensures)
+pub bounds-last-entered : goal.bounds-last-entered
+bounds-last-entered c = let e = ap (λ (q : Record). q.depth) c.record_at-entered.ensures in omega (arith, e)
 
 pub returns : goal.returns
-returns c = rw (c.wide.ensures, c.record_at-entered.ensures)
+returns c = rw (c.record_at-entered.ensures)

@@ -1,5 +1,5 @@
 -- `lay_record` meets its contract: a record that may not come next is refused before anything is laid.
-use mathlib.Core.Path.{sym, ap, ◌∙◌}
+use mathlib.Core.Path.{refl, sym, ap, ◌∙◌}
 use native.Mathlib.Omega.{arith}
 use Rattle.message_take_over.specs.Taking.{is_joined}
 use Rattle.message_take_over.specs.StepLaws.{room-both, joined-reach, next-back, next-fourth, next-crowded, next-joined, step-refused, step-laid}
@@ -42,7 +42,7 @@ lay_rows-rows-requires c = let reached =
 
 pub overflow_add-result : goal.overflow_add-result
 overflow_add-result c = let room = room-both _ _ _ (sym c.has_room.ensures ∙ c.if-not-has_room.false) in
-    omega (arith, room.1, c.wide.ensures)
+    omega (arith, room.1)
 
 pub shape_of-words : goal.shape_of-words
 shape_of-words c = c.lay_rows-rows.ensures.whole
@@ -51,4 +51,4 @@ pub returns : goal.returns
 returns c = let next =
     next-joined _ _ _ _ _ c.if-taken-laying.false c.if-taken-gt3.false (sym c.has_room.ensures ∙ c.if-not-has_room.false) ∙ ap is_joined (sym c.joins_of-joined.ensures)
     ∙ sym c.is_joined.ensures ∙ c.if-not-is_joined.false in
-    record { value = (step-laid _ _ _ _ _ _ _ _ _ _ c.record_at-taken.ensures c.joins_of-joined.ensures c.wide.ensures next c.lay_rows-rows.ensures).0; adds_rows = (step-laid _ _ _ _ _ _ _ _ _ _ c.record_at-taken.ensures c.joins_of-joined.ensures c.wide.ensures next c.lay_rows-rows.ensures).1 }
+    record { value = (step-laid _ _ _ _ _ _ _ _ _ _ c.record_at-taken.ensures c.joins_of-joined.ensures refl next c.lay_rows-rows.ensures).0; adds_rows = (step-laid _ _ _ _ _ _ _ _ _ _ c.record_at-taken.ensures c.joins_of-joined.ensures refl next c.lay_rows-rows.ensures).1 }

@@ -30,16 +30,16 @@ returns-in_default c = going-refused _ _ _ c.loop-i.invariant.0 c.loop-i-test.tr
     (sym c.lay_record.ensures.value ∙ c.in_default.is)
 
 pub enter-requires : goal.enter-requires
-enter-requires c = let stepped = sym c.lay_record.ensures.value ∙ c.in-On.is in
+enter-requires c = let stepped = sym c.lay_record.ensures.value ∙ c.in-Some.is in
     let deep =
     going-deep _ _ _ c.loop-i.invariant.0 c.loop-i-test.true (omega (arith, c.requires.0, records_length c.args.records.now))
     c.requires.1 _ stepped in
     (omega (arith, c.loop-i-test.true, c.requires.1), omega (arith, deep, c.loop-i.invariant.1.room))
 
 pub loop-i-preserved : goal.loop-i-preserved
-loop-i-preserved c = let stepped = sym c.lay_record.ensures.value ∙ c.in-On.is in (
+loop-i-preserved c = let stepped = sym c.lay_record.ensures.value ∙ c.in-Some.is in (
   going_on _ _ _ c.loop-i.invariant.0 c.loop-i-test.true (omega (arith, c.requires.0, records_length c.args.records.now)) _ _ stepped
-      (rw c.in-On.is at c.lay_record.ensures.adds_rows),
+      (rw c.in-Some.is at c.lay_record.ensures.adds_rows),
   going_newest _ _ _ c.loop-i.invariant.0 c.loop-i-test.true (omega (arith, c.requires.0, records_length c.args.records.now))
       c.requires.1 _ stepped _ _ c.loop-i.invariant.1 c.enter.ensures,
 )

@@ -1,7 +1,5 @@
 -- `msg_type_of` meets its contract. The loop's invariant: MsgType's record from here on is that of the whole header.
--- The measure is how many records are left.
 use mathlib.Core.Path.{◌≡◌}
-use Prim.Native.Nat.{◌-◌}
 use Rattle.build_records.specs.Records.{records_of, between}
 use Rattle.build_parts.specs.Parts.{part_of}
 use Rattle.build_rules.specs.Beginning.{msg_type_record}
@@ -9,6 +7,3 @@ use Rattle.builder.proofs.finishing.msg_type_of.Given as goal
 
 abbrev pub invariant-loop-i : goal.invariant-loop-i
 invariant-loop-i l = msg_type_record (part_of 0 l.count l.words) ≡ msg_type_record (between l.i l.count (records_of l.words))
-
-abbrev pub decreases-loop-i : goal.decreases-loop-i
-decreases-loop-i l = l.count - l.i

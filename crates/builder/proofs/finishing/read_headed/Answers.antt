@@ -27,22 +27,22 @@ place_of-placed-requires c = c.requires.3
 
 pub overflow_add-from : goal.overflow_add-from
 overflow_add-from c =
-    let kept : c.table_at-kept.result ≡ kept_at c.args.tables.now c.in-At.opening = c.table_at-kept.ensures ∙ ap (kept_at c.args.tables.now) c.wide.ensures in
-    let lies : c.in-Table.from + c.in-Table.size ≤ length c.args.tables.now = table-lies _ _ _ _ (sym (kept) ∙ c.in-Table.is) in
+    let kept : c.table_at-kept.result ≡ kept_at c.args.tables.now c.in-Some.opening = c.table_at-kept.ensures ∙ ap (kept_at c.args.tables.now) c.from.ensures in
+    let lies : c.in-Some-kept.from + c.in-Some-kept.size ≤ length c.args.tables.now = table-lies _ _ _ _ (sym (kept) ∙ c.in-Some-kept.is) in
     let long : length c.args.tables.now < 2 ^ 63 = omega arith in
     omega (arith, lies, long)
 
 pub offset_bounds-tables-from : goal.offset_bounds-tables-from
 offset_bounds-tables-from c =
-    let kept : c.table_at-kept.result ≡ kept_at c.args.tables.now c.in-At.opening = c.table_at-kept.ensures ∙ ap (kept_at c.args.tables.now) c.wide.ensures in
-    let lies : c.in-Table.from + c.in-Table.size ≤ length c.args.tables.now = table-lies _ _ _ _ (sym (kept) ∙ c.in-Table.is) in
+    let kept : c.table_at-kept.result ≡ kept_at c.args.tables.now c.in-Some.opening = c.table_at-kept.ensures ∙ ap (kept_at c.args.tables.now) c.from.ensures in
+    let lies : c.in-Some-kept.from + c.in-Some-kept.size ≤ length c.args.tables.now = table-lies _ _ _ _ (sym (kept) ∙ c.in-Some-kept.is) in
     let long : length c.args.tables.now < 2 ^ 63 = omega arith in
     omega (arith, lies, long)
 
 pub slice_bounds-read_by_table-end : goal.slice_bounds-read_by_table-end
 slice_bounds-read_by_table-end c =
-    let kept : c.table_at-kept.result ≡ kept_at c.args.tables.now c.in-At.opening = c.table_at-kept.ensures ∙ ap (kept_at c.args.tables.now) c.wide.ensures in
-    let lies : c.in-Table.from + c.in-Table.size ≤ length c.args.tables.now = table-lies _ _ _ _ (sym (kept) ∙ c.in-Table.is) in
+    let kept : c.table_at-kept.result ≡ kept_at c.args.tables.now c.in-Some.opening = c.table_at-kept.ensures ∙ ap (kept_at c.args.tables.now) c.from.ensures in
+    let lies : c.in-Some-kept.from + c.in-Some-kept.size ≤ length c.args.tables.now = table-lies _ _ _ _ (sym (kept) ∙ c.in-Some-kept.is) in
     lies
 
 pub read_by_table-requires : goal.read_by_table-requires
@@ -66,11 +66,11 @@ pub returns-in_default-kept : goal.returns-in_default-kept
 unfolding start_told after_start
 returns-in_default-kept c =
     let told : place_of c.args.index.now (value_at c.args.message.now (msg_type_record (part_of 0 c.args.headed.progress.records c.args.words.now))) ≡ c.place_of-placed.result = type-placed c.args.index.now c.args.message.now c.msg_type_of-msg_type.result _ c.msg_type_of-msg_type.ensures _ c.place_of-placed.ensures in
-    let kept : c.table_at-kept.result ≡ kept_at c.args.tables.now c.in-At.opening = c.table_at-kept.ensures ∙ ap (kept_at c.args.tables.now) c.wide.ensures in
+    let kept : c.table_at-kept.result ≡ kept_at c.args.tables.now c.in-Some.opening = c.table_at-kept.ensures ∙ ap (kept_at c.args.tables.now) c.from.ensures in
     record {
       by_index = λ trailers. c.read_laid.ensures.by_index trailers
           ∙ placed-laid trailers c.args.headed.stop _ c.args.headed.progress.room _ c.args.headed.checksum c.args.dictionary.now c.args.index.now c.args.config
-          c.args.tables.now _ (told ∙ c.in-At.is) (sym c.in_default-kept.is ∙ kept);
+          c.args.tables.now _ (told ∙ c.in-Some.is) (sym c.in_default-kept.is ∙ kept);
       stays = c.read_laid.ensures.stays;
     }
 
@@ -78,12 +78,12 @@ pub returns : goal.returns
 unfolding start_told after_start
 returns c =
     let told : place_of c.args.index.now (value_at c.args.message.now (msg_type_record (part_of 0 c.args.headed.progress.records c.args.words.now))) ≡ c.place_of-placed.result = type-placed c.args.index.now c.args.message.now c.msg_type_of-msg_type.result _ c.msg_type_of-msg_type.ensures _ c.place_of-placed.ensures in
-    let kept : c.table_at-kept.result ≡ kept_at c.args.tables.now c.in-At.opening = c.table_at-kept.ensures ∙ ap (kept_at c.args.tables.now) c.wide.ensures in
-    let from = c.in-Table.from in
-    let size = c.in-Table.size in record {
+    let kept : c.table_at-kept.result ≡ kept_at c.args.tables.now c.in-Some.opening = c.table_at-kept.ensures ∙ ap (kept_at c.args.tables.now) c.from.ensures in
+    let from = c.in-Some-kept.from in
+    let size = c.in-Some-kept.size in record {
       by_index = λ trailers. c.read_by_table.ensures.by_index trailers
           ∙ placed-kept trailers c.args.headed.stop _ c.args.headed.progress.room _ c.args.headed.checksum c.args.dictionary.now c.args.index.now c.args.config
-          c.args.tables.now _ (told ∙ c.in-At.is) from size (from + size - from)
-          (sym c.in-Table.is ∙ kept) (omega arith);
+          c.args.tables.now _ (told ∙ c.in-Some.is) from size (from + size - from)
+          (sym c.in-Some-kept.is ∙ kept) (omega arith);
       stays = c.read_by_table.ensures.stays;
     }

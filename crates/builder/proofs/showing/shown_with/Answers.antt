@@ -1,14 +1,14 @@
 -- `shown_with` meets its contract: one law for each way.
-use mathlib.Core.Path.{sym}
-use native.Mathlib.Omega.{arith}
+use Rattle.std.proofs.Common.{sym, arith}
 use Rattle.builder.specs.BuildLaws.{shows-none, shows_nothing, shows-header}
 use Rattle.builder.proofs.showing.shown_with.Goals as goal
 
-pub returns-then-number-lt1 : goal.returns-then-number-lt1
-returns-then-number-lt1 c = sym (shows-none _ _ _ c.number_of-number.ensures c.if-number-lt1.true)
+pub returns-in-1-to-4 : goal.returns-in-1-to-4
+returns-in-1-to-4 c = sym (shows-header _ _ _ c.number_of.ensures (omega arith) (omega arith))
 
-pub returns-then-number-gt4 : goal.returns-then-number-gt4
-returns-then-number-gt4 c = sym (shows_nothing _ _ _ c.number_of-number.ensures (omega (arith, c.if-number-lt1.false)) c.if-number-gt4.true)
+-- below the range, and above it
+pub returns-in_default : goal.returns-in_default
+returns-in_default c = sym (shows-none _ _ _ c.number_of.ensures (omega arith))
 
-pub returns : goal.returns
-returns c = sym (shows-header _ _ _ c.number_of-number.ensures (omega (arith, c.if-number-lt1.false)) (omega (arith, c.if-number-gt4.false)))
+pub returns-in_default-2 : goal.returns-in_default-2
+returns-in_default-2 c = sym (shows_nothing _ _ _ c.number_of.ensures (omega arith) (omega arith))

@@ -13,4 +13,4 @@ returns-then-word-ge-LEAPS c = let beyond : length c.args.leaps.now ≤ leap_wor
 
 pub returns : goal.returns
 unfolding leap_from
-returns c = c.place.ensures ∙ rw c.word_of-word.ensures
+returns c = c.from.ensures ∙ rw c.word_of-word.ensures

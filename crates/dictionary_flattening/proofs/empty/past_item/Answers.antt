@@ -4,9 +4,9 @@ use Rattle.dictionary_flattening.proofs.LeapsLaws.{leads_nowhere, leads_past}
 use Rattle.dictionary_flattening.proofs.Arms.{read_as}
 use Rattle.dictionary_flattening.proofs.empty.past_item.Goals as goal
 
-pub returns-in-NoItems : goal.returns-in-NoItems
-returns-in-NoItems c = leads_past (read_as (sym c.record_at.ensures ∙ c.in-Whole.is) c.in-ComponentItem.is)
-    (sym c.stands_at.ensures ∙ c.in-NoItems.is)
+pub returns-in-None : goal.returns-in-None
+returns-in-None c = leads_past (read_as (sym c.record_at.ensures ∙ c.in-Whole.is) c.in-ComponentItem.is)
+    (sym c.stands_at.ensures ∙ c.in-None.is)
 
 pub returns-in_default : goal.returns-in_default
 returns-in_default c = leads_nowhere
@@ -14,5 +14,5 @@ returns-in_default c = leads_nowhere
 pub returns-in_default-record : goal.returns-in_default-record
 returns-in_default-record c = leads_nowhere
 
-pub returns-in-ItemsAt : goal.returns-in-ItemsAt
-returns-in-ItemsAt c = leads_nowhere
+pub returns-in-Some : goal.returns-in-Some
+returns-in-Some c = leads_nowhere

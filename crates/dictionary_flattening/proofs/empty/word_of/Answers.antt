@@ -1,15 +1,16 @@
 -- `word_of` meets its contract: each return is the way that the definition takes.
-use borrow.Author.Tests.{lt-ltb, le-ltb}
+use Rattle.std.proofs.Common.{lt-ltb, le-ltb}
 use Rattle.dictionary_flattening.specs.Leaps.{leap_word}
 use Rattle.dictionary_flattening.proofs.empty.word_of.Goals as goal
+use Rattle.dictionary_flattening.proofs.empty.word_of.Goals.{then-at-ge65536-via-then-at-ge65536, then-at-ge65536-via-else-at-ge65536+then-at-ge4}
 
 pub returns-then-at-ge65536 : goal.returns-then-at-ge65536
 unfolding leap_word
-returns-then-at-ge65536 c = rw (le-ltb _ _ c.if-at-ge65536.true)
-
-pub returns-then-at-ge4 : goal.returns-then-at-ge4
-unfolding leap_word
-returns-then-at-ge4 c = rw (lt-ltb _ _ c.if-at-ge65536.false, le-ltb _ _ c.if-at-ge4.true)
+returns-then-at-ge65536 c =
+    elim c.then-at-ge65536.branch [
+      | then-at-ge65536-via-then-at-ge65536 w ↦ rw (le-ltb _ _ w.if-at-ge65536.true)
+      | then-at-ge65536-via-else-at-ge65536+then-at-ge4 w ↦ rw (lt-ltb _ _ w.if-at-ge65536.false, le-ltb _ _ w.if-at-ge4.true)
+    ]
 
 pub returns : goal.returns
 unfolding leap_word

@@ -9,9 +9,9 @@ use Rattle.gateway.proofs.building.fill.Goals as goal
 pub returns : goal.returns
 unfolding filled
 returns c =
-    let e : c.loop-i.i ≡ c.least-count.result = omega arith in
+    let e : c.loop-i.i ≡ c.min-count.result = omega arith in
     c.fill_blank.ensures
-    ∙ ap (blanked c.least-count.result c.args.written)
-    (c.loop-i.invariant.1 ∙ ap (sets (field_record_at c.args.words.now c.args.shown) c.args.records.now) e
-    ∙ sets-part (field_record_at c.args.words.now c.args.shown) c.args.records.now c.least-count.result (omega arith))
-    ∙ filled-blanked c.args.words.now c.args.shown c.args.written c.args.records.now c.least-count.result c.least-count.ensures c.requires
+    ∙ ap (blanked c.min-count.result c.args.written)
+    (c.loop-i.invariant ∙ ap (sets (field_record_at c.args.words.now c.args.shown) c.args.records.now) e
+    ∙ sets-part (field_record_at c.args.words.now c.args.shown) c.args.records.now c.min-count.result (omega arith))
+    ∙ filled-blanked c.args.words.now c.args.shown c.args.written c.args.records.now c.min-count.result c.min-count.ensures c.requires

@@ -7,12 +7,10 @@ use Rattle.gateway.proofs.taking_over.lay.Goals as goal
 
 pub loop-i-init : goal.loop-i-init
 unfolding put_fields
-loop-i-init c = (omega arith, refl)
+loop-i-init c = refl
 
 pub loop-i-preserved : goal.loop-i-preserved
 loop-i-preserved c =
-    let more : suc c.loop-i.i ≡ c.loop-i.i + 1 = omega arith in (
-      omega arith,
-      c.put_field.ensures ∙ ap (on_records (replaced c.loop-i.i (record_of_lent (get_or c.args.records.now c.loop-i.i blank_field)))) c.loop-i.invariant.1
-          ∙ put_next c.args.records.now c.loop-i.i c.args.words.now ∙ ap (λ (i : ℕ). put_fields c.args.records.now i c.args.words.now) more,
-    )
+    let more : suc c.loop-i.i ≡ c.loop-i.i + 1 = omega arith in
+    c.put_field.ensures ∙ ap (on_records (replaced c.loop-i.i (record_of_lent (get_or c.args.records.now c.loop-i.i blank_field)))) c.loop-i.invariant
+    ∙ put_next c.args.records.now c.loop-i.i c.args.words.now ∙ ap (λ (i : ℕ). put_fields c.args.records.now i c.args.words.now) more
