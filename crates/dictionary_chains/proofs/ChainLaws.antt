@@ -1,11 +1,12 @@
 -- The laws of the index as a store: what is entered is found under its key and leaves every other key as it was, and an array
 -- without heads holds nothing.
-use Rattle.std.specs.Prelude.{◌≡◌, refl, List, ◌++◌, ℕ, ◌+◌, ◌≤◌, ◌<◌, length, get_or, replicate, leb}
-use Rattle.std.proofs.Common.{sym, ◌∙◌}
+use Rattle.std.specs.Prelude.{◌≡◌, refl, List, ◌++◌, ℕ, suc, ◌+◌, ◌≤◌, ◌<◌, length, get_or, set, drop, replicate, leb}
+use Rattle.std.proofs.Common.{sym, ◌∙◌, add-one, drop-cons}
 use Rattle.std.proofs.Math.Path.{ap}
 use native.Mathlib.Omega.{arith}
-use Rattle.std.proofs.lemmas.List.{length-replicate, get_or-replicate}
+use Rattle.std.proofs.lemmas.List.{length-replicate, get_or-replicate, replicate-append-replicate, set_at}
 use Rattle.std.proofs.Math.ListN.{get_or-append}
+use Rattle.std.proofs.Math.Seq.{append_snoc}
 use borrow.Author.Tests.{eq-eqb, ne_eqb, le-leb, lt-leb}
 use Rattle.field_rules.specs.Choice.{pick_same}
 use Rattle.dictionary_chains.specs.Chain.{head_words, entry_start, entry_room, index_words, key_of, head_of, entry_at, link_at, branch_of, ends, way_of, found, written, branched, number_at, entered_at, entered}
@@ -192,3 +193,11 @@ module _ (rest : List ℕ) where
 
   pub clear_found : (table : Table) (key : ℕ) → found table (replicate head_words 0 ++ rest) key ≡ 0
   clear_found table key = omega (arith, stands_bounded clear_bounded (found-stands table (replicate head_words 0 ++ rest) key))
+
+-- clearing one word more
+pub clear_step : (index : List ℕ) (i : ℕ) → i < length index → set (replicate i 0 ++ drop i index) i 0 ≡ replicate (i + 1) 0 ++ drop (i + 1) index
+clear_step index i h =
+    rw (add-one, drop-cons index i 0 h)
+    (set_at (replicate i 0) (get_or index i 0) (drop (suc i) index) 0 i (length-replicate i 0)
+    ∙ sym (append_snoc (replicate i 0) 0 (drop (suc i) index))
+    ∙ ap (λ (l : List ℕ). l ++ drop (suc i) index) (replicate-append-replicate {A = ℕ} i 1 0 ∙ ap (λ (n : ℕ). replicate {A = ℕ} n 0) (add-one i)))

@@ -2,13 +2,13 @@
 -- what it names in the index; and on a refusal nothing was written.
 use Rattle.std.specs.Prelude.{◌≡◌, Bool, true, false, get_or, set, replicate, eqb, leb, ltb}
 use Rattle.std.proofs.Math.Path.{refl, ap}
-use Rattle.std.proofs.Common.{◌∙◌, arith, length-drop, drop-drop, length-take-le}
+use Rattle.std.proofs.Common.{◌∙◌, arith, add-one, length-drop, drop-drop, length-take-le}
 use mathlib.Core.List.{List, [], ◌∷◌, ◌++◌, append-nil}
 use Prim.Native.Nat.{ℕ, ◌+◌, ◌-◌, ◌≤◌, ◌<◌}
 use Rattle.std.proofs.Math.ListN.{length, take, drop, length-append, drop_of_length-le}
 use Rattle.std.proofs.lemmas.List.{length-replicate}
 use Rattle.std.proofs.lemmas.List.Edits.{sets-eq}
-use Rattle.std.proofs.Math.Seq.{take_all, take-length, take_at, drop_at, take-append_seam}
+use Rattle.std.proofs.Math.Seq.{paste, paste-suc, take_all, take-length, take_at, drop_at, take-append_seam, drop-append-add}
 use borrow.Rule.Slice.PartMut.{put_mid}
 use borrow.Author.Tests.{eqb-true, eqb-false, ltb-true, ltb-false, leb-true, eq-eqb, ne_eqb, le-ltb, lt-ltb, le-leb}
 use Rattle.field_rules.specs.Choice.{pick}
@@ -34,6 +34,23 @@ pub head_put : (size : ℕ) (index memory : List ℕ) (n : ℕ) → front ≤ le
 unfolding head_for
 head_put size index memory n room =
     rw (stamped size memory room) (ap (λ (l : List ℕ). first_stamp ∷ second_stamp ∷ size ∷ index ++ l) (drop-drop n front memory))
+
+-- or one word more of it
+pub head_grows : (start index memory : List ℕ) (i : ℕ)
+    → front + length index ≤ length start → memory ≡ paste start front index i → i < length index
+    → set memory (front + i) (get_or index i 0) ≡ paste start front index (i + 1)
+head_grows start index memory i room e h =
+    ap (λ (l : List ℕ). set l (front + i) (get_or index i 0)) e
+    ∙ rw add-one (paste-suc start front index i 0 (omega arith) h)
+
+-- and, when none is left, all of it
+pub head_done : (size : ℕ) (index memory : List ℕ) (i : ℕ) → front ≤ length memory → length index ≡ i
+    → paste (set (set (set memory 0 first_stamp) 1 second_stamp) 2 size) front index i ≡ head_for size index ++ drop (front + i) memory
+unfolding head_for
+head_done size index memory i room e =
+    rw (stamped size memory room, take_all i index (omega arith))
+    (ap (λ (l : List ℕ). first_stamp ∷ second_stamp ∷ size ∷ index ++ l)
+    (drop-append-add (first_stamp ∷ second_stamp ∷ size ∷ []) (drop front memory) i ∙ drop-drop i front memory))
 
 -- whether memory is prepared, test by test
 module _ (copy memory : List ℕ) where

@@ -1,14 +1,17 @@
--- Clearing a level's heads. It touches neither what stands before the level nor its items, so that linking comes to the same.
+-- Clearing a level's heads, at once or one after the other. It touches neither what stands before the level nor its items, so that
+-- linking comes to the same.
 use Rattle.std.specs.Prelude.{◌≡◌, refl, ℕ, zero, suc, ◌+◌, ◌*◌, ◌≤◌, ◌<◌, length, get_or, set, take}
 use Rattle.std.proofs.Math.Path.{sym, ap}
-use Rattle.std.proofs.Common.{◌∙◌, add-one, get_or-drop, take-suc-set, drop-set-lt}
+use Rattle.std.proofs.Common.{◌∙◌, add-one, take-append-drop, drop-cons, get_or-drop, take-suc-set, drop-set-lt}
 use mathlib.Core.List.{List, [], ◌∷◌, ◌++◌, append_assoc}
 use native.Mathlib.Omega.{arith}
 use Rattle.std.proofs.Math.ListN.{drop, replicate, length-append, length-replicate}
-use Rattle.std.proofs.Math.Seq.{length-take-le, drop-drop, take_at, drop_at}
+use Rattle.std.proofs.lemmas.List.{replicate-append-replicate}
+use Rattle.std.proofs.Math.Seq.{length-take-le, drop-drop, take_at, drop_at, append_snoc}
 use Rattle.dictionary_tables_rules.specs.Table.{heads_for, tag_at}
 use Rattle.dictionary_tables_rules.specs.Laid.{part_size}
 use Rattle.dictionary_pressing.specs.Linking.{own_at, owns_from, items_start, cleared, linked}
+use Rattle.dictionary_pressing.specs.HeadLaws.{set_in}
 
 -- what an item is depends on its words alone
 get_behind : (t u : List ℕ) (at k : ℕ) → drop at t ≡ drop at u → get_or t (at + k) 0 ≡ get_or u (at + k) 0
@@ -64,9 +67,24 @@ module _ (table : List ℕ) (level count : ℕ) (room : level + part_size count 
   pub clear_linked : linked (cleared table level count) level count ≡ linked table level count
   clear_linked = linked-same (cleared table level count) table level count cleared-front cleared-items
 
--- so many heads are clear
+-- the first so many heads are clear
 unfoldable pub cleared_to : List ℕ → ℕ → ℕ → List ℕ
 cleared_to table level i = take (level + 1) table ++ (replicate i 0 ++ drop (level + 1 + i) table)
+
+pub clear_none : (table : List ℕ) (level : ℕ) → table ≡ cleared_to table level 0
+unfolding cleared_to
+clear_none table level = let z : level + 1 + 0 ≡ level + 1 = omega arith in rw z (sym (take-append-drop (level + 1) table))
+
+pub clear_on : (table : List ℕ) (level i : ℕ) → level + 1 + i < length table → set (cleared_to table level i) (level + 1 + i) 0 ≡ cleared_to table level (i + 1)
+unfolding cleared_to
+clear_on table level i h =
+    let front : length (take (level + 1) table) ≡ level + 1 = length-take-le (level + 1) table (omega arith) in
+    let n : level + 1 + (i + 1) ≡ suc (level + 1 + i) = omega arith in
+    rw (n, drop-cons table (level + 1 + i) 0 h)
+    (set_in (take (level + 1) table) (replicate i 0) (get_or table (level + 1 + i) 0) (drop (suc (level + 1 + i)) table) 0 (level + 1 + i)
+    (omega (arith, length-replicate {A = ℕ} i 0))
+    ∙ ap (λ (l : List ℕ). take (level + 1) table ++ l) (sym (append_snoc (replicate i 0) 0 (drop (suc (level + 1 + i)) table))
+    ∙ ap (λ (l : List ℕ). l ++ drop (suc (level + 1 + i)) table) (replicate-append-replicate {A = ℕ} i 1 0)))
 
 pub clear_all : (table : List ℕ) (level count : ℕ) → level < length table →
     cleared_to (set table level count) level (heads_for count) ≡ cleared table level count

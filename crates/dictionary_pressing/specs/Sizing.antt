@@ -2,7 +2,7 @@
 -- So two layouts that the same rows hold have tables of one size. Where no group is empty, a table has 14 words at the most to each item.
 use Rattle.std.specs.Prelude.{◌≡◌, Bool, true, false, List, [], ◌∷◌, ◌++◌, length, drop, eqb, ltb}
 use Rattle.std.proofs.Math.Path.{refl}
-use Rattle.std.proofs.Common.{sym, ap, ◌∙◌, eq-eqb, ne_eqb, eqb-true, ltb-true, ltb-false}
+use Rattle.std.proofs.Common.{sym, ap, ◌∙◌, eq-eqb, ne_eqb, eqb-true, lt-ltb, le-ltb, ltb-true, ltb-false}
 use Prim.Native.Nat.{ℕ, zero, suc, ◌+◌, ◌-◌, ◌*◌, ◌≤◌, ◌<◌}
 use native.Mathlib.Omega.{arith}
 use Rattle.std.proofs.lemmas.Bool.{eqb-false}
@@ -33,6 +33,14 @@ parts_from (suc left) rows at stop = part_behind rows at stop + parts_from left 
 unfoldable pub size_in : List ℕ → ℕ → ℕ
 size_in rows stop = part_size (length (siblings_from rows 0 stop)) + parts_from stop rows 0 stop
 
+pub least-one : (one other : ℕ) → one < other → least one other ≡ one
+unfolding least
+least-one one other h = rw (lt-ltb _ _ h)
+
+pub least_other : (one other : ℕ) → other ≤ one → least one other ≡ other
+unfolding least
+least_other one other h = rw (le-ltb _ _ h)
+
 least_first : (one other : ℕ) → one ≤ other → least one other ≡ one
 unfolding least
 least_first one other h = go (ltb one other) refl
@@ -40,6 +48,14 @@ least_first one other h = go (ltb one other) refl
     go : (t : Bool) → ltb one other ≡ t → pick t one other ≡ one
     go true e = refl
     go false e = omega (arith, ltb-false one other e)
+
+pub least-within : (one other : ℕ) → least one other ≤ other
+unfolding least
+least-within one other = go (ltb one other) refl
+  where
+    go : (t : Bool) → ltb one other ≡ t → pick t one other ≤ other
+    go true e = omega (arith, ltb-true one other e)
+    go false e = omega arith
 
 parts-field : (rows : List ℕ) (at stop : ℕ) → (group_at rows at ≡ 1 → ⊥) → part_behind rows at stop ≡ 0
 unfolding part_behind

@@ -227,7 +227,8 @@ pub fn press_tags(tags: &[u32], table: &mut [u16]) -> usize
 {
     let count = tags.len();
     let mut slot = 1 + heads_for(count);
-    for &tag in tags {
+    for next in 0..count {
+        let tag = tags[next];
         put_item(
             table,
             slot,

@@ -44,6 +44,7 @@ pub fn tag_of(text: &[u8]) -> Option<u32>
 }
 
 // 22: the separator is `=` or a digit.
+#[tactic(auto, unfolding(field_rules::specs::Separator::is_refused_separator, field_rules::specs::Number::is_digit))]
 pub fn is_refused_separator(separator: u8) -> bool
     ensures { result ≡ is_refused_separator separator }
 {

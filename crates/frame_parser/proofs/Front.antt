@@ -4,7 +4,7 @@ use lib.Seq.{take-length}
 use Rattle.frame_parser_rules.specs.Framer.{moved_to_front}
 
 -- what lies between two places, taken either way
-between : (entry : List ℕ) (first end : ℕ) → first ≤ end → end ≤ length entry → drop first (take end entry) ≡ take (end - first) (drop first entry)
+pub between : (entry : List ℕ) (first end : ℕ) → first ≤ end → end ≤ length entry → drop first (take end entry) ≡ take (end - first) (drop first entry)
 between entry first end order within =
     let sum : end ≡ first + (end - first) = omega arith in
     ap (λ (k : ℕ). drop first (take k entry)) sum

@@ -255,7 +255,9 @@ fn judge(words: &[u32], table: &mut [u16], tops: usize, to: usize) -> Standing
         if !row_allowed(words, table, tops, i, newest) {
             return Standing::Refused;
         }
-        loose = loose || starts_run(words, table, tops, i, newest);
+        // Asked of every row, so that no jump hangs on what the rows before it were.
+        let starts = starts_run(words, table, tops, i, newest);
+        loose = loose || starts;
         enter(words, table, tops, i, cell);
     }
     standing_of(loose)

@@ -1,9 +1,10 @@
--- One law for each way that a walk over a run's rows goes.
-use Rattle.std.specs.Prelude.{◌≡◌, true, false, List, get_or, set, take}
+-- One law for each way that a walk over a run's rows goes, by what the row at hand says; and what a row says of its tags.
+-- Then where the run hangs, and what hanging it comes to.
+use Rattle.std.specs.Prelude.{◌≡◌, true, false, List, get_or, set, take, eqb}
 use Prim.Native.Nat.{ℕ, suc, ◌+◌, ◌-◌, ◌*◌, ◌≤◌, ◌<◌}
 use native.Mathlib.Omega.{arith}
 use borrow.Author.Tests.{eq-eqb, ne_eqb, lt-ltb, le-ltb}
-use Rattle.message_maps.specs.Rows.{flat, row_at, rows_from, sizes}
+use Rattle.message_maps.specs.Rows.{flat, row_at, rows_from, level_of, sizes}
 use Rattle.message_maps.specs.RowsLaws.{rows_step, rows_none}
 use Rattle.message_lent_rules.specs.Lent.{row_count, rows_of}
 use Rattle.message_rules.specs.Changes.{after}
@@ -46,6 +47,35 @@ module _ (words : List ℕ) (i to : ℕ) (past : to ≤ i) where
   pub raise_end : raised_from (to - i) i words ≡ words
   unfolding raised_from
   raise_end = let e : to - i ≡ 0 = omega arith in rw e
+
+-- the tags of a row
+module _ (words : List ℕ) (i : ℕ) where
+  pub tagged-below : (level_of (row_at words i) ≡ 0 → ⊥) → is_untagged (row_at words i) ≡ false
+  unfolding is_untagged row_at level_of
+  tagged-below h = rw (ne_eqb _ _ h)
+
+  pub tagged-start : level_of (row_at words i) ≡ 0 → get_or words (4 * i + 3) 0 ≡ 0 → is_untagged (row_at words i) ≡ true
+  unfolding is_untagged row_at level_of
+  tagged-start h k = rw (eq-eqb _ _ h, eq-eqb _ _ k)
+
+  pub tagged_delimiter : level_of (row_at words i) ≡ 0 → (get_or words (4 * i + 3) 0 ≡ 0 → ⊥)
+      → is_untagged (row_at words i) ≡ eqb (get_or words (4 * i + 4) 0) 0
+  unfolding is_untagged row_at level_of
+  tagged_delimiter h k = rw (eq-eqb _ _ h, ne_eqb _ _ k)
+
+  module _ (start delimiter : ℕ) where
+    pub of-below : (level_of (row_at words i) ≡ 0 → ⊥) → is_of start delimiter (row_at words i) ≡ true
+    unfolding is_of row_at level_of
+    of-below h = rw (ne_eqb _ _ h)
+
+    pub of_other : level_of (row_at words i) ≡ 0 → (get_or words (4 * i + 3) 0 ≡ start → ⊥) → is_of start delimiter (row_at words i) ≡ false
+    unfolding is_of row_at level_of
+    of_other h k = rw (eq-eqb _ _ h, ne_eqb _ _ k)
+
+    pub of-start : level_of (row_at words i) ≡ 0 → get_or words (4 * i + 3) 0 ≡ start
+        → is_of start delimiter (row_at words i) ≡ eqb (get_or words (4 * i + 4) 0) delimiter
+    unfolding is_of row_at level_of
+    of-start h k = rw (eq-eqb _ _ h, eq-eqb _ _ k)
 
 -- behind the count, or where the run stands
 module _ (span : Span) (start : ℕ) (words : List ℕ) (at : ℕ) (found : at ≡ field_place span start words) where

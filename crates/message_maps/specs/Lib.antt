@@ -1,4 +1,6 @@
 pub mod Map
+pub mod MoveLaws
 pub mod Rows
 pub mod RowsLaws
 pub mod SpliceLaws
+pub mod WrittenLaws

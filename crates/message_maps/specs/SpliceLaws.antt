@@ -9,7 +9,7 @@ use Prim.Native.Nat.{ℕ, ◌+◌, ◌-◌, ◌≤◌, ◌<◌}
 use native.Mathlib.Omega.{arith}
 use borrow.Rule.Slice.PartMut.{put_mid, mid_of}
 use Rattle.std.proofs.Math.Nat.{sub-zero}
-use Rattle.std.proofs.Math.ListN.{length, take, drop, replicate, length-append, length-replicate, replicate-append-replicate}
+use Rattle.std.proofs.Math.ListN.{length, take, drop, replicate, length-append, length-replicate, replicate-append-replicate, take-append-drop}
 use Rattle.std.proofs.Math.Seq.{take_at, length-take-le, take-add, take-append-add, drop-append_seam}
 use Rattle.std.proofs.lemmas.List.{take-append-le, drop-take}
 use Rattle.message_maps.specs.Rows.{part, spliced}
@@ -20,7 +20,7 @@ unfoldable pub over : {A : Type 0} → ℕ → List A → List A → List A
 over at mid s = take at s ++ (mid ++ drop (at + length mid) s)
 
 -- lists that are the same from a place on are the same from any later one on
-drop-further : {A : Type 0} (m k : ℕ) (s t : List A) → m ≤ k → drop m s ≡ t → drop k s ≡ drop (k - m) t
+pub drop-further : {A : Type 0} (m k : ℕ) (s t : List A) → m ≤ k → drop m s ≡ t → drop k s ≡ drop (k - m) t
 drop-further m k s t h same =
     let e : m + (k - m) ≡ k = omega arith in
     ap (λ (j : ℕ). drop j s) (sym e) ∙ sym (drop-drop (k - m) m s) ∙ ap (drop (k - m)) same
@@ -80,6 +80,19 @@ module _ {A : Type 0} where
   unfolding over part
   moved from to at s h k = let e : length (take (to - from) (drop from s)) ≡ to - from = unfold part in part_length from to s h k in rw (e, append_assoc)
 
+  part-rest : (from to : ℕ) (s : List A) → from ≤ to → part from to s ++ drop to s ≡ drop from s
+  unfolding part
+  part-rest from to s h =
+      let d : from + (to - from) ≡ to = omega arith in
+      rw (ap (λ (j : ℕ). drop j s) (sym d) ∙ sym (drop-drop (to - from) from s)) (take-append-drop (to - from) (drop from s))
+
+  -- a part that is moved to where it stands leaves all as it was
+  pub moved-nowhere : (from to at : ℕ) (s : List A) → from ≤ to → to ≤ length s → at ≡ from → copy_within s from to at ≡ s
+  moved-nowhere from to at s h k e =
+      let n : length (part from to s) ≡ to - from = part_length from to s h k in
+      let m : from + length (part from to s) ≡ to = omega (arith, n) in
+      rw e (moved from to from s h k ∙ over_is from (part from to s) s (omega arith) ∙ rw (m, part-rest from to s h) (take-append-drop from s))
+
   pub put : (at k : ℕ) (s mid : List A) → length mid ≡ k → put_mid at k s mid ≡ over at mid s
   unfolding over
   put at k s mid e = rw (e, ← drop-drop k at s)
@@ -117,7 +130,7 @@ module _ {A : Type 0} where
 
 -- what is read of a list depends on nothing in front of it, and on nothing behind it
 module _ {A : Type 0} (from to : ℕ) (s t : List A) where
-  part_same : drop from s ≡ drop from t → part from to s ≡ part from to t
+  pub part_same : drop from s ≡ drop from t → part from to s ≡ part from to t
   unfolding part
   part_same e = ap (take (to - from)) e
 
@@ -131,11 +144,11 @@ module _ {A : Type 0} (from to : ℕ) (s t : List A) where
           sym (drop-take from (to - from) s) ∙ ap (drop from) (rw n e) ∙ drop-take from (to - from) t
       by_test false h = let z : to - from ≡ 0 = omega (arith, leb-false _ _ h) in rw z
 
-part-front : {A : Type 0} (from : ℕ) (s : List A) → part 0 from s ≡ take from s
+pub part-front : {A : Type 0} (from : ℕ) (s : List A) → part 0 from s ≡ take from s
 unfolding part
 part-front from s = rw sub-zero
 
-part_none : {A : Type 0} (from to : ℕ) (s : List A) → to ≤ from → part from to s ≡ []
+pub part_none : {A : Type 0} (from to : ℕ) (s : List A) → to ≤ from → part from to s ≡ []
 unfolding part
 part_none from to s h = let e : to - from ≡ 0 = omega arith in rw e
 
@@ -147,8 +160,8 @@ part-two from mid to s h k =
     rw (← n, take-add (mid - from) (to - mid) (drop from s), drop-drop, m)
 
 -- all behind the place where the clearing stops is zero: it stops past all that was used where the rest is known to be, else at the limit
-zeros-behind : {A : Type 0} (z : A) (n used stop : ℕ) (blank : Bool) (s : List A) → length s ≡ n → stop ≤ n → (blank ≡ true → drop used s ≡ replicate (n - used) z)
-    → (blank ≡ true → used ≤ stop) → (blank ≡ false → stop ≡ n) → drop stop s ≡ replicate (n - stop) z
+pub zeros-behind : {A : Type 0} (z : A) (n used stop : ℕ) (blank : Bool) (s : List A) → length s ≡ n → stop ≤ n
+    → (blank ≡ true → drop used s ≡ replicate (n - used) z) → (blank ≡ true → used ≤ stop) → (blank ≡ false → stop ≡ n) → drop stop s ≡ replicate (n - stop) z
 zeros-behind z n used stop true s whole within known far all =
     let past : used ≤ stop = far refl in
     let e : n - used - (stop - used) ≡ n - stop = omega arith in
@@ -159,7 +172,7 @@ zeros-behind z n used stop false s whole within known far all =
     drop_of_length-le s {i = stop} (omega arith) ∙ rw none
 
 -- the four parts in their places
-unfoldable shifted : {A : Type 0} (from to until used : ℕ) (new s : List A) → List A
+unfoldable pub shifted : {A : Type 0} (from to until used : ℕ) (new s : List A) → List A
 shifted from to until used new s = (take from s ++ part to until s) ++ (new ++ part until used s)
 
 -- the part from `from` to `to` gone, and zeros behind; what comes back already stands behind `until`
@@ -178,14 +191,14 @@ module _ {A : Type 0} (z : A) (n from to until used next behind all stop : ℕ) 
   unfolding shifted
   shifted-length = simp length-append (omega (arith, moved_length, rest-length, length-take-le from s (omega arith)))
 
-  shift_done : (one two three last : List A)
+  parts_shifted : (one two three last : List A)
       → one ≡ over from (part to until s) s
       → two ≡ over behind (part until used one) one
       → three ≡ over next new two
       → last ≡ over all (replicate (stop - all) z) three
       → last ≡ shifted from to until used new s ++ replicate (n - all) z
   unfolding shifted
-  shift_done one two three last e₁ e₂ e₃ e₄ =
+  parts_shifted one two three last e₁ e₂ e₃ e₄ =
       let q = part to until s in
       let t = part until used s in
       let zs : List A = replicate (stop - all) z in
@@ -287,7 +300,7 @@ module _ {A : Type 0} (z : A) (n from to kept until used back stop : ℕ) (blank
   unfolding shifted spliced
   whole-is k e = rw (turned-front, followed, came-back, part-front from s, ← e) (simp append_assoc)
 
-  pub splice_done : (next again behind all : ℕ) (swapped one two three four last : List A)
+  pub parts_spliced : (next again behind all : ℕ) (swapped one two three four last : List A)
       → next ≡ from + (until - to) → again ≡ next + length new → behind ≡ again + (back - kept) → all ≡ behind + (used - middle)
       → (all ≤ stop) × (stop ≤ n) × (blank ≡ true → used ≤ stop) × (blank ≡ false → stop ≡ n)
       → swapped ≡ turned
@@ -297,7 +310,7 @@ module _ {A : Type 0} (z : A) (n from to kept until used back stop : ℕ) (blank
       → four ≡ copy_within three kept back again
       → last ≡ over all (replicate (stop - all) z) four
       → last ≡ spliced from to kept until used new s ++ replicate (n - length (spliced from to kept until used new s)) z
-  splice_done next again behind all swapped one two three four last p₁ p₂ p₃ p₄ far e₀ e₁ e₂ e₃ e₄ e₅ =
+  parts_spliced next again behind all swapped one two three four last p₁ p₂ p₃ p₄ far e₀ e₁ e₂ e₃ e₄ e₅ =
       let k = part kept back three in
       let lq : length (part back middle turned) ≡ until - to = part_length back middle turned (omega arith) (omega (arith, turned-length)) ∙ omega arith in
       let o₁ : one ≡ over from (part back middle turned) turned =
@@ -330,5 +343,5 @@ module _ {A : Type 0} (z : A) (n from to kept until used back stop : ℕ) (blank
       whole-is k (kept-two three front) in
       let size : length (shifted from back middle used (new ++ k) turned) ≡ all =
       shifted-length z n from back middle used next behind all stop blank (new ++ k) turned pre₂ turned-known q₁ q₂ p₄ far in
-      shift_done z n from back middle used next behind all stop blank (new ++ k) turned pre₂ turned-known q₁ q₂ p₄ far one two four last o₁ o₂ o₄ e₅
+      parts_shifted z n from back middle used next behind all stop blank (new ++ k) turned pre₂ turned-known q₁ q₂ p₄ far one two four last o₁ o₂ o₄ e₅
       ∙ rw (← size, is)

@@ -3,6 +3,7 @@
 #![tactic(auto)]
 
 ghost use Rattle.std.specs.Prelude.{◌≡◌, ◌++◌, [], true, false, ◌+◌, ◌-◌, ◌*◌, ◌≤◌, ◌<◌, length, get_or, take, drop, replicate};
+ghost use Rattle.std.specs.List.{copy_within};
 ghost use Rattle.field_rules.specs.Decimal.{written_at};
 ghost use Rattle.message_maps.specs.Rows.{row_at, rows_from, rows_before, level_of, size_of, matches, find_from, end_from, in_run, run_end_from, sizes, padded, part, spliced, message_words, message_rows};
 
@@ -132,6 +133,16 @@ fn clear_end(blank: bool, all: usize, used: usize, limit: usize) -> usize
     all.max(used)
 }
 
+// Moves a part to a place that may overlap it. One that stands there already stays: copied onto itself, it would cost as much as moved.
+fn move_part<T: Copy>(cells: &mut [T], from: usize, to: usize, at: usize)
+    requires { (from ≤ to) × (to ≤ length cells.old) × (at + (to - from) ≤ length cells.old) }
+    ensures { cells.new ≡ copy_within cells.old from to at }
+{
+    if at != from {
+        cells.copy_within(from..to, at);
+    }
+}
+
 // The cells from `from` to `to` are taken out; what stood from there to `end` moves up, then come the new ones and those taken out from `kept`
 // on. All past the used ones is `zero`. `blank`: whether all behind the used cells is known to be `zero`, and needn't be cleared again.
 fn splice<T: Copy, const N: usize>(
@@ -159,8 +170,8 @@ fn splice<T: Copy, const N: usize>(
     let behind = again + (back - kept);
     let all = behind + (used - middle);
     // Moved first, the middle is out of the way of the rest; the new ones come last, into the gap between the two.
-    cells.copy_within(back..middle, from);
-    cells.copy_within(middle..used, behind);
+    move_part(cells, back, middle, from);
+    move_part(cells, middle, used, behind);
     cells[next..again].copy_from_slice(new);
     cells.copy_within(kept..back, again);
     let stop = clear_end(blank, all, used, N);

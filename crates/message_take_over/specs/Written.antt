@@ -3,13 +3,14 @@
 use Rattle.std.specs.Prelude.{◌≡◌, List, ◌∷◌, ◌++◌, ℕ, ◌+◌, ◌-◌, ◌*◌, ◌≤◌, get_or, drop, replicate}
 use Rattle.std.proofs.Math.Path.{sym, ap}
 use Rattle.std.proofs.Common.{◌∙◌, append_assoc, append-nil, arith, length-append, length-take, length-drop, drop_of_length-le, drop-drop, take_at}
+use Rattle.std.proofs.Math.Nat.{sub-zero}
 use Rattle.std.proofs.Math.ListN.{length, take}
 use Rattle.std.proofs.lemmas.List.{length-replicate}
 use Rattle.std.proofs.Math.Seq.{length-take-le}
 use borrow.Rule.Slice.PartMut.{put_mid, mid_of}
 use Rattle.field_rules.specs.Decimal.{written_at}
-use Rattle.field_rules.proofs.DecimalLaws.{written_fits}
-use Rattle.message_maps.specs.Rows.{Row, flat, padded, message_words, message_rows}
+use Rattle.field_rules.proofs.DecimalLaws.{written_fits, written-length}
+use Rattle.message_maps.specs.Rows.{Row, flat, padded, part, message_words, message_rows}
 use Rattle.message_maps.specs.RowsLaws.{padded-length}
 use Rattle.message_lent_rules.proofs.MeaningLaws.{flat-length}
 
@@ -52,15 +53,25 @@ module _ (new : List ℕ) (b : BlankBehind new) where
       let most : length (take (4 * get_or new 0 0 + 1) new) ≤ 4 * get_or new 0 0 + 1 = simp length-take (omega arith) in
       ap length b.blank ∙ padded-length message_words (take (4 * get_or new 0 0 + 1) new) (omega (arith, b.few))
 
-  pub rows_copied : (used : ℕ) (old copied filled : List ℕ) → used ≡ 4 * get_or new 0 0 + 1 → length old ≡ message_words → copied ≡ take used new
+  pub rows_put : (used : ℕ) (old copied filled : List ℕ) → used ≡ 4 * get_or new 0 0 + 1 → length old ≡ message_words → copied ≡ take used new
       → filled ≡ replicate (length (mid_of used (length (copied ++ drop used old) - used) (copied ++ drop used old))) 0
       → put_mid used (length (copied ++ drop used old) - used) (copied ++ drop used old) filled ≡ new
-  rows_copied used old copied filled u whole e f =
+  rows_put used old copied filled u whole e f =
       let front : length copied ≡ used = ap length e ∙ length-take-le used new (omega (arith, blank-whole, b.few)) in
       let size : length (copied ++ drop used old) ≡ message_words = simp (length-append, length-drop) (omega (arith, b.few)) in
       cleared-behind message_words used (copied ++ drop used old) _ size (omega (arith, b.few))
       (filled-behind message_words used (copied ++ drop used old) filled size (omega (arith, b.few)) f)
       ∙ ap (padded message_words) (take_at copied (drop used old) used front ∙ e ∙ ap (λ (n : ℕ). take n new) u) ∙ sym b.blank
+
+  pub rows_copied : (old copied cleared : List ℕ) → length old ≡ message_words → copied ≡ written_at 0 (part 0 (4 * get_or new 0 0 + 1) new) old
+      → cleared ≡ written_at (4 * get_or new 0 0 + 1) (replicate (message_words - (4 * get_or new 0 0 + 1)) 0) copied → cleared ≡ new
+  rows_copied old copied cleared whole e f =
+      let used : ℕ = 4 * get_or new 0 0 + 1 in
+      let front : part 0 used new ≡ take used new = unfold part in rw sub-zero in
+      let size : length (part 0 used new) ≡ used = ap length front ∙ length-take-le used new (omega (arith, blank-whole, b.few)) in
+      let kept : take used copied ≡ take used new = written_behind 0 used (part 0 used new) old copied (omega arith) (omega (arith, b.few)) e ∙ front in
+      let all : length copied ≡ message_words = ap length e ∙ written-length 0 (part 0 used new) old ∙ whole in
+      cleared-behind message_words used copied cleared all (omega (arith, b.few)) f ∙ ap (padded message_words) kept ∙ sym b.blank
 
 -- as they are laid
 pub laid-blank : (rows : List Row) (words : List ℕ) → words ≡ padded message_words (length rows ∷ flat rows) → get_or words 0 0 ≤ message_rows → BlankBehind words

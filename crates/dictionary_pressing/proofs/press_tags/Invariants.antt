@@ -3,5 +3,5 @@
 use Rattle.dictionary_pressing.specs.Tags.{Putting}
 use Rattle.dictionary_pressing.proofs.press_tags.Given as goal
 
-abbrev pub invariant-loop-tag : goal.invariant-loop-tag
-invariant-loop-tag l = Putting l.tags l.initial.table l.table l.slot l.tag-index
+abbrev pub invariant-loop-next : goal.invariant-loop-next
+invariant-loop-next l = Putting l.tags l.initial.table l.table l.slot l.next

@@ -47,9 +47,9 @@ pub returns-then-not-row_allowed : goal.returns-then-not-row_allowed
 returns-then-not-row_allowed c = turn_refused c.args.words.now c.args.tops c.args.to c.requires.0 c.requires.2 c.requires.3 c.loop-i.table c.loop-i.loose c.loop-i.i
     c.loop-i.invariant c.loop-i-test.true (sym c.row_allowed.ensures ∙ c.if-not-row_allowed.true)
 
-pub starts_run-loose-requires : goal.starts_run-loose-requires
-starts_run-loose-requires c =
-    let newest : get_or c.loop-i.table c.cell_of-cell.result 0 ≡ latest (level_of (row_at c.args.words.now c.loop-i.i)) (tag_of (row_at c.args.words.now c.loop-i.i)) (rows_before c.loop-i.i c.args.words.now) = ap (λ (k : ℕ). get_or c.loop-i.table k 0) (found (goal.at.starts_run-loose-requires c).After-cell_of-cell) ∙ c.loop-i.invariant.known.finds _ _ in
+pub starts_run-starts-requires : goal.starts_run-starts-requires
+starts_run-starts-requires c =
+    let newest : get_or c.loop-i.table c.cell_of-cell.result 0 ≡ latest (level_of (row_at c.args.words.now c.loop-i.i)) (tag_of (row_at c.args.words.now c.loop-i.i)) (rows_before c.loop-i.i c.args.words.now) = ap (λ (k : ℕ). get_or c.loop-i.table k 0) (found (goal.at.starts_run-starts-requires c).After-cell_of-cell) ∙ c.loop-i.invariant.known.finds _ _ in
     let passed : row_allowed (rows_before c.loop-i.i c.args.words.now) (row_at c.args.words.now c.loop-i.i) ≡ true = sym c.row_allowed.ensures ∙ c.if-not-row_allowed.false in (
       omega arith,
       c.requires.1,
@@ -79,7 +79,7 @@ loop-i-preserved c =
     let told : c.if-loose.loose ≡ pick c.loop-i.loose true (starts_run (rows_before c.loop-i.i c.args.words.now) (row_at c.args.words.now c.loop-i.i)) =
     elim c.if-loose.branch [
       | then-loose w ↦ rw (w.loose-is, w.if-loose.true)
-      | else-loose w ↦ rw (w.loose-is, w.if-loose.false) w.starts_run-loose.ensures
+      | else-loose w ↦ rw (w.loose-is, w.if-loose.false) c.starts_run-starts.ensures
     ] in
     turn_on c.args.words.now c.args.tops c.args.to c.requires.0 c.requires.2 c.requires.3 c.loop-i.table c.loop-i.loose c.loop-i.i
     c.loop-i.invariant c.loop-i-test.true passed c.cell_of-cell.result _ (found (goal.at.loop-i-preserved c).After-cell_of-cell) c.enter.ensures _ told
